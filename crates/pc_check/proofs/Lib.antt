@@ -1,0 +1,4 @@
+pub mod LoopExample
+pub mod OneModule
+pub mod OneStatement
+pub mod Scopes

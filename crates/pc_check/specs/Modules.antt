@@ -1,0 +1,214 @@
+-- The lawful labelling of functions, classes and a module, and the findings of a module.
+-- Language Reference 3.12, 8.7 "Function definitions", 8.8 "Class definitions"; own rules of the profile.
+use Rattle.std.specs.Prelude.{◌≡◌, ◌⊎◌, ℕ, suc, List, [], ◌∷◌, ◌++◌, length, Bool as Test, true, false, ◌||◌, not, Option, Some, None, codes}
+use Rattle.pc_tree.specs.declared.code.Code.{Code}
+use Rattle.pc_tree.specs.declared.code.Code.TheVariants.{E21}
+use Rattle.pc_tree.specs.declared.code.Finding.{Finding}
+use Rattle.pc_tree.specs.Tree.{Name, Ann, FuncDef, Member, field_member, method_member, Item, constant_item, class_item, def_item, Module}
+use Rattle.pc_scope.specs.declared.resolution.Owner.{Owner}
+use Rattle.pc_scope.specs.declared.resolution.Owner.TheVariants as owners
+use Rattle.pc_scope.specs.Reserved.{is_reserved}
+use Rattle.pc_scope.specs.Resolution.{is_among, receiver, locals, resolve_among}
+use Rattle.pc_scope.specs.declared.resolution.Res.{Res}
+use Rattle.pc_scope.specs.declared.resolution.Res.TheVariants as res
+use Rattle.pc_scope.specs.Expressions.{place_of}
+use Rattle.pc_scope.specs.Findings.{ScopeFinds}
+use Rattle.pc_types.specs.Tree.{Tree, NoneType}
+use Rattle.pc_types.specs.Tree as tree
+use Rattle.pc_types.specs.Below.{Bases, Static}
+use Rattle.pc_types.specs.Annotations.{read_ann, AnnFinds, OptionFinds}
+use Rattle.pc_class.specs.Bases.{bases_of}
+use Rattle.pc_class.specs.Facts.{Parameter, Class, binds_field, parameters_of, returned}
+use Rattle.pc_class.specs.Findings.{OverrideRule, ClassFinds, base_class}
+use Rattle.pc_flow.specs.Environment.{Env, none_assigned, assign, declared_type}
+use Rattle.pc_expr.specs.Context.{FlowsInto}
+use Rattle.pc_expr.specs.Labels.{Flowing, Marks, mark_of, type_of, Finds, IsFlowAt, IsCodeAt}
+use Rattle.pc_expr.specs.Lawful.{Lawful}
+use Rattle.pc_expr.specs.Signatures.{body_context, initializer_context, LawfulDefault, DefaultFinds, ParamsMarks, LawfulParams, ParamsFind}
+use Rattle.pc_check.specs.StatementLabels.{SuiteMarks}
+use Rattle.pc_check.specs.Statements.{Seen, LawfulSuite, SuiteFinds}
+
+-- ---- functions
+
+-- the locals at a function's entry: `self`, of its class, and the parameters
+abbrev pub receiver_type : Owner → List Parameter
+receiver_type owners.Module = []
+receiver_type (owners.Func i) = []
+receiver_type (owners.Method c i) = record { name = codes "self"; type = tree.Class c; has_default = false } ∷ []
+
+abbrev pub entries_of : Module → Owner → FuncDef → List Parameter
+entries_of m owner f = receiver_type owner ++ parameters_of m f.params
+
+-- the names that a function has at its entry
+abbrev pub names_entered : Seen → List Parameter → Seen
+names_entered seen [] = seen
+names_entered seen (p ∷ ps) = names_entered (p.name ∷ seen) ps
+
+-- the declared type of a parameter is its type; a name that is bound already, or reserved, binds nothing
+abbrev pub DeclaredEntry : (declared : List Tree) → (first : Test) → Res → Tree → Type 0
+DeclaredEntry declared true (res.Local x) t = declared_type declared x ≡ t
+DeclaredEntry declared first r t = Unit {0}
+
+abbrev pub LawfulEntry : (List ℕ → Res) → (declared : List Tree) → Seen → List Parameter → Type 0
+LawfulEntry resolve declared seen [] = Unit {0}
+LawfulEntry resolve declared seen (p ∷ ps) = DeclaredEntry declared (not (is_among p.name seen)) (resolve p.name) p.type × LawfulEntry resolve declared (p.name ∷ seen) ps
+
+-- at the entry the parameters are assigned, and no other local
+abbrev pub entered : (first : Test) → Res → Tree → Env → Env
+entered true (res.Local x) t env = assign env x t
+entered first r t env = env
+
+abbrev pub entry_env : (List ℕ → Res) → Seen → List Parameter → Env → Env
+entry_env resolve seen [] env = env
+entry_env resolve seen (p ∷ ps) env = entry_env resolve (p.name ∷ seen) ps (entered (not (is_among p.name seen)) (resolve p.name) p.type env)
+
+-- E21: the body can complete, and None is not static to the return type
+pub data ReturnsWell (bases : Bases) (returned : Tree) : Option Env → Option Code → Type 0 where
+  leaves : ReturnsWell bases returned None None
+  may_complete : {env : Env} → Static bases NoneType returned → ReturnsWell bases returned (Some env) None
+  may_not : {env : Env} → ¬ (Static bases NoneType returned) → ReturnsWell bases returned (Some env) (Some E21)
+
+-- each local's declared type, the codes of defaults, the labels of the body, where it ends, the code at the name
+abbrev pub FunctionMarks : FuncDef → Type 0
+FunctionMarks f = record { params : ParamsMarks f.params; declared : List Tree; body : SuiteMarks f.body; out : Option Env; completing : Option Code }
+
+abbrev pub LawfulFunction : Module → (constants : List Tree) → Owner → (f : FuncDef) → FunctionMarks f → Type 0
+LawfulFunction m constants owner f marks = record {
+  params : LawfulParams m (receiver owner) f.params marks.params;
+  each_local : length marks.declared ≡ length (locals owner f);
+  entry : LawfulEntry (resolve_among m (locals owner f)) marks.declared [] (entries_of m owner f);
+  body : LawfulSuite m (body_context m constants (locals owner f)) marks.declared (returned m f) (names_entered [] (entries_of m owner f)) (entry_env (resolve_among m (locals owner f)) [] (entries_of m owner f) (none_assigned (length (locals owner f)))) f.body marks.body marks.out;
+  completing : ReturnsWell (bases_of m) (returned m f) marks.out marks.completing;
+}
+
+-- in annotations, at defaults, in the body, and at the name
+abbrev pub FunctionFinds : Module → (constants : List Tree) → Owner → (f : FuncDef) → FunctionMarks f → Finding → Type 0
+FunctionFinds m constants owner f marks g =
+    ParamsFind m f.params marks.params g
+    ⊎ (OptionFinds m (bases_of m) f.returns g
+    ⊎ (IsCodeAt f.name.place marks.completing g ⊎ SuiteFinds m (body_context m constants (locals owner f)) (names_entered [] (entries_of m owner f)) f.body marks.body g))
+
+-- ---- classes
+
+-- a code for the default of a field; the labels of a method, and the code of its override
+abbrev pub MembersMarks : List Member → Type 0
+MembersMarks [] = Unit {0}
+MembersMarks (field_member d ∷ rest) = record { default : Option Code; rest : MembersMarks rest }
+MembersMarks (method_member d ∷ rest) = record { method : FunctionMarks d; override : Option Code; rest : MembersMarks rest }
+
+-- behind members of these names and so many methods
+abbrev pub LawfulMembers : Module → (constants : List Tree) → Class → (c number : ℕ) → (before : List (List ℕ)) → (ms : List Member) → MembersMarks ms → Type 0
+LawfulMembers m constants base c number before [] marks = Unit {0}
+LawfulMembers m constants base c number before (field_member d ∷ ms) marks = record {
+  default : LawfulDefault (bases_of m) (binds_field base before d.name.text) d.default (read_ann m (bases_of m) d.annotation) marks.default;
+  others : LawfulMembers m constants base c number (d.name.text ∷ before) ms marks.rest;
+}
+LawfulMembers m constants base c number before (method_member d ∷ ms) marks = record {
+  method : LawfulFunction m constants (owners.Method c number) d marks.method;
+  override : OverrideRule m base c before number d marks.override;
+  others : LawfulMembers m constants base c (suc number) (d.name.text ∷ before) ms marks.rest;
+}
+
+abbrev pub MembersFind : Module → (constants : List Tree) → (c number : ℕ) → (ms : List Member) → MembersMarks ms → Finding → Type 0
+MembersFind m constants c number [] marks f = ⊥
+MembersFind m constants c number (field_member d ∷ rest) marks f = AnnFinds m (bases_of m) d.annotation f ⊎ (DefaultFinds d.default marks.default f ⊎ MembersFind m constants c number rest marks.rest f)
+MembersFind m constants c number (method_member d ∷ rest) marks f =
+    FunctionFinds m constants (owners.Method c number) d marks.method f ⊎ (IsCodeAt d.name.place marks.override f ⊎ MembersFind m constants c (suc number) rest marks.rest f)
+
+-- ---- constants and items
+
+-- the labels of an initializer, and the code of its flow
+abbrev pub ItemMarks : Item → Type 0
+ItemMarks (constant_item p c) = record { value : Marks c.value; flows : Flowing }
+ItemMarks (class_item p c) = MembersMarks c.members
+ItemMarks (def_item p f) = FunctionMarks f
+
+abbrev pub ItemsMarks : List Item → Type 0
+ItemsMarks [] = Unit {0}
+ItemsMarks (i ∷ rest) = ItemMarks i × ItemsMarks rest
+
+-- a constant's type is its annotation, else its initializer's type
+abbrev pub constant_type : Module → Option Ann → Tree → Tree
+constant_type m None from = from
+constant_type m (Some a) from = read_ann m (bases_of m) a
+
+abbrev pub item_constants : Module → (i : Item) → ItemMarks i → List Tree
+item_constants m (constant_item p c) marks = constant_type m c.annotation (type_of c.value marks.value) ∷ []
+item_constants m (class_item p c) marks = []
+item_constants m (def_item p f) marks = []
+
+abbrev pub constant_types : Module → (items : List Item) → ItemsMarks items → List Tree
+constant_types m [] marks = []
+constant_types m (i ∷ rest) marks = item_constants m i marks.0 ++ constant_types m rest marks.1
+
+-- an initializer flows into the annotation and is expected there; where the name is bound already or reserved, nothing is expected and it flows nowhere
+abbrev pub annotated_types : Module → (binds : Test) → Option Ann → List Tree
+annotated_types m true (Some a) = read_ann m (bases_of m) a ∷ []
+annotated_types m binds a = []
+
+abbrev pub first_of_types : List Tree → Option Tree
+first_of_types [] = None
+first_of_types (t ∷ ts) = Some t
+
+abbrev pub binds_item : List (List ℕ) → Name → Test
+binds_item before n = not (is_reserved n.text || is_among n.text before)
+
+-- what stands before an item: constants' types, the numbers of classes and functions, names
+pub record Before : Type 0 where
+  pub constants : List Tree
+  pub classes : ℕ
+  pub functions : ℕ
+  pub names : List (List ℕ)
+
+abbrev pub nothing_before : Before
+nothing_before = record { constants = []; classes = 0; functions = 0; names = [] }
+
+abbrev pub before_next : Module → Before → (i : Item) → ItemMarks i → Before
+before_next m b (constant_item p c) marks = record { constants = b.constants ++ item_constants m (constant_item p c) marks; classes = b.classes; functions = b.functions; names = c.name.text ∷ b.names }
+before_next m b (class_item p c) marks = record { constants = b.constants; classes = suc b.classes; functions = b.functions; names = c.name.text ∷ b.names }
+before_next m b (def_item p f) marks = record { constants = b.constants; classes = b.classes; functions = suc b.functions; names = f.name.text ∷ b.names }
+
+abbrev pub LawfulItem : Module → (constants : List Tree) → Before → (i : Item) → ItemMarks i → Type 0
+LawfulItem m constants b (constant_item p c) marks = record {
+  value : Lawful (initializer_context m b.constants b.classes) [] [] (first_of_types (annotated_types m (binds_item b.names c.name) c.annotation)) c.value marks.value;
+  flow : FlowsInto (bases_of m) (mark_of c.value marks.value) (annotated_types m (binds_item b.names c.name) c.annotation) marks.flows;
+}
+LawfulItem m constants b (class_item p c) marks = LawfulMembers m constants (base_class m b.classes c) b.classes 0 [] c.members marks
+LawfulItem m constants b (def_item p f) marks = LawfulFunction m constants (owners.Func b.functions) f marks
+
+abbrev pub LawfulItems : Module → (constants : List Tree) → Before → (items : List Item) → ItemsMarks items → Type 0
+LawfulItems m constants b [] marks = Unit {0}
+LawfulItems m constants b (i ∷ rest) marks = LawfulItem m constants b i marks.0 × LawfulItems m constants (before_next m b i marks.0) rest marks.1
+
+abbrev pub ItemFinds : Module → (constants : List Tree) → Before → (i : Item) → ItemMarks i → Finding → Type 0
+ItemFinds m constants b (constant_item p c) marks f = OptionFinds m (bases_of m) c.annotation f ⊎ (IsFlowAt (place_of c.value) marks.flows f ⊎ Finds c.value marks.value f)
+ItemFinds m constants b (class_item p c) marks f = MembersFind m constants b.classes 0 c.members marks f
+ItemFinds m constants b (def_item p d) marks f = FunctionFinds m constants (owners.Func b.functions) d marks f
+
+abbrev pub ItemsFind : Module → (constants : List Tree) → Before → (items : List Item) → ItemsMarks items → Finding → Type 0
+ItemsFind m constants b [] marks f = ⊥
+ItemsFind m constants b (i ∷ rest) marks f = ItemFinds m constants b i marks.0 f ⊎ ItemsFind m constants (before_next m b i marks.0) rest marks.1 f
+
+-- ---- the module
+
+-- a labelling of a module
+abbrev pub Labelling : Module → Type 0
+Labelling m = ItemsMarks m.items
+
+-- it is lawful where each node obeys its own rule
+abbrev pub IsLawful : (m : Module) → Labelling m → Type 0
+IsLawful m marks = LawfulItems m (constant_types m m.items marks) nothing_before m.items marks
+
+pub record HasLabelling (m : Module) : Type 0 where
+  pub marks : Labelling m
+  pub lawful : IsLawful m marks
+
+-- a finding of a module: one of scopes, one of classes, or one under its lawful labelling
+pub record IsFinding (m : Module) (f : Finding) : Type 0 where
+  pub marks : Labelling m
+  pub lawful : IsLawful m marks
+  pub found : ScopeFinds m f ⊎ (ClassFinds m f ⊎ ItemsFind m (constant_types m m.items marks) nothing_before m.items marks f)
+
+-- a module has at most one lawful labelling
+abbrev pub HasOneLabelling : Module → Type 0
+HasOneLabelling m = (marks others : Labelling m) → IsLawful m marks → IsLawful m others → marks ≡ others

@@ -1,0 +1,109 @@
+-- What a class has: the fields of its base, then its own; and of each name the method of the nearest class on the way to the root.
+-- Language Reference 3.12, 8.8 "Class definitions"; library reference, `dataclasses`; typing specification, "Dataclasses".
+use Rattle.std.specs.Prelude.{ℕ, suc, List, [], ◌∷◌, ◌++◌, map, Bool, ◌&&◌, ◌||◌, not, if◌then◌else◌, Option, Some, None, is_some, slice_get, find, codes, bytes_eq}
+use Rattle.pc_source.specs.declared.place.Place.{Place}
+use Rattle.pc_tree.specs.Tree.{Param, FuncDef, Member, field_member, method_member, ClassDef, Module}
+use Rattle.pc_scope.specs.Reserved.{is_reserved}
+use Rattle.pc_scope.specs.Bindings.{classes_in}
+use Rattle.pc_scope.specs.Resolution.{is_among}
+use Rattle.pc_types.specs.Tree.{Tree}
+use Rattle.pc_types.specs.Annotations.{read_ann, read_option}
+use Rattle.pc_class.specs.Bases.{bases_of, base_named}
+
+-- a parameter of a function, or a field as a parameter of its class
+pub record Parameter : Type 0 where
+  pub name : List ℕ
+  pub type : Tree
+  pub has_default : Bool
+
+-- a method: its class, its number there, the place of its name, its parameters without `self`, what it returns
+pub record Method : Type 0 where
+  pub name : List ℕ
+  pub owner : ℕ
+  pub number : ℕ
+  pub place : Place
+  pub parameters : List Parameter
+  pub returns : Tree
+
+-- a class: its base, its fields with those of its base first, and its methods with those of its base behind them
+pub record Class : Type 0 where
+  pub base : Option ℕ
+  pub fields : List Parameter
+  pub methods : List Method
+
+abbrev pub empty_class : Class
+empty_class = record { base = None; fields = []; methods = [] }
+
+-- the first field, and the nearest method, of a name
+abbrev pub field_of : List Parameter → List ℕ → Option Parameter
+field_of fields name = find (λ f. bytes_eq name f.name) fields
+
+abbrev pub method_of : List Method → List ℕ → Option Method
+method_of methods name = find (λ f. bytes_eq name f.name) methods
+
+-- the class of a number
+abbrev pub class_in : Option Class → Class
+class_in None = empty_class
+class_in (Some c) = c
+
+abbrev pub class_at : List Class → ℕ → Class
+class_at classes c = class_in (slice_get classes c)
+
+abbrev pub inherited : List Class → Option ℕ → Class
+inherited earlier None = empty_class
+inherited earlier (Some b) = class_at earlier b
+
+-- a field binds its name: not reserved, not `mro`, no earlier member's, no field's or method's of an ancestor
+abbrev pub binds_field : Class → List (List ℕ) → List ℕ → Bool
+binds_field base before name =
+    not (is_reserved name || bytes_eq name (codes "mro")) && (not (is_among name before) && not (is_some (field_of base.fields name) || is_some (method_of base.methods name)))
+
+-- a method binds its name: not reserved, no earlier member's, no field's of an ancestor
+abbrev pub binds_method : Class → List (List ℕ) → List ℕ → Bool
+binds_method base before name = not (is_reserved name) && (not (is_among name before) && not (is_some (field_of base.fields name)))
+
+abbrev pub parameter_of : Module → Param → Parameter
+parameter_of m p = record { name = p.name.text; type = read_option m (bases_of m) p.annotation; has_default = is_some p.default }
+
+abbrev pub parameters_of : Module → List Param → List Parameter
+parameters_of m params = map (parameter_of m) params
+
+abbrev pub returned : Module → FuncDef → Tree
+returned m f = read_option m (bases_of m) f.returns
+
+module _ (m : Module) (base : Class) where
+  -- the fields that members bind, behind members of these names
+  abbrev pub own_fields : List (List ℕ) → List Member → List Parameter
+  own_fields before [] = []
+  own_fields before (field_member f ∷ rest) =
+      (if binds_field base before f.name.text then record { name = f.name.text; type = read_ann m (bases_of m) f.annotation; has_default = is_some f.default } ∷ [] else [])
+      ++ own_fields (f.name.text ∷ before) rest
+  own_fields before (method_member f ∷ rest) = own_fields (f.name.text ∷ before) rest
+
+  -- the methods that members of a class bind, behind so many methods
+  abbrev pub own_methods : ℕ → ℕ → List (List ℕ) → List Member → List Method
+  own_methods c number before [] = []
+  own_methods c number before (field_member f ∷ rest) = own_methods c number (f.name.text ∷ before) rest
+  own_methods c number before (method_member f ∷ rest) =
+      (if binds_method base before f.name.text
+      then record { name = f.name.text; owner = c; number = number; place = f.name.place; parameters = parameters_of m f.params; returns = returned m f } ∷ []
+      else [])
+      ++ own_methods c (suc number) (f.name.text ∷ before) rest
+
+-- a class of this number, behind earlier ones
+abbrev pub class_behind : Module → List Class → ℕ → ClassDef → Class
+class_behind m earlier c class =
+    let base = inherited earlier (base_named m c class.base) in
+    record {
+      base = base_named m c class.base;
+      fields = base.fields ++ own_fields m base [] class.members;
+      methods = own_methods m base c 0 [] class.members ++ base.methods;
+    }
+
+abbrev pub classes_behind : Module → List Class → ℕ → List ClassDef → List Class
+classes_behind m earlier c [] = earlier
+classes_behind m earlier c (class ∷ rest) = classes_behind m (earlier ++ class_behind m earlier c class ∷ []) (suc c) rest
+
+-- the classes of a module
+unfoldable pub classes_of : Module → List Class
+classes_of m = classes_behind m [] 0 (classes_in m.items)

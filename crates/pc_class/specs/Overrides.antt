@@ -1,0 +1,49 @@
+-- Overrides: a method against those of its name that its class's ancestors have.
+-- Typing specification, "Type system concepts", assignability of callables; own rule of the profile.
+use Rattle.std.specs.Prelude.{ℕ, List, [], ◌∷◌, Bool, true, false, ◌&&◌, ◌||◌, not, IsTrue, Option, Some, None, All, filter, bytes_eq}
+use Rattle.pc_tree.specs.declared.code.Code.{Code}
+use Rattle.pc_tree.specs.declared.code.Code.TheVariants.{E11, A8}
+use Rattle.pc_types.specs.Tree.{Tree}
+use Rattle.pc_types.specs.Below.{Bases, Static}
+use Rattle.pc_types.specs.Assignable.{Assignable}
+use Rattle.pc_class.specs.Facts.{Parameter, Method}
+
+-- the numbers of parameters agree, the names at each position, and there is a default wherever the ancestor's has one
+abbrev pub has_shape_of : List Parameter → List Parameter → Bool
+has_shape_of [] [] = true
+has_shape_of (p ∷ ps) (q ∷ qs) = bytes_eq p.name q.name && ((not p.has_default || q.has_default) && has_shape_of ps qs)
+has_shape_of _ _ = false
+
+-- a flow: from a type into another
+pub record Flow : Type 0 where
+  pub from : Tree
+  pub into : Tree
+
+-- each parameter's type of the ancestor's flows into the method's
+abbrev pub parameter_flows : List Parameter → List Parameter → List Flow
+parameter_flows (p ∷ ps) (q ∷ qs) = record { from = p.type; into = q.type } ∷ parameter_flows ps qs
+parameter_flows _ _ = []
+
+-- the method's return flows into the ancestor's
+abbrev pub override_flows : Method → Method → List Flow
+override_flows old new = record { from = new.returns; into = old.returns } ∷ parameter_flows old.parameters new.parameters
+
+-- the override is good against the ancestor's method
+pub record IsGood (bases : Bases) (new old : Method) : Type 0 where
+  pub shape : IsTrue (has_shape_of old.parameters new.parameters)
+  pub flows : All (λ f. Assignable bases f.from f.into) (override_flows old new)
+
+-- all its flows are static
+pub record IsStatic (bases : Bases) (new old : Method) : Type 0 where
+  pub shape : IsTrue (has_shape_of old.parameters new.parameters)
+  pub flows : All (λ f. Static bases f.from f.into) (override_flows old new)
+
+-- what is found at a method's name, judged against every ancestor that has the method: E11, A8 where no E11 is there, or nothing
+pub data Judges (bases : Bases) (olds : List Method) (new : Method) : Option Code → Type 0 where
+  static : All (IsStatic bases new) olds → Judges bases olds new None
+  dynamic : All (IsGood bases new) olds → ¬ (All (IsStatic bases new) olds) → Judges bases olds new (Some A8)
+  wrong : ¬ (All (IsGood bases new) olds) → Judges bases olds new (Some E11)
+
+-- the ancestors' methods of a name
+abbrev pub overridden : List Method → List ℕ → List Method
+overridden methods name = filter (λ f. bytes_eq name f.name) methods

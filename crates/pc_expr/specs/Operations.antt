@@ -1,0 +1,239 @@
+-- What each operation finds and gives, member by member; and the operators.
+-- Language Reference 6.3 "Primaries", 6.6 "Unary arithmetic", 6.7 "Binary arithmetic operations", 6.10 "Comparisons";
+-- own rules of the profile.
+use Rattle.std.specs.Prelude.{ℕ, List, [], ◌∷◌, map, flat_map, Bool as Test, true, false, ◌&&◌, ◌||◌, if◌then◌else◌, nat_le, Option, Some, None, unwrap_or, slice_get}
+use Rattle.std.specs.List.{list_any, list_all}
+use Rattle.pc_tree.specs.declared.tree.BinaryOperator.{BinaryOperator}
+use Rattle.pc_tree.specs.declared.tree.BinaryOperator.TheVariants.{Add}
+use Rattle.pc_tree.specs.declared.code.Code.{Code}
+use Rattle.pc_tree.specs.declared.code.Code.TheVariants.{A2, A3, A4, A5, A6, E13, E15, E16, E17, E18, E19, E20, E23, E26, E27}
+use Rattle.pc_tree.specs.Code.{is_error}
+use Rattle.pc_types.specs.Tree.{Tree, Trees, Any, Never, Int, Bool, Str, NoneType, Class, ListOf, DictOf, TupleOf, Union}
+use Rattle.pc_types.specs.Below.{Bases}
+use Rattle.pc_types.specs.Shape.{members, listed, nodes, limit}
+use Rattle.pc_class.specs.Facts as facts
+use Rattle.pc_class.specs.Facts.{Parameter, Method, field_of, method_of, class_at}
+use Rattle.pc_flow.specs.Environment.{join_all}
+
+-- what a node is labelled with: its type, and the codes that are found at it
+pub record Mark : Type 0 where
+  pub type : Tree
+  pub codes : List Code
+
+abbrev pub clean : Tree → Mark
+clean t = record { type = t; codes = [] }
+
+-- an expression in error is Any
+abbrev pub in_error : Code → Mark
+in_error code = record { type = Any; codes = code ∷ [] }
+
+abbrev pub has_error : List Code → Test
+has_error codes = list_any is_error codes
+
+-- what an operation comes to on one member: what is found, what it gives, what an operand of it flows into
+pub record Offer : Type 0 where
+  pub found : List Code
+  pub gives : Tree
+  pub takes : List Tree
+
+abbrev pub suits : Tree → List Tree → Offer
+suits gives takes = record { found = []; gives = gives; takes = takes }
+
+abbrev pub unsure : Code → Tree → Offer
+unsure code gives = record { found = code ∷ []; gives = gives; takes = [] }
+
+abbrev pub suits_not : Code → Offer
+suits_not code = record { found = code ∷ []; gives = Any; takes = [] }
+
+abbrev pub found_of : List Offer → List Code
+found_of offers = flat_map (λ o. o.found) offers
+
+-- an operation on a union must suit each member; its type is the join of the results, of Never it is Never
+abbrev pub offers_mark : Bases → List Offer → Mark
+offers_mark bases offers = record {
+  type = if has_error (found_of offers) then Any else join_all bases (map (λ o. o.gives) offers);
+  codes = found_of offers;
+}
+
+-- in an operation in error no operand flows
+abbrev pub operand_types : List Offer → List Tree
+operand_types offers = if has_error (found_of offers) then [] else flat_map (λ o. o.takes) offers
+
+-- ---- e[i]
+
+-- a tuple's item at an int literal below its length, else the join of all
+abbrev pub tuple_item : Bases → Option ℕ → Trees → Tree
+tuple_item bases None ts = join_all bases (listed ts)
+tuple_item bases (Some i) ts = unwrap_or (slice_get (listed ts) i) (join_all bases (listed ts))
+
+-- a list, a text and a tuple take an int; a dict takes a key and gives its value
+abbrev pub index_member : Bases → Option ℕ → Tree → Offer
+index_member bases literal (ListOf t) = suits t (Int ∷ [])
+index_member bases literal Str = suits Str (Int ∷ [])
+index_member bases literal (TupleOf ts) = suits (tuple_item bases literal ts) (Int ∷ [])
+index_member bases literal (DictOf k v) = suits v (k ∷ [])
+index_member bases literal Any = unsure A3 Any
+index_member bases literal _ = suits_not E16
+
+-- ---- e.f
+
+abbrev pub attribute_found : Option Parameter → Option Method → Offer
+attribute_found (Some f) m = suits f.type []
+attribute_found None (Some m) = suits_not E20
+attribute_found None None = suits_not E15
+
+-- a field gives its type; on an instance a method's name is no value
+abbrev pub attribute_member : List facts.Class → List ℕ → Tree → Offer
+attribute_member classes name (Class c) = attribute_found (field_of (class_at classes c).fields name) (method_of (class_at classes c).methods name)
+attribute_member classes name Any = unsure A4 Any
+attribute_member classes name _ = suits_not E15
+
+-- ---- e.f = v, e[i] = v
+
+abbrev pub store_found : Option Parameter → Option Method → Offer
+store_found (Some f) m = suits f.type (f.type ∷ [])
+store_found None (Some m) = suits_not E23
+store_found None None = suits_not E15
+
+abbrev pub store_attribute_member : List facts.Class → List ℕ → Tree → Offer
+store_attribute_member classes name (Class c) = store_found (field_of (class_at classes c).fields name) (method_of (class_at classes c).methods name)
+store_attribute_member classes name Any = unsure A4 Any
+store_attribute_member classes name _ = suits_not E15
+
+-- a list takes an int and its item, a dict its key and its value: what the index flows into, and what the value does
+abbrev pub store_index_member : Tree → Offer
+store_index_member (ListOf t) = suits t (Int ∷ [])
+store_index_member (DictOf k v) = suits v (k ∷ [])
+store_index_member Any = unsure A3 Any
+store_index_member _ = suits_not E17
+
+-- what a stored value flows into: what each member gives, where nothing is in error, and nothing on Any
+abbrev pub stored_type : Offer → List Tree
+stored_type o = if list_any (λ c. true) o.found then [] else o.gives ∷ []
+
+abbrev pub stored_types : List Offer → List Tree
+stored_types offers = if has_error (found_of offers) then [] else flat_map stored_type offers
+
+-- what is expected of an operand or a stored value: its type, where there is one member
+abbrev pub only_type : List Offer → List Tree → Option Tree
+only_type (o ∷ []) (t ∷ []) = Some t
+only_type _ _ = None
+
+-- ---- for x in e
+
+-- a list gives its items, a dict its keys, a text texts, a tuple the join of its items
+abbrev pub iterate_member : Bases → Tree → Offer
+iterate_member bases (ListOf t) = suits t []
+iterate_member bases (DictOf k v) = suits k []
+iterate_member bases Str = suits Str []
+iterate_member bases (TupleOf ts) = suits (join_all bases (listed ts)) []
+iterate_member bases Any = unsure A5 Any
+iterate_member bases _ = suits_not E18
+
+-- ---- a in e
+
+-- the keys of a dict are looked for as int, str or None; in a text a text is
+abbrev pub contain_member : Tree → Offer
+contain_member Str = suits Bool (Str ∷ [])
+contain_member (DictOf k v) = suits Bool (Union Int (Union Str NoneType) ∷ [])
+contain_member (ListOf t) = suits Bool []
+contain_member (TupleOf ts) = suits Bool []
+contain_member Any = unsure A2 Bool
+contain_member _ = suits_not E19
+
+-- ---- len(e)
+
+abbrev pub length_member : Tree → Offer
+length_member Str = suits Int []
+length_member (ListOf t) = suits Int []
+length_member (DictOf k v) = suits Int []
+length_member (TupleOf ts) = suits Int []
+length_member Any = unsure A6 Int
+length_member _ = suits_not E27
+
+-- ---- operators
+
+-- bool counts as int
+abbrev pub negative_member : Tree → Offer
+negative_member Int = suits Int []
+negative_member Bool = suits Int []
+negative_member Any = unsure A2 Any
+negative_member _ = suits_not E13
+
+-- what an operator may take: a whole number, a text
+pub data Kind : Type 0 where
+  whole_kind text_kind : Kind
+
+abbrev pub kind_of : Tree → Option Kind
+kind_of Int = Some whole_kind
+kind_of Bool = Some whole_kind
+kind_of Str = Some text_kind
+kind_of _ = None
+
+-- `+` takes int and str, the others take int
+abbrev pub takes_kind : BinaryOperator → Kind → Test
+takes_kind operator whole_kind = true
+takes_kind Add text_kind = true
+takes_kind operator text_kind = false
+
+abbrev pub kind_type : Kind → Tree
+kind_type whole_kind = Int
+kind_type text_kind = Str
+
+-- a type has a row on its side
+abbrev pub kind_taken : (Kind → Test) → Option Kind → Test
+kind_taken takes None = false
+kind_taken takes (Some k) = takes k
+
+abbrev pub has_side : (Kind → Test) → Tree → Test
+has_side takes m = kind_taken takes (kind_of m)
+
+-- what the row of two kinds gives
+abbrev pub row_of_kinds : (Kind → Test) → (Kind → Tree) → Option Kind → Option Kind → Option Tree
+row_of_kinds takes gives (Some whole_kind) (Some whole_kind) = if takes whole_kind then Some (gives whole_kind) else None
+row_of_kinds takes gives (Some text_kind) (Some text_kind) = if takes text_kind then Some (gives text_kind) else None
+row_of_kinds takes gives _ _ = None
+
+-- what an operator comes to on a pair of members
+abbrev pub pair_found : Option Tree → Offer
+pair_found (Some t) = suits t []
+pair_found None = suits_not E13
+
+abbrev pub pair_offers : (Kind → Test) → (Kind → Tree) → List Tree → List Tree → List Offer
+pair_offers takes gives ms ns = flat_map (λ m. map (λ n. pair_found (row_of_kinds takes gives (kind_of m) (kind_of n))) ns) ms
+
+abbrev pub is_never : Tree → Test
+is_never Never = true
+is_never _ = false
+
+abbrev pub is_any : Tree → Test
+is_any Any = true
+is_any _ = false
+
+-- an operand is Any, and each member of the other is Any too or has a row on its side
+abbrev pub is_dynamic : (Kind → Test) → Tree → Tree → Test
+is_dynamic takes s t =
+    (is_any s && list_all (λ n. is_any n || has_side takes n) (members t)) || (is_any t && list_all (λ m. is_any m || has_side takes m) (members s))
+
+-- each pair must have a row; on Never it is Never; on Any a dynamic place
+abbrev pub pairs_mark : Bases → (Kind → Test) → (Kind → Tree) → (dynamic : Tree) → Tree → Tree → Mark
+pairs_mark bases takes gives dynamic s t =
+    if is_never s || is_never t
+    then clean Never
+    else (if is_dynamic takes s t
+    then record { type = dynamic; codes = A2 ∷ [] }
+    else (if is_any s || is_any t then in_error E13 else offers_mark bases (pair_offers takes gives (members s) (members t))))
+
+-- `+ - * // %`
+abbrev pub binary_mark : Bases → BinaryOperator → Tree → Tree → Mark
+binary_mark bases operator s t = pairs_mark bases (takes_kind operator) kind_type Any s t
+
+-- `< <= > >=`
+abbrev pub order_mark : Bases → Tree → Tree → Mark
+order_mark bases s t = pairs_mark bases (λ k. true) (λ k. Bool) Bool s t
+
+-- ---- displays
+
+-- a display over the limit of nodes is in error
+abbrev pub display_mark : Tree → Mark
+display_mark t = if nat_le (nodes t) limit then clean t else in_error E26

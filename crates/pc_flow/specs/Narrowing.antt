@@ -1,0 +1,130 @@
+-- What a condition tells of a local where it is true, and where it is false.
+-- Typing specification, "Type narrowing"; own rules of the profile.
+use Rattle.std.specs.Prelude.{ℕ, List, Bool as Test, true, false, ◌||◌, not, if◌then◌else◌, Option, Some, None, filter_map}
+use Rattle.pc_tree.specs.Tree.{Expr, Exprs, name, negation, is_none, is_not_none, conjunction, disjunction, call, no_exprs, more_exprs}
+use Rattle.pc_scope.specs.declared.resolution.Builtin.TheVariants as builtin
+use Rattle.pc_scope.specs.declared.resolution.Res.{Res}
+use Rattle.pc_scope.specs.declared.resolution.Res.TheVariants as res
+use Rattle.pc_scope.specs.Expressions.{is_instance_test}
+use Rattle.pc_types.specs.Tree.{Tree, Any, Object, Int, Bool, Str, NoneType, Class, ListOf, Union}
+use Rattle.pc_types.specs.Below.{Bases}
+use Rattle.pc_types.specs.Shape.{members, union}
+use Rattle.pc_types.specs.Join.{same_tree, absorbs}
+use Rattle.pc_flow.specs.Environment.{Env, current, assign, join_env}
+
+-- what a local may be tested for: None; an instance of a class, of int, str or bool; a list
+pub data Tested : Type 0 where
+  for_none : Tested
+  for_type : (type : Tree) → Tested
+  for_list : Tested
+
+-- a member is the type tested for, or below it
+abbrev pub is_within : Bases → Tree → Tree → Test
+is_within bases c m = same_tree m c || absorbs bases c m
+
+-- of a member: itself where it is below the type tested for, that type where the member is above it
+abbrev pub member_within : Bases → Tree → Tree → Option Tree
+member_within bases c m = if is_within bases c m then Some m else (if absorbs bases m c then Some c else None)
+
+-- what is left of each member where a test is true; Any and object become the type tested for.
+-- (A union is no member of a type in normal form, and stays.)
+abbrev pub member_passing : Bases → Tested → Tree → Option Tree
+member_passing bases for_none Any = Some NoneType
+member_passing bases for_none Object = Some NoneType
+member_passing bases for_none NoneType = Some NoneType
+member_passing bases (for_type c) Any = Some c
+member_passing bases (for_type c) Object = Some c
+member_passing bases for_list Any = Some (ListOf Any)
+member_passing bases for_list Object = Some (ListOf Any)
+member_passing bases for_list (ListOf t) = Some (ListOf t)
+member_passing bases test (Union a b) = Some (Union a b)
+member_passing bases (for_type c) m = member_within bases c m
+member_passing bases _ m = None
+
+-- what is left of each member where a test is false; Any and object stay
+abbrev pub member_failing : Bases → Tested → Tree → Option Tree
+member_failing bases for_none NoneType = None
+member_failing bases for_list (ListOf t) = None
+member_failing bases (for_type c) Any = Some Any
+member_failing bases (for_type c) Object = Some Object
+member_failing bases (for_type c) (Union a b) = Some (Union a b)
+member_failing bases (for_type c) m = if is_within bases c m then None else Some m
+member_failing bases _ m = Some m
+
+-- a type where a test of it is true, and where it is false; where no member is left it is Never
+abbrev pub passing : Bases → Tested → Tree → Tree
+passing bases test t = union (filter_map (member_passing bases test) (members t))
+
+abbrev pub failing : Bases → Tested → Tree → Tree
+failing bases test t = union (filter_map (member_failing bases test) (members t))
+
+abbrev pub tested_as : Bases → (holds : Test) → Tested → Tree → Tree
+tested_as bases true test t = passing bases test t
+tested_as bases false test t = failing bases test t
+
+-- a local as a test leaves it; one that is not assigned stays so
+abbrev pub narrow_current : Bases → (holds : Test) → Tested → ℕ → Env → Option Tree → Env
+narrow_current bases holds test x env None = env
+narrow_current bases holds test x env (Some t) = assign env x (tested_as bases holds test t)
+
+abbrev pub narrow_local : Bases → (holds : Test) → Tested → Option ℕ → Env → Env
+narrow_local bases holds test None env = env
+narrow_local bases holds test (Some x) env = narrow_current bases holds test x env (current env x)
+
+-- the local that an expression is
+abbrev pub as_local : Res → Option ℕ
+as_local (res.Local x) = Some x
+as_local _ = None
+
+abbrev pub local_named : (List ℕ → Res) → Expr → Option ℕ
+local_named resolve (name n) = as_local (resolve n.text)
+local_named resolve _ = None
+
+-- what the second argument of `isinstance` tests for: a class, `int`, `str`, `bool`, `list`
+abbrev pub test_named : Res → Option Tested
+test_named (res.Class c) = Some (for_type (Class c))
+test_named (res.Builtin builtin.Int) = Some (for_type Int)
+test_named (res.Builtin builtin.Str) = Some (for_type Str)
+test_named (res.Builtin builtin.Bool) = Some (for_type Bool)
+test_named (res.Builtin builtin.List) = Some for_list
+test_named _ = None
+
+abbrev pub test_of : (List ℕ → Res) → Expr → Option Tested
+test_of resolve (name n) = test_named (resolve n.text)
+test_of resolve _ = None
+
+-- the two arguments of a test of an instance
+abbrev pub first_argument : Exprs → Option Expr
+first_argument no_exprs = None
+first_argument (more_exprs e rest) = Some e
+
+abbrev pub second_argument : Exprs → Option Expr
+second_argument no_exprs = None
+second_argument (more_exprs e rest) = first_argument rest
+
+abbrev pub local_of_argument : (List ℕ → Res) → Option Expr → Option ℕ
+local_of_argument resolve None = None
+local_of_argument resolve (Some e) = local_named resolve e
+
+abbrev pub test_of_argument : (List ℕ → Res) → Option Expr → Option Tested
+test_of_argument resolve None = None
+test_of_argument resolve (Some e) = test_of resolve e
+
+module _ (bases : Bases) (declared : List Tree) (resolve : List ℕ → Res) where
+  abbrev pub narrow_instance : (holds : Test) → (is_test : Test) → Option ℕ → Option Tested → Env → Env
+  narrow_instance holds false x test env = env
+  narrow_instance holds true x None env = env
+  narrow_instance holds true x (Some test) env = narrow_local bases holds test x env
+
+  -- an environment where a condition is true, and where it is false
+  abbrev pub narrow : (holds : Test) → Expr → Env → Env
+  narrow holds (is_none p e) env = narrow_local bases holds for_none (local_named resolve e) env
+  narrow holds (is_not_none p e) env = narrow_local bases (not holds) for_none (local_named resolve e) env
+  narrow holds (negation p e) env = narrow (not holds) e env
+  narrow true (conjunction p a b) env = narrow true b (narrow true a env)
+  narrow false (conjunction p a b) env = join_env bases declared (narrow false a env) (narrow false b (narrow true a env))
+  narrow true (disjunction p a b) env = join_env bases declared (narrow true a env) (narrow true b (narrow false a env))
+  narrow false (disjunction p a b) env = narrow false b (narrow false a env)
+  narrow holds (call p callee arguments keywords) env =
+      narrow_instance holds (is_instance_test callee arguments keywords) (local_of_argument resolve (first_argument arguments)) (test_of_argument resolve (second_argument arguments)) env
+  narrow holds _ env = env

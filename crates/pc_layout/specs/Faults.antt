@@ -1,0 +1,91 @@
+-- The refusals of the layout, each as a condition on a line and on the lines before it, the latest first.
+-- Python Language Reference 3.12, 2.1.8 "Indentation"; the limit of 50 and N1 to N5 are own rules of the profile.
+use Rattle.std.specs.Prelude.{◌≡◌, ◌≢◌, ◌⊎◌, ℕ, ◌<◌, ◌≤◌, min, IsTrue, List, [], ◌∷◌, length, All, Contains}
+use Rattle.pc_source.specs.declared.fault.Refusal.{Refusal}
+use Rattle.pc_source.specs.declared.fault.RefusalCode.{RefusalCode}
+use Rattle.pc_source.specs.declared.fault.RefusalCode.TheVariants.{I1, I2, I3, N1, N2, N3, N4, N5}
+use Rattle.pc_token.specs.declared.token.Keyword.{Keyword}
+use Rattle.pc_token.specs.declared.token.Keyword.TheVariants.{Def, Class}
+use Rattle.pc_token.specs.declared.token.Operator.{Operator}
+use Rattle.pc_token.specs.declared.token.Operator.TheVariants.{At}
+use Rattle.pc_token.specs.declared.token.TokenKind.TheVariants as k
+use Rattle.pc_token.specs.Lexeme.{Lexeme, LogicalLine}
+use Rattle.pc_layout.specs.Spelling.{first_byte, BeginsWith, EndsInColon, IsSpelled, IsHeader, dataclass_decorator, excludes_keyword, excludes_operator}
+
+-- a suite of this column is open after these lines: going back, the first line that is not deeper has the column
+abbrev pub IsOpen : ℕ → List LogicalLine → Type 0
+IsOpen column [] = ⊥
+IsOpen column (l ∷ ls) = (l.column ≡ column) ⊎ ((column < l.column) × IsOpen column ls)
+
+-- a line of this column would stand inside the suite of a line with P: one that is less deep than the column and than each line since
+abbrev pub IsInside : (LogicalLine → Type 0) → ℕ → List LogicalLine → Type 0
+IsInside P column [] = ⊥
+IsInside P column (l ∷ ls) = ((l.column < column) × P l) ⊎ IsInside P (min column l.column) ls
+
+-- a line returns to a column that no open suite has
+abbrev pub ReturnsNowhere : LogicalLine → List LogicalLine → Type 0
+ReturnsNowhere l [] = ⊥
+ReturnsNowhere l (before ∷ ls) = (l.column < before.column) × (¬ (IsOpen l.column (before ∷ ls)))
+
+-- the first line is not at column 0, or a line is deeper than the one before, which does not end with `:`
+abbrev pub IsMisplaced : LogicalLine → List LogicalLine → Type 0
+IsMisplaced l [] = l.column ≢ 0
+IsMisplaced l (before ∷ ls) = (before.column < l.column) × (¬ (EndsInColon before))
+
+-- columns from the greatest to the least, all over 0
+abbrev pub IsFalling : List ℕ → Type 0
+IsFalling [] = Unit {0}
+IsFalling (c ∷ []) = 0 < c
+IsFalling (c ∷ d ∷ cs) = (d < c) × IsFalling (d ∷ cs)
+
+-- more suites deeper than column 0 than this are open after these lines
+abbrev pub AreOpen : ℕ → List LogicalLine → Type 0
+AreOpen limit ls = (columns : List ℕ) × (limit < length columns) × IsFalling columns × All (λ c. IsOpen c ls) columns
+
+-- how many suites deeper than column 0 may be open inside each other
+abbrev pub deepest : ℕ
+deepest = 50
+
+-- a line has a token that is an excluded keyword, and is no import header
+abbrev pub HasExcludedKeyword : LogicalLine → ℕ → Type 0
+HasExcludedKeyword l byte =
+    (x : Lexeme) × (word : Keyword) × Contains l.lexemes x × (x.kind ≡ k.Keyword word) × IsTrue (excludes_keyword word) × (¬ (IsHeader l)) × (byte ≡ x.place.start)
+
+-- a line has a token that is an excluded operator
+abbrev pub HasExcludedOperator : LogicalLine → ℕ → Type 0
+HasExcludedOperator l byte =
+    (x : Lexeme) × (operator : Operator) × Contains l.lexemes x × (x.kind ≡ k.Operator operator) × IsTrue (excludes_operator operator) × (byte ≡ x.place.start)
+
+-- what is wrong with a line after these lines, and at which byte; `len` is the text's length
+abbrev pub IsFault : ℕ → List LogicalLine → LogicalLine → RefusalCode → ℕ → Type 0
+IsFault len before l I1 byte = ReturnsNowhere l before × (byte ≡ first_byte len l.lexemes)
+IsFault len before l I2 byte = IsMisplaced l before × (byte ≡ first_byte len l.lexemes)
+IsFault len before l I3 byte = AreOpen deepest (l ∷ before) × (byte ≡ first_byte len l.lexemes)
+IsFault len before l N1 byte = HasExcludedKeyword l byte
+IsFault len before l N2 byte = HasExcludedOperator l byte
+IsFault len before l N3 byte = BeginsWith (k.Keyword Def) l × IsInside (BeginsWith (k.Keyword Def)) l.column before × (byte ≡ first_byte len l.lexemes)
+IsFault len before l N4 byte = BeginsWith (k.Keyword Class) l × (0 < l.column) × (byte ≡ first_byte len l.lexemes)
+IsFault len before l N5 byte = BeginsWith (k.Operator At) l × (¬ (IsSpelled dataclass_decorator l)) × (byte ≡ first_byte len l.lexemes)
+IsFault len before l _ byte = ⊥
+
+-- one of these lines has the fault, after the lines before
+abbrev pub HasFault : ℕ → List LogicalLine → List LogicalLine → RefusalCode → ℕ → Type 0
+HasFault len before [] code byte = ⊥
+HasFault len before (l ∷ ls) code byte = IsFault len before l code byte ⊎ HasFault len (l ∷ before) ls code byte
+
+-- the order in which codes count at one byte
+abbrev pub rank : RefusalCode → ℕ
+rank I1 = 1
+rank I2 = 2
+rank I3 = 3
+rank N1 = 4
+rank N2 = 5
+rank N3 = 6
+rank N4 = 7
+rank N5 = 8
+rank _ = 0
+
+-- the lines' refusal: a fault of theirs, and none stands at a lesser byte, or at that byte with a code that counts before
+pub record IsLayoutRefusal (len : ℕ) (ls : List LogicalLine) (refusal : Refusal) : Type 0 where
+  pub fault : HasFault len [] ls refusal.code refusal.byte
+  pub least : (code : RefusalCode) (byte : ℕ) → HasFault len [] ls code byte → (refusal.byte < byte) ⊎ ((refusal.byte ≡ byte) × (rank refusal.code ≤ rank code))

@@ -1,0 +1,63 @@
+-- A forest of suites written flat: a NEWLINE after each line, an INDENT before a deeper suite, a DEDENT after it, END last.
+-- Python Language Reference 3.12, 2.1.1 "Logical lines", 2.1.8 "Indentation"; the places are own rules of the profile.
+use Rattle.std.specs.Prelude.{ℕ, ◌+◌, ◌-◌, ◌&&◌, ◌==◌, nat_lt, if◌then◌else◌, List, [], ◌∷◌, ◌++◌, drop, length, slice_index, slice_range, position}
+use Rattle.std.specs.Option.{option_map_or}
+use Rattle.pc_source.specs.declared.place.Place.{Place}
+use Rattle.pc_token.specs.declared.token.TokenKind.{TokenKind}
+use Rattle.pc_token.specs.declared.token.TokenKind.TheVariants.{Newline, Indent, Dedent, End}
+use Rattle.pc_token.specs.Lexeme.{Lexeme, LogicalLine}
+use Rattle.pc_layout.specs.Spelling.{first_byte, last_byte}
+use Rattle.pc_layout.specs.Forest.{Suite, nothing, line, lines_of}
+
+-- the first line feed at or after a byte; the text's length where there is none
+abbrev pub line_feed_from : List ℕ → ℕ → ℕ
+line_feed_from text from = option_map_or (λ n. from + n) (position (λ b. b == 10) (drop from text)) (length text)
+
+-- from a line feed, or the carriage return before it, up to the line feed's end; empty at the text's length
+abbrev pub line_end_at : List ℕ → ℕ → ℕ → Place
+line_end_at text from feed = record {
+  start = if nat_lt feed (length text) && (nat_lt from feed && slice_index text (feed - 1) == 13) then feed - 1 else feed;
+  end = if nat_lt feed (length text) then feed + 1 else feed;
+}
+
+-- the end of the line that goes on at a byte
+abbrev pub line_end : List ℕ → ℕ → Place
+line_end text from = line_end_at text from (line_feed_from text from)
+
+-- a token of the layout, which has the text of its place
+abbrev pub sign : TokenKind → List ℕ → Place → Lexeme
+sign kind text place = record { kind = kind; place = place; text = slice_range text place.start place.end; form = slice_range text place.start place.end }
+
+-- a token of the layout that has no text
+abbrev pub mark : TokenKind → ℕ → Lexeme
+mark kind byte = record { kind = kind; place = record { start = byte; end = byte }; text = []; form = [] }
+
+-- the NEWLINE after these tokens
+abbrev pub newline : List ℕ → List Lexeme → Lexeme
+newline text xs = sign Newline text (line_end text (last_byte (length text) xs))
+
+-- a line and its end
+abbrev pub written_line : List ℕ → List Lexeme → List Lexeme
+written_line text xs = xs ++ newline text xs ∷ []
+
+-- the byte at which the first of these lines begins; another byte where there is none
+abbrev pub starts_at : List ℕ → ℕ → List LogicalLine → ℕ
+starts_at text byte [] = byte
+starts_at text byte (l ∷ ls) = first_byte (length text) l.lexemes
+
+-- a deeper suite that is written so, between its INDENT and its DEDENT at the next line; nothing where there is none
+abbrev pub enclosed : List ℕ → List LogicalLine → ℕ → List Lexeme → List Lexeme
+enclosed text [] next written = []
+enclosed text (l ∷ ls) next written = mark Indent (first_byte (length text) l.lexemes) ∷ (written ++ mark Dedent next ∷ [])
+
+-- a suite written flat, before a line that begins at the next byte
+abbrev pub written : List ℕ → Suite → ℕ → List Lexeme
+written text nothing next = []
+written text (line l deeper others) next =
+    written_line text l.lexemes
+    ++ (enclosed text (lines_of deeper) (starts_at text next (lines_of others)) (written text deeper (starts_at text next (lines_of others)))
+    ++ written text others next)
+
+-- the forest of the whole text, and END
+abbrev pub flat : List ℕ → Suite → List Lexeme
+flat text forest = written text forest (length text) ++ mark End (length text) ∷ []

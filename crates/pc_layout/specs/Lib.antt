@@ -1,0 +1,15 @@
+pub mod Spelling
+pub mod Forest
+pub mod Flat
+pub mod Faults
+pub mod Layouts
+pub mod Placing
+pub mod Stepping
+pub mod Opened
+pub mod Pending
+pub mod Giving
+pub mod TokGiving
+pub mod Answering
+pub mod Copying
+pub mod Beginning
+pub mod Laws

@@ -1,0 +1,94 @@
+-- The layout line by line: which suites are open, and what a line does to them.
+-- (The laws in proofs/ tie this to the forest of suites and to the refusals.)
+use Rattle.std.specs.Prelude.{ℕ, ◌-◌, Bool, true, false, ◌&&◌, ◌||◌, ◌==◌, nat_lt, if◌then◌else◌, List, [], ◌∷◌, length, Option, Some, None, Result, Ok, Err}
+use Rattle.std.specs.Str.{bytes_eq}
+use Rattle.std.specs.Cmp.Lexicographic.{pointwise}
+use Rattle.pc_source.specs.declared.fault.Refusal.{Refusal}
+use Rattle.pc_source.specs.declared.fault.RefusalCode.{RefusalCode}
+use Rattle.pc_source.specs.declared.fault.RefusalCode.TheVariants.{I1, I2, I3, N1, N2, N3, N4, N5}
+use Rattle.pc_token.specs.declared.token.Keyword.TheVariants.{Def, Class}
+use Rattle.pc_token.specs.declared.token.Operator.TheVariants.{At}
+use Rattle.pc_token.specs.declared.token.TokenKind.{TokenKind}
+use Rattle.pc_token.specs.declared.token.TokenKind.TheVariants as k
+use Rattle.pc_token.specs.Lexeme.{Lexeme}
+use Rattle.pc_layout.specs.Spelling.{first_byte, first_kind, forms, future_header, dataclass_header, any_header, dataclass_decorator, excludes_keyword, excludes_operator}
+use Rattle.pc_layout.specs.Faults.{deepest}
+use Rattle.pc_layout.specs.declared.levels.Level.{Level}
+
+-- the suites that are open, the innermost first, and what the last line lets come after it
+pub record Context : Type 0 where
+  pub levels : List Level
+  pub after_colon : Bool
+  pub after_def : Bool
+
+-- the column of the innermost open suite
+abbrev pub column_of : List Level → ℕ
+column_of [] = 0
+column_of (v ∷ vs) = v.column
+
+-- whether it lies inside the suite of a line that begins with `def`
+abbrev pub in_def_of : List Level → Bool
+in_def_of [] = false
+in_def_of (v ∷ vs) = v.in_def
+
+-- without the suites that are deeper than a column
+abbrev pub closing : ℕ → List Level → List Level
+closing c [] = []
+closing c (v ∷ vs) = if nat_lt c v.column then closing c vs else v ∷ vs
+
+-- the suites that are open at a line, and which signs stand before it
+pub record Placed : Type 0 where
+  pub levels : List Level
+  pub dedents : ℕ
+  pub indent : Bool
+
+-- a line of a column opens a suite
+abbrev pub opened : Context → ℕ → Result Placed RefusalCode
+opened x c = if x.after_colon
+    then (if nat_lt (length x.levels) deepest then Ok (record { levels = record { column = c; in_def = in_def_of x.levels || x.after_def } ∷ x.levels; dedents = 0; indent = true }) else Err I3)
+    else Err I2
+
+-- a line of a column closes suites, or none
+abbrev pub closed : Context → ℕ → Result Placed RefusalCode
+closed x c = if column_of (closing c x.levels) == c
+    then Ok (record { levels = closing c x.levels; dedents = length x.levels - length (closing c x.levels); indent = false })
+    else Err I1
+
+-- a line of a column opens a suite where it is deeper than the innermost, and else closes suites
+abbrev pub placed : Context → ℕ → Result Placed RefusalCode
+placed x c = if nat_lt (column_of x.levels) c then opened x c else closed x c
+
+-- the tokens are spelled so
+abbrev pub is_spelled : List Lexeme → List (List ℕ) → Bool
+is_spelled xs words = pointwise bytes_eq (forms xs) words
+
+-- they are one of the three import headers, at a column
+abbrev pub is_header : ℕ → List Lexeme → Bool
+is_header column xs = (column == 0) && (is_spelled xs future_header || (is_spelled xs dataclass_header || is_spelled xs any_header))
+
+-- what is wrong with how a line begins
+abbrev pub opening_fault : Bool → ℕ → List Lexeme → Option TokenKind → Option RefusalCode
+opening_fault in_def column xs (Some (k.Keyword Def)) = if in_def then Some N3 else None
+opening_fault in_def column xs (Some (k.Keyword Class)) = if nat_lt 0 column then Some N4 else None
+opening_fault in_def column xs (Some (k.Operator At)) = if is_spelled xs dataclass_decorator then None else Some N5
+opening_fault in_def column xs _ = None
+
+-- what is wrong with a token
+abbrev pub excluded : Bool → TokenKind → Option RefusalCode
+excluded header (k.Keyword word) = if excludes_keyword word then (if header then None else Some N1) else None
+excluded header (k.Operator operator) = if excludes_operator operator then Some N2 else None
+excluded header _ = None
+
+-- the refusal at a byte, or else the other
+abbrev pub refused_or : Option RefusalCode → ℕ → Option Refusal → Option Refusal
+refused_or None byte other = other
+refused_or (Some code) byte other = Some (record { code = code; byte = byte })
+
+-- the first token that the profile leaves out
+abbrev pub first_excluded : Bool → List Lexeme → Option Refusal
+first_excluded header [] = None
+first_excluded header (x ∷ xs) = refused_or (excluded header x.kind) x.place.start (first_excluded header xs)
+
+-- what is wrong with the words of a line
+abbrev pub word_fault : ℕ → Bool → ℕ → List Lexeme → Option Refusal
+word_fault len in_def column xs = refused_or (opening_fault in_def column xs (first_kind xs)) (first_byte len xs) (first_excluded (is_header column xs) xs)

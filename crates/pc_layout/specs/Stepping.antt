@@ -1,0 +1,89 @@
+-- The tokens that lines give, line by line.
+use Rattle.std.specs.Prelude.{ℕ, Bool, true, false, if◌then◌else◌, List, [], ◌∷◌, length, replicate, Option, Some, None, Result, Ok, Err}
+use Rattle.pc_source.specs.declared.fault.Refusal.{Refusal}
+use Rattle.pc_source.specs.declared.fault.RefusalCode.{RefusalCode}
+use Rattle.pc_source.specs.declared.fault.Fault.{Fault}
+use Rattle.pc_source.specs.declared.fault.Fault.TheVariants.{Refused}
+use Rattle.pc_token.specs.declared.token.Keyword.TheVariants.{Def}
+use Rattle.pc_token.specs.declared.token.Operator.TheVariants.{Colon}
+use Rattle.pc_token.specs.declared.token.TokenKind.{TokenKind}
+use Rattle.pc_token.specs.declared.token.TokenKind.TheVariants as k
+use Rattle.pc_token.specs.Lexeme.{Lexeme, LogicalLine}
+use Rattle.pc_layout.specs.Spelling.{first_byte, first_kind, last_kind}
+use Rattle.pc_layout.specs.Flat.{mark, newline}
+use Rattle.pc_layout.specs.Placing.{Context, Placed, placed, word_fault, in_def_of}
+
+-- it is `:`
+abbrev pub is_colon : Option TokenKind → Bool
+is_colon (Some (k.Operator Colon)) = true
+is_colon _ = false
+
+-- it is `def`
+abbrev pub is_def : Option TokenKind → Bool
+is_def (Some (k.Keyword Def)) = true
+is_def _ = false
+
+-- before the first line
+abbrev pub start : Context
+start = record { levels = []; after_colon = false; after_def = false }
+
+-- after a line that was placed so
+abbrev pub after : Placed → List Lexeme → Context
+after p xs = record { levels = p.levels; after_colon = is_colon (last_kind xs); after_def = is_def (first_kind xs) }
+
+-- these tokens come before the others
+abbrev pub give : List Lexeme → List (Result Lexeme Fault) → List (Result Lexeme Fault)
+give [] others = others
+give (x ∷ xs) others = Ok x ∷ give xs others
+
+-- an INDENT at a byte, or none
+abbrev pub indents : Bool → ℕ → List Lexeme
+indents b byte = if b then mark k.Indent byte ∷ [] else []
+
+-- so many DEDENTs at a byte
+abbrev pub dedents : ℕ → ℕ → List Lexeme
+dedents n byte = replicate n (mark k.Dedent byte)
+
+-- a line's tokens, its end, and what comes after it
+abbrev pub given_line : List Lexeme → Lexeme → List (Result Lexeme Fault) → List (Result Lexeme Fault)
+given_line xs end others = give xs (Ok end ∷ others)
+
+-- a line that was placed so, before what comes after it
+abbrev pub given : List ℕ → Placed → List Lexeme → List (Result Lexeme Fault) → List (Result Lexeme Fault)
+given text p xs others =
+    give (dedents p.dedents (first_byte (length text) xs)) (give (indents p.indent (first_byte (length text) xs)) (given_line xs (newline text xs) others))
+
+-- a refusal counts once no later line holds a fault
+abbrev pub settle : Refusal → List (Result LogicalLine Fault) → Fault
+settle r [] = Refused r
+settle r (Ok l ∷ ls) = settle r ls
+settle r (Err e ∷ ls) = e
+
+-- where a line stands, and what is wrong with its words there
+abbrev pub stepped : Option Refusal → Placed → Result Placed Refusal
+stepped None p = Ok p
+stepped (Some r) p = Err r
+
+-- where a line stands, if it stands anywhere, and what is wrong with it else
+abbrev pub worded : ℕ → ℕ → List Lexeme → Result Placed RefusalCode → Result Placed Refusal
+worded len column xs (Ok p) = stepped (word_fault len (in_def_of p.levels) column xs) p
+worded len column xs (Err code) = Err (record { code = code; byte = first_byte len xs })
+
+-- what a line does between two lines
+abbrev pub step : ℕ → Context → LogicalLine → Result Placed Refusal
+step len x l = worded len l.column l.lexemes (placed x l.column)
+
+-- at the end all suites are closed
+abbrev pub closed_all : ℕ → Context → List (Result Lexeme Fault)
+closed_all len x = give (dedents (length x.levels) len) (Ok (mark k.End len) ∷ [])
+
+-- the tokens of a line and of the lines after it, or the fault
+abbrev pub laid_by : Result Placed Refusal → List ℕ → List Lexeme → List (Result LogicalLine Fault) → (Context → List (Result Lexeme Fault)) → List (Result Lexeme Fault)
+laid_by (Ok p) text xs ls others = given text p xs (others (after p xs))
+laid_by (Err r) text xs ls others = Err (settle r ls) ∷ []
+
+-- the tokens of these lines
+unfoldable pub laid : List ℕ → Context → List (Result LogicalLine Fault) → List (Result Lexeme Fault)
+laid text x [] = closed_all (length text) x
+laid text x (Err e ∷ ls) = Err e ∷ []
+laid text x (Ok l ∷ ls) = laid_by (step (length text) x l) text l.lexemes ls (λ y. laid text y ls)

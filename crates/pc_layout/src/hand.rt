@@ -1,0 +1,171 @@
+//! The line at hand.
+ghost use Rattle.std.specs.Prelude.{◌≡◌, ℕ, ◌+◌, ◌-◌, ◌^◌, ◌<◌, ◌≤◌, ◌*◌, true, false, List, [], ◌∷◌, length, map, Ok, Err, MatchResult, OnOk};
+ghost use Rattle.pc_token.specs.Lexeme.{lexeme_of, line_of};
+ghost use Rattle.pc_layout.specs.Stepping.{settle, start, laid};
+ghost use Rattle.pc_layout.specs.Opened.{context_of, line_at, StepsTo};
+
+use crate::levels::{Levels, Signs};
+use crate::line::{begins_with_def, ends_in_colon, first_byte, last_byte, word_fault};
+use crate::sign::{LineEnd, line_end, mark};
+use pc_source::{Place, Refusal, RefusalCode, Source};
+use pc_token::{Line, Tok, Token, TokenKind};
+use std::alloc::Global;
+use std::vec::IntoIter;
+
+/// What comes next.
+#[derive(Clone, Copy, Debug)]
+pub enum Due {
+    /// The next line is to be asked for.
+    Lines,
+    /// What is left of the line at hand: its DEDENTs, its INDENT, its tokens, its NEWLINE.
+    Line,
+    /// The DEDENTs after the last line, and END.
+    End,
+    Nothing,
+}
+
+/// The line at hand, and the suites that are open at it.
+#[derive(Drop)]
+pub struct Hand<'a> {
+    text: &'a str,
+    levels: Levels,
+    /// The byte at which the DEDENTs and the INDENT stand.
+    mark: usize,
+    dedents: usize,
+    indent: bool,
+    tokens: IntoIter<Tok<'a>>,
+    end: LineEnd<'a>,
+    pub due: Due,
+}
+
+/// A refusal at a byte.
+fn refusal(code: RefusalCode, byte: usize) -> Refusal
+    ensures { result ≡ record { code = code; byte = byte } }
+{
+    Refusal { code, byte }
+}
+
+/// Where a line stands among the suites, or what is wrong with it.
+fn step(
+    levels: &mut Levels,
+    len: usize,
+    column: usize,
+    tokens: &[Tok<'_>],
+) -> Result<Signs, Refusal>
+    ensures { StepsTo len (context_of levels.old) (line_at column (map lexeme_of tokens.now)) result (context_of levels.new) }
+{
+    match levels.place(column) {
+        Err(code) => Err(refusal(code, first_byte(len, tokens))),
+        Ok(signs) => match word_fault(len, levels.in_def(), column, tokens) {
+            Some(refusal) => Err(refusal),
+            None => {
+                levels.note(ends_in_colon(tokens), begins_with_def(tokens));
+                Ok(signs)
+            }
+        },
+    }
+}
+
+impl<'a> Hand<'a> {
+    ghost use Rattle.pc_layout.specs.Pending.{pending, pending_by, has_token, asks, at_hand};
+
+    /// No line came yet.
+    pub fn new(alloc: Global, source: &'a Source) -> Hand<'a>
+        ensures pending { (ls : List _) → pending result ls ≡ laid source.now start ls }
+        ensures due { result.due ≡ Due.Lines }
+    {
+        let text = source.text();
+        Hand {
+            text,
+            levels: Levels::new(),
+            mark: 0,
+            dedents: 0,
+            indent: false,
+            tokens: Vec::new(alloc).into_iter(),
+            end: line_end(text, 0),
+            due: Due::Lines,
+        }
+    }
+
+    /// Takes a line in hand, or refuses it.
+    pub fn begin(&mut self, line: Line<'a>) -> Result<(), Refusal>
+        requires { self.old.due ≡ Due.Lines }
+        ensures gives { MatchResult result
+            (λ _. (ls : List _) → pending self.old (Ok (line_of line.entry) ∷ ls) ≡ pending self.new ls)
+            (λ r. (ls : List _) → pending self.old (Ok (line_of line.entry) ∷ ls) ≡ Err (settle r ls) ∷ []) }
+        ensures due { OnOk result (self.new.due ≡ Due.Line) }
+        ensures count { OnOk result (at_hand self.new < 2 ^ 65 + 3) }
+    {
+        let Line { column, tokens } = line;
+        let len = self.text.len();
+        let signs = match step(&mut self.levels, len, column, tokens.as_slice()) {
+            Ok(signs) => signs,
+            Err(refusal) => return Err(refusal),
+        };
+        self.mark = first_byte(len, tokens.as_slice());
+        self.dedents = signs.dedents;
+        self.indent = signs.indent;
+        self.end = line_end(self.text, last_byte(len, tokens.as_slice()));
+        self.tokens = tokens.into_iter();
+        self.due = Due::Line;
+        Ok(())
+    }
+
+    /// No line comes any more.
+    pub fn finish(&mut self)
+        requires { self.old.due ≡ Due.Lines }
+        ensures gives { pending self.old [] ≡ pending self.new [] }
+        ensures due { self.new.due ≡ Due.End }
+        ensures count { at_hand self.new < 2 ^ 65 + 3 }
+    {
+        self.mark = self.text.len();
+        self.dedents = self.levels.len();
+        self.due = Due::End;
+    }
+
+    /// The next token of the line at hand, or its end.
+    fn take_of_line(&mut self) -> Tok<'a>
+        requires due { self.old.due ≡ Due.Line }
+        requires dedents { self.old.dedents ≡ 0 }
+        ensures gives { (ls : List _) → pending self.old ls ≡ Ok (lexeme_of result) ∷ pending self.new ls }
+        ensures fewer { at_hand self.new < at_hand self.old }
+        ensures asks { asks self.new.due ≡ true }
+    {
+        if self.indent {
+            self.indent = false;
+            return mark(TokenKind::Indent, self.mark);
+        }
+        match self.tokens.next() {
+            Some(token) => token,
+            None => {
+                self.due = Due::Lines;
+                Token {
+                    kind: TokenKind::Newline,
+                    place: self.end.place,
+                    text: self.end.text,
+                    form: None,
+                }
+            }
+        }
+    }
+
+    /// The next token at hand.
+    pub fn take(&mut self) -> Tok<'a>
+        requires { has_token self.old.due ≡ true }
+        ensures gives { (ls : List _) → pending self.old ls ≡ Ok (lexeme_of result) ∷ pending self.new ls }
+        ensures fewer { at_hand self.new < at_hand self.old }
+        ensures asks { asks self.new.due ≡ asks self.old.due }
+    {
+        if self.dedents > 0 {
+            self.dedents -= 1;
+            return mark(TokenKind::Dedent, self.mark);
+        }
+        match self.due {
+            Due::End => {
+                self.due = Due::Nothing;
+                mark(TokenKind::End, self.text.len())
+            }
+            _ => self.take_of_line(),
+        }
+    }
+}

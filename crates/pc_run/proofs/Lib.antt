@@ -1,0 +1,5 @@
+pub mod Expressions
+pub mod Fits
+pub mod Modules
+pub mod Rows
+pub mod Statements

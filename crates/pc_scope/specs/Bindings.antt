@@ -1,0 +1,71 @@
+-- The positions at which a module, a function and a class bind names.
+-- Language Reference 3.12, 4.2.1 "Binding of names".
+use Rattle.std.specs.Prelude.{ℕ, suc, List, [], ◌∷◌, ◌++◌, map, Option, Some, None, filter_map}
+use Rattle.pc_tree.specs.Tree.{Name, Param, FuncDef, Field, Member, field_member, method_member, ClassDef, Constant, Item, constant_item, class_item, def_item, Module}
+use Rattle.pc_scope.specs.declared.resolution.Owner.{Owner}
+use Rattle.pc_scope.specs.declared.resolution.Owner.TheVariants as owners
+
+-- the texts of names
+abbrev pub texts : List Name → List (List ℕ)
+texts names = map (λ n. n.text) names
+
+-- the names of parameters
+abbrev pub param_names : List Param → List Name
+param_names params = map (λ p. p.name) params
+
+-- the constants, classes and functions of a module, the methods of a class, each in text order
+abbrev pub as_constant : Item → Option Constant
+as_constant (constant_item p c) = Some c
+as_constant (class_item p c) = None
+as_constant (def_item p f) = None
+
+abbrev pub as_class : Item → Option ClassDef
+as_class (constant_item p c) = None
+as_class (class_item p c) = Some c
+as_class (def_item p f) = None
+
+abbrev pub as_function : Item → Option FuncDef
+as_function (constant_item p c) = None
+as_function (class_item p c) = None
+as_function (def_item p f) = Some f
+
+abbrev pub as_method : Member → Option FuncDef
+as_method (field_member f) = None
+as_method (method_member f) = Some f
+
+abbrev pub as_field : Member → Option Field
+as_field (field_member f) = Some f
+as_field (method_member f) = None
+
+abbrev pub constants_in : List Item → List Constant
+constants_in items = filter_map as_constant items
+
+abbrev pub classes_in : List Item → List ClassDef
+classes_in items = filter_map as_class items
+
+abbrev pub functions_in : List Item → List FuncDef
+functions_in items = filter_map as_function items
+
+abbrev pub methods_in : List Member → List FuncDef
+methods_in members = filter_map as_method members
+
+-- a function of the module or a method, with what it is
+pub record Body : Type 0 where
+  pub owner : Owner
+  pub function : FuncDef
+
+abbrev pub function_bodies : ℕ → List FuncDef → List Body
+function_bodies i [] = []
+function_bodies i (f ∷ rest) = record { owner = owners.Func i; function = f } ∷ function_bodies (suc i) rest
+
+abbrev pub method_bodies : ℕ → ℕ → List FuncDef → List Body
+method_bodies c i [] = []
+method_bodies c i (f ∷ rest) = record { owner = owners.Method c i; function = f } ∷ method_bodies c (suc i) rest
+
+abbrev pub class_bodies : ℕ → List ClassDef → List Body
+class_bodies c [] = []
+class_bodies c (class ∷ rest) = method_bodies c 0 (methods_in class.members) ++ class_bodies (suc c) rest
+
+-- the functions and methods of a module
+abbrev pub bodies : Module → List Body
+bodies m = function_bodies 0 (functions_in m.items) ++ class_bodies 0 (classes_in m.items)

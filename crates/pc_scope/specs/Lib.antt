@@ -1,0 +1,6 @@
+pub mod Bindings
+pub mod Expressions
+pub mod Findings
+pub mod Reach
+pub mod Reserved
+pub mod Resolution

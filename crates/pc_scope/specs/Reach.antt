@@ -1,0 +1,67 @@
+-- Which statements can complete, and which no run reaches.
+-- Own rule of the profile.
+use Rattle.std.specs.Prelude.{List, [], ◌∷◌, ◌++◌, Bool, true, false, ◌&&◌, ◌||◌, if◌then◌else◌}
+use Rattle.pc_source.specs.declared.place.Place.{Place}
+use Rattle.pc_tree.specs.Tree.{Stmt, Stmts, Branches, pass, breaks, continues, returns, asserts, annotated, assigns, evaluates, while_loop, for_loop, conditional, no_stmts, more_stmts, no_branches, more_branches}
+
+-- the place of a statement's first token
+abbrev pub first_of : Stmt → Place
+first_of (pass p) = p
+first_of (breaks p) = p
+first_of (continues p) = p
+first_of (returns p value) = p
+first_of (asserts p condition message) = p
+first_of (annotated p n annotation value) = p
+first_of (assigns p target value) = p
+first_of (evaluates p value) = p
+first_of (while_loop p condition body) = p
+first_of (for_loop p n iterable body) = p
+first_of (conditional p arms otherwise) = p
+
+abbrev pub is_empty : Stmts → Bool
+is_empty no_stmts = true
+is_empty (more_stmts s rest) = false
+
+-- all but `return`, `break`, `continue`, and an `if` with `else` none of whose branches can, can complete
+abbrev mutual
+  pub completes : Stmt → Bool
+  completes (pass p) = true
+  completes (breaks p) = false
+  completes (continues p) = false
+  completes (returns p value) = false
+  completes (asserts p condition message) = true
+  completes (annotated p n annotation value) = true
+  completes (assigns p target value) = true
+  completes (evaluates p value) = true
+  completes (while_loop p condition body) = true
+  completes (for_loop p n iterable body) = true
+  completes (conditional p branches otherwise) = is_empty otherwise || (some_completes branches || completes_all otherwise)
+
+  pub completes_all : Stmts → Bool
+  completes_all no_stmts = true
+  completes_all (more_stmts s rest) = completes s && completes_all rest
+
+  pub some_completes : Branches → Bool
+  some_completes no_branches = false
+  some_completes (more_branches condition body rest) = completes_all body || some_completes rest
+
+-- the first statement of a suite, if it has one
+abbrev pub first_places : Stmts → List Place
+first_places no_stmts = []
+first_places (more_stmts s rest) = first_of s ∷ []
+
+-- the first statements behind one that cannot complete, in the suites that are reached
+abbrev mutual
+  pub unreached_in : Stmt → List Place
+  unreached_in (while_loop p condition body) = unreached body
+  unreached_in (for_loop p n iterable body) = unreached body
+  unreached_in (conditional p branches otherwise) = unreached_in_branches branches ++ unreached otherwise
+  unreached_in _ = []
+
+  pub unreached : Stmts → List Place
+  unreached no_stmts = []
+  unreached (more_stmts s rest) = unreached_in s ++ (if completes s then unreached rest else first_places rest)
+
+  pub unreached_in_branches : Branches → List Place
+  unreached_in_branches no_branches = []
+  unreached_in_branches (more_branches condition body rest) = unreached body ++ unreached_in_branches rest

@@ -1,0 +1,39 @@
+-- The names that a module may not bind, and what each of them means.
+-- Own rule of the profile; Language Reference 3.12, 4.2.2 "Resolution of names".
+use Rattle.std.specs.Prelude.{ℕ, List, [], ◌∷◌, Bool, if◌then◌else◌, Option, Some, None, is_some, codes, bytes_eq, IsTrue}
+use Rattle.pc_scope.specs.declared.resolution.Builtin.{Builtin}
+use Rattle.pc_scope.specs.declared.resolution.Builtin.TheVariants as builtin
+
+-- the reserved names
+abbrev pub reserved : List (List ℕ × Builtin)
+reserved =
+    (codes "Any", builtin.Any)
+    ∷ (codes "annotations", builtin.Annotations)
+    ∷ (codes "bool", builtin.Bool)
+    ∷ (codes "dataclass", builtin.Dataclass)
+    ∷ (codes "dict", builtin.Dict)
+    ∷ (codes "int", builtin.Int)
+    ∷ (codes "isinstance", builtin.IsInstance)
+    ∷ (codes "len", builtin.Len)
+    ∷ (codes "list", builtin.List)
+    ∷ (codes "object", builtin.Object)
+    ∷ (codes "print", builtin.Print)
+    ∷ (codes "range", builtin.Range)
+    ∷ (codes "str", builtin.Str)
+    ∷ (codes "tuple", builtin.Tuple)
+    ∷ []
+
+-- what stands beside a text in a list
+abbrev pub beside : {A : Type 0} → List (List ℕ × A) → List ℕ → Option A
+beside [] text = None
+beside (entry ∷ rest) text = if bytes_eq entry.0 text then Some entry.1 else beside rest text
+
+-- the built-in that a name means, if it is reserved
+unfoldable pub builtin_of : List ℕ → Option Builtin
+builtin_of text = beside reserved text
+
+abbrev pub is_reserved : List ℕ → Bool
+is_reserved text = is_some (builtin_of text)
+
+abbrev pub IsReserved : List ℕ → Type 0
+IsReserved text = IsTrue (is_reserved text)

@@ -1,0 +1,111 @@
+-- A flow: where it is static the value is of the type; where it is dynamic its place is listed, and was evaluated.
+use Rattle.std.proofs.Common.{◌≡◌, List, [], ◌∷◌, refl, sym, subst, inl, inr, arith, Contains}
+use Rattle.std.specs.Prelude.{◌⊎◌, Bool as Test, true, false, Option, Some}
+use Rattle.std.proofs.lemmas.List.Elements.{Contains-append_left, Contains-append_right}
+use Rattle.pc_source.specs.declared.place.Place.{Place}
+use Rattle.pc_tree.specs.declared.code.Code.{Code}
+use Rattle.pc_tree.specs.declared.code.Code.TheVariants.{A1, E03, E12}
+use Rattle.pc_tree.specs.declared.code.Finding.{Finding}
+use Rattle.pc_tree.specs.Code.{finding, IsError}
+use Rattle.pc_tree.specs.Tree.{Expr, name, number, text, truth, nothing, tuple, list, dict, negative, negation, binary, compare, is_none, is_not_none, conjunction, disjunction, attribute, index, call}
+use Rattle.pc_scope.specs.Expressions.{place_of}
+use Rattle.pc_types.specs.Tree.{Tree}
+use Rattle.pc_flow.specs.Environment.{Env}
+use Rattle.pc_expr.specs.Context.{Context, Flows, static, dynamic, wrong, FlowUnless, FlowAt, is_late}
+use Rattle.pc_expr.specs.Labels.{Marks, mark_of, type_of, Finds, IsFoundAt, IsFlowAt}
+use Rattle.pc_expr.specs.Lawful.{Lawful}
+use Rattle.pc_value.specs.Value.{Value, Stop, Out, Gives, Stops, Raised, Other, Outside, Cut}
+use Rattle.pc_run.specs.State.{State}
+use Rattle.pc_run.specs.Free.{Step, ◌>>=◌, Emits}
+use Rattle.pc_sound.specs.Values.{HeapTyping, HasType}
+use Rattle.pc_sound.specs.Judgment.{HasListed, EndsWell, Around, Stands, Keeps, IsSafe}
+use Rattle.pc_sound.proofs.ValuesFlow.{of_static}
+use Rattle.pc_sound.proofs.Steps.{weaken}
+use Rattle.pc_sound.proofs.Expressions.{Covered, GoodEval}
+
+-- an end in a value only after the place was evaluated
+pub record Evaluates {A : Type 0} (p : Place) (m : Step A) : Type 0 where
+  pub place : (s s' : State) (events : List Place) (a : A) → m s events (Gives a) s' → Contains events p
+
+pub emit_evaluates : (p : Place) → Evaluates p (Emits p)
+emit_evaluates p = record { place = λ s s' events a h. subst (λ l. Contains l p) (sym h.event) (0, omega arith, refl) }
+
+not_stopped : {A : Type 0} {a : A} {stop : Stop} → Gives a ≡ Stops stop → ⊥
+not_stopped e = grind arith
+
+pub later_evaluates : {A B : Type 0} (p : Place) (m : Step A) (f : A → Step B) → ((a : A) → Evaluates p (f a)) → Evaluates p (m >>= f)
+later_evaluates p m f h = record {
+  place = λ s s' events b r. elim r [
+    | inl w ↦ subst (λ l. Contains l p) (sym w.both) (Contains-append_right w.early w.late p ((h w.value).place w.middle s' w.late b w.after))
+    | inr w ↦ absurd (not_stopped w.is)
+  ];
+}
+
+pub first_evaluates : {A B : Type 0} (p : Place) (m : Step A) (f : A → Step B) → Evaluates p m → Evaluates p (m >>= f)
+first_evaluates p m f h = record {
+  place = λ s s' events b r. elim r [
+    | inl w ↦ subst (λ l. Contains l p) (sym w.both) (Contains-append_left w.early w.late p (h.place s w.middle w.early w.value w.before))
+    | inr w ↦ absurd (not_stopped w.is)
+  ];
+}
+
+stopped : {A B : Type 0} (P : A → Type 0) (Q : B → Type 0) (stop : Stop) → EndsWell P (Stops stop) → EndsWell Q (Stops stop)
+stopped P Q (Raised x) h = h
+stopped P Q Outside h = h
+stopped P Q Other h = h
+stopped P Q Cut h = h
+
+-- the codes of an expression's own label are found at its place
+found_here : (e : Expr) (m : Marks e) (f : Finding) → IsFoundAt (place_of e) (mark_of e m).codes f → Finds e m f
+found_here (name n) m f h = h
+found_here (number p d) m f h = h
+found_here (text p d) m f h = h
+found_here (truth p d) m f h = h
+found_here (nothing p) m f h = h
+found_here (tuple p es) m f h = inl h
+found_here (list p es) m f h = inl h
+found_here (dict p es) m f h = inl h
+found_here (negative p e) m f h = inl h
+found_here (negation p e) m f h = inl h
+found_here (binary p o a b) m f h = inl h
+found_here (compare p o a b) m f h = inl h
+found_here (is_none p e) m f h = inl h
+found_here (is_not_none p e) m f h = inl h
+found_here (conjunction p a b) m f h = inl h
+found_here (disjunction p a b) m f h = inl h
+found_here (attribute p e n) m f h = inl h
+found_here (index p a b) m f h = inl h
+found_here (call p c args kws) m f h = inl h
+
+-- a node with E03 is in error
+late_code : (codes : List Code) → is_late codes ≡ true → Contains codes E03
+late_code [] e = absurd (grind (arith, e))
+late_code (E03 ∷ cs) e = (0, omega arith, refl)
+late_code (c ∷ cs) e = absurd (grind (arith, e))
+
+module _ (around : Around) (ctx : Context) (eval : Expr → Step Value) (good : GoodEval around ctx eval) (evaluates : (e : Expr) → Evaluates (place_of e) (eval e)) (env : Env) where
+  -- an expression that flows into a type, whose flow's code is allowed
+  pub flow_safe : (known : HeapTyping → Type 0) (want : Option Tree) (e : Expr) (m : Marks e) (t : Tree) (c : Option Code) → Lawful ctx around.declared env want e m → Covered around (Finds e m) → FlowAt around.bases (mark_of e m) t c → Covered around (IsFlowAt (place_of e) (c ∷ [])) → IsSafe around env known (eval e) (λ k v. HasType around.bases k t v)
+  flow_safe known want e m t c law covered flow allowed = go (is_late (mark_of e m).codes) refl flow
+    where
+      part : IsSafe around env known (eval e) (λ k v. HasType around.bases k (type_of e m) v)
+      part = weaken around env known (λ k. Unit {0}) (eval e) (λ k v. HasType around.bases k (type_of e m) v) (λ k v. HasType around.bases k (type_of e m) v) (λ k h. tt) (λ k v h. h) (good.safe env want e m law covered)
+
+      no_error : (d : Code) → c ≡ Some d → IsError d → ⊥
+      no_error d is err = (allowed (finding (place_of e) d) (record { code = d; among = (0, omega arith, is); is = refl })).1 err
+
+      dynamic_run : around.listed (place_of e) → (k : HeapTyping) (s s' : State) (events : List Place) (o : Out Value) → known k → Stands around env k s → eval e s events o s' → HasListed around.listed events ⊎ Keeps around (λ k v. HasType around.bases k t v) k s o s'
+      dynamic_run here k s s' events (Gives v) knows st r = inl (record { place = place_of e; is = here; event = (evaluates e).place s s' events v r })
+      dynamic_run here k s s' events (Stops stop) knows st r = elim (part.run k s s' events (Stops stop) knows st r) [
+        | inl l ↦ inl l
+        | inr kept ↦ inr (record { typing = kept.typing; grows = kept.grows; well = kept.well; same_frame = kept.same_frame; same_globals = kept.same_globals; same_classes = kept.same_classes; ends = stopped (λ v. HasType around.bases kept.typing (type_of e m) v) (λ v. HasType around.bases kept.typing t v) stop kept.ends })
+      ]
+
+      by_flow : (d : Option Code) → c ≡ d → Flows around.bases (type_of e m) t d → IsSafe around env known (eval e) (λ k v. HasType around.bases k t v)
+      by_flow _ is (static below) = weaken around env known known (eval e) (λ k v. HasType around.bases k (type_of e m) v) (λ k v. HasType around.bases k t v) (λ k h. h) (λ k v h. of_static around.bases k (type_of e m) t below v h) part
+      by_flow _ is (dynamic n a) = record { run = dynamic_run (allowed (finding (place_of e) A1) (record { code = A1; among = (0, omega arith, is); is = refl })).0 }
+      by_flow _ is (wrong n) = absurd (no_error E12 is refl)
+
+      go : (late : Test) → is_late (mark_of e m).codes ≡ late → FlowUnless late around.bases (type_of e m) t c → IsSafe around env known (eval e) (λ k v. HasType around.bases k t v)
+      go true is f = absurd ((covered (finding (place_of e) E03) (found_here e m (finding (place_of e) E03) (record { code = E03; among = late_code (mark_of e m).codes is; is = refl }))).1 refl)
+      go false is f = by_flow c refl f

@@ -1,0 +1,9 @@
+pub mod Expressions
+pub mod Flows
+pub mod Heaps
+pub mod Locals
+pub mod Loops
+pub mod Narrowing
+pub mod Steps
+pub mod Stopped
+pub mod ValuesFlow

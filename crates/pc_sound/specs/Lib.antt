@@ -1,0 +1,4 @@
+pub mod Judgment
+pub mod Kept
+pub mod Sound
+pub mod Values

@@ -1,0 +1,24 @@
+-- The soundness law: what a run that raises one of four exceptions, or leaves the profile, has evaluated.
+-- Own rule of the profile.
+use Rattle.std.specs.Prelude.{List, Contains}
+use Rattle.pc_source.specs.declared.place.Place.{Place}
+use Rattle.pc_tree.specs.declared.code.Finding.{Finding}
+use Rattle.pc_tree.specs.Code.{IsError}
+use Rattle.pc_tree.specs.Tree.{Module}
+use Rattle.pc_check.specs.Modules.{HasLabelling, IsFinding}
+use Rattle.pc_run.specs.Runs.{Run, End, IsFault}
+
+-- no finding is an error
+abbrev pub HasNoError : Module → Type 0
+HasNoError m = (f : Finding) → IsFinding m f → ¬ (IsError f.code)
+
+-- a listed dynamic place is among the events
+pub record HasEvaluated (m : Module) (events : List Place) : Type 0 where
+  pub place : Finding
+  pub found : IsFinding m place
+  pub dynamic : ¬ (IsError place.code)
+  pub event : Contains events place.place
+
+-- where no finding of a module is an error, each run of it that ends in a fault has by then evaluated a listed dynamic place
+abbrev pub Sound : Type 0
+Sound = (m : Module) → HasLabelling m → HasNoError m → (events : List Place) (end : End) → Run m events end → IsFault end → HasEvaluated m events

@@ -1,0 +1,6 @@
+//! Values of a type, well-typed heaps, and what the findings of a module say of its runs.
+#![tactic(auto)]
+
+mod laws;
+
+pub use laws::{aliases_keep_heaps, narrowing_keeps_values, values_flow_statically};

@@ -1,0 +1,2 @@
+pub mod CodingComments
+pub mod LastLine

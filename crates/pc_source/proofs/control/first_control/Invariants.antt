@@ -1,0 +1,6 @@
+use Rattle.std.proofs.Common.{ℕ, ◌<◌}
+use Rattle.pc_source.specs.Control.{IsControl}
+use Rattle.pc_source.proofs.control.first_control.Given as goal
+
+abbrev pub invariant-bytes : goal.invariant-bytes
+invariant-bytes l = (k : ℕ) → k < l.byte → IsControl l.bytes k → ⊥

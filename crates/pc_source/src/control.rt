@@ -1,0 +1,31 @@
+//! Control characters that no source text has.
+ghost use Rattle.std.specs.Prelude.{ℕ, ◌+◌, ◌<◌, ◌↔◌, slice_index, IsTrue, MatchOption};
+ghost use Rattle.pc_source.specs.Control.{IsControl};
+
+/// Whether a NUL, a form feed or a lone carriage return stands at a byte.
+fn is_control(bytes: &[u8], byte: usize) -> bool
+    ensures { IsTrue result ↔ IsControl bytes.now byte }
+{
+    if byte >= bytes.len() {
+        return false;
+    }
+    match bytes[byte] {
+        0 | 12 => true,
+        b'\r' => bytes.get(byte + 1).copied() != Some(b'\n'),
+        _ => false,
+    }
+}
+
+/// The first byte at which one stands.
+pub fn first_control(bytes: &[u8]) -> Option<usize>
+    ensures { MatchOption result
+        ((k : ℕ) → ¬ (IsControl bytes.now k))
+        (λ b. IsControl bytes.now b × ((k : ℕ) → k < b → ¬ (IsControl bytes.now k))) }
+{
+    'bytes: for byte in 0..bytes.len() {
+        if is_control(bytes, byte) {
+            return Some(byte);
+        }
+    }
+    None
+}

@@ -1,0 +1,169 @@
+ghost use Rattle.std.specs.Prelude.{◌≡◌, Some};
+ghost use Rattle.pc_source.specs.Refusals.{code_text};
+ghost use Rattle.pc_source.specs.declared.fault.Fault.TheVariants as fault;
+ghost use Rattle.pc_source.specs.declared.fault.OutOfMemory.{OutOfMemory};
+
+use std::alloc::{AllocError, AllocFailed};
+use std::fmt;
+use thiserror::Error;
+
+/// Why bytes spell no module. Own rule of the profile.
+#[derive(Clone, Copy, Debug, PartialEq, Eq)]
+pub enum RefusalCode {
+    /// The source is longer than 1,048,576 bytes.
+    S1,
+    /// The source is not UTF-8.
+    S2,
+    /// The source begins with the byte order mark.
+    S3,
+    /// A NUL, a form feed, or a carriage return that no line feed follows.
+    S4,
+    /// Line 1 or 2 has a comment that names a coding other than `utf-8`.
+    S5,
+    /// A character that begins no token.
+    L1,
+    /// A string that is not as the profile has strings.
+    L2,
+    /// A number that is not as the profile has numbers, or a `.` with a digit after it.
+    L3,
+    /// A name that the profile has no use for.
+    L4,
+    /// A closing bracket that matches none, or a bracket open at the end.
+    L5,
+    /// The 65th open bracket.
+    L6,
+    /// A tab in the indentation.
+    L7,
+    /// A number of more than 1,000 digits.
+    L8,
+    /// A line returns to a column that no open suite has.
+    I1,
+    /// A line is deeper than it may be.
+    I2,
+    /// More than 50 suites inside each other.
+    I3,
+    /// A keyword that the profile leaves out.
+    N1,
+    /// An operator that the profile leaves out.
+    N2,
+    /// A `def` inside a `def`.
+    N3,
+    /// A `class` inside a suite.
+    N4,
+    /// A decorator other than `@dataclass`.
+    N5,
+    /// A token after which no module can follow.
+    G1,
+    /// An expression or annotation of depth over 64.
+    G2,
+    /// The source is no module of the part of the language that is read so far.
+    F1,
+}
+
+impl RefusalCode {
+    /// The code as it is printed.
+    pub fn text(self) -> &'static str
+        ensures { result.now ≡ code_text self }
+    {
+        match self {
+            RefusalCode::S1 => "S1",
+            RefusalCode::S2 => "S2",
+            RefusalCode::S3 => "S3",
+            RefusalCode::S4 => "S4",
+            RefusalCode::S5 => "S5",
+            RefusalCode::L1 => "L1",
+            RefusalCode::L2 => "L2",
+            RefusalCode::L3 => "L3",
+            RefusalCode::L4 => "L4",
+            RefusalCode::L5 => "L5",
+            RefusalCode::L6 => "L6",
+            RefusalCode::L7 => "L7",
+            RefusalCode::L8 => "L8",
+            RefusalCode::I1 => "I1",
+            RefusalCode::I2 => "I2",
+            RefusalCode::I3 => "I3",
+            RefusalCode::N1 => "N1",
+            RefusalCode::N2 => "N2",
+            RefusalCode::N3 => "N3",
+            RefusalCode::N4 => "N4",
+            RefusalCode::N5 => "N5",
+            RefusalCode::G1 => "G1",
+            RefusalCode::G2 => "G2",
+            RefusalCode::F1 => "F1",
+        }
+    }
+}
+
+impl fmt::Display for RefusalCode {
+    ghost output = { λ c. Some (code_text c) };
+
+    fn fmt<W: fmt::Write>(&self, f: &mut fmt::Formatter<W>) -> fmt::Result {
+        f.write_str(self.text())
+    }
+}
+
+/// A refusal names one byte, from 0 to the input's length. Own rule of the profile.
+#[derive(Clone, Copy, Debug, PartialEq, Eq, Error)]
+#[error("refused {code} at byte {byte}")]
+pub struct Refusal {
+    pub code: RefusalCode,
+    pub byte: usize,
+}
+
+/// A growth of memory was refused.
+#[derive(Clone, Copy, Debug, PartialEq, Eq, Error)]
+#[error("out of memory")]
+pub struct OutOfMemory;
+
+/// Why a call has no answer: the input is refused, or memory is wanting.
+#[derive(Clone, Copy, Debug, PartialEq, Eq, Error)]
+pub enum Fault {
+    #[error("{0}")]
+    Refused(Refusal),
+    #[error("out of memory")]
+    OutOfMemory,
+}
+
+impl From<AllocError> for OutOfMemory {
+    fn from(_error: AllocError) -> OutOfMemory {
+        OutOfMemory
+    }
+}
+
+impl<T: Drop> From<AllocFailed<T>> for OutOfMemory {
+    fn from(_error: AllocFailed<T>) -> OutOfMemory {
+        OutOfMemory
+    }
+}
+
+impl From<OutOfMemory> for Fault {
+    ghost from_gives = { λ _ e. e ≡ fault.OutOfMemory };
+
+    fn from(_error: OutOfMemory) -> Fault {
+        Fault::OutOfMemory
+    }
+}
+
+impl From<AllocError> for Fault {
+    ghost from_gives = { λ _ e. e ≡ fault.OutOfMemory };
+
+    fn from(_error: AllocError) -> Fault {
+        Fault::OutOfMemory
+    }
+}
+
+impl<T: Drop> From<AllocFailed<T>> for Fault {
+    ghost from_gives = { λ _ e. e ≡ fault.OutOfMemory };
+
+    fn from(_error: AllocFailed<T>) -> Fault {
+        Fault::OutOfMemory
+    }
+}
+
+impl From<Refusal> for Fault {
+    ghost from_gives = { λ r e. e ≡ fault.Refused r };
+
+    fn from(refusal: Refusal) -> Fault {
+        Fault::Refused(refusal)
+    }
+}

@@ -1,0 +1,14 @@
+//! The source text, places in it, and the faults that every layer may answer.
+#![tactic(auto)]
+
+mod coding;
+mod control;
+mod fault;
+mod place;
+mod source;
+#[cfg(test)]
+mod tests;
+
+pub use fault::{Fault, OutOfMemory, Refusal, RefusalCode};
+pub use place::Place;
+pub use source::{Source, read_source};

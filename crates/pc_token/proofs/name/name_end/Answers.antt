@@ -1,0 +1,26 @@
+use Rattle.std.proofs.Common.{◌≡◌, Some, ◌∙◌, sym, arith, rules, drop, chars}
+use Rattle.std.specs.Prelude.{slice_get}
+use Rattle.pc_token.proofs.Characters.{no_char_here, next_boundary, run_more}
+use Rattle.pc_token.proofs.name.name_end.Goals as goal
+
+pub loop-c-smaller : goal.loop-c-smaller
+loop-c-smaller c =
+    let here : slice_get (chars (drop c.loop-c.end c.args.text.now)) 0 ≡ Some c.in-Some.c = search rules in
+    let next = next_boundary c.args.text.now c.loop-c.end c.utf8.text c.loop-c.invariant.boundary c.in-Some.c here in
+    let within = next.0 in
+    omega (arith, c.len_utf8-end.ensures.lower_bound, c.len_utf8-end.ensures.value)
+
+pub loop-c-preserved : goal.loop-c-preserved
+loop-c-preserved c =
+    let here : slice_get (chars (drop c.loop-c.end c.args.text.now)) 0 ≡ Some c.in-Some.c = search rules in
+    let len = c.len_utf8-end.ensures.value in
+    rw len (record {
+      boundary = next_boundary c.args.text.now c.loop-c.end c.utf8.text c.loop-c.invariant.boundary c.in-Some.c here;
+      later = omega (arith, c.loop-c.invariant.later);
+      run = run_more c.args.text.now c.loop-c.end c.utf8.text c.loop-c.invariant.boundary c.args.start c.in-Some.c c.loop-c.invariant.later here (search rules) c.loop-c.invariant.run;
+    })
+
+pub returns-clause-all : goal.returns-clause-all
+returns-clause-all c =
+    let none = sym c.char_at.ensures ∙ c.in_default.is in
+    rw none (no_char_here c.args.text.now c.loop-c.end c.utf8.text c.loop-c.invariant.boundary none)

@@ -1,0 +1,9 @@
+use Rattle.std.proofs.lemmas.Str.{IsCharBoundary-start}
+use Rattle.pc_token.proofs.OneSplit.{one_list}
+use Rattle.pc_token.proofs.source_lines.lines.Goals as goal
+
+pub invariant_of-result : goal.invariant_of-result
+invariant_of-result c = record { on_boundary = IsCharBoundary-start c.text.result.now c.text.utf8 }
+
+pub returns-clause-one : goal.returns-clause-one
+returns-clause-one c = one_list c.args.source.now

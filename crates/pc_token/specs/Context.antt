@@ -1,0 +1,75 @@
+-- What the text before a byte says about what may stand there.
+use Rattle.std.specs.Prelude.{ℕ, ◌+◌, ◌-◌, Bool, true, false, ◌&&◌, ◌==◌, List, [], ◌∷◌, ◌++◌, Option, Some, None, length, take}
+use Rattle.pc_token.specs.declared.token.Operator.{Operator}
+use Rattle.pc_token.specs.declared.token.TokenKind.{TokenKind}
+use Rattle.pc_token.specs.declared.token.TokenKind.TheVariants as t
+use Rattle.pc_token.specs.Lexeme.{Lexeme}
+use Rattle.pc_token.specs.Names.{name_form}
+use Rattle.pc_token.specs.declared.operators.Role.{Role}
+use Rattle.pc_token.specs.declared.operators.Role.TheVariants.{Opens, Closes, Plain}
+use Rattle.pc_token.specs.Operators.{role_of}
+
+-- the byte; where the logical line begins; the open brackets, the innermost last; the line's tokens so far,
+-- the kind of the last of them, and where it ends
+pub record Context : Type 0 where
+  pub at : ℕ
+  pub start : ℕ
+  pub brackets : List Operator
+  pub done : List Lexeme
+  pub last : Option TokenKind
+  pub ended : ℕ
+
+-- where a logical line begins
+abbrev pub line_start : ℕ → Context
+line_start at = record { at = at; start = at; brackets = []; done = []; last = None; ended = at }
+
+-- a name, a keyword or a number
+abbrev pub is_word : Option TokenKind → Bool
+is_word (Some t.Name) = true
+is_word (Some t.Int) = true
+is_word (Some (t.Keyword _)) = true
+is_word _ = false
+
+-- a name, a keyword or a number ends here
+abbrev pub touches_word : Context → Bool
+touches_word c = is_word c.last && c.ended == c.at
+
+-- after bytes that are no token and end no line
+abbrev pub after_gap : Context → List ℕ → Context
+after_gap c bytes = record c { at = c.at + length bytes }
+
+-- after a line end, which ends the logical line where no bracket is open
+abbrev pub after_line_end : List Operator → Context → List ℕ → Context
+after_line_end [] c bytes = line_start (c.at + length bytes)
+after_line_end (_ ∷ _) c bytes = after_gap c bytes
+
+-- the brackets that are open after an operator
+abbrev pub brackets_by_role : Role → Operator → List Operator → List Operator
+brackets_by_role Opens o brackets = brackets ++ o ∷ []
+brackets_by_role (Closes _) o brackets = take (length brackets - 1) brackets
+brackets_by_role Plain o brackets = brackets
+
+abbrev pub brackets_after : TokenKind → List Operator → List Operator
+brackets_after (t.Operator o) brackets = brackets_by_role (role_of o) o brackets
+brackets_after _ brackets = brackets
+
+-- the bytes by which a token is compared
+abbrev pub form_by_kind : TokenKind → List ℕ → List ℕ
+form_by_kind t.Name bytes = name_form bytes
+form_by_kind _ bytes = bytes
+
+-- the token that these bytes are
+abbrev pub lexeme_at : ℕ → TokenKind → List ℕ → Lexeme
+lexeme_at at kind bytes =
+    record { kind = kind; place = record { start = at; end = at + length bytes }; text = bytes; form = form_by_kind kind bytes }
+
+-- after a token
+abbrev pub after_token : Context → TokenKind → List ℕ → Context
+after_token c kind bytes = record {
+  at = c.at + length bytes;
+  start = c.start;
+  brackets = brackets_after kind c.brackets;
+  done = c.done ++ lexeme_at c.at kind bytes ∷ [];
+  last = Some kind;
+  ended = c.at + length bytes;
+}

@@ -1,0 +1,13 @@
+pub mod Context
+pub mod Faults
+pub mod Gaps
+pub mod Keywords
+pub mod Lexeme
+pub mod Names
+pub mod Numbers
+pub mod Operators
+pub mod Reading
+pub mod Remaining
+pub mod Spelling
+pub mod Splitting
+pub mod Strings

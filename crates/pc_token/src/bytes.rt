@@ -1,0 +1,18 @@
+//! Bytes and characters of a text.
+ghost use Rattle.std.specs.Prelude.{◌≡◌, ◌≤◌, length, drop, slice_index, slice_get, chars};
+ghost use Rattle.std.specs.Str.{IsCharBoundary};
+
+/// The byte at an index, or 0 past the end.
+pub(crate) fn byte_at(bytes: &[u8], index: usize) -> u8
+    ensures { result ≡ slice_index bytes.now index }
+{
+    if index < bytes.len() { bytes[index] } else { 0 }
+}
+
+/// The character that begins at a byte.
+pub(crate) fn char_at(text: &str, at: usize) -> Option<char>
+    requires { IsCharBoundary text.now at }
+    ensures { result ≡ slice_get (chars (drop at text.now)) 0 }
+{
+    text[at..].chars().next()
+}

@@ -1,0 +1,21 @@
+//! Tokens and logical lines.
+#![tactic(auto)]
+
+mod bytes;
+mod gap;
+mod keywords;
+mod name;
+mod number;
+mod operators;
+mod reader;
+mod reading;
+mod source_lines;
+mod stream;
+mod string;
+#[cfg(test)]
+mod tests;
+mod token;
+
+pub use source_lines::{lines, tokens};
+pub use stream::Lines;
+pub use token::{Keyword, Line, Operator, Tok, Token, TokenKind};

@@ -1,0 +1,100 @@
+//! Names and their forms.
+ghost use Rattle.std.specs.Prelude.{◌≡◌, ℕ, ◌+◌, ◌-◌, ◌≤◌, ◌<◌, ◌==◌, ◌||◌, List, [], ◌++◌, true, false, length, drop, take, slice_get, slice_range, chars, encode_utf8_all, IfOk, MatchOption, IsUtf8};
+ghost use Rattle.std.specs.List.{list_all};
+ghost use Rattle.std.specs.Str.{IsCharBoundary};
+ghost use Rattle.unicode_ident.specs.Ident.{is_xid_continue};
+ghost use Rattle.pc_token.specs.Lexeme.{form_of};
+ghost use Rattle.pc_token.specs.Names.{begins_name, begins_word, continues_word, name_form, is_ascii, is_from, is_bad_name};
+
+use crate::bytes::char_at;
+use crate::keywords::{is_keyword, is_reserved};
+use crate::token::{Keyword, TokenKind};
+use std::alloc::{AllocError, Global};
+use unicode_ident::{is_xid_continue, is_xid_start};
+use unicode_normalization::to_nfkc;
+
+/// Whether a name may begin with a character.
+fn begins_name(c: char) -> bool
+    ensures { result ≡ begins_name c }
+{
+    is_xid_start(c) || c == '_'
+}
+
+/// Whether a character that may begin a name stands at a byte.
+pub(crate) fn begins_word(text: &str, at: usize) -> bool
+    requires { IsCharBoundary text.now at }
+    ensures { result ≡ begins_word (drop at text.now) }
+{
+    match char_at(text, at) {
+        Some(c) => begins_name(c),
+        None => false,
+    }
+}
+
+/// Whether a character that may continue a name stands at a byte.
+pub fn continues_word(text: &str, at: usize) -> bool
+    requires { IsCharBoundary text.now at }
+    ensures { result ≡ continues_word (drop at text.now) }
+{
+    match char_at(text, at) {
+        Some(c) => unicode_ident::is_xid_continue(c),
+        None => false,
+    }
+}
+
+/// Where the characters that may continue a name end.
+pub(crate) fn name_end(text: &str, start: usize) -> usize
+    requires { IsCharBoundary text.now start }
+    ensures utf8 { IsUtf8 text.now }
+    ensures boundary { IsCharBoundary text.now result }
+    ensures later { start ≤ result }
+    ensures run { (cs : List ℕ) × (list_all is_xid_continue cs ≡ true) × (slice_range text.now start result ≡ encode_utf8_all cs) }
+    ensures all { MatchOption (slice_get (chars (drop result text.now)) 0) (length text.now ≡ result) (λ c. is_xid_continue c ≡ false) }
+{
+    let mut end = start;
+    while let Some(c) = char_at(text, end) {
+        if !is_xid_continue(c) {
+            return end;
+        }
+        end += c.len_utf8();
+    }
+    end
+}
+
+fn is_ascii(bytes: &[u8]) -> bool
+    ensures { result ≡ is_ascii bytes.now }
+{
+    bytes.iter().all(|b| *b < 128)
+}
+
+/// The form of a name, where the name is not ASCII.
+pub(crate) fn form_of(alloc: Global, name: &str) -> Result<Option<String>, AllocError>
+    ensures { IfOk result (λ form. form_of name.now form ≡ name_form name.now) }
+{
+    if is_ascii(name.as_bytes()) {
+        return Ok(None);
+    }
+    Ok(Some(to_nfkc(alloc, name)?))
+}
+
+/// Whether the last token is the keyword `from`.
+fn is_from(last: Option<TokenKind>) -> bool
+    ensures { result ≡ is_from last }
+{
+    matches!(last, Some(TokenKind::Keyword(Keyword::From)))
+}
+
+/// Whether a name of this form may not stand after the last token.
+pub(crate) fn is_bad_name(last: Option<TokenKind>, name: &str, form: &Option<String>) -> bool
+    requires { form_of name.now form.now ≡ name_form name.now }
+    ensures { result ≡ is_bad_name last name.now }
+{
+    let compared = match form {
+        Some(form) => form.as_str(),
+        None => name,
+    };
+    if compared.as_bytes().starts_with(b"__") && !(is_from(last) && name == "__future__") {
+        return true;
+    }
+    !is_ascii(name.as_bytes()) && (is_keyword(compared) || is_reserved(compared))
+}

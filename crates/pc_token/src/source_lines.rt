@@ -1,0 +1,52 @@
+//! The logical lines of a source.
+ghost use Rattle.std.specs.Prelude.{◌≡◌, ◌↔◌, List, [], ◌∷◌, ◌++◌, map, Result, Ok, Err, IfOk, IfErr};
+ghost use Rattle.pc_source.specs.Answers.{OnRefusal};
+ghost use Rattle.pc_source.specs.declared.fault.Refusal.{Refusal};
+ghost use Rattle.pc_token.specs.Lexeme.{LogicalLine};
+ghost use Rattle.pc_token.specs.Remaining.{HasLeft, all_read};
+ghost use Rattle.pc_token.specs.Splitting.{HasLines, HasOnly};
+
+use crate::stream::Lines;
+use crate::token::Line;
+use pc_source::{Fault, Source};
+use std::alloc::Global;
+
+/// The logical lines of a source, one at a time, up to the first fault.
+///
+/// Python Language Reference 3.12, 2.1 "Line structure"; the refusals `L1` to `L8` are own rules
+/// of the profile.
+///
+/// # Errors
+///
+/// An item may be `OutOfMemory`, or the refusal that stands at the least byte. After an `Err`, and
+/// at the end, `next` gives `None` for good.
+pub fn lines(alloc: Global, source: &Source) -> Lines<'_>
+    ensures one { (xs ys : List (Result LogicalLine Refusal)) → HasLines source.now xs → HasLines source.now ys → xs ≡ ys }
+    ensures left { (items : List (Result LogicalLine Refusal)) → (HasLeft result items ↔ HasLines source.now items) }
+{
+    Lines {
+        alloc,
+        text: source.text(),
+        at: 0,
+        done: false,
+    }
+}
+
+/// The logical lines of a source.
+///
+/// Python Language Reference 3.12, 2.1 "Line structure"; the refusals `L1` to `L8` are own rules
+/// of the profile.
+///
+/// # Errors
+///
+/// The refusal that stands at the least byte; `OutOfMemory` where the tokens have no room.
+pub fn tokens(alloc: Global, source: &Source) -> Result<Vec<Line<'_>>, Fault>
+    ensures read { IfOk result (λ v. HasOnly source.now (all_read v.items)) }
+    ensures refused { IfErr result (OnRefusal (λ refusal. (before : List LogicalLine) × HasOnly source.now (map Ok before ++ Err refusal ∷ []))) }
+{
+    let mut found = Vec::new(alloc);
+    for line in lines(alloc, source) {
+        found.push(line?)?;
+    }
+    Ok(found)
+}

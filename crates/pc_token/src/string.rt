@@ -1,0 +1,54 @@
+//! Strings.
+ghost use Rattle.std.specs.Prelude.{◌≡◌, ℕ, ◌+◌, ◌<◌, ◌≤◌, true, false, List, ◌++◌, length, take, slice_index, MatchOption};
+ghost use Rattle.pc_token.specs.Strings.{is_quote, is_escape, is_plain, is_tripled, IsString};
+ghost use Rattle.pc_token.specs.Faults.{NoString};
+
+use crate::bytes::byte_at;
+
+pub(crate) fn is_quote(byte: u8) -> bool
+    ensures { result ≡ is_quote byte }
+{
+    byte == b'"' || byte == b'\''
+}
+
+fn is_escape(byte: u8) -> bool
+    ensures { result ≡ is_escape byte }
+{
+    matches!(byte, b'\\' | b'\'' | b'"' | b'n' | b't' | b'r')
+}
+
+fn is_plain(quote: u8, byte: u8) -> bool
+    ensures { result ≡ is_plain quote byte }
+{
+    byte != quote && byte != b'\\' && byte != b'\n'
+}
+
+/// How long the string at the front is, if one stands there.
+pub(crate) fn string_len(bytes: &[u8]) -> Option<usize>
+    requires { is_quote (slice_index bytes.now 0) ≡ true }
+    ensures { MatchOption result (NoString bytes.now)
+        (λ len. (len ≤ length bytes.now) × IsString (take len bytes.now)) }
+{
+    let quote = byte_at(bytes, 0);
+    let mut at = 1;
+    while at < bytes.len() {
+        let byte = bytes[at];
+        if byte == quote {
+            return Some(at + 1);
+        } else if is_plain(quote, byte) {
+            at += 1;
+        } else if byte == b'\\' && is_escape(byte_at(bytes, at + 1)) {
+            at += 2;
+        } else {
+            return None;
+        }
+    }
+    None
+}
+
+/// Whether an empty string comes next, and the same quote directly after it.
+pub(crate) fn is_tripled(bytes: &[u8]) -> bool
+    ensures { result ≡ is_tripled bytes.now }
+{
+    byte_at(bytes, 1) == byte_at(bytes, 0) && byte_at(bytes, 2) == byte_at(bytes, 0)
+}

@@ -1,0 +1,12 @@
+pub mod AsciiText
+pub mod CodeOrder
+pub mod Labels
+pub mod LineLoop
+pub mod Literal
+pub mod Main
+pub mod Members
+pub mod OperatorLoop
+pub mod Order
+pub mod ReadAgain
+pub mod ReadSpelled
+pub mod Soundness

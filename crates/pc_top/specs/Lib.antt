@@ -1,0 +1,9 @@
+pub mod Checking
+pub mod Fragment
+pub mod Headline
+pub mod Reading
+pub mod Report
+pub mod Rest
+pub mod Running
+pub mod Spelling
+pub mod Typing

@@ -1,0 +1,42 @@
+ghost use Rattle.std.specs.Prelude.{◌≡◌};
+ghost use Rattle.pc_top.specs.Headline.{checked};
+ghost use Rattle.pc_top.specs.declared.fault.CheckFault.TheVariants as check_fault;
+
+use pc_source::{Fault, OutOfMemory, Refusal};
+use thiserror::Error;
+
+/// Why there is no report. Own rule of the profile.
+#[derive(Clone, Copy, Debug, PartialEq, Eq, Error)]
+pub enum CheckFault {
+    /// The bytes spell no module.
+    #[error("{0}")]
+    Refused(Refusal),
+    /// A growth of memory was refused.
+    #[error("out of memory")]
+    OutOfMemory,
+    /// The reader failed.
+    #[error("the input could not be read")]
+    Read,
+    /// The writer failed.
+    #[error("the report could not be written")]
+    Write,
+}
+
+impl From<Fault> for CheckFault {
+    ghost from_gives = { λ f e. e ≡ checked f };
+
+    fn from(fault: Fault) -> CheckFault {
+        match fault {
+            Fault::Refused(refusal) => CheckFault::Refused(refusal),
+            Fault::OutOfMemory => CheckFault::OutOfMemory,
+        }
+    }
+}
+
+impl From<OutOfMemory> for CheckFault {
+    ghost from_gives = { λ _ e. e ≡ check_fault.OutOfMemory };
+
+    fn from(_fault: OutOfMemory) -> CheckFault {
+        CheckFault::OutOfMemory
+    }
+}

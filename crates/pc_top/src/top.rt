@@ -1,0 +1,30 @@
+ghost use Rattle.std.specs.Prelude.{IfOk, IfErr};
+ghost use Rattle.pc_top.specs.Headline.{Headline, IsRefusal, OnCheckFault};
+
+use crate::checking::findings;
+use crate::fault::CheckFault;
+use crate::reading;
+use crate::report::Report;
+use pc_source::read_source;
+use std::alloc::Global;
+
+/// The report of the module that the bytes spell.
+///
+/// Where a report is answered, the bytes spell exactly one module and the report lists exactly the
+/// findings of its typing. Where it lists no error, each run of that module that raises `TypeError`,
+/// `AttributeError`, `NameError` or `UnboundLocalError`, or leaves the profile, has by then evaluated
+/// a listed dynamic place.
+///
+/// # Errors
+///
+/// `Refused` exactly where the bytes spell no module, and `OutOfMemory` where a growth was refused.
+pub fn check(alloc: Global, bytes: &[u8]) -> Result<Report, CheckFault>
+    ensures headline { IfOk result (Headline bytes.now) }
+    ensures refused { IfErr result (OnCheckFault (IsRefusal bytes.now)) }
+{
+    let source = read_source(alloc, bytes)?;
+    let program = reading::module(alloc, source.text().as_bytes())?;
+    let found = findings(alloc, &program)?;
+    let report = Report::of(alloc, &source, &found)?;
+    Ok(report)
+}

@@ -1,0 +1,131 @@
+-- The words in which the grammar is written: what a list of tokens spells, and where it stands.
+-- Python Language Reference 3.12, 1.2 "Notation" and 10 "Full Grammar specification".
+pub mod Annotations
+pub mod Expressions
+pub mod Modules
+pub mod Statements
+use Rattle.std.specs.Prelude.{◌≡◌, ◌⊎◌, ℕ, ◌-◌, ◌==◌, Bool, true, false, not, if◌then◌else◌, List, [], ◌∷◌, ◌++◌, length, take, drop, filter, Option, Some, None}
+use Rattle.pc_source.specs.declared.place.Place.{Place}
+use Rattle.pc_token.specs.declared.token.TokenKind.{TokenKind}
+use Rattle.pc_token.specs.declared.token.TokenKind.TheVariants as kind
+use Rattle.pc_token.specs.declared.token.Keyword.{Keyword}
+use Rattle.pc_token.specs.declared.token.Operator.{Operator}
+use Rattle.pc_token.specs.declared.token.Operator.TheVariants as sign
+use Rattle.pc_token.specs.Lexeme.{Lexeme}
+use Rattle.pc_tree.specs.Tree.{Name}
+
+infixr 30 ◌⟫◌
+-- what whole lists of tokens a part of the grammar takes
+abbrev pub Spelling : Type 1
+Spelling = List Lexeme → Type 0
+
+-- ---- places
+
+abbrev pub no_place : Place
+no_place = record { start = 0; end = 0 }
+
+-- the place of the first token
+abbrev pub first_place : List Lexeme → Place
+first_place [] = no_place
+first_place (t ∷ ts) = t.place
+
+-- the place of the last token
+abbrev pub last_place : List Lexeme → Place
+last_place [] = no_place
+last_place (t ∷ []) = t.place
+last_place (t ∷ u ∷ ts) = last_place (u ∷ ts)
+
+-- from the first token to the last
+abbrev pub span : List Lexeme → Place
+span ts = record { start = (first_place ts).start; end = (last_place ts).end }
+
+-- the place runs from the first of these tokens to the last
+abbrev pub At : Place → Spelling → Spelling
+At place A ts = (place ≡ span ts) × A ts
+
+-- the place is that of the first of these tokens
+abbrev pub Begins : Place → Spelling → Spelling
+Begins place A ts = (place ≡ first_place ts) × A ts
+
+-- ---- sequences and choices
+
+-- one after the other
+pub record Sequence (A B : Spelling) (ts : List Lexeme) : Type 0 where
+  pub front : List Lexeme
+  pub back : List Lexeme
+  pub all : ts ≡ front ++ back
+  pub left : A front
+  pub right : B back
+
+abbrev pub ◌⟫◌ : Spelling → Spelling → Spelling
+◌⟫◌ A B ts = Sequence A B ts
+
+-- no token
+abbrev pub Nothing : Spelling
+Nothing ts = ts ≡ []
+
+-- what is there, or no token where there is nothing
+abbrev pub Maybe : {X : Type 0} → (X → Spelling) → Option X → Spelling
+Maybe A None ts = Nothing ts
+Maybe A (Some x) ts = A x ts
+
+-- what follows, or no token where this was the last
+abbrev pub Rest : Type 0 → Spelling → Spelling
+Rest last A ts = A ts ⊎ (last × Nothing ts)
+
+-- ---- tokens
+
+-- one token of this kind
+abbrev pub Just : TokenKind → Spelling
+Just k ts = (t : Lexeme) × (t.kind ≡ k) × (ts ≡ t ∷ [])
+
+abbrev pub Sign : Operator → Spelling
+Sign o = Just (kind.Operator o)
+
+abbrev pub Word : Keyword → Spelling
+Word w = Just (kind.Keyword w)
+
+-- a name, in the form by which it is compared
+abbrev pub name_at : Lexeme → Name
+name_at t = record { place = t.place; text = t.form }
+
+abbrev pub IsName : Name → Spelling
+IsName n ts = (t : Lexeme) × (t.kind ≡ kind.Name) × (n ≡ name_at t) × (ts ≡ t ∷ [])
+
+-- the name of this form
+abbrev pub Named : List ℕ → Spelling
+Named form ts = (t : Lexeme) × (t.kind ≡ kind.Name) × (t.form ≡ form) × (ts ≡ t ∷ [])
+
+-- the name of this form, at this place
+abbrev pub NamedAt : List ℕ → Place → Spelling
+NamedAt form place ts = (t : Lexeme) × (t.kind ≡ kind.Name) × (t.form ≡ form) × (place ≡ t.place) × (ts ≡ t ∷ [])
+
+-- a comma, and what follows it, or no token where this was the last
+abbrev pub AfterComma : Type 0 → Spelling → Spelling
+AfterComma last A = Rest last (Sign sign.Comma ⟫ A)
+
+-- ---- literals, Language Reference 2.4
+
+-- the digits of a number: its text without underscores
+abbrev pub digits_of : List ℕ → List ℕ
+digits_of text = filter (λ b. not (b == 95)) text
+
+-- what a backslash and this character stand for: `\n`, `\t`, `\r`, or the character
+abbrev pub escaped : ℕ → ℕ
+escaped c = if c == 110 then 10 else (if c == 116 then 9 else (if c == 114 then 13 else c))
+
+-- the characters between the quotes, where a backslash may come before them
+abbrev pub decoded : Bool → List ℕ → List ℕ
+decoded after_backslash [] = []
+decoded true (c ∷ rest) = escaped c ∷ decoded false rest
+decoded false (c ∷ rest) = (if c == 92 then [] else c ∷ []) ++ decoded (c == 92) rest
+
+-- the characters of a string: its text without the quotes, with the escapes replaced by what they stand for
+abbrev pub characters_of : List ℕ → List ℕ
+characters_of text = decoded false (take (length text - 2) (drop 1 text))
+
+abbrev pub IsNumber : List ℕ → Spelling
+IsNumber digits ts = (t : Lexeme) × (t.kind ≡ kind.Int) × (digits ≡ digits_of t.text) × (ts ≡ t ∷ [])
+
+abbrev pub IsString : List ℕ → Spelling
+IsString characters ts = (t : Lexeme) × (t.kind ≡ kind.Str) × (characters ≡ characters_of t.text) × (ts ≡ t ∷ [])

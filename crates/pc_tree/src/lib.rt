@@ -1,0 +1,14 @@
+//! The tree of a module, which token lists spell it, and the findings that stand at its places.
+#![tactic(auto)]
+
+mod code;
+mod laws;
+mod tree;
+
+pub use code::{Code, Finding, Findings};
+pub use laws::{fronts, one_module};
+pub use tree::{
+    Ann, BinaryOperator, Branch, ClassDef, ComparisonOperator, Constant, Entry, Expr, Field,
+    FuncDef, Item, ItemKind, KeywordArgument, Literal, LiteralKind, Member, Module, Name, Param,
+    Stmt, StmtKind, Target,
+};

@@ -1,0 +1,240 @@
+use pc_source::Place;
+
+/// A name at its place, in the normal form NFKC by which names are compared.
+/// Language Reference 2.3 "Identifiers and keywords".
+#[derive(Debug, Drop)]
+pub struct Name {
+    pub place: Place,
+    pub text: String,
+}
+
+/// A module: whether it has the headers that import `dataclass` and `Any`, its items in the order of
+/// the text, and the place of `main` in its last line.
+#[derive(Debug, Drop)]
+pub struct Module {
+    pub imports_dataclass: bool,
+    pub imports_any: bool,
+    pub items: Vec<Item>,
+    pub main: Place,
+}
+
+/// A constant, a class or a function of the module, with the place of its first token.
+#[derive(Debug, Drop)]
+pub struct Item {
+    pub first: Place,
+    pub kind: ItemKind,
+}
+
+/// What an item of the module is.
+#[derive(Debug, Drop)]
+pub enum ItemKind {
+    Constant(Constant),
+    Class(ClassDef),
+    Def(FuncDef),
+}
+
+/// A constant: a name, its annotation if it has one, and its initializer.
+/// Language Reference 7.2 "Assignment statements".
+#[derive(Debug, Drop)]
+pub struct Constant {
+    pub name: Name,
+    pub annotation: Option<Ann>,
+    pub value: Expr,
+}
+
+/// A dataclass: the place of the word `dataclass`, its name, its base if it names one, and its members,
+/// none for `pass`. Language Reference 8.8 "Class definitions".
+#[derive(Debug, Drop)]
+pub struct ClassDef {
+    pub decorator: Place,
+    pub name: Name,
+    pub base: Option<Name>,
+    pub members: Vec<Member>,
+}
+
+/// A member of a class.
+#[derive(Debug, Drop)]
+pub enum Member {
+    Field(Field),
+    Method(FuncDef),
+}
+
+/// A field of a class: its name, its annotation, and its default if it has one.
+#[derive(Debug, Drop)]
+pub struct Field {
+    pub name: Name,
+    pub annotation: Ann,
+    pub default: Option<Literal>,
+}
+
+/// A function, or a method without its `self`: its name, its parameters, the annotation of what it
+/// returns if it has one, and its body, of at least one statement.
+/// Language Reference 8.7 "Function definitions".
+#[derive(Debug, Drop)]
+pub struct FuncDef {
+    pub name: Name,
+    pub params: Vec<Param>,
+    pub returns: Option<Ann>,
+    pub body: Vec<Stmt>,
+}
+
+/// A parameter: its name, its annotation and its default, if it has them.
+#[derive(Debug, Drop)]
+pub struct Param {
+    pub name: Name,
+    pub annotation: Option<Ann>,
+    pub default: Option<Literal>,
+}
+
+/// A literal as a default, at its place. Language Reference 2.4 "Literals".
+#[derive(Debug, Drop)]
+pub struct Literal {
+    pub place: Place,
+    pub kind: LiteralKind,
+}
+
+/// What a literal is.
+#[derive(Debug, Drop)]
+pub enum LiteralKind {
+    /// A whole number, as its digits without underscores.
+    Int(String),
+    /// `-` and a whole number.
+    NegativeInt(String),
+    /// A text, as its characters.
+    Str(String),
+    True,
+    False,
+    NoneValue,
+}
+
+/// A statement, with the place of its first token.
+/// Language Reference 7 "Simple statements" and 8 "Compound statements".
+#[derive(Debug, Drop)]
+#[cycle(statement)]
+pub struct Stmt {
+    pub first: Place,
+    pub kind: StmtKind,
+}
+
+/// What a statement is.
+#[derive(Debug, Drop)]
+#[cycle(statement)]
+pub enum StmtKind {
+    Pass,
+    Break,
+    Continue,
+    Return(Option<Expr>),
+    /// `assert`, its condition, and its message if it has one.
+    Assert(Expr, Option<Expr>),
+    /// A name with its annotation, and what is assigned to it if anything is.
+    Annotated(Name, Ann, Option<Expr>),
+    Assign(Target, Expr),
+    /// An expression as a statement.
+    Expr(Expr),
+    While(Expr, Vec<Stmt>),
+    For(Name, Expr, Vec<Stmt>),
+    /// `if` and each `elif`, of which there is at least one, and the suite of `else`, which is empty
+    /// where there is none.
+    If(Vec<Branch>, Vec<Stmt>),
+}
+
+/// A condition, and the suite that runs where it is true.
+#[derive(Debug, Drop)]
+#[cycle(statement)]
+pub struct Branch {
+    pub condition: Expr,
+    pub body: Vec<Stmt>,
+}
+
+/// What is assigned to: a name, `e.f` or `e[i]`. Language Reference 7.2 "Assignment statements".
+#[derive(Debug, Drop)]
+pub enum Target {
+    Name(Name),
+    Attribute(Place, Expr, Name),
+    Index(Place, Expr, Expr),
+}
+
+/// `+`, `-`, `*`, `//` and `%`. Language Reference 6.7 "Binary arithmetic operations".
+#[derive(Clone, Copy, Debug, PartialEq, Eq)]
+pub enum BinaryOperator {
+    Add,
+    Sub,
+    Mul,
+    FloorDiv,
+    Mod,
+}
+
+/// `==`, `!=`, `<`, `<=`, `>`, `>=`, `in` and `not in`. Language Reference 6.10 "Comparisons".
+#[derive(Clone, Copy, Debug, PartialEq, Eq)]
+pub enum ComparisonOperator {
+    Equal,
+    NotEqual,
+    Less,
+    LessEqual,
+    Greater,
+    GreaterEqual,
+    In,
+    NotIn,
+}
+
+/// An expression. Each has its place, from its first to its last token, without parentheses around it.
+/// Language Reference 6 "Expressions".
+#[derive(Debug, Drop)]
+#[cycle(expression)]
+pub enum Expr {
+    Name(Name),
+    /// A whole number, as its digits without underscores.
+    Int(Place, String),
+    /// A text, as its characters.
+    Str(Place, String),
+    True(Place),
+    False(Place),
+    NoneValue(Place),
+    Tuple(Place, Vec<Expr>),
+    List(Place, Vec<Expr>),
+    Dict(Place, Vec<Entry>),
+    /// `-e`
+    Negative(Place, Box<Expr>),
+    Not(Place, Box<Expr>),
+    Binary(Place, BinaryOperator, Box<Expr>, Box<Expr>),
+    Compare(Place, ComparisonOperator, Box<Expr>, Box<Expr>),
+    IsNone(Place, Box<Expr>),
+    IsNotNone(Place, Box<Expr>),
+    And(Place, Box<Expr>, Box<Expr>),
+    Or(Place, Box<Expr>, Box<Expr>),
+    /// `e.f`
+    Attribute(Place, Box<Expr>, Name),
+    /// `e[i]`
+    Index(Place, Box<Expr>, Box<Expr>),
+    /// A callee, its arguments by position, and those by name.
+    Call(Place, Box<Expr>, Vec<Expr>, Vec<KeywordArgument>),
+}
+
+/// A key and its value in a dict display.
+#[derive(Debug, Drop)]
+#[cycle(expression)]
+pub struct Entry {
+    pub key: Expr,
+    pub value: Expr,
+}
+
+/// An argument by name.
+#[derive(Debug, Drop)]
+#[cycle(expression)]
+pub struct KeywordArgument {
+    pub name: Name,
+    pub value: Expr,
+}
+
+/// An annotation, at its place. Typing specification, "Type annotations".
+#[derive(Debug, Drop)]
+pub enum Ann {
+    Name(Name),
+    NoneValue(Place),
+    /// `N[A, ..]`
+    Apply(Place, Name, Vec<Ann>),
+    /// `N[()]`
+    ApplyEmpty(Place, Name),
+    /// Two or more parts with `|` between them.
+    Union(Place, Vec<Ann>),
+}

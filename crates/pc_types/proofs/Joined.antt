@@ -1,0 +1,157 @@
+-- The parts of two tuples joined one by one, and the join of equal tuples.
+use Rattle.std.proofs.Common.{◌≡◌, ◌+◌, ◌<◌, ◌≤◌, ◌++◌, ℕ, zero, suc, Bool as Test, true, false, length, get_or, drop, List, [], ◌∷◌, Option, Some, None, Result, IfOk, Vec, Global, refl, sym, ap, ◌∙◌, subst, arith, drop-cons, add-one}
+use Rattle.std.proofs.lemmas.Bool.Decides.{nat_tests}
+use Rattle.std.specs.Prelude.{if◌then◌else◌}
+use Rattle.std.specs.Option.{option_map}
+use Rattle.pc_types.specs.Tree.{Tree, Trees, Never, TupleOf, end, more}
+use Rattle.pc_types.specs.Below.{Bases}
+use Rattle.pc_types.specs.Shape.{count, union}
+use Rattle.pc_types.specs.Normal.{IsNormal, AreNormal, IsListed}
+use Rattle.pc_types.specs.Join.{same_tree, same_trees, is_before, both_parts, parts_of, put_all, unabsorbed, by_rule, one_of, join_each, joined}
+use Rattle.pc_types.specs.Boxed.{tree_of, trees_in}
+use Rattle.pc_types.specs.declared.boxed.BoxType.{BoxType}
+use Rattle.pc_types.specs.declared.boxed.BoxType.TheVariants as ty
+use Rattle.pc_types.proofs.Tuples.{both_true}
+use Rattle.pc_types.proofs.Together.{put_same}
+
+-- what a call answers, said otherwise
+pub ok_as : {X Y E : Type 0} (f : X → Y) (r : Result X E) (a b : Y) → a ≡ b → IfOk r (λ o. f o ≡ a) → IfOk r (λ o. f o ≡ b)
+ok_as f r a b e h = subst (λ x. IfOk r (λ o. f o ≡ x)) e h
+
+-- parts that are joined, ahead of the others
+abbrev pub prefixed : List BoxType → Option Trees → Option Trees
+prefixed [] o = o
+prefixed (x ∷ xs) o = both_parts (Some (tree_of x)) (prefixed xs o)
+
+pub prefixed_none : (xs : List BoxType) → prefixed xs None ≡ None
+prefixed_none [] = refl
+prefixed_none (x ∷ xs) = ap (both_parts (Some (tree_of x))) (prefixed_none xs)
+
+pub prefixed_push : (xs : List BoxType) (x : BoxType) (o : Option Trees) → prefixed (xs ++ x ∷ []) o ≡ prefixed xs (both_parts (Some (tree_of x)) o)
+prefixed_push [] x o = refl
+prefixed_push (y ∷ ys) x o = ap (both_parts (Some (tree_of y))) (prefixed_push ys x o)
+
+pub prefixed_end : (xs : List BoxType) → prefixed xs (Some end) ≡ Some (trees_in xs)
+prefixed_end [] = refl
+prefixed_end (x ∷ xs) = ap (both_parts (Some (tree_of x))) (prefixed_end xs)
+
+no_parts : (o : Option Tree) → None ≡ both_parts o None
+no_parts None = refl
+no_parts (Some t) = refl
+
+no_first : (p : Option Trees) → both_parts None p ≡ None
+no_first None = refl
+no_first (Some ts) = refl
+
+module _ (bases : Bases) where
+  abbrev pub each : List BoxType → List BoxType → Option Trees
+  each ss ts = join_each bases (trees_in ss) (trees_in ts)
+
+  -- tuples of different lengths have no join
+  pub each_lengths : (ss ts : List BoxType) → (length ss ≡ length ts → ⊥) → None ≡ each ss ts
+  each_lengths [] [] h = absurd (h refl)
+  each_lengths [] (t ∷ ts) h = refl
+  each_lengths (s ∷ ss) [] h = refl
+  each_lengths (s ∷ ss) (t ∷ ts) h =
+      no_parts (joined bases (tree_of s) (tree_of t)) ∙ ap (both_parts (joined bases (tree_of s) (tree_of t))) (each_lengths ss ts (λ e. h (ap suc e)))
+
+  -- the parts so far are joined
+  abbrev pub JoinsTo : List BoxType → List BoxType → ℕ → List BoxType → Type 0
+  JoinsTo ss ts i out = each ss ts ≡ prefixed out (each (drop i ss) (drop i ts))
+
+  each_at : (ss ts : List BoxType) (i : ℕ) (s t : BoxType) → i < length ss → i < length ts → s ≡ get_or ss i s → t ≡ get_or ts i t → each (drop i ss) (drop i ts) ≡ both_parts (joined bases (tree_of s) (tree_of t)) (each (drop (i + 1) ss) (drop (i + 1) ts))
+  each_at ss ts i s t h k e f =
+      let p : drop i ss ≡ s ∷ drop (i + 1) ss = rw add-one (drop-cons ss i s h ∙ ap (λ x. x ∷ drop (suc i) ss) (sym e)) in
+      let q : drop i ts ≡ t ∷ drop (i + 1) ts = rw add-one (drop-cons ts i t k ∙ ap (λ x. x ∷ drop (suc i) ts) (sym f)) in
+      λ j. each (p j) (q j)
+
+  pub joins_more : (ss ts out : List BoxType) (i : ℕ) (s t x : BoxType) → JoinsTo ss ts i out → i < length ss → i < length ts → s ≡ get_or ss i s → t ≡ get_or ts i t → Some (tree_of x) ≡ joined bases (tree_of s) (tree_of t) → JoinsTo ss ts (i + 1) (out ++ x ∷ [])
+  joins_more ss ts out i s t x j h k e f g =
+      j ∙ ap (prefixed out) (each_at ss ts i s t h k e f ∙ ap (λ o. both_parts o (each (drop (i + 1) ss) (drop (i + 1) ts))) (sym g))
+      ∙ sym (prefixed_push out x (each (drop (i + 1) ss) (drop (i + 1) ts)))
+
+  pub joins_none : (ss ts out : List BoxType) (i : ℕ) (s t : BoxType) → JoinsTo ss ts i out → i < length ss → i < length ts → s ≡ get_or ss i s → t ≡ get_or ts i t → None ≡ joined bases (tree_of s) (tree_of t) → None ≡ each ss ts
+  joins_none ss ts out i s t j h k e f g =
+      sym (j ∙ ap (prefixed out) (each_at ss ts i s t h k e f ∙ ap (λ o. both_parts o (each (drop (i + 1) ss) (drop (i + 1) ts))) (sym g) ∙ no_first (each (drop (i + 1) ss) (drop (i + 1) ts))) ∙ prefixed_none out)
+
+  drop_end : (ss : List BoxType) (i : ℕ) → length ss ≤ i → drop i ss ≡ []
+  drop_end [] zero h = refl
+  drop_end [] (suc i) h = refl
+  drop_end (s ∷ ss) zero h = absurd (omega arith)
+  drop_end (s ∷ ss) (suc i) h = drop_end ss i (omega arith)
+
+  pub joins_all : (ss ts out : List BoxType) (i : ℕ) → JoinsTo ss ts i out → length ss ≤ i → length ts ≤ i → Some (trees_in out) ≡ each ss ts
+  joins_all ss ts out i j h k =
+      let p = drop_end ss i h in
+      let q = drop_end ts i k in
+      sym (j ∙ ap (prefixed out) (λ n. each (p n) (q n)) ∙ prefixed_end out)
+
+-- equal tuples join to themselves
+same_join : (bases : Bases) (ss ts : Trees) → same_trees ss ts ≡ true → join_each bases ss ts ≡ Some ss
+same_join bases end end e = refl
+same_join bases end (more t ts) e = cc
+same_join bases (more s ss) end e = cc
+same_join bases (more s ss) (more t ts) e =
+    let r = both_true (same_tree s t) (same_trees ss ts) e in
+    ap (λ b. both_parts (if b then Some s else by_rule s t (option_map union (put_all bases t s (unabsorbed bases t s)))) (join_each bases ss ts)) r.0
+    ∙ ap (both_parts (Some s)) (same_join bases ss ts r.1)
+
+same_counts : (ss ts : Trees) → same_trees ss ts ≡ true → count ss ≡ count ts
+same_counts end end e = refl
+same_counts end (more t ts) e = cc
+same_counts (more s ss) end e = cc
+same_counts (more s ss) (more t ts) e = ap (λ n. n + 1) (same_counts ss ts (both_true (same_tree s t) (same_trees ss ts) e).1)
+
+equal_before : (ss ts : Trees) → count ss ≡ count ts → is_before (TupleOf ss) (TupleOf ts) ≡ false
+equal_before ss ts e = grind (arith, nat_tests)
+
+tuple_case : (bases : Bases) (ss ts : Trees) (x : Test) → same_trees ss ts ≡ x → option_map union (put_all bases (TupleOf ts) (TupleOf ss) (unabsorbed bases (TupleOf ts) (TupleOf ss))) ≡ if x then Some (TupleOf ss) else option_map union (put_all bases (TupleOf ts) (TupleOf ss) (unabsorbed bases (TupleOf ts) (TupleOf ss)))
+tuple_case bases ss ts true e =
+    let c = same_counts ss ts e in
+    ap (option_map union) (put_same bases (TupleOf ss) (TupleOf ts) (TupleOf ss) (TupleOf ts) (λ n. option_map TupleOf (join_each bases ss (parts_of n))) [] (equal_before ss ts c) (equal_before ts ss (sym c)))
+    ∙ ap (λ o. option_map union (option_map (λ f. f ∷ []) (option_map TupleOf o))) (same_join bases ss ts e)
+tuple_case bases ss ts false e = refl
+
+-- what the rules say of a tuple is the join, equal or not
+pub tuple_rule : (bases : Bases) (ss : Trees) (t : Tree) → by_rule (TupleOf ss) t (option_map union (put_all bases t (TupleOf ss) (unabsorbed bases t (TupleOf ss)))) ≡ joined bases (TupleOf ss) t
+tuple_rule bases ss (TupleOf ts) = tuple_case bases ss ts (same_trees ss ts) refl
+tuple_rule bases ss Never = refl
+tuple_rule bases ss _ = refl
+
+-- parts of types in normal form
+pub normal_item : (ts : List BoxType) (k : ℕ) (x : BoxType) → AreNormal (trees_in ts) → k < length ts → x ≡ get_or ts k x → IsNormal (tree_of x)
+normal_item ts k x n h e = subst (λ y. IsNormal (tree_of y)) (sym e) (go ts k x n h)
+  where
+    go : (ts : List BoxType) (k : ℕ) (d : BoxType) → AreNormal (trees_in ts) → k < length ts → IsNormal (tree_of (get_or ts k d))
+    go [] k d n h = absurd (omega arith)
+    go (t ∷ ts) zero d n h = n.0
+    go (t ∷ ts) (suc k) d n h = go ts k d n.1 (omega arith)
+
+pub normal_parts : (t : Tree) → IsNormal t → AreNormal (parts_of t)
+normal_parts (TupleOf ts) n = n
+normal_parts _ n = tt
+
+-- a type that no rule names has members
+pub listed_of : (t : BoxType) → (t ≡ ty.Any → ⊥) → (t ≡ ty.Object → ⊥) → IsNormal (tree_of t) → IsListed (tree_of t)
+listed_of ty.Any a o n = a refl
+listed_of ty.Object a o n = o refl
+listed_of _ a o n = n
+
+pub ordinary_rule : (s t : BoxType) (o : Option Tree) → (s ≡ ty.Never → ⊥) → (s ≡ ty.Any → ⊥) → (s ≡ ty.Object → ⊥) → (t ≡ ty.Never → ⊥) → (t ≡ ty.Any → ⊥) → (t ≡ ty.Object → ⊥) → by_rule (tree_of s) (tree_of t) o ≡ o
+ordinary_rule ty.Never t o a b c d e f = absurd (a refl)
+ordinary_rule ty.Any t o a b c d e f = absurd (b refl)
+ordinary_rule ty.Object t o a b c d e f = absurd (c refl)
+ordinary_rule s ty.Never o a b c d e f = absurd (d refl)
+ordinary_rule s ty.Any o a b c d e f = absurd (e refl)
+ordinary_rule s ty.Object o a b c d e f = absurd (f refl)
+ordinary_rule _ _ o a b c d e f = refl
+
+pub tuple_rule_at : (bases : Bases) (s : Tree) (ss : Trees) (t : Tree) → s ≡ TupleOf ss → by_rule s t (option_map union (put_all bases t s (unabsorbed bases t s))) ≡ joined bases s t
+tuple_rule_at bases s ss t e = subst (λ x. by_rule x t (option_map union (put_all bases t x (unabsorbed bases t x))) ≡ joined bases x t) (sym e) (tuple_rule bases ss t)
+
+-- what a vector of parts means
+abbrev pub parts_tree : Vec BoxType Global → Trees
+parts_tree v = trees_in v.items
+
+pub one_tuple : (bases : Bases) (a : Tree) (ss : Trees) (b : Tree) (x y : Trees) → a ≡ TupleOf ss → x ≡ ss → y ≡ parts_of b → one_of bases a b ≡ option_map TupleOf (join_each bases x y)
+one_tuple bases a ss b x y e f g = ap (λ z. one_of bases z b) e ∙ (λ i. option_map TupleOf (join_each bases (sym f i) (sym g i)))

@@ -1,0 +1,16 @@
+pub mod Agree
+pub mod Ancestors
+pub mod Complete
+pub mod Deciding
+pub mod Heads
+pub mod Joined
+pub mod JoinNormal
+pub mod Lookup
+pub mod Meets
+pub mod Nodes
+pub mod Sound
+pub mod Structural
+pub mod Together
+pub mod Truth
+pub mod Tuples
+pub mod Weight

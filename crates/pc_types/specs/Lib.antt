@@ -1,0 +1,11 @@
+pub mod Annotations
+pub mod Assignable
+pub mod Below
+pub mod Boxed
+pub mod Flow
+pub mod Head
+pub mod Join
+pub mod Normal
+pub mod Shape
+pub mod Store
+pub mod Tree

@@ -1,0 +1,60 @@
+-- The form of a type: its nodes, its parts and its members.
+-- Own rule of the profile.
+use Rattle.std.specs.Prelude.{ℕ, ◌+◌, List, [], ◌∷◌}
+use Rattle.pc_types.specs.Tree.{Tree, Trees, Never, ListOf, DictOf, TupleOf, Union, end, more}
+
+-- the greatest number of nodes of a type
+abbrev pub limit : ℕ
+limit = 256
+
+-- one for a type without parts, one more than its parts for a list, a dict, a tuple and a union of two
+abbrev mutual
+  pub nodes : Tree → ℕ
+  nodes (ListOf t) = 1 + nodes t
+  nodes (DictOf k v) = 1 + nodes k + nodes v
+  nodes (TupleOf ts) = 1 + nodes_of ts
+  nodes (Union a b) = 1 + nodes a + nodes b
+  nodes _ = 1
+
+  pub nodes_of : Trees → ℕ
+  nodes_of end = 0
+  nodes_of (more t ts) = nodes t + nodes_of ts
+
+-- how many parts a tuple has
+abbrev pub count : Trees → ℕ
+count end = 0
+count (more t ts) = count ts + 1
+
+-- the parts of a tuple, as a list
+abbrev pub listed : Trees → List Tree
+listed end = []
+listed (more t ts) = t ∷ listed ts
+
+-- a list of parts, as those of a tuple
+abbrev pub trees : List Tree → Trees
+trees [] = end
+trees (t ∷ ts) = more t (trees ts)
+
+-- the members of a type: none of Never, those of a union in order, else the type itself
+abbrev pub members : Tree → List Tree
+members Never = []
+members (Union a b) = a ∷ members b
+members t = t ∷ []
+
+-- a member ahead of those of a type
+abbrev pub ahead : Tree → Tree → Tree
+ahead m Never = m
+ahead m t = Union m t
+
+-- the type with these members
+abbrev pub union : List Tree → Tree
+union [] = Never
+union (t ∷ ts) = ahead t (union ts)
+
+-- the parts of a type: a list's item, a dict's key and value, a tuple's parts, a union's members
+abbrev pub parts : Tree → List Tree
+parts (ListOf t) = t ∷ []
+parts (DictOf k v) = k ∷ v ∷ []
+parts (TupleOf ts) = listed ts
+parts (Union a b) = a ∷ members b
+parts _ = []

@@ -1,0 +1,146 @@
+ghost use Rattle.pc_types.specs.Boxed.{tree_of, IsGiven};
+
+use crate::flow::{is_assignable, is_static};
+use crate::join::join;
+use crate::shape::{LIMIT, copies, copy, count_each, count_nodes, head, part};
+use crate::{Head, Parents, TypeStore};
+use pc_source::OutOfMemory;
+use std::alloc::Global;
+
+/// A type in boxes: a tree whose parts lie in boxes and vectors.
+#[derive(Drop)]
+pub enum BoxType {
+    Any,
+    Object,
+    Never,
+    Int,
+    Bool,
+    Str,
+    NoneType,
+    /// The class of this number.
+    Class(usize),
+    List(Box<BoxType>),
+    /// The key, and the value.
+    Dict(Box<BoxType>, Box<BoxType>),
+    Tuple(Vec<BoxType>),
+    /// The first member, and the others.
+    Union(Box<BoxType>, Box<BoxType>),
+}
+
+/// A store whose types are trees of boxes and vectors. It keeps nothing of them.
+#[derive(Drop)]
+pub struct BoxStore;
+
+impl BoxStore {
+    /// A store.
+    pub fn new() -> BoxStore {
+        BoxStore
+    }
+}
+
+impl TypeStore for BoxStore {
+    type Ty = BoxType;
+
+    ghost has = { λ _ t. IsGiven t };
+
+    ghost tree = { λ _ t. tree_of t };
+
+    ghost normal = { λ _ t h. h.normal };
+
+    ghost small = { λ _ t h. h.small };
+
+    fn any(&mut self, _alloc: Global) -> Result<BoxType, OutOfMemory> {
+        Ok(BoxType::Any)
+    }
+
+    fn object(&mut self, _alloc: Global) -> Result<BoxType, OutOfMemory> {
+        Ok(BoxType::Object)
+    }
+
+    fn never(&mut self, _alloc: Global) -> Result<BoxType, OutOfMemory> {
+        Ok(BoxType::Never)
+    }
+
+    fn int(&mut self, _alloc: Global) -> Result<BoxType, OutOfMemory> {
+        Ok(BoxType::Int)
+    }
+
+    fn bool(&mut self, _alloc: Global) -> Result<BoxType, OutOfMemory> {
+        Ok(BoxType::Bool)
+    }
+
+    fn str(&mut self, _alloc: Global) -> Result<BoxType, OutOfMemory> {
+        Ok(BoxType::Str)
+    }
+
+    fn none(&mut self, _alloc: Global) -> Result<BoxType, OutOfMemory> {
+        Ok(BoxType::NoneType)
+    }
+
+    fn class(&mut self, _alloc: Global, number: usize) -> Result<BoxType, OutOfMemory> {
+        Ok(BoxType::Class(number))
+    }
+
+    fn list(&mut self, alloc: Global, item: &BoxType) -> Result<Option<BoxType>, OutOfMemory> {
+        if count_nodes(item) >= LIMIT {
+            return Ok(None);
+        }
+        let item = copy(alloc, item)?;
+        Ok(Some(BoxType::List(Box::new(alloc, item)?)))
+    }
+
+    fn dict(
+        &mut self,
+        alloc: Global,
+        key: &BoxType,
+        value: &BoxType,
+    ) -> Result<Option<BoxType>, OutOfMemory> {
+        if count_nodes(key) + count_nodes(value) >= LIMIT {
+            return Ok(None);
+        }
+        let key = copy(alloc, key)?;
+        let value = copy(alloc, value)?;
+        Ok(Some(BoxType::Dict(Box::new(alloc, key)?, Box::new(alloc, value)?)))
+    }
+
+    fn tuple(&mut self, alloc: Global, parts: &[BoxType]) -> Result<Option<BoxType>, OutOfMemory> {
+        if count_each(parts) >= LIMIT {
+            return Ok(None);
+        }
+        Ok(Some(BoxType::Tuple(copies(alloc, parts)?)))
+    }
+
+    fn copy(&self, alloc: Global, ty: &BoxType) -> Result<BoxType, OutOfMemory> {
+        copy(alloc, ty)
+    }
+
+    fn head(&self, ty: &BoxType) -> Head {
+        head(ty)
+    }
+
+    fn nodes(&self, ty: &BoxType) -> usize {
+        count_nodes(ty)
+    }
+
+    fn part(&self, alloc: Global, ty: &BoxType, number: usize) -> Result<BoxType, OutOfMemory> {
+        copy(alloc, part(ty, number))
+    }
+
+    fn join(
+        &mut self,
+        alloc: Global,
+        parents: &Parents,
+        s: &BoxType,
+        t: &BoxType,
+    ) -> Result<Option<BoxType>, OutOfMemory> {
+        join(alloc, parents, s, t)
+    }
+
+    fn is_static(&mut self, parents: &Parents, s: &BoxType, t: &BoxType) -> bool {
+        is_static(parents, s, t)
+    }
+
+    fn is_assignable(&mut self, parents: &Parents, s: &BoxType, t: &BoxType) -> bool {
+        is_assignable(parents, s, t)
+    }
+}

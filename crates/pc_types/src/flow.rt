@@ -1,0 +1,165 @@
+// When a type flows into another.
+
+ghost use Rattle.std.specs.Prelude.{◌≡◌, ◌↔◌, length, IsTrue, true};
+ghost use Rattle.pc_types.specs.Below.{Below, Static};
+ghost use Rattle.pc_types.specs.Tree.{Class};
+ghost use Rattle.pc_types.specs.Assignable.{Assignable};
+ghost use Rattle.pc_types.specs.Flow.{Covers, Flow, FlowsBack, EachFlow, FlowFits, HeadFits, seen, seen_each};
+ghost use Rattle.pc_types.specs.Join.{reaches};
+ghost use Rattle.pc_types.specs.Normal.{IsNormal};
+ghost use Rattle.pc_types.specs.Boxed.{tree_of, trees_in, IsNoUnion};
+
+use crate::{BoxType, Parents};
+
+/// Whether a class is another one or has it as an ancestor.
+pub(crate) fn is_within(parents: &Parents, class: usize, ancestor: usize) -> bool
+    ensures below { IsTrue result ↔ Below parents.now (Class class) (Class ancestor) }
+    ensures steps { result ≡ reaches parents.now class class ancestor }
+{
+    let mut at = class;
+    while at != ancestor {
+        match parents.base(at) {
+            Some(base) => at = base,
+            None => return false,
+        }
+    }
+    true
+}
+
+/// Whether each member of the first has in the second a member of its head, or one above it.
+fn covers(parents: &Parents, gradual: bool, s: &BoxType, t: &BoxType) -> bool
+    ensures { IsTrue result ↔ Covers parents.now (seen gradual (tree_of s.now)) (seen gradual (tree_of t.now)) }
+{
+    if gradual && matches!(s, BoxType::Any) {
+        return true;
+    }
+    match s {
+        BoxType::Never => true,
+        BoxType::Union(a, b) => covers(parents, gradual, a, t) && covers(parents, gradual, b, t),
+        _ => match t {
+            BoxType::Any => true,
+            BoxType::Object => true,
+            BoxType::Union(a, b) => covers(parents, gradual, s, a)
+                || covers(parents, gradual, s, b),
+            _ => head_fits(parents, gradual, s, t),
+        },
+    }
+}
+
+/// Whether the heads of two types that are no unions fit.
+fn head_fits(parents: &Parents, gradual: bool, s: &BoxType, t: &BoxType) -> bool
+    requires left { IsNoUnion s.now }
+    requires right { IsNoUnion t.now }
+    ensures { IsTrue result ↔ HeadFits parents.now (seen gradual (tree_of s.now)) (seen gradual (tree_of t.now)) }
+{
+    match s {
+        BoxType::Int => matches!(t, BoxType::Int),
+        BoxType::Bool => matches!(t, BoxType::Bool | BoxType::Int),
+        BoxType::Str => matches!(t, BoxType::Str),
+        BoxType::NoneType => matches!(t, BoxType::NoneType),
+        BoxType::Class(c) => match t {
+            BoxType::Class(d) => is_within(parents, *c, *d),
+            _ => false,
+        },
+        BoxType::List(_) => matches!(t, BoxType::List(_)),
+        BoxType::Dict(_, _) => matches!(t, BoxType::Dict(_, _)),
+        BoxType::Tuple(ss) => match t {
+            BoxType::Tuple(ts) => ss.len() == ts.len(),
+            _ => false,
+        },
+        BoxType::Any | BoxType::Object | BoxType::Never | BoxType::Union(_, _) => false,
+    }
+}
+
+/// Whether the first flows into the second by heads, where Any fits everything, or counts as object.
+#[cycle(flow)]
+fn flows(parents: &Parents, gradual: bool, both: bool, s: &BoxType, t: &BoxType) -> bool
+    ensures { IsTrue result ↔ Flow parents.now both (seen gradual (tree_of s.now)) (seen gradual (tree_of t.now)) }
+{
+    if gradual && matches!(s, BoxType::Any) {
+        return true;
+    }
+    match s {
+        BoxType::Never => true,
+        BoxType::Union(a, b) => {
+            flows(parents, gradual, both, a, t) && flows(parents, gradual, both, b, t)
+        }
+        _ => match t {
+            BoxType::Any => true,
+            BoxType::Object => true,
+            BoxType::Union(a, b) => {
+                flows(parents, gradual, both, s, a) || flows(parents, gradual, both, s, b)
+            }
+            _ => fits(parents, gradual, both, s, t),
+        },
+    }
+}
+
+/// Whether the heads of two types that are no unions fit, and their parts with them.
+#[cycle(flow)]
+fn fits(parents: &Parents, gradual: bool, both: bool, s: &BoxType, t: &BoxType) -> bool
+    requires left { IsNoUnion s.now }
+    requires right { IsNoUnion t.now }
+    ensures { IsTrue result ↔ FlowFits parents.now both (seen gradual (tree_of s.now)) (seen gradual (tree_of t.now)) }
+{
+    match s {
+        BoxType::List(a) => match t {
+            BoxType::List(b) => agree(parents, gradual, true, a, b),
+            _ => false,
+        },
+        BoxType::Dict(j, v) => match t {
+            BoxType::Dict(k, w) => {
+                agree(parents, gradual, true, j, k) && agree(parents, gradual, true, v, w)
+            }
+            _ => false,
+        },
+        BoxType::Tuple(ss) => match t {
+            BoxType::Tuple(ts) => each_flows(parents, gradual, both, ss, ts),
+            _ => false,
+        },
+        _ => head_fits(parents, gradual, s, t),
+    }
+}
+
+/// Whether the first flows into the second and, where both directions are wanted, the second into the
+/// first.
+#[cycle(flow)]
+fn agree(parents: &Parents, gradual: bool, both: bool, s: &BoxType, t: &BoxType) -> bool
+    ensures { IsTrue result ↔ FlowsBack parents.now both (seen gradual (tree_of s.now)) (seen gradual (tree_of t.now)) }
+{
+    flows(parents, gradual, both, s, t) && (!both || covers(parents, gradual, t, s))
+}
+
+/// Whether the parts of two tuples of one length flow into each other's, one by one.
+#[cycle(flow)]
+fn each_flows(parents: &Parents, gradual: bool, both: bool, ss: &[BoxType], ts: &[BoxType]) -> bool
+    ensures { IsTrue result ↔ EachFlow parents.now both (seen_each gradual (trees_in ss.now)) (seen_each gradual (trees_in ts.now)) }
+{
+    if ss.len() != ts.len() {
+        return false;
+    }
+    for i in 0..ss.len() {
+        if !agree(parents, gradual, both, &ss[i], &ts[i]) {
+            return false;
+        }
+    }
+    true
+}
+
+/// Whether the first is static to the second.
+pub(crate) fn is_static(parents: &Parents, s: &BoxType, t: &BoxType) -> bool
+    requires left { IsNormal (tree_of s.now) }
+    requires right { IsNormal (tree_of t.now) }
+    ensures { IsTrue result ↔ Static parents.now (tree_of s.now) (tree_of t.now) }
+{
+    flows(parents, false, false, s, t)
+}
+
+/// Whether the first is assignable to the second.
+pub(crate) fn is_assignable(parents: &Parents, s: &BoxType, t: &BoxType) -> bool
+    requires left { IsNormal (tree_of s.now) }
+    requires right { IsNormal (tree_of t.now) }
+    ensures { IsTrue result ↔ Assignable parents.now (tree_of s.now) (tree_of t.now) }
+{
+    flows(parents, true, false, s, t)
+}

@@ -1,0 +1,153 @@
+// The form of types in boxes: nodes, heads, parts, copies.
+
+ghost use Rattle.std.specs.Prelude.{◌≡◌, ◌<◌, ◌+◌, min, map, length, slice_get, IfOk, Some};
+ghost use Rattle.pc_types.specs.Shape.{nodes, nodes_of, parts, members};
+ghost use Rattle.pc_types.specs.Head.{head_of};
+ghost use Rattle.pc_types.specs.Boxed.{tree_of, trees_in};
+
+use crate::{BoxType, Head};
+use pc_source::OutOfMemory;
+use std::alloc::Global;
+
+/// The greatest number of nodes of a type.
+pub(crate) const LIMIT: usize = 256;
+
+/// The number, as far as one more than the limit of nodes.
+fn capped(count: usize) -> usize
+    ensures { result ≡ min count 257 }
+{
+    count.min(LIMIT + 1)
+}
+
+/// How many nodes a type has, as far as one more than the limit.
+#[cycle(nodes)]
+pub(crate) fn count_nodes(t: &BoxType) -> usize
+    ensures { result ≡ min (nodes (tree_of t.now)) 257 }
+{
+    match t {
+        BoxType::List(item) => capped(1 + count_nodes(item)),
+        BoxType::Dict(key, value) => capped(1 + count_nodes(key) + count_nodes(value)),
+        BoxType::Tuple(parts) => capped(1 + count_each(parts)),
+        BoxType::Union(first, others) => capped(1 + count_nodes(first) + count_nodes(others)),
+        _ => 1,
+    }
+}
+
+/// How many nodes several types have, as far as one more than the limit.
+#[cycle(nodes)]
+pub(crate) fn count_each(ts: &[BoxType]) -> usize
+    ensures { result ≡ min (nodes_of (trees_in ts.now)) 257 }
+{
+    let mut sum = 0;
+    for t in ts {
+        sum = capped(sum + count_nodes(t));
+    }
+    sum
+}
+
+/// The same type anew.
+#[cycle(copy)]
+pub(crate) fn copy(alloc: Global, t: &BoxType) -> Result<BoxType, OutOfMemory>
+    ensures { IfOk result (λ c. tree_of c ≡ tree_of t.now) }
+{
+    match t {
+        BoxType::Any => Ok(BoxType::Any),
+        BoxType::Object => Ok(BoxType::Object),
+        BoxType::Never => Ok(BoxType::Never),
+        BoxType::Int => Ok(BoxType::Int),
+        BoxType::Bool => Ok(BoxType::Bool),
+        BoxType::Str => Ok(BoxType::Str),
+        BoxType::NoneType => Ok(BoxType::NoneType),
+        BoxType::Class(c) => Ok(BoxType::Class(*c)),
+        BoxType::List(item) => {
+            let item = copy(alloc, item)?;
+            Ok(BoxType::List(Box::new(alloc, item)?))
+        }
+        BoxType::Dict(key, value) => {
+            let key = copy(alloc, key)?;
+            let value = copy(alloc, value)?;
+            Ok(BoxType::Dict(Box::new(alloc, key)?, Box::new(alloc, value)?))
+        }
+        BoxType::Tuple(parts) => Ok(BoxType::Tuple(copies(alloc, parts)?)),
+        BoxType::Union(first, others) => {
+            let first = copy(alloc, first)?;
+            let others = copy(alloc, others)?;
+            Ok(BoxType::Union(Box::new(alloc, first)?, Box::new(alloc, others)?))
+        }
+    }
+}
+
+/// The same types anew.
+#[cycle(copy)]
+pub(crate) fn copies(alloc: Global, ts: &[BoxType]) -> Result<Vec<BoxType>, OutOfMemory>
+    ensures { IfOk result (λ v. map tree_of v.items ≡ map tree_of ts.now) }
+{
+    let mut out = Vec::new(alloc);
+    for t in ts {
+        out.push(copy(alloc, t)?)?;
+    }
+    Ok(out)
+}
+
+/// How many members a type has: those of a union, none of Never, else one.
+fn count_members(t: &BoxType) -> usize
+    requires { nodes (tree_of t.now) < 257 }
+    ensures { result ≡ length (members (tree_of t.now)) }
+{
+    match t {
+        BoxType::Never => 0,
+        BoxType::Union(_, others) => 1 + count_members(others),
+        _ => 1,
+    }
+}
+
+/// A type's head.
+pub(crate) fn head(t: &BoxType) -> Head
+    requires { nodes (tree_of t.now) < 257 }
+    ensures { result ≡ head_of (tree_of t.now) }
+{
+    match t {
+        BoxType::Any => Head::Any,
+        BoxType::Object => Head::Object,
+        BoxType::Never => Head::Never,
+        BoxType::Int => Head::Int,
+        BoxType::Bool => Head::Bool,
+        BoxType::Str => Head::Str,
+        BoxType::NoneType => Head::None,
+        BoxType::Class(c) => Head::Class(*c),
+        BoxType::List(_) => Head::List,
+        BoxType::Dict(_, _) => Head::Dict,
+        BoxType::Tuple(parts) => Head::Tuple(parts.len()),
+        BoxType::Union(_, others) => Head::Union(1 + count_members(others)),
+    }
+}
+
+/// The member of this number.
+fn member(t: &BoxType, number: usize) -> &BoxType
+    requires { number < length (members (tree_of t.now)) }
+    ensures { slice_get (members (tree_of t.now)) number ≡ Some (tree_of result.now) }
+{
+    match t {
+        BoxType::Union(first, others) => {
+            if number == 0 {
+                first
+            } else {
+                member(others, number - 1)
+            }
+        }
+        _ => t,
+    }
+}
+
+/// The part of this number.
+pub(crate) fn part(t: &BoxType, number: usize) -> &BoxType
+    requires { number < length (parts (tree_of t.now)) }
+    ensures { slice_get (parts (tree_of t.now)) number ≡ Some (tree_of result.now) }
+{
+    match t {
+        BoxType::List(item) => item,
+        BoxType::Dict(key, value) => { if number == 0 { key } else { value } }
+        BoxType::Tuple(parts) => &parts[number],
+        _ => member(t, number),
+    }
+}

@@ -1,0 +1,149 @@
+ghost use Rattle.std.specs.Prelude.{◌≡◌, ◌↔◌, ◌<◌, ◌≤◌, List, Option, ℕ, length, map, slice_get, All, IsTrue, IfOk, Some};
+ghost use Rattle.pc_types.specs.Tree.{Tree, Any, Object, Never, Int, Bool, Str, NoneType, Class, ListOf, DictOf, TupleOf};
+ghost use Rattle.pc_types.specs.Below.{Static};
+ghost use Rattle.pc_types.specs.Assignable.{Assignable};
+ghost use Rattle.pc_types.specs.Normal.{IsKey, IsNormal};
+ghost use Rattle.pc_types.specs.Shape.{nodes, limit, parts, trees};
+ghost use Rattle.pc_types.specs.Join.{join};
+ghost use Rattle.pc_types.specs.Head.{head_of, part_count};
+ghost use Rattle.pc_types.specs.Store.{Means, Keeps, MeansWithin, MeansAny};
+
+use crate::{Head, Parents};
+use pc_source::OutOfMemory;
+use std::alloc::Global;
+
+/// A store of types. Each of its types means, in the store that gave it, a type tree of at most 256
+/// nodes in normal form; what a type means never changes.
+///
+/// The unions of types are made by `join` alone.
+pub trait TypeStore {
+    /// A type of the store.
+    type Ty: Drop;
+
+    /// The store gave this type.
+    ghost has: { Self → Self.Ty → Type 0 };
+
+    /// The tree that the type means.
+    ghost tree: { Self → Self.Ty → Tree };
+
+    /// The type `Any`.
+    fn any(&mut self, alloc: Global) -> Result<Self::Ty, OutOfMemory>
+        ensures value { IfOk result (λ t. Means has tree self.new t Any) }
+        ensures kept { Keeps has tree self.old self.new };
+
+    /// The type `object`.
+    fn object(&mut self, alloc: Global) -> Result<Self::Ty, OutOfMemory>
+        ensures value { IfOk result (λ t. Means has tree self.new t Object) }
+        ensures kept { Keeps has tree self.old self.new };
+
+    /// The type `Never`.
+    fn never(&mut self, alloc: Global) -> Result<Self::Ty, OutOfMemory>
+        ensures value { IfOk result (λ t. Means has tree self.new t Never) }
+        ensures kept { Keeps has tree self.old self.new };
+
+    /// The type `int`.
+    fn int(&mut self, alloc: Global) -> Result<Self::Ty, OutOfMemory>
+        ensures value { IfOk result (λ t. Means has tree self.new t Int) }
+        ensures kept { Keeps has tree self.old self.new };
+
+    /// The type `bool`.
+    fn bool(&mut self, alloc: Global) -> Result<Self::Ty, OutOfMemory>
+        ensures value { IfOk result (λ t. Means has tree self.new t Bool) }
+        ensures kept { Keeps has tree self.old self.new };
+
+    /// The type `str`.
+    fn str(&mut self, alloc: Global) -> Result<Self::Ty, OutOfMemory>
+        ensures value { IfOk result (λ t. Means has tree self.new t Str) }
+        ensures kept { Keeps has tree self.old self.new };
+
+    /// The type `None`.
+    fn none(&mut self, alloc: Global) -> Result<Self::Ty, OutOfMemory>
+        ensures value { IfOk result (λ t. Means has tree self.new t NoneType) }
+        ensures kept { Keeps has tree self.old self.new };
+
+    /// The class of this number.
+    fn class(&mut self, alloc: Global, number: usize) -> Result<Self::Ty, OutOfMemory>
+        ensures value { IfOk result (λ t. Means has tree self.new t (Class number)) }
+        ensures kept { Keeps has tree self.old self.new };
+
+    /// `list[item]`, or none where it has over 256 nodes.
+    fn list(&mut self, alloc: Global, item: &Self::Ty) -> Result<Option<Self::Ty>, OutOfMemory>
+        requires { has self.old item.now }
+        ensures value { IfOk result (λ t. MeansWithin has tree self.new t (ListOf (tree self.old item.now))) }
+        ensures kept { Keeps has tree self.old self.new };
+
+    /// `dict[key, value]`, or none where it has over 256 nodes. The key is `int` or `str`.
+    fn dict(
+        &mut self,
+        alloc: Global,
+        key: &Self::Ty,
+        value: &Self::Ty,
+    ) -> Result<Option<Self::Ty>, OutOfMemory>
+        requires key { has self.old key.now }
+        requires value { has self.old value.now }
+        requires suits { IsKey (tree self.old key.now) }
+        ensures value { IfOk result (λ t. MeansWithin has tree self.new t (DictOf (tree self.old key.now) (tree self.old value.now))) }
+        ensures kept { Keeps has tree self.old self.new };
+
+    /// `tuple[parts]`, or none where it has over 256 nodes.
+    fn tuple(&mut self, alloc: Global, parts: &[Self::Ty]) -> Result<Option<Self::Ty>, OutOfMemory>
+        requires { All (has self.old) parts.now }
+        ensures value { IfOk result (λ t. MeansWithin has tree self.new t (TupleOf (trees (map (tree self.old) parts.now)))) }
+        ensures kept { Keeps has tree self.old self.new };
+
+    /// The same type again.
+    fn copy(&self, alloc: Global, ty: &Self::Ty) -> Result<Self::Ty, OutOfMemory>
+        requires { has self.now ty.now }
+        ensures { IfOk result (λ t. Means has tree self.now t (tree self.now ty.now)) };
+
+    /// The type's head.
+    fn head(&self, ty: &Self::Ty) -> Head
+        requires { has self.now ty.now }
+        ensures head { result ≡ head_of (tree self.now ty.now) }
+        ensures parts { length (parts (tree self.now ty.now)) ≡ part_count result };
+
+    /// How many nodes the type has, from 1 to 256.
+    fn nodes(&self, ty: &Self::Ty) -> usize
+        requires { has self.now ty.now }
+        ensures { result ≡ nodes (tree self.now ty.now) };
+
+    /// The part of this number, from 0: a list's item, a dict's key and value, a tuple's parts, a
+    /// union's members in order.
+    fn part(&self, alloc: Global, ty: &Self::Ty, number: usize) -> Result<Self::Ty, OutOfMemory>
+        requires ty { has self.now ty.now }
+        requires number { number < length (parts (tree self.now ty.now)) }
+        ensures { IfOk result (λ t. has self.now t × (slice_get (parts (tree self.now ty.now)) number ≡ Some (tree self.now t))) };
+
+    /// The join of two types, or none where a part of them has none or it has over 256 nodes.
+    fn join(
+        &mut self,
+        alloc: Global,
+        parents: &Parents,
+        s: &Self::Ty,
+        t: &Self::Ty,
+    ) -> Result<Option<Self::Ty>, OutOfMemory>
+        requires left { has self.old s.now }
+        requires right { has self.old t.now }
+        ensures value { IfOk result (λ u. MeansAny has tree self.new u (join parents.now (tree self.old s.now) (tree self.old t.now))) }
+        ensures kept { Keeps has tree self.old self.new };
+
+    /// Whether the first is static to the second: below it, each `Any` read as `object`.
+    fn is_static(&mut self, parents: &Parents, s: &Self::Ty, t: &Self::Ty) -> bool
+        requires left { has self.old s.now }
+        requires right { has self.old t.now }
+        ensures value { IsTrue result ↔ Static parents.now (tree self.old s.now) (tree self.old t.now) }
+        ensures kept { Keeps has tree self.old self.new };
+
+    /// Whether the first is assignable to the second: below it for some reading of each `Any`.
+    fn is_assignable(&mut self, parents: &Parents, s: &Self::Ty, t: &Self::Ty) -> bool
+        requires left { has self.old s.now }
+        requires right { has self.old t.now }
+        ensures value { IsTrue result ↔ Assignable parents.now (tree self.old s.now) (tree self.old t.now) }
+        ensures kept { Keeps has tree self.old self.new };
+
+    /// Each type is in normal form.
+    ghost normal: { (store : Self) (ty : Self.Ty) → has store ty → IsNormal (tree store ty) };
+
+    /// Each type has at most 256 nodes.
+    ghost small: { (store : Self) (ty : Self.Ty) → has store ty → nodes (tree store ty) ≤ limit };
+}

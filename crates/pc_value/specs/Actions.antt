@@ -1,0 +1,80 @@
+-- The actions on values, each with its operands, and what an action comes to.
+-- Language Reference 6 "Expressions", 7.2 "Assignment statements", 8.3 "The for statement".
+use Rattle.std.specs.Prelude.{ℕ, Bool, List, ℤ}
+use Rattle.pc_tree.specs.declared.tree.BinaryOperator.{BinaryOperator}
+use Rattle.pc_tree.specs.declared.tree.ComparisonOperator.{ComparisonOperator}
+use Rattle.pc_value.specs.Value.{Value, Values, Entry, Slot, Heap, Exception, Stop, Raised}
+
+-- what a `for` goes over: the present items of a list, the keys of a dict that had so many entries, the characters of
+-- a text, the items of a tuple, the whole numbers from 0 on that are below one
+pub data Iteration : Type 0 where
+  over_list : (place : ℕ) → Iteration
+  over_dict : (place size : ℕ) → Iteration
+  over_text : (characters : List ℕ) → Iteration
+  over_tuple : (items : Values) → Iteration
+  over_range : (limit : ℤ) → Iteration
+
+pub data Action : Type 0 where
+  -- a whole number as it is written
+  number : (n : ℤ) → Action
+  -- `+`, `-`, `*`, `//`, `%`
+  binary : (operator : BinaryOperator) (left right : Value) → Action
+  -- `==`, `!=`, `<`, `<=`, `>`, `>=`, `in`, `not in`
+  compare : (operator : ComparisonOperator) (left right : Value) → Action
+  -- `-e`
+  negative : (operand : Value) → Action
+  -- `not e`
+  negation : (operand : Value) → Action
+  -- the truth of a condition
+  truth_of : (operand : Value) → Action
+  -- `[v, ..]`
+  new_list : (items : List Value) → Action
+  -- `{k: v, ..}`
+  new_dict : (entries : List Entry) → Action
+  -- an instance of a class, with its fields
+  new_instance : (class : ℕ) (fields : List Slot) → Action
+  -- `e[i]`
+  read_item : (object key : Value) → Action
+  -- `e[i] = v`
+  store_item : (object key value : Value) → Action
+  -- `e.f`, where the class of e has a method of that name or has none
+  read_attribute : (object : Value) (name : List ℕ) (is_method : Bool) → Action
+  -- `e.f = v`
+  store_attribute : (object : Value) (name : List ℕ) (value : Value) → Action
+  -- `e.append(v)`, `e.pop()`, `e.get(k)`
+  append : (object value : Value) → Action
+  pop : (object : Value) → Action
+  get : (object key : Value) → Action
+  -- `len(e)`, `str(e)`
+  length_of : (operand : Value) → Action
+  text_of : (operand : Value) → Action
+  -- what a `for` begins to go over, as a value and as `range(e)`
+  iterate : (iterable : Value) → Action
+  iterate_range : (limit : Value) → Action
+  -- a turn of a `for`, counted from 0
+  turn : (over : Iteration) (index : ℕ) → Action
+
+-- what an action comes to: a value (None where it gives nothing), what to go over, that there is no further turn, or
+-- the end of the run
+pub data Outcome : Type 0 where
+  gives : (value : Value) → Outcome
+  iterates : (over : Iteration) → Outcome
+  finished : Outcome
+  stops : (stop : Stop) → Outcome
+
+-- an action's outcome, and the heap after it
+pub record Acted : Type 0 where
+  pub outcome : Outcome
+  pub heap : Heap
+
+-- the answers that the model leaves free: a truth value and a text
+pub record Free : Type 0 where
+  pub truth : Bool
+  pub characters : List ℕ
+
+-- the heap stays as it is
+abbrev pub keeps : Heap → Outcome → Acted
+keeps heap outcome = record { outcome = outcome; heap = heap }
+
+abbrev pub raises : Exception → Outcome
+raises exception = stops (Raised exception)

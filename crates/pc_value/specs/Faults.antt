@@ -1,0 +1,10 @@
+-- How a key that is no key ends a dict display, in the program.
+use Rattle.std.specs.Prelude.{Option, Some, None}
+use Rattle.pc_value.specs.declared.actions.KeyFault.{KeyFault}
+use Rattle.pc_value.specs.declared.actions.KeyFault.TheVariants as rust
+use Rattle.pc_value.specs.Value.{Stop, Raised, TypeError, Outside}
+
+abbrev pub fault_of : Option KeyFault → Option Stop
+fault_of None = None
+fault_of (Some rust.Outside) = Some Outside
+fault_of (Some rust.TypeError) = Some (Raised TypeError)

@@ -1,0 +1,17 @@
+pub mod Actions
+pub mod Attributes
+pub mod Changes
+pub mod Containers
+pub mod Doing
+pub mod Faults
+pub mod Iteration
+pub mod Keys
+pub mod Meaning
+pub mod Numbers
+pub mod Operators
+pub mod Outcomes
+pub mod Plain
+pub mod Seeing
+pub mod Texts
+pub mod Value
+pub mod Wholes

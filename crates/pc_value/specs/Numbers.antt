@@ -1,0 +1,92 @@
+-- Whole numbers without bound: what digits stand for, floor division, and order.
+-- Language Reference 2.4.4 "Numeric literals", 6.7 "Binary arithmetic operations".
+use Rattle.std.specs.Prelude.{◌≡◌, ℕ, zero, suc, ◌+◌, ◌-◌, ◌*◌, ◌/◌, ◌%◌, ◌^◌, Bool, true, false, List, [], ◌∷◌, ℤ, pos, negsuc, ◌+ℤ◌, ◌*ℤ◌, neg_ℤ, nat_eq, nat_lt, refl}
+
+-- the number that digits stand for, behind those that stand for n
+abbrev pub number_behind : ℕ → List ℕ → ℕ
+number_behind n [] = n
+number_behind n (d ∷ ds) = number_behind (10 * n + (d - 48)) ds
+
+-- the number of a run of digits, and the one below zero
+abbrev pub number_of_digits : List ℕ → ℤ
+number_of_digits digits = pos (number_behind 0 digits)
+
+abbrev pub negative_of_digits : List ℕ → ℤ
+negative_of_digits digits = neg_ℤ (number_of_digits digits)
+
+-- division by a number above zero rounds toward minus infinity, and leaves what is not below zero
+abbrev pub floor_div_by : ℤ → ℕ → ℤ
+floor_div_by (pos a) n = pos (a / n)
+floor_div_by (negsuc a) n = negsuc (a / n)
+
+abbrev pub floor_mod_by : ℤ → ℕ → ℤ
+floor_mod_by (pos a) n = pos (a % n)
+floor_mod_by (negsuc a) n = pos (n - 1 - a % n)
+
+-- by a number below zero: the opposite number by the opposite divisor. The divisor is not zero
+abbrev pub floor_div : ℤ → ℤ → ℤ
+floor_div x (pos n) = floor_div_by x n
+floor_div x (negsuc n) = floor_div_by (neg_ℤ x) (suc n)
+
+-- what floor division leaves, of the sign of the divisor
+abbrev pub floor_mod : ℤ → ℤ → ℤ
+floor_mod x (pos n) = floor_mod_by x n
+floor_mod x (negsuc n) = neg_ℤ (floor_mod_by (neg_ℤ x) (suc n))
+
+abbrev pub is_zero : ℤ → Bool
+is_zero (pos zero) = true
+is_zero (pos (suc n)) = false
+is_zero (negsuc n) = false
+
+abbrev pub same_number : ℤ → ℤ → Bool
+same_number (pos a) (pos b) = nat_eq a b
+same_number (pos a) (negsuc b) = false
+same_number (negsuc a) (pos b) = false
+same_number (negsuc a) (negsuc b) = nat_eq a b
+
+abbrev pub number_below : ℤ → ℤ → Bool
+number_below (pos a) (pos b) = nat_lt a b
+number_below (pos a) (negsuc b) = false
+number_below (negsuc a) (pos b) = true
+number_below (negsuc a) (negsuc b) = nat_lt b a
+
+-- a number fits 128 signed bits
+abbrev pub fits : ℤ → Bool
+fits (pos n) = nat_lt n (2 ^ 127)
+fits (negsuc n) = nat_lt n (2 ^ 127)
+
+-- ---- rows
+
+seven_by_two : floor_div (pos 7) (pos 2) ≡ pos 3
+seven_by_two = refl
+
+minus_seven_by_two : floor_div (negsuc 6) (pos 2) ≡ negsuc 3
+minus_seven_by_two = refl
+
+seven_by_minus_two : floor_div (pos 7) (negsuc 1) ≡ negsuc 3
+seven_by_minus_two = refl
+
+six_by_minus_two : floor_div (pos 6) (negsuc 1) ≡ negsuc 2
+six_by_minus_two = refl
+
+minus_seven_by_minus_two : floor_div (negsuc 6) (negsuc 1) ≡ pos 3
+minus_seven_by_minus_two = refl
+
+minus_seven_mod_two : floor_mod (negsuc 6) (pos 2) ≡ pos 1
+minus_seven_mod_two = refl
+
+seven_mod_minus_two : floor_mod (pos 7) (negsuc 1) ≡ negsuc 0
+seven_mod_minus_two = refl
+
+minus_seven_mod_minus_two : floor_mod (negsuc 6) (negsuc 1) ≡ negsuc 0
+minus_seven_mod_minus_two = refl
+
+digits_of_305 : number_of_digits (51 ∷ 48 ∷ 53 ∷ []) ≡ pos 305
+digits_of_305 = refl
+
+-- the quotient times the divisor, and what is left, make the number
+made_again : pos 7 ≡ (negsuc 1 *ℤ floor_div (pos 7) (negsuc 1)) +ℤ floor_mod (pos 7) (negsuc 1)
+made_again = refl
+
+made_again_below : negsuc 6 ≡ (pos 2 *ℤ floor_div (negsuc 6) (pos 2)) +ℤ floor_mod (negsuc 6) (pos 2)
+made_again_below = refl

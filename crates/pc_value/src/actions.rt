@@ -1,0 +1,335 @@
+ghost use Rattle.std.specs.Prelude.{◌≡◌, [], IfOk, OnOk, OnErr, map};
+ghost use Rattle.pc_value.specs.Meaning.{value_of, entry_of, slot_of, cell_of, heap_of};
+ghost use Rattle.pc_value.specs.Value.{whole, list_cell, instance_cell, seen};
+ghost use Rattle.pc_value.specs.Actions.{gives};
+ghost use Rattle.pc_value.specs.Seeing.{seen_of};
+ghost use Rattle.pc_value.specs.Faults.{fault_of};
+ghost use Rattle.pc_value.specs.Doing.{outcome_of, action_of, written_number, ComesTo};
+ghost use Rattle.pc_value.specs.Attributes.{store_attribute_outcome};
+ghost use Rattle.pc_value.specs.Changes.{stored_at, stored_key, heap_changed, sets_key};
+ghost use Rattle.pc_value.specs.Containers.{placed, append_outcome, pop_outcome, store_outcome, key_fault, first_key_fault, with_entries, dict_display};
+ghost use Rattle.pc_value.specs.Outcomes.{takes_choice};
+ghost use Rattle.pc_value.specs.Plain.{limited, plainly_acted, IsAnswer};
+
+use crate::action::{Action, Exception, Outcome};
+use crate::attributes::{attribute, field_value};
+use crate::cell::{Change, change_at, set_key};
+use crate::containers::{get, index_among, item, length_of};
+use crate::iteration::{iterate, iterate_range, turn};
+use crate::operators::{
+    binary, compare, is_comparison_free, is_text_free, made, negative, text_of, truth,
+};
+use crate::seen::{Seen, see};
+use crate::value::{Cell, Entry, Heap, Slot, Value, copy_slots, copy_values};
+use crate::whole::read_number;
+use pc_source::OutOfMemory;
+use std::alloc::Global;
+
+/// Something new in the heap, at the first location that is free.
+fn placed(heap: &mut Heap, cell: Cell) -> Result<Outcome, OutOfMemory>
+    ensures { ComesTo result heap.old heap.new (placed (heap_of heap.old) (cell_of cell)) }
+{
+    let place = heap.cells.len();
+    heap.cells.push(cell)?;
+    Ok(Outcome::Gives(Value::Location(place)))
+}
+
+/// `e.append(v)`. Library Reference, "Mutable Sequence Types".
+fn append(
+    alloc: Global,
+    heap: &mut Heap,
+    object: &Value,
+    value: &Value,
+) -> Result<Outcome, OutOfMemory>
+    ensures { ComesTo result heap.old heap.new (append_outcome (heap_of heap.old) (seen (heap_of heap.old) (value_of object.now)) (value_of value.now)) }
+{
+    let place = match see(heap, object) {
+        Seen::List(place, _) => place,
+        _ => return Ok(Outcome::Outside),
+    };
+    let value = value.copy(alloc)?;
+    change_at(heap, place, Change::Append(value))
+}
+
+/// `e.pop()`. Library Reference, "Mutable Sequence Types".
+fn pop(heap: &mut Heap, object: &Value) -> Result<Outcome, OutOfMemory>
+    ensures { ComesTo result heap.old heap.new (pop_outcome (heap_of heap.old) (seen (heap_of heap.old) (value_of object.now))) }
+{
+    let place = match see(heap, object) {
+        Seen::List(place, _) => place,
+        _ => return Ok(Outcome::Outside),
+    };
+    change_at(heap, place, Change::Pop)
+}
+
+/// `e[i] = v`. Language Reference 7.2 "Assignment statements".
+fn store_item(
+    alloc: Global,
+    heap: &mut Heap,
+    object: &Value,
+    key: &Value,
+    value: &Value,
+) -> Result<Outcome, OutOfMemory>
+    ensures { ComesTo result heap.old heap.new (store_outcome (heap_of heap.old) (seen (heap_of heap.old) (value_of object.now)) (seen (heap_of heap.old) (value_of key.now)) (value_of key.now) (value_of value.now)) }
+{
+    match see(heap, object) {
+        Seen::List(place, items) => {
+            let index = match see(heap, key) {
+                Seen::Number(index) => index_among(items.len(), index),
+                _ => return Ok(Outcome::Raised(Exception::TypeError)),
+            };
+            store_in_list(alloc, heap, place, index, value)
+        }
+        Seen::Dict(place, _) => store_in_dict(alloc, heap, place, key, value),
+        _ => Ok(Outcome::Raised(Exception::TypeError)),
+    }
+}
+
+/// `e[i] = v` on the list at a location, at an index that is in range.
+fn store_in_list(
+    alloc: Global,
+    heap: &mut Heap,
+    place: usize,
+    index: Option<usize>,
+    value: &Value,
+) -> Result<Outcome, OutOfMemory>
+    ensures { ComesTo result heap.old heap.new (stored_at (heap_of heap.old) place index (value_of value.now)) }
+{
+    match index {
+        None => Ok(Outcome::Other),
+        Some(index) => {
+            let value = value.copy(alloc)?;
+            change_at(heap, place, Change::SetItem(index, value))
+        }
+    }
+}
+
+/// `e[i] = v` on the dict at a location.
+fn store_in_dict(
+    alloc: Global,
+    heap: &mut Heap,
+    place: usize,
+    key: &Value,
+    value: &Value,
+) -> Result<Outcome, OutOfMemory>
+    ensures { ComesTo result heap.old heap.new (stored_key (heap_of heap.old) place (seen (heap_of heap.old) (value_of key.now)) (value_of key.now) (value_of value.now)) }
+{
+    match see(heap, key) {
+        Seen::Number(_) => set_in_dict(alloc, heap, place, key, value),
+        Seen::Text(_) => set_in_dict(alloc, heap, place, key, value),
+        Seen::Nothing => Ok(Outcome::Outside),
+        Seen::Tuple(_) => Ok(Outcome::Outside),
+        _ => Ok(Outcome::Raised(Exception::TypeError)),
+    }
+}
+
+/// A key of the dict at a location is set.
+fn set_in_dict(
+    alloc: Global,
+    heap: &mut Heap,
+    place: usize,
+    key: &Value,
+    value: &Value,
+) -> Result<Outcome, OutOfMemory>
+    ensures { ComesTo result heap.old heap.new (heap_changed (heap_of heap.old) place (sets_key (value_of key.now) (value_of value.now))) }
+{
+    let key = key.copy(alloc)?;
+    let value = value.copy(alloc)?;
+    change_at(heap, place, Change::SetKey(key, value))
+}
+
+/// `e.f = v`. Language Reference 7.2 "Assignment statements".
+fn store_attribute(
+    alloc: Global,
+    heap: &mut Heap,
+    object: &Value,
+    name: &str,
+    value: &Value,
+) -> Result<Outcome, OutOfMemory>
+    ensures { ComesTo result heap.old heap.new (store_attribute_outcome (heap_of heap.old) (seen (heap_of heap.old) (value_of object.now)) name.now (value_of value.now)) }
+{
+    let place = match see(heap, object) {
+        Seen::Instance(place, _, fields) => {
+            if field_value(name, fields).is_none() {
+                return Ok(Outcome::Outside);
+            }
+            place
+        }
+        _ => return Ok(Outcome::Raised(Exception::AttributeError)),
+    };
+    let name = String::from_str(alloc, name)?;
+    let value = value.copy(alloc)?;
+    change_at(heap, place, Change::SetField(name, value))
+}
+
+/// How a key that is no key ends a dict display.
+#[derive(Clone, Copy)]
+enum KeyFault {
+    Outside,
+    TypeError,
+}
+
+/// How a key ends a dict display, if it does.
+fn key_fault(key: Seen<'_>) -> Option<KeyFault>
+    ensures { fault_of result ≡ key_fault (seen_of key.entry) }
+{
+    match key {
+        Seen::Number(_) => None,
+        Seen::Text(_) => None,
+        Seen::Nothing => Some(KeyFault::Outside),
+        Seen::Tuple(_) => Some(KeyFault::Outside),
+        _ => Some(KeyFault::TypeError),
+    }
+}
+
+/// How the first key that is no key ends a dict display, if one does.
+fn first_key_fault(heap: &Heap, entries: &[Entry]) -> Option<KeyFault>
+    ensures { fault_of result ≡ first_key_fault (heap_of heap.now) (map entry_of entries.now) }
+{
+    for entry in entries {
+        let fault = key_fault(see(heap, &entry.key));
+        if fault.is_some() {
+            return fault;
+        }
+    }
+    None
+}
+
+/// The entries of a display, set one after another.
+fn entries_of(alloc: Global, entries: &[Entry]) -> Result<Vec<Entry>, OutOfMemory>
+    ensures { IfOk result (λ es. map entry_of es.items ≡ with_entries [] (map entry_of entries.now)) }
+{
+    let mut set = Vec::new(alloc);
+    for entry in entries {
+        let key = entry.key.copy(alloc)?;
+        let value = entry.value.copy(alloc)?;
+        set_key(&mut set, key, value)?;
+    }
+    Ok(set)
+}
+
+/// `{k: v, ..}`. Language Reference 6.2.7 "Dictionary displays".
+fn new_dict(alloc: Global, heap: &mut Heap, entries: &[Entry]) -> Result<Outcome, OutOfMemory>
+    ensures { ComesTo result heap.old heap.new (dict_display (heap_of heap.old) (map entry_of entries.now) (first_key_fault (heap_of heap.old) (map entry_of entries.now))) }
+{
+    match first_key_fault(heap, entries) {
+        Some(KeyFault::Outside) => Ok(Outcome::Outside),
+        Some(KeyFault::TypeError) => Ok(Outcome::Raised(Exception::TypeError)),
+        None => {
+            let entries = entries_of(alloc, entries)?;
+            placed(heap, Cell::Dict(entries))
+        }
+    }
+}
+
+/// `[v, ..]`. Language Reference 6.2.5 "List displays".
+fn new_list(alloc: Global, heap: &mut Heap, items: &[Value]) -> Result<Outcome, OutOfMemory>
+    ensures { ComesTo result heap.old heap.new (placed (heap_of heap.old) (list_cell (map value_of items.now))) }
+{
+    let items = copy_values(alloc, items)?;
+    placed(heap, Cell::List(items))
+}
+
+/// An instance of a class.
+fn new_instance(
+    alloc: Global,
+    heap: &mut Heap,
+    class: usize,
+    fields: &[Slot],
+) -> Result<Outcome, OutOfMemory>
+    ensures { ComesTo result heap.old heap.new (placed (heap_of heap.old) (instance_cell class (map slot_of fields.now))) }
+{
+    let fields = copy_slots(alloc, fields)?;
+    placed(heap, Cell::Instance(class, fields))
+}
+
+/// A whole number as it is written.
+fn number(below_zero: bool, digits: &str) -> Outcome
+    ensures { outcome_of result ≡ limited (gives (whole (written_number below_zero digits.now))) }
+{
+    made(read_number(below_zero, digits.as_bytes()))
+}
+
+/// An action that leaves the heap as it is; the others are none of these.
+fn answer(alloc: Global, heap: &Heap, action: &Action, choice: u8) -> Result<Outcome, OutOfMemory>
+    ensures { IfOk result (λ o. IsAnswer choice (action_of action.now) (heap_of heap.now) (outcome_of o)) }
+{
+    match action {
+        Action::Number(below_zero, digits) => Ok(number(*below_zero, digits)),
+        Action::Binary(operator, left, right) => {
+            binary(alloc, *operator, see(heap, left), see(heap, right))
+        }
+        Action::Compare(operator, left, right) => {
+            Ok(compare(choice, *operator, see(heap, left), see(heap, right)))
+        }
+        Action::Negative(operand) => Ok(negative(see(heap, operand))),
+        Action::Not(operand) => Ok(truth(!see(heap, operand).is_true())),
+        Action::Truth(operand) => Ok(truth(see(heap, operand).is_true())),
+        Action::ReadItem(object, key) => item(alloc, see(heap, object), see(heap, key)),
+        Action::ReadAttribute(object, name, is_method) => {
+            attribute(alloc, see(heap, object), name, *is_method)
+        }
+        Action::Get(object, key) => get(alloc, see(heap, object), see(heap, key)),
+        Action::Length(operand) => Ok(length_of(see(heap, operand))),
+        Action::Text(operand) => text_of(alloc, choice, operand),
+        Action::Iterate(iterable) => iterate(alloc, see(heap, iterable)),
+        Action::IterateRange(limit) => Ok(iterate_range(see(heap, limit))),
+        Action::Turn(over, index) => turn(alloc, heap, over, *index),
+        _ => Ok(Outcome::Outside),
+    }
+}
+
+/// An action in a plain run.
+fn perform(
+    alloc: Global,
+    heap: &mut Heap,
+    action: &Action,
+    choice: u8,
+) -> Result<Outcome, OutOfMemory>
+    ensures { ComesTo result heap.old heap.new (plainly_acted choice (action_of action.now) (heap_of heap.old)) }
+{
+    match action {
+        Action::NewList(items) => new_list(alloc, heap, items),
+        Action::NewDict(entries) => new_dict(alloc, heap, entries),
+        Action::NewInstance(class, fields) => new_instance(alloc, heap, *class, fields),
+        Action::StoreItem(object, key, value) => store_item(alloc, heap, object, key, value),
+        Action::StoreAttribute(object, name, value) => {
+            store_attribute(alloc, heap, object, name, value)
+        }
+        Action::Append(object, value) => append(alloc, heap, object, value),
+        Action::Pop(object) => pop(heap, object),
+        _ => answer(alloc, heap, action, choice),
+    }
+}
+
+/// An action in a plain run: its outcome, and the heap after it. A free answer is taken from the
+/// choice byte; a whole number that does not fit 128 signed bits is `Cut`. Own rule of the profile.
+///
+/// # Errors
+///
+/// Where a growth of memory was refused; the heap then means what it meant.
+pub fn act(
+    alloc: Global,
+    heap: &mut Heap,
+    action: &Action,
+    choice: u8,
+) -> Result<Outcome, OutOfMemory>
+    ensures outcome { IfOk result (λ o. outcome_of o ≡ (plainly_acted choice (action_of action.now) (heap_of heap.old)).outcome) }
+    ensures after { OnOk result (heap_of heap.new ≡ (plainly_acted choice (action_of action.now) (heap_of heap.old)).heap) }
+    ensures unchanged { OnErr result (heap_of heap.new ≡ heap_of heap.old) }
+{
+    perform(alloc, heap, action, choice)
+}
+
+/// Whether the answer of an action is a free one, which takes a choice byte. Own rule of the profile.
+pub fn takes_choice(heap: &Heap, action: &Action) -> bool
+    ensures { result ≡ takes_choice (heap_of heap.now) (action_of action.now) }
+{
+    match action {
+        Action::Compare(operator, left, right) => {
+            is_comparison_free(*operator, see(heap, left), see(heap, right))
+        }
+        Action::Text(operand) => is_text_free(operand),
+        _ => false,
+    }
+}

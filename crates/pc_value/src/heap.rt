@@ -1,0 +1,42 @@
+ghost use Rattle.std.specs.Prelude.{◌≡◌, []};
+ghost use Rattle.pc_value.specs.Meaning.{value_of, heap_of};
+ghost use Rattle.pc_value.specs.Value.{seen, class_of, is_true, is_list};
+
+use crate::seen::{Seen, see};
+use crate::value::{Heap, Value};
+use std::alloc::Global;
+
+impl Heap {
+    /// A heap in which nothing lies.
+    pub fn new(alloc: Global) -> Heap
+        ensures { heap_of result ≡ [] }
+    {
+        Heap {
+            cells: Vec::new(alloc),
+        }
+    }
+
+    /// The number of the class of an instance.
+    pub fn class_of(&self, value: &Value) -> Option<usize>
+        ensures { result ≡ class_of (heap_of self.now) (value_of value.now) }
+    {
+        match see(self, value) {
+            Seen::Instance(_, class, _) => Some(class),
+            _ => None,
+        }
+    }
+
+    /// The truth of a value. Language Reference 6.11 "Boolean operations".
+    pub fn is_true(&self, value: &Value) -> bool
+        ensures { result ≡ is_true (heap_of self.now) (value_of value.now) }
+    {
+        see(self, value).is_true()
+    }
+
+    /// Whether a value is a list.
+    pub fn is_list(&self, value: &Value) -> bool
+        ensures { result ≡ is_list (seen (heap_of self.now) (value_of value.now)) }
+    {
+        matches!(see(self, value), Seen::List(_, _))
+    }
+}

@@ -1,0 +1,21 @@
+//! Values, heaps, and what each action on values comes to.
+#![tactic(auto)]
+
+mod action;
+mod actions;
+mod attributes;
+mod cell;
+mod containers;
+mod heap;
+mod iteration;
+mod operators;
+mod seen;
+#[cfg(test)]
+mod tests;
+mod text;
+mod value;
+mod whole;
+
+pub use action::{Action, Exception, Iteration, Outcome};
+pub use actions::{act, takes_choice};
+pub use value::{Cell, Entry, Heap, Slot, Value};

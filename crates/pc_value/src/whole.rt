@@ -1,0 +1,160 @@
+ghost use Rattle.std.specs.Prelude.{◌≡◌, ◌≢◌, ◌≤◌, ◌^◌, ◌<◌, pos, neg_ℤ, ◌+ℤ◌, ◌-ℤ◌, ◌*ℤ◌, MatchOption};
+ghost use Rattle.pc_value.specs.Numbers.{floor_div, floor_mod, floor_div_by, floor_mod_by, number_behind};
+ghost use Rattle.pc_value.specs.Wholes.{whole_of, fitting};
+ghost use Rattle.pc_value.specs.Doing.{written_number};
+
+/// A whole number by its sign: `n`, or `-1 - n`.
+#[derive(Clone, Copy)]
+pub enum Whole {
+    AtLeastZero(u128),
+    BelowZero(u128),
+}
+
+impl Whole {
+    /// A number of 128 signed bits by its sign.
+    pub fn of(n: i128) -> Whole
+        ensures { whole_of result ≡ n }
+    {
+        if n >= 0 {
+            Whole::AtLeastZero(n.unsigned_abs())
+        } else {
+            Whole::BelowZero(n.unsigned_abs() - 1)
+        }
+    }
+
+    /// The number in 128 signed bits, if it fits.
+    fn fit(self) -> Option<i128>
+        ensures { result ≡ fitting (whole_of self) }
+    {
+        match self {
+            Whole::AtLeastZero(n) => { if n < 1 << 127 { Some(n as i128) } else { None } }
+            Whole::BelowZero(n) => {
+                if n < 1 << 127 {
+                    Some(-1 - n as i128)
+                } else {
+                    None
+                }
+            }
+        }
+    }
+}
+
+/// The number that digits stand for, if it fits 128 bits.
+/// Language Reference 2.4.4 "Numeric literals".
+fn read_digits(digits: &[u8]) -> Option<u128>
+    ensures { MatchOption result (2 ^ 128 ≤ number_behind 0 digits.now) (λ n. n ≡ number_behind 0 digits.now) }
+{
+    let mut number: u128 = 0;
+    for digit in digits {
+        let Some(shifted) = number.checked_mul(10) else {
+            return None;
+        };
+        let Some(next) = shifted.checked_add(u128::from(digit.saturating_sub(48))) else {
+            return None;
+        };
+        number = next;
+    }
+    Some(number)
+}
+
+/// The whole number that digits stand for, with or without a `-`, if it fits 128 signed bits.
+pub fn read_number(below_zero: bool, digits: &[u8]) -> Option<i128>
+    ensures { result ≡ fitting (written_number below_zero digits.now) }
+{
+    let number = read_digits(digits)?;
+    if below_zero && number > 0 {
+        Whole::BelowZero(number - 1).fit()
+    } else {
+        Whole::AtLeastZero(number).fit()
+    }
+}
+
+/// Floor division of a whole number by one above zero.
+fn div_by(number: Whole, divisor: u128) -> Whole
+    requires { 0 < divisor }
+    ensures { whole_of result ≡ floor_div_by (whole_of number) divisor }
+{
+    match number {
+        Whole::AtLeastZero(n) => Whole::AtLeastZero(n / divisor),
+        Whole::BelowZero(n) => Whole::BelowZero(n / divisor),
+    }
+}
+
+/// What floor division by a number above zero leaves.
+fn mod_by(number: Whole, divisor: u128) -> u128
+    requires { 0 < divisor }
+    ensures { pos result ≡ floor_mod_by (whole_of number) divisor }
+{
+    match number {
+        Whole::AtLeastZero(n) => n % divisor,
+        Whole::BelowZero(n) => divisor - 1 - n % divisor,
+    }
+}
+
+/// The opposite of a number of 128 signed bits.
+fn opposite(number: i128) -> Whole
+    ensures { whole_of result ≡ neg_ℤ number }
+{
+    if number <= 0 {
+        Whole::AtLeastZero(number.unsigned_abs())
+    } else {
+        Whole::BelowZero(number.unsigned_abs() - 1)
+    }
+}
+
+/// Floor division, toward minus infinity, if the quotient fits 128 signed bits.
+/// Language Reference 6.7 "Binary arithmetic operations".
+pub fn floor_div(number: i128, divisor: i128) -> Option<i128>
+    requires { divisor ≢ pos 0 }
+    ensures { result ≡ fitting (floor_div number divisor) }
+{
+    if divisor > 0 {
+        div_by(Whole::of(number), divisor.unsigned_abs()).fit()
+    } else {
+        div_by(opposite(number), divisor.unsigned_abs()).fit()
+    }
+}
+
+/// What floor division leaves, of the sign of the divisor.
+/// Language Reference 6.7 "Binary arithmetic operations".
+pub fn floor_mod(number: i128, divisor: i128) -> Option<i128>
+    requires { divisor ≢ pos 0 }
+    ensures { result ≡ fitting (floor_mod number divisor) }
+{
+    if divisor > 0 {
+        Whole::AtLeastZero(mod_by(Whole::of(number), divisor.unsigned_abs())).fit()
+    } else {
+        let left = mod_by(opposite(number), divisor.unsigned_abs());
+        if left == 0 {
+            Whole::AtLeastZero(0).fit()
+        } else {
+            Whole::BelowZero(left - 1).fit()
+        }
+    }
+}
+
+/// The opposite number, if it fits 128 signed bits.
+pub fn negated(number: i128) -> Option<i128>
+    ensures { result ≡ fitting (neg_ℤ number) }
+{
+    opposite(number).fit()
+}
+
+/// Sums, differences and products, if they fit 128 signed bits.
+pub fn sum(left: i128, right: i128) -> Option<i128>
+    ensures { result ≡ fitting (left +ℤ right) }
+{
+    left.checked_add(right)
+}
+
+pub fn difference(left: i128, right: i128) -> Option<i128>
+    ensures { result ≡ fitting (left -ℤ right) }
+{
+    left.checked_sub(right)
+}
+
+pub fn product(left: i128, right: i128) -> Option<i128>
+    ensures { result ≡ fitting (left *ℤ right) }
+{
+    left.checked_mul(right)
+}
