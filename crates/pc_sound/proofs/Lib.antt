@@ -7,3 +7,6 @@ pub mod Narrowing
 pub mod Steps
 pub mod Stopped
 pub mod ValuesFlow
+pub mod Leading
+pub mod Frames
+pub mod Binding
