@@ -10,3 +10,5 @@ pub mod ValuesFlow
 pub mod Leading
 pub mod Frames
 pub mod Binding
+pub mod Statements
+pub mod Simple
