@@ -7,3 +7,4 @@ pub mod Narrowing
 pub mod Steps
 pub mod Stopped
 pub mod ValuesFlow
+pub mod Keys
