@@ -8,3 +8,5 @@ pub mod Steps
 pub mod Stopped
 pub mod ValuesFlow
 pub mod Keys
+pub mod Joins
+pub mod JoinedLocals
