@@ -10,3 +10,4 @@ pub mod ValuesFlow
 pub mod Keys
 pub mod Joins
 pub mod JoinedLocals
+pub mod Dicts
