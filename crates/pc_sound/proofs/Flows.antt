@@ -57,7 +57,7 @@ stopped P Q Other h = h
 stopped P Q Cut h = h
 
 -- the codes of an expression's own label are found at its place
-found_here : (e : Expr) (m : Marks e) (f : Finding) → IsFoundAt (place_of e) (mark_of e m).codes f → Finds e m f
+pub found_here : (e : Expr) (m : Marks e) (f : Finding) → IsFoundAt (place_of e) (mark_of e m).codes f → Finds e m f
 found_here (name n) m f h = h
 found_here (number p d) m f h = h
 found_here (text p d) m f h = h
@@ -79,7 +79,7 @@ found_here (index p a b) m f h = inl h
 found_here (call p c args kws) m f h = inl h
 
 -- a node with E03 is in error
-late_code : (codes : List Code) → is_late codes ≡ true → Contains codes E03
+pub late_code : (codes : List Code) → is_late codes ≡ true → Contains codes E03
 late_code [] e = absurd (grind (arith, e))
 late_code (E03 ∷ cs) e = (0, omega arith, refl)
 late_code (c ∷ cs) e = absurd (grind (arith, e))

@@ -11,3 +11,6 @@ pub mod Keys
 pub mod Joins
 pub mod JoinedLocals
 pub mod Dicts
+pub mod Leading
+pub mod Frames
+pub mod Binding
