@@ -19,6 +19,7 @@ use Rattle.pc_run.specs.State.{State}
 use Rattle.pc_run.specs.Free.{Step, ◌>>=◌, Emits}
 use Rattle.pc_sound.specs.Values.{HeapTyping, HasType}
 use Rattle.pc_sound.specs.Judgment.{HasListed, EndsWell, Around, Stands, Keeps, IsSafe}
+use Rattle.pc_sound.proofs.Keys.{Keyed}
 use Rattle.pc_sound.proofs.ValuesFlow.{of_static}
 use Rattle.pc_sound.proofs.Steps.{weaken}
 use Rattle.pc_sound.proofs.Expressions.{Covered, GoodEval}
@@ -85,11 +86,11 @@ late_code (c ∷ cs) e = absurd (grind (arith, e))
 
 module _ (around : Around) (ctx : Context) (eval : Expr → Step Value) (good : GoodEval around ctx eval) (evaluates : (e : Expr) → Evaluates (place_of e) (eval e)) (env : Env) where
   -- an expression that flows into a type, whose flow's code is allowed
-  pub flow_safe : (known : HeapTyping → Type 0) (want : Option Tree) (e : Expr) (m : Marks e) (t : Tree) (c : Option Code) → Lawful ctx around.declared env want e m → Covered around (Finds e m) → FlowAt around.bases (mark_of e m) t c → Covered around (IsFlowAt (place_of e) (c ∷ [])) → IsSafe around env known (eval e) (λ k v. HasType around.bases k t v)
-  flow_safe known want e m t c law covered flow allowed = go (is_late (mark_of e m).codes) refl flow
+  pub flow_safe : (known : HeapTyping → Type 0) (want : Option Tree) (e : Expr) (m : Marks e) (t : Tree) (c : Option Code) → Lawful ctx around.declared env want e m → Covered around (Finds e m) → FlowAt around.bases (mark_of e m) t c → Covered around (IsFlowAt (place_of e) (c ∷ [])) → Keyed e m → IsSafe around env known (eval e) (λ k v. HasType around.bases k t v)
+  flow_safe known want e m t c law covered flow allowed keyed = go (is_late (mark_of e m).codes) refl flow
     where
       part : IsSafe around env known (eval e) (λ k v. HasType around.bases k (type_of e m) v)
-      part = weaken around env known (λ k. Unit {0}) (eval e) (λ k v. HasType around.bases k (type_of e m) v) (λ k v. HasType around.bases k (type_of e m) v) (λ k h. tt) (λ k v h. h) (good.safe env want e m law covered)
+      part = weaken around env known (λ k. Unit {0}) (eval e) (λ k v. HasType around.bases k (type_of e m) v) (λ k v. HasType around.bases k (type_of e m) v) (λ k h. tt) (λ k v h. h) (good.safe env want e m law covered keyed)
 
       no_error : (d : Code) → c ≡ Some d → IsError d → ⊥
       no_error d is err = (allowed (finding (place_of e) d) (record { code = d; among = (0, omega arith, is); is = refl })).1 err

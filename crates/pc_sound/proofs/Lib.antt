@@ -7,6 +7,10 @@ pub mod Narrowing
 pub mod Steps
 pub mod Stopped
 pub mod ValuesFlow
+pub mod Keys
+pub mod Joins
+pub mod JoinedLocals
+pub mod Dicts
 pub mod Leading
 pub mod Frames
 pub mod Binding
