@@ -27,6 +27,7 @@ use Rattle.pc_sound.specs.Judgment.{HasListed, IsAllowed, Around, Stands, Keeps,
 use Rattle.pc_sound.proofs.ValuesFlow.{of_static}
 use Rattle.pc_sound.proofs.Steps.{weaken}
 use Rattle.pc_sound.proofs.Expressions.{Covered, GoodEval}
+use Rattle.pc_sound.proofs.Keys.{Keyed}
 use Rattle.pc_sound.proofs.Flows.{Evaluates, found_here, late_code, flow_safe}
 use Rattle.pc_sound.proofs.Leading.{stopped_as}
 
@@ -131,22 +132,22 @@ one_flow bases m d (c ∷ []) h = (c, refl, h.0)
 one_flow bases m d (c ∷ e ∷ flows) h = absurd h.1
 
 module _ (around : Around) (ctx : Context) (eval : Expr → Step Value) (good : GoodEval around ctx eval) (evaluates : (e : Expr) → Evaluates (place_of e) (eval e)) (env : Env) where
-  part : (known : HeapTyping → Type 0) (want : Option Tree) (e : Expr) (m : Marks e) → Lawful ctx around.declared env want e m → Covered around (Finds e m) → IsSafe around env known (eval e) (λ k v. HasType around.bases k (type_of e m) v)
-  part known want e m law covered = weaken around env known (λ k. Unit {0}) (eval e) (λ k v. HasType around.bases k (type_of e m) v) (λ k v. HasType around.bases k (type_of e m) v) (λ k h. tt) (λ k v h. h) (good.safe env want e m law covered)
+  part : (known : HeapTyping → Type 0) (want : Option Tree) (e : Expr) (m : Marks e) → Lawful ctx around.declared env want e m → Covered around (Finds e m) → Keyed e m → IsSafe around env known (eval e) (λ k v. HasType around.bases k (type_of e m) v)
+  part known want e m law covered keyed = weaken around env known (λ k. Unit {0}) (eval e) (λ k v. HasType around.bases k (type_of e m) v) (λ k v. HasType around.bases k (type_of e m) v) (λ k h. tt) (λ k v h. h) (good.safe env want e m law covered keyed)
 
   -- a value that is assigned is of the declared type and of the type that the local has after it
-  pub assigned_safe : (known : HeapTyping → Type 0) (want : Option Tree) (e : Expr) (m : Marks e) (d : Tree) (c : Option Code) → Lawful ctx around.declared env want e m → Covered around (Finds e m) → FlowAt around.bases (mark_of e m) d c → Covered around (IsFlowAt (place_of e) (c ∷ [])) → IsSafe around env known (eval e) (λ k v. HasType around.bases k (assigned_type d (type_of e m) c) v × HasType around.bases k d v)
-  assigned_safe known want e m d (Some c) law covered flow allowed =
+  pub assigned_safe : (known : HeapTyping → Type 0) (want : Option Tree) (e : Expr) (m : Marks e) (d : Tree) (c : Option Code) → Lawful ctx around.declared env want e m → Covered around (Finds e m) → FlowAt around.bases (mark_of e m) d c → Covered around (IsFlowAt (place_of e) (c ∷ [])) → Keyed e m → IsSafe around env known (eval e) (λ k v. HasType around.bases k (assigned_type d (type_of e m) c) v × HasType around.bases k d v)
+  assigned_safe known want e m d (Some c) law covered flow allowed keyed =
       weaken around env known known (eval e) (λ k v. HasType around.bases k d v) (λ k v. HasType around.bases k (assigned_type d (type_of e m) (Some c)) v × HasType around.bases k d v) (λ k h. h)
       (λ k v h. (subst (λ t. HasType around.bases k t v) (sym (assigned_found d (type_of e m) c)) h, h))
-      (flow_safe around ctx eval good evaluates env known want e m d (Some c) law covered flow allowed)
-  assigned_safe known want e m d None law covered flow allowed = go (is_late (mark_of e m).codes) refl flow
+      (flow_safe around ctx eval good evaluates env known want e m d (Some c) law covered flow allowed keyed)
+  assigned_safe known want e m d None law covered flow allowed keyed = go (is_late (mark_of e m).codes) refl flow
     where
       by_flow : Flows around.bases (type_of e m) d None → IsSafe around env known (eval e) (λ k v. HasType around.bases k (assigned_type d (type_of e m) None) v × HasType around.bases k d v)
       by_flow (static below) =
           weaken around env known known (eval e) (λ k v. HasType around.bases k (type_of e m) v) (λ k v. HasType around.bases k (assigned_type d (type_of e m) None) v × HasType around.bases k d v) (λ k h. h)
           (λ k v h. let to = of_static around.bases k (type_of e m) d below v h in (assigned_has around.bases k d (type_of e m) v h to, to))
-          (part known want e m law covered)
+          (part known want e m law covered keyed)
 
       go : (late : Test) → is_late (mark_of e m).codes ≡ late → FlowUnless late around.bases (type_of e m) d None → IsSafe around env known (eval e) (λ k v. HasType around.bases k (assigned_type d (type_of e m) None) v × HasType around.bases k d v)
       go true is f = absurd ((covered (finding (place_of e) E03) (found_here e m (finding (place_of e) E03) (record { code = E03; among = late_code (mark_of e m).codes is; is = refl }))).1 refl)

@@ -14,5 +14,7 @@ pub mod Dicts
 pub mod Leading
 pub mod Frames
 pub mod Binding
+pub mod KeyedStatements
+pub mod Conditions
 pub mod Statements
 pub mod Simple

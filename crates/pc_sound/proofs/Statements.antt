@@ -37,12 +37,9 @@ use Rattle.pc_sound.proofs.Steps.{weaken}
 use Rattle.pc_sound.proofs.Expressions.{Covered, GoodEval}
 use Rattle.pc_sound.proofs.Flows.{Evaluates, flow_safe}
 use Rattle.pc_sound.proofs.Leading.{leads_bind, leads_comes, leads_looks, leads_charge, leads_binds, leads_from, leads_to, leads_safe, Known, Promised}
+use Rattle.pc_sound.proofs.KeyedStatements.{StmtKeyed, SuiteKeyed}
 use Rattle.pc_sound.proofs.Frames.{names_kept, assigned_holds}
 use Rattle.pc_sound.proofs.Binding.{atom_flow, assigned_safe, one_flow}
-
--- a condition comes to a value, its truth tells of the locals, and what lasts of the frame lasts
-pub record Decides (around : Around) (ctx : Context) (eval : Expr → Step Value) : Type 1 where
-  pub tells : (more : HeapTyping → Frame → Type 0) → ((k k' : HeapTyping) (frame : Frame) → Extends k k' → more k frame → more k' frame) → (env : Env) (want : Option Tree) (e : Expr) (m : Marks e) → Lawful ctx around.declared env want e m → Covered around (Finds e m) → Leads around (λ k s. At around env more k s) (eval e) (λ k v s. At around env more k s × Tells around ctx env e k v s)
 
 module _ (around : Around) (ctx : Context) where
   -- a step leads from an environment to the ways out, and what lasts when these names are bound lasts
@@ -87,11 +84,11 @@ module _ (around : Around) (ctx : Context) where
 
     -- suites run as they are labelled
     pub record GoodExec (exec : Stmts → Step Flow) : Type 1 where
-      pub runs : (seen : Seen) (env : Env) (b : Stmts) (marks : SuiteMarks b) (out : Option Env) → LawfulSuite m ctx around.declared returned seen env b marks out → Covered around (SuiteFinds m ctx seen b marks) → Runs env (ways_out out (breaks_in_suite b marks) (loose_in b)) (bound_by b) (exec b)
+      pub runs : (seen : Seen) (env : Env) (b : Stmts) (marks : SuiteMarks b) (out : Option Env) → LawfulSuite m ctx around.declared returned seen env b marks out → Covered around (SuiteFinds m ctx seen b marks) → SuiteKeyed b marks → Runs env (ways_out out (breaks_in_suite b marks) (loose_in b)) (bound_by b) (exec b)
 
     -- a statement runs as it is labelled
     pub record GoodStmt (s : Stmt) (step : Step Flow) : Type 1 where
-      pub runs : (seen : Seen) (env : Env) (marks : StmtMarks s) (out : Option Env) → LawfulStmt m ctx around.declared returned seen env s marks out → Covered around (StmtFinds m ctx seen s marks) → Runs env (ways_out out (breaks_in s marks) (loose_in_stmt s)) (bound_by_stmt s) step
+      pub runs : (seen : Seen) (env : Env) (marks : StmtMarks s) (out : Option Env) → LawfulStmt m ctx around.declared returned seen env s marks out → Covered around (StmtFinds m ctx seen s marks) → StmtKeyed s marks → Runs env (ways_out out (breaks_in s marks) (loose_in_stmt s)) (bound_by_stmt s) step
 
     -- ---- suites
 
@@ -123,24 +120,25 @@ module _ (around : Around) (ctx : Context) where
       one_more : (seen : Seen) (env : Env) (s : Stmt) (rest : Stmts) (marks : StmtMarks s) (out : Option Env) (can : Test) (behind : Behind can (Env × SuiteMarks rest))
           → BehindRule can behind (λ r. LawfulStmt m ctx around.declared returned seen env s marks (Some r.0) × LawfulSuite m ctx around.declared returned (texts (bound_by_stmt s) ++ seen) r.0 rest r.1 out) (LawfulStmt m ctx around.declared returned seen env s marks None × (out ≡ None))
           → Covered around (λ f. StmtFinds m ctx seen s marks f ⊎ BehindRule can behind (λ r. SuiteFinds m ctx (texts (bound_by_stmt s) ++ seen) rest r.1 f) ⊥)
-          → ((r : Env × SuiteMarks rest) → LawfulSuite m ctx around.declared returned (texts (bound_by_stmt s) ++ seen) r.0 rest r.1 out → Covered around (SuiteFinds m ctx (texts (bound_by_stmt s) ++ seen) rest r.1) → Runs r.0 (ways_out out (breaks_in_suite rest r.1) (loose_in rest)) (bound_by rest) (exec_all Step free parts rest))
+          → StmtKeyed s marks × BehindRule can behind (λ r. SuiteKeyed rest r.1) (Unit {0})
+          → ((r : Env × SuiteMarks rest) → LawfulSuite m ctx around.declared returned (texts (bound_by_stmt s) ++ seen) r.0 rest r.1 out → Covered around (SuiteFinds m ctx (texts (bound_by_stmt s) ++ seen) rest r.1) → SuiteKeyed rest r.1 → Runs r.0 (ways_out out (breaks_in_suite rest r.1) (loose_in rest)) (bound_by rest) (exec_all Step free parts rest))
           → Runs env (ways_out out (breaks_in s marks ++ behind_list can behind (λ r. breaks_in_suite rest r.1)) (loose_in_stmt s ++ loose_in rest)) (bound_by_stmt s ++ bound_by rest) (exec_all Step free parts (more_stmts s rest))
-      one_more seen env s rest marks out true behind law covered others more lasts =
+      one_more seen env s rest marks out true behind law covered keyed others more lasts =
           leads_bind around _ _ _ (λ k u st. At around env more k st) _ (leads_charge around _)
           λ u. leads_bind around _ _ _ (λ k flow st. FlowEnds around (ways_out (Some behind.0) (breaks_in s marks) (loose_in_stmt s)) k flow st × more k st.frame) _
-          ((node s).runs seen env marks (Some behind.0) law.0 (λ f h. covered f (inl h)) more (lasts_left (bound_by_stmt s) (bound_by rest) lasts))
-          λ flow. behind_next behind.0 (breaks_in s marks) (breaks_in_suite rest behind.1) (loose_in_stmt s) (loose_in rest) out (bound_by rest) (exec_all Step free parts rest) (others behind law.1 (λ f h. covered f (inr h))) more (lasts_right (bound_by_stmt s) (bound_by rest) lasts) flow
-      one_more seen env s rest marks out false behind law covered others more lasts =
+          ((node s).runs seen env marks (Some behind.0) law.0 (λ f h. covered f (inl h)) keyed.0 more (lasts_left (bound_by_stmt s) (bound_by rest) lasts))
+          λ flow. behind_next behind.0 (breaks_in s marks) (breaks_in_suite rest behind.1) (loose_in_stmt s) (loose_in rest) out (bound_by rest) (exec_all Step free parts rest) (others behind law.1 (λ f h. covered f (inr h)) keyed.1) more (lasts_right (bound_by_stmt s) (bound_by rest) lasts) flow
+      one_more seen env s rest marks out false behind law covered keyed others more lasts =
           leads_bind around _ _ _ (λ k u st. At around env more k st) _ (leads_charge around _)
           λ u. leads_bind around _ _ _ (λ k flow st. FlowEnds around (ways_out None (breaks_in s marks) (loose_in_stmt s)) k flow st × more k st.frame) _
-          ((node s).runs seen env marks None law.0 (λ f h. covered f (inl h)) more (lasts_left (bound_by_stmt s) (bound_by rest) lasts))
+          ((node s).runs seen env marks None law.0 (λ f h. covered f (inl h)) keyed.0 more (lasts_left (bound_by_stmt s) (bound_by rest) lasts))
           λ flow. behind_left (breaks_in s marks) [] (loose_in_stmt s) (loose_in rest) out (exec_all Step free parts rest) more flow
 
       -- statements, one after another
-      pub suite_runs : (seen : Seen) (env : Env) (b : Stmts) (marks : SuiteMarks b) (out : Option Env) → LawfulSuite m ctx around.declared returned seen env b marks out → Covered around (SuiteFinds m ctx seen b marks) → Runs env (ways_out out (breaks_in_suite b marks) (loose_in b)) (bound_by b) (exec_all Step free parts b)
-      suite_runs seen env no_stmts marks out law covered more lasts = leads_comes around _ (Gives next) _ λ k s at. (record { env = env; is = law; stands = at.stands }, at.known)
-      suite_runs seen env (more_stmts s rest) marks out law covered more lasts =
-          one_more seen env s rest marks.0 out (completes s) marks.1 (settle (completes s) marks.1 law) covered (λ r l c. suite_runs (texts (bound_by_stmt s) ++ seen) r.0 rest r.1 out l c) more lasts
+      pub suite_runs : (seen : Seen) (env : Env) (b : Stmts) (marks : SuiteMarks b) (out : Option Env) → LawfulSuite m ctx around.declared returned seen env b marks out → Covered around (SuiteFinds m ctx seen b marks) → SuiteKeyed b marks → Runs env (ways_out out (breaks_in_suite b marks) (loose_in b)) (bound_by b) (exec_all Step free parts b)
+      suite_runs seen env no_stmts marks out law covered keyed more lasts = leads_comes around _ (Gives next) _ λ k s at. (record { env = env; is = law; stands = at.stands }, at.known)
+      suite_runs seen env (more_stmts s rest) marks out law covered keyed more lasts =
+          one_more seen env s rest marks.0 out (completes s) marks.1 (settle (completes s) marks.1 law) covered keyed (λ r l c q. suite_runs (texts (bound_by_stmt s) ++ seen) r.0 rest r.1 out l c q) more lasts
         where
           settle : (can : Test) (behind : Behind can (Env × SuiteMarks rest)) → BehindRule can behind (λ r. LawfulStmt m ctx around.declared returned seen env s marks.0 (Some r.0) × LawfulSuite m ctx around.declared returned (texts (bound_by_stmt s) ++ seen) r.0 rest r.1 out) (LawfulStmt m ctx around.declared returned seen env s marks.0 None × Undeclared m ctx around.declared (texts (bound_by_stmt s) ++ seen) (bound_by rest) × (out ≡ None)) → BehindRule can behind (λ r. LawfulStmt m ctx around.declared returned seen env s marks.0 (Some r.0) × LawfulSuite m ctx around.declared returned (texts (bound_by_stmt s) ++ seen) r.0 rest r.1 out) (LawfulStmt m ctx around.declared returned seen env s marks.0 None × (out ≡ None))
           settle true behind l = l
