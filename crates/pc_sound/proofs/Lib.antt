@@ -18,3 +18,5 @@ pub mod KeyedStatements
 pub mod Conditions
 pub mod Statements
 pub mod Simple
+pub mod Branches
+pub mod Turns
