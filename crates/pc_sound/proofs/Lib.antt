@@ -18,3 +18,7 @@ pub mod KeyedStatements
 pub mod Conditions
 pub mod Statements
 pub mod Simple
+pub mod Seen
+pub mod Members
+pub mod Operators
+pub mod SeveralFlows
