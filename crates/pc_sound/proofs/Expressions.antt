@@ -32,7 +32,7 @@ Covered around finds = (f : Finding) → finds f → around.listed f.place × (�
 pub record GoodEval (around : Around) (ctx : Context) (eval : Expr → Step Value) : Type 0 where
   pub safe : (env : Env) (want : Option Tree) (e : Expr) (m : Marks e) → Lawful ctx around.declared env want e m → Covered around (Finds e m) → Keyed e m → IsSafe around env (λ k. Unit {0}) (eval e) (λ k v. HasType around.bases k (type_of e m) v)
 
-allowed : (around : Around) (p : Place) (codes : List Code) → Covered around (IsFoundAt p codes) → IsAllowed around.listed p codes
+pub allowed : (around : Around) (p : Place) (codes : List Code) → Covered around (IsFoundAt p codes) → IsAllowed around.listed p codes
 allowed around p [] h = tt
 allowed around p (c ∷ cs) h = (h (finding p c) (record { code = c; among = (0, omega arith, refl); is = refl })).0
 

@@ -50,7 +50,7 @@ first_evaluates p m f h = record {
   ];
 }
 
-stopped : {A B : Type 0} (P : A → Type 0) (Q : B → Type 0) (stop : Stop) → EndsWell P (Stops stop) → EndsWell Q (Stops stop)
+pub stopped : {A B : Type 0} (P : A → Type 0) (Q : B → Type 0) (stop : Stop) → EndsWell P (Stops stop) → EndsWell Q (Stops stop)
 stopped P Q (Raised x) h = h
 stopped P Q Outside h = h
 stopped P Q Other h = h

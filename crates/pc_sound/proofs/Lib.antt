@@ -20,3 +20,7 @@ pub mod Statements
 pub mod Simple
 pub mod Branches
 pub mod Turns
+pub mod Seen
+pub mod Members
+pub mod Operators
+pub mod SeveralFlows
