@@ -24,3 +24,5 @@ pub mod Seen
 pub mod Members
 pub mod Operators
 pub mod SeveralFlows
+pub mod Iterations
+pub mod ForLoops

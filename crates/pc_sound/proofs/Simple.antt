@@ -42,6 +42,19 @@ use Rattle.pc_sound.proofs.Statements.{Runs, stands_bare, ways_out, GoodStmt, fi
 pub record GoodStores (around : Around) (m : Module) (ctx : Context) (parts : Parts Step) : Type 0 where
   pub stores : (env : Env) (t : Target) (target : TargetMarks t) (e : Expr) (marks : Marks e) (flows : Flowing) → LawfulStore m ctx around.declared env t target e marks flows → Covered around (λ f. IsFlowAt (place_of e) flows f ⊎ (Finds e marks f ⊎ TargetFinds m ctx t target f)) → Keyed e marks → TargetKeyed t target → IsSafe around env (λ k. Unit {0}) (parts.eval e >>= λ v. assign_target Step free parts t v) (λ k flow. flow ≡ next)
 
+module _ (around : Around) (ctx : Context) (fits : Fits around ctx) where
+  -- after it was bound a local holds a value of its declared type and of its current type
+  pub bound_local : (more : HeapTyping → Frame → Type 0) (names : List Name) → Lasts around ctx names more → (env : Env) (n : Name) → Contains names n → (x : ℕ) (t : Tree) (v : Value) → ctx.resolve n.text ≡ res.Local x → (k : HeapTyping) (s : State) → At around env more k s → HasType around.bases k t v → HasType around.bases k (declared_type around.declared x) v → At around (assign env x t) more k (record s { frame = with_local n.text v s.frame })
+  bound_local more names lasts env n among x t v is k s at now always = record {
+    stands = record {
+      well = at.stands.well;
+      frame = names_kept around.names n.text v s.frame at.stands.frame;
+      locals = assigned_holds around.bases around.names around.declared k env s.frame n.text x t v (fits.local n.text x is) at.stands.frame now always at.stands.locals;
+      outside = at.stands.outside;
+    };
+    known = lasts.bind n x v k s.frame among is at.stands.frame always at.known;
+  }
+
 module _ (around : Around) (ctx : Context) (fits : Fits around ctx) (eval : Expr → Step Value) (decides : Decides around ctx eval) where
   -- a condition, and what lasts of the frame
   decides_more : (more : HeapTyping → Frame → Type 0) → ((k k' : HeapTyping) (frame : Frame) → Extends k k' → more k frame → more k' frame) → (env : Env) (want : Option Tree) (e : Expr) (marks : Marks e) → Lawful ctx around.declared env want e marks → Covered around (Finds e marks) → Keyed e marks → Leads around (λ k s. At around env more k s) (eval e) (λ k v s. At around env more k s × Tells around ctx env e k v s)
@@ -148,18 +161,6 @@ module _ (around : Around) (ctx : Context) (fits : Fits around ctx) (m : Module)
 
   -- ---- assignments to locals
 
-  -- after it was bound a local holds a value of its declared type and of its current type
-  pub bound_at : (more : HeapTyping → Frame → Type 0) (names : List Name) → Lasts around ctx names more → (env : Env) (n : Name) → Contains names n → (x : ℕ) (t : Tree) (v : Value) → ctx.resolve n.text ≡ res.Local x → (k : HeapTyping) (s : State) → At around env more k s → HasType around.bases k t v → HasType around.bases k (declared_type around.declared x) v → At around (assign env x t) more k (record s { frame = with_local n.text v s.frame })
-  bound_at more names lasts env n among x t v is k s at now always = record {
-    stands = record {
-      well = at.stands.well;
-      frame = names_kept around.names n.text v s.frame at.stands.frame;
-      locals = assigned_holds around.bases around.names around.declared k env s.frame n.text x t v (fits.local n.text x is) at.stands.frame now always at.stands.locals;
-      outside = at.stands.outside;
-    };
-    known = lasts.bind n x v k s.frame among is at.stands.frame always at.known;
-  }
-
   binding_runs : (seen : Seen) (env : Env) (n : Name) (annotation : Option Tree) (e : Expr) (marks : Marks e) (flows : Flowing) (after : Env) (out : Option Env) → LawfulBinding m ctx around.declared env seen n (ctx.resolve n.text) annotation e marks flows after → out ≡ Some after → Covered around (IsFlowAt (place_of e) flows) → Covered around (Finds e marks) → Keyed e marks → Runs around ctx env (ways_out around ctx m returned out [] []) (n ∷ []) (parts.eval e >>= λ v. (Changes (binds_local n.text v) >>= λ u. comes (Gives next)))
   binding_runs seen env n annotation e marks flows after out law is covered_flow covered keyed more lasts = go (lasts.local n (first_of_list around ctx n [])).number (lasts.local n (first_of_list around ctx n [])).resolves
     where
@@ -175,7 +176,7 @@ module _ (around : Around) (ctx : Context) (fits : Fits around ctx) (m : Module)
           (leads_safe around env (λ k. Unit {0}) (parts.eval e) (λ k v. HasType around.bases k t v × HasType around.bases k d v) more lasts.grow
           (assigned_safe around ctx parts.eval good evaluates_place env (λ k. Unit {0}) _ e marks d f.0 l.value covered f.2 (subst (λ c. Covered around (IsFlowAt (place_of e) c)) f.1 covered_flow) keyed)))
           λ v. leads_bind around _ _ _ (λ k u s. At around (assign env x t) more k s) _
-          (leads_binds around _ n.text v _ λ k s b. bound_at more (n ∷ []) lasts env n (first_of_list around ctx n []) x t v resolves k s b.0 b.1.0 b.1.1)
+          (leads_binds around _ n.text v _ λ k s b. bound_local around ctx fits more (n ∷ []) lasts env n (first_of_list around ctx n []) x t v resolves k s b.0 b.1.0 b.1.1)
           λ u. leads_comes around _ (Gives next) _ λ k s at. (record { env = assign env x t; is = ends; stands = at.stands }, at.known)
 
   pub annotated_none_runs : (p : Place) (n : Name) (a : Ann) → GoodStmt around ctx m returned (annotated p n a None) (exec_node Step free parts (annotated p n a None))
