@@ -26,3 +26,6 @@ pub mod Operators
 pub mod SeveralFlows
 pub mod Iterations
 pub mod ForLoops
+pub mod Nodes
+pub mod Places
+pub mod Nested
