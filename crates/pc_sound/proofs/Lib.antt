@@ -29,3 +29,4 @@ pub mod ForLoops
 pub mod Nodes
 pub mod Places
 pub mod Nested
+pub mod Entry
