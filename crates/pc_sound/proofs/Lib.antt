@@ -18,9 +18,14 @@ pub mod KeyedStatements
 pub mod Conditions
 pub mod Statements
 pub mod Simple
+pub mod Branches
+pub mod Turns
 pub mod Seen
 pub mod Members
 pub mod Operators
 pub mod SeveralFlows
 pub mod Indexing
 pub mod Fields
+pub mod Iterations
+pub mod ForLoops
+pub mod Arguments
