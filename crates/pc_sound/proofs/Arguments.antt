@@ -1,6 +1,6 @@
 -- Arguments and items, one after another: each value is of its expression's type and of each type that it flows into.
-use Rattle.std.proofs.Common.{◌≡◌, ℕ, zero, suc, List, [], ◌∷◌, refl, sym, subst, inl, inr}
-use Rattle.std.specs.Prelude.{◌⊎◌, false}
+use Rattle.std.proofs.Common.{◌≡◌, ℕ, suc, List, [], ◌∷◌, refl, sym, subst, inl, inr}
+use Rattle.std.specs.Prelude.{false}
 use Rattle.pc_tree.specs.declared.code.Finding.{Finding}
 use Rattle.pc_tree.specs.Tree.{Expr, Exprs, Keywords, no_exprs, more_exprs, no_keywords, more_keywords}
 use Rattle.pc_scope.specs.Expressions.{place_of}

@@ -26,7 +26,6 @@ use Rattle.pc_run.specs.Steps.{Parts, value_out}
 use Rattle.pc_run.specs.Evaluation.{eval_node}
 use Rattle.pc_run.specs.Free.{Step, free}
 use Rattle.pc_sound.specs.Values.{HeapTyping, HasType, HaveTypes, AllHave, IsWell}
-use Rattle.pc_sound.specs.Kept.{OutcomeHas}
 use Rattle.pc_sound.specs.Judgment.{HasListed, EndsWell, Around, Stands, Keeps, IsSafe, Fits}
 use Rattle.pc_sound.proofs.ValuesFlow.{later, of_static}
 use Rattle.pc_sound.proofs.Steps.{bind_safe, emits_safe, act_safe}
@@ -37,6 +36,7 @@ use Rattle.pc_sound.proofs.Narrowing.{HasSome}
 use Rattle.pc_sound.proofs.Joins.{all_hold}
 use Rattle.pc_sound.proofs.Dicts.{dict_item_has}
 use Rattle.pc_sound.proofs.Seen.{sees_list}
+use Rattle.pc_sound.proofs.Acting.{outcome_ends}
 use Rattle.pc_sound.proofs.Members.{no_codes, ends_more, HasEach, each_later, AllOf, offers_end_where}
 use Rattle.pc_sound.proofs.SeveralFlows.{flows_safe}
 
@@ -82,16 +82,7 @@ literal_value eval reads _ s s' events v r i is = absurd (grind (arith, is))
 
 -- ---- items
 
-outcome_ends : (bases : Bases) (k : HeapTyping) (t : Tree) (o : Outcome) → OutcomeHas bases k t o → EndsWell (λ w. HasType bases k t w) (value_out o)
-outcome_ends bases k t (action.gives v) h = h
-outcome_ends bases k t (action.iterates over) h = absurd h
-outcome_ends bases k t action.finished h = absurd h
-outcome_ends bases k t (action.stops value.Other) h = h
-outcome_ends bases k t (action.stops value.Cut) h = h
-outcome_ends bases k t (action.stops value.Outside) h = h
-outcome_ends bases k t (action.stops (value.Raised e)) h = h
-
-keyed_members : (t : Tree) → IsKeyed t → AllOf IsKeyed (members t)
+pub keyed_members : (t : Tree) → IsKeyed t → AllOf IsKeyed (members t)
 keyed_members Never h = tt
 keyed_members (Union a b) h = (h.0, keyed_members b h.1)
 keyed_members Any h = (h, tt)

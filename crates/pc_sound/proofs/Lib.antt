@@ -29,3 +29,4 @@ pub mod Fields
 pub mod Iterations
 pub mod ForLoops
 pub mod Arguments
+pub mod Acting
