@@ -24,9 +24,13 @@ pub mod Seen
 pub mod Members
 pub mod Operators
 pub mod SeveralFlows
+pub mod Indexing
+pub mod Fields
 pub mod Iterations
 pub mod ForLoops
 pub mod Nodes
 pub mod Places
 pub mod Nested
 pub mod Entry
+pub mod Arguments
+pub mod Acting
