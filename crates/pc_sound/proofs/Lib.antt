@@ -22,3 +22,4 @@ pub mod Seen
 pub mod Members
 pub mod Operators
 pub mod SeveralFlows
+pub mod Showing
