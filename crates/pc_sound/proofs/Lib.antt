@@ -34,3 +34,4 @@ pub mod Nested
 pub mod Entry
 pub mod Arguments
 pub mod Acting
+pub mod Showing
