@@ -35,3 +35,5 @@ pub mod Entry
 pub mod Arguments
 pub mod Acting
 pub mod Showing
+pub mod World
+pub mod Entering
