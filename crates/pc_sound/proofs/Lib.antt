@@ -37,3 +37,4 @@ pub mod Acting
 pub mod Showing
 pub mod World
 pub mod Entering
+pub mod Filling
