@@ -27,7 +27,7 @@ use Rattle.pc_sound.proofs.Arguments.{ArgumentsHave, KeywordsHave}
 use Rattle.pc_sound.proofs.Entry.{ParameterHas, ParametersHave}
 use Rattle.pc_sound.proofs.World.{DefaultHas, DefaultsHave}
 
-clash : {b : Test} → b ≡ true → b ≡ false → ⊥
+pub clash : {b : Test} → b ≡ true → b ≡ false → ⊥
 clash e f = grind (arith, sym e ∙ f)
 
 -- ---- what each parameter takes
@@ -129,15 +129,15 @@ PositionalHave bases k ps [] = Unit {0}
 PositionalHave bases k [] (v ∷ vs) = ⊥
 PositionalHave bases k (p ∷ ps) (v ∷ vs) = HasType bases k p.type v × PositionalHave bases k ps vs
 
-or_cases : (a b : Test) → (a || b) ≡ true → (a ≡ true) ⊎ ((a ≡ false) × (b ≡ true))
+pub or_cases : (a b : Test) → (a || b) ≡ true → (a ≡ true) ⊎ ((a ≡ false) × (b ≡ true))
 or_cases true b e = inl refl
 or_cases false b e = inr (refl, e)
 
-both : (a b : Test) → (a && b) ≡ true → (a ≡ true) × (b ≡ true)
+pub both : (a b : Test) → (a && b) ≡ true → (a ≡ true) × (b ≡ true)
 both true b e = (refl, e)
 both false b e = absurd (grind (arith, e))
 
-or_right : (a b : Test) → b ≡ true → (a || b) ≡ true
+pub or_right : (a b : Test) → b ≡ true → (a || b) ≡ true
 or_right true b e = refl
 or_right false b e = e
 
@@ -160,7 +160,7 @@ not_named word (a ∷ rest) e n = go (same_text a.name word) refl n (or_cases (b
     go false t n (inr c) others = others c.1 n
 
 -- the names that a call gives once each are those that it gives
-once_among : (word : List ℕ) (before : List (List ℕ)) (ns : List Name) → is_among word before ≡ false → is_among word (texts ns) ≡ true → is_among word (once_each before ns) ≡ true
+pub once_among : (word : List ℕ) (before : List (List ℕ)) (ns : List Name) → is_among word before ≡ false → is_among word (texts ns) ≡ true → is_among word (once_each before ns) ≡ true
 once_among word before [] new e = e
 once_among word before (n ∷ ns) new e = go (is_among n.text before) refl (or_cases (bytes_eq word n.text) (is_among word (texts ns)) e) (once_among word before ns new) (once_among word (n.text ∷ before) ns)
   where
@@ -170,7 +170,7 @@ once_among word before (n ∷ ns) new e = go (is_among n.text before) refl (or_c
     go false t (inl c) dropped kept = ap (λ b. b || is_among word (once_each (n.text ∷ before) ns)) c
     go false t (inr c) dropped kept = or_right (bytes_eq word n.text) (is_among word (once_each (n.text ∷ before) ns)) (kept ((λ i. c.0 i || new i)) c.1)
 
-all_at : (p : List ℕ → Test) (words : List (List ℕ)) (word : List ℕ) → list_all p words ≡ true → is_among word words ≡ true → p word ≡ true
+pub all_at : (p : List ℕ → Test) (words : List (List ℕ)) (word : List ℕ) → list_all p words ≡ true → is_among word words ≡ true → p word ≡ true
 all_at p [] word all e = absurd (grind (arith, e))
 all_at p (x ∷ xs) word all e =
     let h = both (p x) (list_all p xs) all in
@@ -249,7 +249,7 @@ module _ (bases : Bases) (k : HeapTyping) (named : List NamedValue) (words : Lis
           go false t = have word w q (sym (ap (λ b. b || is_among word before) t) ∙ new) e (one_field p ps word false t ∙ f)
 
   -- all parameters
-  suited_fills : (before : List (List ℕ)) (ps : List Parameter) (vs : List Value) → Distinct before ps → PositionalHave bases k ps vs → ((word : List ℕ) → is_among word words ≡ true → is_free (length vs) (position_of ps word) ≡ true) → NamedBehind bases k [] ps named → are_filled words (parameter_names (take (length vs) ps)) (drop (length vs) ps) ≡ true → Fills bases k ps vs named
+  pub suited_fills : (before : List (List ℕ)) (ps : List Parameter) (vs : List Value) → Distinct before ps → PositionalHave bases k ps vs → ((word : List ℕ) → is_among word words ≡ true → is_free (length vs) (position_of ps word) ≡ true) → NamedBehind bases k [] ps named → are_filled words (parameter_names (take (length vs) ps)) (drop (length vs) ps) ≡ true → Fills bases k ps vs named
   suited_fills before ps [] distinct positional free have all_filled = rest_fills before ps distinct (λ word w q new e f. have word w q refl e f) all_filled
   suited_fills before [] (v ∷ vs) distinct positional free have all_filled = absurd positional
   suited_fills before (p ∷ ps) (v ∷ vs) distinct positional free have all_filled =
@@ -292,7 +292,7 @@ module _ (bases : Bases) (k : HeapTyping) (named : List NamedValue) (words : Lis
       go None e f = absurd (grind (arith, f))
       go (Some i) e f = found ps i e
 
-  all_for : (n : ℕ) (ps : List Parameter) (more : List NamedValue) → ((word : List ℕ) → is_among word (names_of more) ≡ true → is_free n (position_of ps word) ≡ true) → AllFor bases k named more ps
+  pub all_for : (n : ℕ) (ps : List Parameter) (more : List NamedValue) → ((word : List ℕ) → is_among word (names_of more) ≡ true → is_free n (position_of ps word) ≡ true) → AllFor bases k named more ps
   all_for n ps [] free = tt
   all_for n ps (a ∷ more) free = (free_some n ps a.name (free a.name (ap (λ b. b || is_among a.name (names_of more)) ((bytes_eq-Decides a.name a.name).1 refl))), all_for n ps more (λ word e. free word (or_right (bytes_eq word a.name) (is_among word (names_of more)) e)))
 

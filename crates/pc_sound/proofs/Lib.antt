@@ -38,3 +38,5 @@ pub mod Showing
 pub mod World
 pub mod Entering
 pub mod Filling
+pub mod Suiting
+pub mod Calling
