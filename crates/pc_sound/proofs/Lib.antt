@@ -30,3 +30,4 @@ pub mod Iterations
 pub mod ForLoops
 pub mod Arguments
 pub mod Acting
+pub mod Globals
