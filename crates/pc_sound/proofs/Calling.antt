@@ -1,6 +1,5 @@
 -- An ordinary call: the callee, the arguments, the event of the call, then what is called.
-use Rattle.std.proofs.Common.{◌≡◌, ℕ, List, [], ◌∷◌, refl, sym, ap, ◌∙◌, subst, inl, inr}
-use Rattle.std.specs.Prelude.{◌⊎◌}
+use Rattle.std.proofs.Common.{◌≡◌, ℕ, List, [], subst}
 use Rattle.pc_source.specs.declared.place.Place.{Place}
 use Rattle.pc_tree.specs.Tree.{Expr, Exprs, Keywords}
 use Rattle.pc_scope.specs.Expressions.{place_of}
@@ -10,8 +9,7 @@ use Rattle.pc_expr.specs.Context.{Context}
 use Rattle.pc_expr.specs.Calls.{Seat}
 use Rattle.pc_expr.specs.Labels.{ItemsMarks, KeywordsMarks, ItemsFind, KeywordsFind, IsFoundAt}
 use Rattle.pc_expr.specs.Lawful.{LawfulItems, LawfulKeywords}
-use Rattle.pc_value.specs.Value.{Value, Out}
-use Rattle.pc_run.specs.State.{State}
+use Rattle.pc_value.specs.Value.{Value}
 use Rattle.pc_run.specs.Calls.{Callee, NamedValue}
 use Rattle.pc_run.specs.Evaluation.{eval_all, eval_keywords, call_callee}
 use Rattle.pc_run.specs.Steps.{Parts}
@@ -40,7 +38,7 @@ module _ (around : Around) (ctx : Context) (fits : Fits around ctx) (parts : Par
 
   -- an ordinary call is safe where its callee is, and what is called with arguments that fit
   pub ordinary_safe :
-    (p : Place) (callee : Step Callee) (Q : HeapTyping → Callee → Type 0) (stays : (c : Callee) → Stays (λ k. Q k c)) → IsSafe around env (λ k. Unit {0}) callee Q
+      (p : Place) (callee : Step Callee) (Q : HeapTyping → Callee → Type 0) (stays : (c : Callee) → Stays (λ k. Q k c)) → IsSafe around env (λ k. Unit {0}) callee Q
       → (seat : ℕ → Seat) (named : List ℕ → Seat) (args : Exprs) (marks : ItemsMarks args) (kws : Keywords) (kmarks : KeywordsMarks kws) (here : Mark)
       → LawfulItems ctx around.declared env seat args marks → LawfulKeywords ctx around.declared env named [] kws kmarks
       → Covered around (ItemsFind args marks) → Covered around (KeywordsFind kws kmarks) → Covered around (IsFoundAt p here.codes) → ItemsKeyed args marks → KeywordsKeyed kws kmarks

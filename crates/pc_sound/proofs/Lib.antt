@@ -37,3 +37,4 @@ pub mod Acting
 pub mod Globals
 pub mod Showing
 pub mod Calling
+pub mod BuiltIns
