@@ -38,3 +38,4 @@ pub mod Globals
 pub mod Showing
 pub mod Calling
 pub mod BuiltIns
+pub mod InstanceCalls
