@@ -43,7 +43,7 @@ use Rattle.pc_sound.proofs.Seen.{sees_list, sees_dict}
 use Rattle.pc_sound.proofs.Members.{no_codes, ends_more, offers_end}
 use Rattle.pc_sound.proofs.Arguments.{ArgumentsHave, KeywordsHave, arguments_later, keywords_later, found_in_arguments}
 use Rattle.pc_sound.proofs.Globals.{KnowsNames, builtin_text, means_a_builtin, reserved_is, no_error_at}
-use Rattle.pc_sound.proofs.Calling.{equal_safe, impossible_safe, ordinary_safe}
+use Rattle.pc_sound.proofs.OrdinaryCalls.{equal_safe, impossible_safe, ordinary_safe}
 
 -- ---- lengths and texts
 

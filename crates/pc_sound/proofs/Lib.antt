@@ -36,6 +36,6 @@ pub mod Arguments
 pub mod Acting
 pub mod Globals
 pub mod Showing
-pub mod Calling
+pub mod OrdinaryCalls
 pub mod BuiltIns
 pub mod InstanceCalls
