@@ -34,9 +34,13 @@ pub mod Nested
 pub mod Entry
 pub mod Arguments
 pub mod Acting
+pub mod Globals
 pub mod Showing
 pub mod World
 pub mod Entering
 pub mod Filling
 pub mod Suiting
 pub mod Calling
+pub mod OrdinaryCalls
+pub mod BuiltIns
+pub mod InstanceCalls
