@@ -23,3 +23,4 @@ pub mod Members
 pub mod Operators
 pub mod SeveralFlows
 pub mod Showing
+pub mod InstanceTests
