@@ -23,7 +23,7 @@ some_inj e = grind arith
 same_itself : (word : List ℕ) → same_text word word ≡ true
 same_itself word = (bytes_eq-Decides word word).1 refl
 
-same_is : (u w : List ℕ) → same_text u w ≡ true → u ≡ w
+pub same_is : (u w : List ℕ) → same_text u w ≡ true → u ≡ w
 same_is u w e = (bytes_eq-Decides u w).0 e
 
 differs : (u w : List ℕ) → ¬ (u ≡ w) → same_text u w ≡ false
@@ -33,7 +33,7 @@ differs u w n = go (same_text u w) refl
     go true e = absurd (n (same_is u w e))
     go false e = e
 
-differs_not : (u w : List ℕ) → same_text u w ≡ false → ¬ (u ≡ w)
+pub differs_not : (u w : List ℕ) → same_text u w ≡ false → ¬ (u ≡ w)
 differs_not u w e is = absurd (grind (arith, sym e ∙ subst (λ x. same_text u x ≡ true) is (same_itself u)))
 
 -- ---- the local of a name

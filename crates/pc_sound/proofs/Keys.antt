@@ -1,8 +1,12 @@
--- The types of labels are such as annotations and displays make: each dict in them has int or str as its key.
+-- The types of labels are such as annotations and displays make: each dict in them has int or str as its key. And no test
+-- of an instance tests for what is not defined yet.
+use Rattle.std.specs.Prelude.{◌≡◌, true, false}
 use Rattle.pc_tree.specs.Tree.{Expr, Exprs, Entries, Keywords, name, number, text, truth, nothing, tuple, list, dict, negative, negation, binary, compare, is_none, is_not_none, conjunction, disjunction, attribute, index, call, no_exprs, more_exprs, no_entries, more_entries, no_keywords, more_keywords}
 use Rattle.pc_types.specs.Tree.{Tree, Trees, ListOf, DictOf, TupleOf, Union, end, more}
 use Rattle.pc_types.specs.Normal.{IsKey}
+use Rattle.pc_scope.specs.Expressions.{is_instance_test}
 use Rattle.pc_expr.specs.Labels.{Marks, ItemsMarks, EntriesMarks, KeywordsMarks, type_of}
+use Rattle.pc_expr.specs.Lawful.{late_second}
 
 -- each dict, anywhere in a type, has int or str as its key
 abbrev mutual
@@ -17,7 +21,11 @@ abbrev mutual
   AreKeyed end = Unit {0}
   AreKeyed (more t ts) = IsKeyed t × AreKeyed ts
 
--- so is each label of an expression and of its parts
+-- the second argument of a test of an instance has no E03
+abbrev pub IsPunctual : Expr → (arguments : Exprs) → Keywords → ItemsMarks arguments → Type 0
+IsPunctual callee arguments keywords m = is_instance_test callee arguments keywords ≡ true → late_second arguments m ≡ false
+
+-- each label of an expression and of its parts is so, and each test of an instance in it
 abbrev mutual
   pub Keyed : (e : Expr) → Marks e → Type 0
   Keyed (name n) m = IsKeyed m.type
@@ -38,7 +46,7 @@ abbrev mutual
   Keyed (disjunction p l r) m = IsKeyed m.here.type × (Keyed l m.left × Keyed r m.right)
   Keyed (attribute p e field) m = IsKeyed m.here.type × Keyed e m.object
   Keyed (index p e i) m = IsKeyed m.here.type × (Keyed e m.object × Keyed i m.key)
-  Keyed (call p callee arguments keywords) m = IsKeyed m.here.type × (Keyed callee m.callee × (ItemsKeyed arguments m.arguments × KeywordsKeyed keywords m.keywords))
+  Keyed (call p callee arguments keywords) m = (IsKeyed m.here.type × IsPunctual callee arguments keywords m.arguments) × (Keyed callee m.callee × (ItemsKeyed arguments m.arguments × KeywordsKeyed keywords m.keywords))
 
   pub ItemsKeyed : (es : Exprs) → ItemsMarks es → Type 0
   ItemsKeyed no_exprs m = Unit {0}
@@ -72,4 +80,4 @@ keyed_type (conjunction p l r) m h = h.0
 keyed_type (disjunction p l r) m h = h.0
 keyed_type (attribute p e field) m h = h.0
 keyed_type (index p e i) m h = h.0
-keyed_type (call p callee arguments by_name) m h = h.0
+keyed_type (call p callee arguments by_name) m h = h.0.0

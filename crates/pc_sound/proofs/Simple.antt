@@ -42,9 +42,22 @@ use Rattle.pc_sound.proofs.Statements.{Runs, stands_bare, ways_out, GoodStmt, fi
 pub record GoodStores (around : Around) (m : Module) (ctx : Context) (parts : Parts Step) : Type 0 where
   pub stores : (env : Env) (t : Target) (target : TargetMarks t) (e : Expr) (marks : Marks e) (flows : Flowing) → LawfulStore m ctx around.declared env t target e marks flows → Covered around (λ f. IsFlowAt (place_of e) flows f ⊎ (Finds e marks f ⊎ TargetFinds m ctx t target f)) → Keyed e marks → TargetKeyed t target → IsSafe around env (λ k. Unit {0}) (parts.eval e >>= λ v. assign_target Step free parts t v) (λ k flow. flow ≡ next)
 
-module _ (around : Around) (ctx : Context) (fits : Fits around ctx) (m : Module) (returned : Tree) (parts : Parts Step) (good : GoodEval around ctx parts.eval) (evaluates_place : (e : Expr) → Evaluates (place_of e) (parts.eval e)) (decides : Decides around ctx parts.eval) (stores : GoodStores around m ctx parts) where
+module _ (around : Around) (ctx : Context) (fits : Fits around ctx) where
+  -- after it was bound a local holds a value of its declared type and of its current type
+  pub bound_local : (more : HeapTyping → Frame → Type 0) (names : List Name) → Lasts around ctx names more → (env : Env) (n : Name) → Contains names n → (x : ℕ) (t : Tree) (v : Value) → ctx.resolve n.text ≡ res.Local x → (k : HeapTyping) (s : State) → At around env more k s → HasType around.bases k t v → HasType around.bases k (declared_type around.declared x) v → At around (assign env x t) more k (record s { frame = with_local n.text v s.frame })
+  bound_local more names lasts env n among x t v is k s at now always = record {
+    stands = record {
+      well = at.stands.well;
+      frame = names_kept around.names n.text v s.frame at.stands.frame;
+      locals = assigned_holds around.bases around.names around.declared k env s.frame n.text x t v (fits.local n.text x is) at.stands.frame now always at.stands.locals;
+      outside = at.stands.outside;
+    };
+    known = lasts.bind n x v k s.frame among is at.stands.frame always at.known;
+  }
+
+module _ (around : Around) (ctx : Context) (fits : Fits around ctx) (eval : Expr → Step Value) (decides : Decides around ctx eval) where
   -- a condition, and what lasts of the frame
-  decides_more : (more : HeapTyping → Frame → Type 0) → ((k k' : HeapTyping) (frame : Frame) → Extends k k' → more k frame → more k' frame) → (env : Env) (want : Option Tree) (e : Expr) (marks : Marks e) → Lawful ctx around.declared env want e marks → Covered around (Finds e marks) → Keyed e marks → Leads around (λ k s. At around env more k s) (parts.eval e) (λ k v s. At around env more k s × Tells around ctx env e k v s)
+  decides_more : (more : HeapTyping → Frame → Type 0) → ((k k' : HeapTyping) (frame : Frame) → Extends k k' → more k frame → more k' frame) → (env : Env) (want : Option Tree) (e : Expr) (marks : Marks e) → Lawful ctx around.declared env want e marks → Covered around (Finds e marks) → Keyed e marks → Leads around (λ k s. At around env more k s) (eval e) (λ k v s. At around env more k s × Tells around ctx env e k v s)
   decides_more more grow env want e marks law covered keyed = record {
     run = λ k s s' events out well b r. elim ((decides.decides env want e marks law covered keyed s.frame).run k s s' events out well (b.stands, refl) r) [
       | inl h ↦ inl h
@@ -64,7 +77,7 @@ module _ (around : Around) (ctx : Context) (fits : Fits around ctx) (m : Module)
   pub decided : {A : Type 0} (more : HeapTyping → Frame → Type 0) (grow : (k k' : HeapTyping) (frame : Frame) → Extends k k' → more k frame → more k' frame) (env : Env) (c : Expr) (marks : Marks c) (one other : Step A) (after : Promised A) → Lawful ctx around.declared env None c marks → Covered around (Finds c marks) → Keyed c marks
       → Leads around (λ k s. At around (narrow ctx.bases around.declared ctx.resolve true c env) more k s) one after
       → Leads around (λ k s. At around (narrow ctx.bases around.declared ctx.resolve false c env) more k s) other after
-      → Leads around (λ k s. At around env more k s) (parts.eval c >>= λ v. condition Step free v >>= λ b. choose Step free b one other) after
+      → Leads around (λ k s. At around env more k s) (eval c >>= λ v. condition Step free v >>= λ b. choose Step free b one other) after
   decided {A} more grow env c marks one other after law covered keyed is_so is_not =
       leads_bind around _ _ _ (λ k v s. At around env more k s × Tells around ctx env c k v s) _ (decides_more more grow env None c marks law covered keyed)
       λ v. leads_bind around _ _ _ (λ k b s. At around (narrow ctx.bases around.declared ctx.resolve b c env) more k s) _
@@ -79,6 +92,7 @@ module _ (around : Around) (ctx : Context) (fits : Fits around ctx) (m : Module)
       go true = is_so
       go false = is_not
 
+module _ (around : Around) (ctx : Context) (fits : Fits around ctx) (m : Module) (returned : Tree) (parts : Parts Step) (good : GoodEval around ctx parts.eval) (evaluates_place : (e : Expr) → Evaluates (place_of e) (parts.eval e)) (decides : Decides around ctx parts.eval) (stores : GoodStores around m ctx parts) where
   -- an expression whose value goes nowhere
   pub dropped : {A : Type 0} (more : HeapTyping → Frame → Type 0) (grow : (k k' : HeapTyping) (frame : Frame) → Extends k k' → more k frame → more k' frame) (env : Env) (e : Expr) (marks : Marks e) (others : Step A) (after : Promised A) → Lawful ctx around.declared env None e marks → Covered around (Finds e marks) → Keyed e marks → Leads around (λ k s. At around env more k s) others after → Leads around (λ k s. At around env more k s) (parts.eval e >>= λ v. others) after
   dropped more grow env e marks others after law covered keyed rest =
@@ -140,24 +154,12 @@ module _ (around : Around) (ctx : Context) (fits : Fits around ctx) (m : Module)
 
   pub asserts_runs : (p : Place) (c : Expr) (e : Option Expr) → GoodStmt around ctx m returned (asserts p c e) (exec_node Step free parts (asserts p c e))
   asserts_runs p c e = record {
-    runs = λ seen env marks out law covered keyed more lasts. decided more lasts.grow env c marks.condition _ _ _ law.condition (λ g h. covered g (inl h)) keyed.0
+    runs = λ seen env marks out law covered keyed more lasts. decided around ctx fits parts.eval decides more lasts.grow env c marks.condition _ _ _ law.condition (λ g h. covered g (inl h)) keyed.0
       (leads_comes around _ (Gives next) _ λ k s at. (record { env = narrow ctx.bases around.declared ctx.resolve true c env; is = law.after; stands = at.stands }, at.known))
       (fails more lasts.grow (narrow ctx.bases around.declared ctx.resolve false c env) e marks.message _ law.message (λ g h. covered g (inr h)) keyed.1);
   }
 
   -- ---- assignments to locals
-
-  -- after it was bound a local holds a value of its declared type and of its current type
-  pub bound_at : (more : HeapTyping → Frame → Type 0) (names : List Name) → Lasts around ctx names more → (env : Env) (n : Name) → Contains names n → (x : ℕ) (t : Tree) (v : Value) → ctx.resolve n.text ≡ res.Local x → (k : HeapTyping) (s : State) → At around env more k s → HasType around.bases k t v → HasType around.bases k (declared_type around.declared x) v → At around (assign env x t) more k (record s { frame = with_local n.text v s.frame })
-  bound_at more names lasts env n among x t v is k s at now always = record {
-    stands = record {
-      well = at.stands.well;
-      frame = names_kept around.names n.text v s.frame at.stands.frame;
-      locals = assigned_holds around.bases around.names around.declared k env s.frame n.text x t v (fits.local n.text x is) at.stands.frame now always at.stands.locals;
-      outside = at.stands.outside;
-    };
-    known = lasts.bind n x v k s.frame among is at.stands.frame always at.known;
-  }
 
   binding_runs : (seen : Seen) (env : Env) (n : Name) (annotation : Option Tree) (e : Expr) (marks : Marks e) (flows : Flowing) (after : Env) (out : Option Env) → LawfulBinding m ctx around.declared env seen n (ctx.resolve n.text) annotation e marks flows after → out ≡ Some after → Covered around (IsFlowAt (place_of e) flows) → Covered around (Finds e marks) → Keyed e marks → Runs around ctx env (ways_out around ctx m returned out [] []) (n ∷ []) (parts.eval e >>= λ v. (Changes (binds_local n.text v) >>= λ u. comes (Gives next)))
   binding_runs seen env n annotation e marks flows after out law is covered_flow covered keyed more lasts = go (lasts.local n (first_of_list around ctx n [])).number (lasts.local n (first_of_list around ctx n [])).resolves
@@ -174,7 +176,7 @@ module _ (around : Around) (ctx : Context) (fits : Fits around ctx) (m : Module)
           (leads_safe around env (λ k. Unit {0}) (parts.eval e) (λ k v. HasType around.bases k t v × HasType around.bases k d v) more lasts.grow
           (assigned_safe around ctx parts.eval good evaluates_place env (λ k. Unit {0}) _ e marks d f.0 l.value covered f.2 (subst (λ c. Covered around (IsFlowAt (place_of e) c)) f.1 covered_flow) keyed)))
           λ v. leads_bind around _ _ _ (λ k u s. At around (assign env x t) more k s) _
-          (leads_binds around _ n.text v _ λ k s b. bound_at more (n ∷ []) lasts env n (first_of_list around ctx n []) x t v resolves k s b.0 b.1.0 b.1.1)
+          (leads_binds around _ n.text v _ λ k s b. bound_local around ctx fits more (n ∷ []) lasts env n (first_of_list around ctx n []) x t v resolves k s b.0 b.1.0 b.1.1)
           λ u. leads_comes around _ (Gives next) _ λ k s at. (record { env = assign env x t; is = ends; stands = at.stands }, at.known)
 
   pub annotated_none_runs : (p : Place) (n : Name) (a : Ann) → GoodStmt around ctx m returned (annotated p n a None) (exec_node Step free parts (annotated p n a None))
