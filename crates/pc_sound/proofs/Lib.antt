@@ -30,6 +30,11 @@ pub mod Indexing
 pub mod Fields
 pub mod Iterations
 pub mod ForLoops
+pub mod Nodes
+pub mod Places
+pub mod Nested
+pub mod Entry
 pub mod Arguments
 pub mod Acting
 pub mod Globals
+pub mod Showing
