@@ -37,4 +37,3 @@ pub mod Entry
 pub mod Arguments
 pub mod Acting
 pub mod Globals
-pub mod Showing
