@@ -37,3 +37,4 @@ pub mod Entry
 pub mod Arguments
 pub mod Acting
 pub mod Globals
+pub mod Displays
