@@ -38,3 +38,4 @@ pub mod Arguments
 pub mod Acting
 pub mod Globals
 pub mod Displays
+pub mod Stores
