@@ -24,6 +24,8 @@ pub mod Seen
 pub mod Members
 pub mod Operators
 pub mod SeveralFlows
+pub mod Showing
+pub mod InstanceTests
 pub mod Indexing
 pub mod Fields
 pub mod Iterations
@@ -44,3 +46,5 @@ pub mod Calling
 pub mod OrdinaryCalls
 pub mod BuiltIns
 pub mod InstanceCalls
+pub mod Displays
+pub mod Stores
