@@ -37,7 +37,6 @@ pub mod Entry
 pub mod Arguments
 pub mod Acting
 pub mod Globals
-pub mod Showing
 pub mod World
 pub mod Entering
 pub mod Filling
