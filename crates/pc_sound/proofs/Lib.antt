@@ -47,3 +47,5 @@ pub mod BuiltIns
 pub mod InstanceCalls
 pub mod Displays
 pub mod Stores
+pub mod CallOffers
+pub mod CallNodes
