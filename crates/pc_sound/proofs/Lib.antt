@@ -49,3 +49,5 @@ pub mod Displays
 pub mod Stores
 pub mod CallOffers
 pub mod CallNodes
+pub mod Proceeding
+pub mod Binds
