@@ -51,3 +51,4 @@ pub mod CallOffers
 pub mod CallNodes
 pub mod Proceeding
 pub mod Binds
+pub mod ModuleOrder
