@@ -52,3 +52,4 @@ pub mod CallNodes
 pub mod Proceeding
 pub mod Binds
 pub mod ModuleOrder
+pub mod Items
