@@ -39,3 +39,4 @@ pub mod Showing
 pub mod OrdinaryCalls
 pub mod BuiltIns
 pub mod InstanceCalls
+pub mod BuiltInMethods
