@@ -40,3 +40,4 @@ pub mod OrdinaryCalls
 pub mod BuiltIns
 pub mod InstanceCalls
 pub mod BuiltInMethods
+pub mod Inheritance
