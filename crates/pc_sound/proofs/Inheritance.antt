@@ -1,13 +1,13 @@
 -- Each class of a module has the fields and the methods of its base behind or before its own.
-use Rattle.std.proofs.Common.{◌≡◌, ℕ, zero, suc, ◌+◌, ◌<◌, ◌≤◌, List, [], ◌∷◌, ◌++◌, length, refl, sym, ap, ◌∙◌, subst, inl, inr, arith, length-append}
-use Rattle.std.specs.Prelude.{◌⊎◌, Option, Some, None, slice_get, slice_index_or, find, bytes_eq}
+use Rattle.std.proofs.Common.{◌≡◌, ℕ, zero, suc, ◌+◌, ◌<◌, ◌≤◌, List, [], ◌∷◌, ◌++◌, length, refl, sym, ap, ◌∙◌, subst, arith, length-append}
+use Rattle.std.specs.Prelude.{Option, Some, None, slice_get, slice_index_or, bytes_eq}
 use Rattle.std.specs.Option.{option_or}
 use Rattle.std.proofs.lemmas.List.Folds.{find-append}
 use Rattle.pc_tree.specs.Tree.{ClassDef, Module}
 use Rattle.pc_scope.specs.Bindings.{classes_in}
 use Rattle.pc_types.specs.Below.{base_of}
 use Rattle.pc_class.specs.Bases.{base_named, bases_from, bases_of}
-use Rattle.pc_class.specs.Facts.{Parameter, Method, Class, empty_class, field_of, class_in, class_at, inherited, own_fields, own_methods, class_behind, classes_behind, classes_of}
+use Rattle.pc_class.specs.Facts.{Parameter, Class, field_of, class_in, class_at, inherited, own_fields, own_methods, class_behind, classes_behind, classes_of}
 use Rattle.pc_class.proofs.Earlier.{smaller}
 use Rattle.pc_sound.proofs.Fields.{Inherits}
 
@@ -53,14 +53,27 @@ module _ (m : Module) where
       record {
         earlier = earlier;
         is = ap (slice_get (classes_behind m more (suc c) rest)) (omega arith) ∙ kept more (suc c) rest c (omega arith)
-          ∙ ap (slice_get more) (sym long) ∙ get_last earlier (class_behind m earlier c d)
-          ∙ ap (λ x. Some (class_behind m earlier c x)) (some_inj e) ∙ ap (λ n. Some (class_behind m earlier n class)) (omega arith);
+            ∙ ap (slice_get more) (sym long) ∙ get_last earlier (class_behind m earlier c d)
+            ∙ ap (λ x. Some (class_behind m earlier c x)) (some_inj e) ∙ ap (λ n. Some (class_behind m earlier n class)) (omega arith);
         same = λ b h. sym (kept more (suc c) rest b (omega arith) ∙ get_front earlier (class_behind m earlier c d ∷ []) b (omega arith));
       }
   made earlier c (d ∷ rest) (suc i) class long e =
       let more = earlier ++ class_behind m earlier c d ∷ [] in
       let longer : length more ≡ suc c = length-append earlier (class_behind m earlier c d ∷ []) ∙ omega arith in
       subst (λ n. Made (classes_behind m more (suc c) rest) n class) (omega arith) (made more (suc c) rest i class longer e)
+
+  -- past the classes of the text there is none
+  past : (earlier : List Class) (c : ℕ) (cs : List ClassDef) (i : ℕ) → length earlier ≡ c → slice_get cs i ≡ None → slice_get (classes_behind m earlier c cs) (c + i) ≡ None
+  past earlier c [] i long e = get_past earlier (c + i) (omega arith)
+  past earlier c (d ∷ rest) zero long e = absurd (grind (arith, e))
+  past earlier c (d ∷ rest) (suc i) long e =
+      let more = earlier ++ class_behind m earlier c d ∷ [] in
+      let longer : length more ≡ suc c = length-append earlier (class_behind m earlier c d ∷ []) ∙ omega arith in
+      subst (λ n. slice_get (classes_behind m more (suc c) rest) n ≡ None) (omega arith) (past more (suc c) rest i longer e)
+
+  pub no_class_past : (c : ℕ) → slice_get (classes_in m.items) c ≡ None → slice_get (classes_of m) c ≡ None
+  unfolding classes_of
+  no_class_past c e = subst (λ n. slice_get (classes_of m) n ≡ None) (omega arith) (past [] 0 (classes_in m.items) c refl e)
 
   -- a class that has a base
   record BaseAt (n : ℕ) (cs : List ClassDef) (i b : ℕ) : Type 0 where
@@ -90,9 +103,12 @@ module _ (m : Module) where
   unfolding bases_of
   has_base c b e = let r = base_at 0 (classes_in m.items) c b e in record { class = r.class; is = r.is; base = ap (λ k. base_named m k r.class.base) (omega arith) ∙ r.base }
 
-  below_class : (c b : ℕ) (class : ClassDef) → slice_get (classes_in m.items) c ≡ Some class → base_named m c class.base ≡ Some b → b < c
+  pub base_known : (c b : ℕ) (class : ClassDef) → slice_get (classes_in m.items) c ≡ Some class → base_named m c class.base ≡ Some b → base_of (bases_of m) c ≡ Some b
   unfolding bases_of
-  below_class c b class is e = smaller m c b (base_is 0 (classes_in m.items) c class is ∙ ap (λ k. base_named m k class.base) (omega arith) ∙ e)
+  base_known c b class is e = base_is 0 (classes_in m.items) c class is ∙ ap (λ k. base_named m k class.base) (omega arith) ∙ e
+
+  pub below_class : (c b : ℕ) (class : ClassDef) → slice_get (classes_in m.items) c ≡ Some class → base_named m c class.base ≡ Some b → b < c
+  below_class c b class is e = smaller m c b (base_known c b class is e)
 
   -- a class by its members, over its base
   abbrev pub class_over : ℕ → ClassDef → Class → Class
@@ -124,5 +140,5 @@ module _ (m : Module) where
   pub inherits : Inherits (bases_of m) (classes_of m)
   inherits = record {
     fields = λ c b is name f e. let h = has_base c b is in
-      ap (λ x. field_of x.fields name) (class_over_base c b h) ∙ find_front (class_at (classes_of m) b).fields (own_fields m (class_at (classes_of m) b) [] h.class.members) name f e;
+        ap (λ x. field_of x.fields name) (class_over_base c b h) ∙ find_front (class_at (classes_of m) b).fields (own_fields m (class_at (classes_of m) b) [] h.class.members) name f e;
   }

@@ -41,3 +41,4 @@ pub mod BuiltIns
 pub mod InstanceCalls
 pub mod BuiltInMethods
 pub mod Inheritance
+pub mod Dispatch
