@@ -39,3 +39,4 @@ pub mod Acting
 pub mod Globals
 pub mod Displays
 pub mod Stores
+pub mod KnownTests
