@@ -40,3 +40,6 @@ pub mod Globals
 pub mod Displays
 pub mod Stores
 pub mod KnownTests
+pub mod OrdinaryCalls
+pub mod BuiltIns
+pub mod InstanceCalls
