@@ -43,3 +43,5 @@ pub mod KnownTests
 pub mod OrdinaryCalls
 pub mod BuiltIns
 pub mod InstanceCalls
+pub mod KeyedTypes
+pub mod KeyedLabels
