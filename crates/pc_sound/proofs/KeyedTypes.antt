@@ -1,20 +1,20 @@
 -- Joins, tests and environments keep that each dict in a type has int or str as its key.
-use Rattle.std.proofs.Common.{◌≡◌, ℕ, List, [], ◌∷◌, filter, map, refl, sym, ap, ◌∙◌, subst, inl, inr, arith}
-use Rattle.std.specs.Prelude.{◌⊎◌, Bool as Test, true, false, not, if◌then◌else◌, Option, Some, None, unwrap_or, filter_map}
+use Rattle.std.proofs.Common.{◌≡◌, ℕ, List, [], ◌∷◌, filter, refl, sym, subst, inl, inr, arith}
+use Rattle.std.specs.Prelude.{Bool as Test, true, false, not, if◌then◌else◌, Option, Some, None, unwrap_or, filter_map}
 use Rattle.std.specs.List.{cons_option}
 use Rattle.std.specs.Option.{option_map, option_and_then}
-use Rattle.pc_tree.specs.Tree.{Expr, Exprs, Keywords, name, number, text, truth, nothing, tuple, list, dict, negative, negation, binary, compare, is_none, is_not_none, conjunction, disjunction, attribute, index, call}
+use Rattle.pc_tree.specs.Tree.{Expr, name, negation, is_none, is_not_none, conjunction, disjunction, call}
 use Rattle.pc_scope.specs.declared.resolution.Builtin.TheVariants as builtin
 use Rattle.pc_scope.specs.declared.resolution.Res.{Res}
 use Rattle.pc_scope.specs.declared.resolution.Res.TheVariants as res
 use Rattle.pc_scope.specs.Expressions.{is_instance_test}
-use Rattle.pc_types.specs.Tree.{Tree, Trees, Any, Object, Never, Int, Bool, Str, NoneType, Class, ListOf, DictOf, TupleOf, Union, end, more}
+use Rattle.pc_types.specs.Tree.{Tree, Trees, Any, Object, Never, NoneType, ListOf, TupleOf, Union, end, more}
 use Rattle.pc_types.specs.Below.{Bases}
 use Rattle.pc_types.specs.Shape.{members, ahead, union}
 use Rattle.pc_types.specs.Join.{same_tree, absorbs, is_absorbed, unabsorbed, is_before, put, parts_of, equal_one, both_parts, by_rule, put_all, join_each, one_of, joined, join}
 use Rattle.pc_types.proofs.Together.{equal_is}
 use Rattle.pc_flow.specs.Environment.{Env, current, declared_type, assign, join_or_object, join_onto, join_all, join_env}
-use Rattle.pc_flow.specs.Narrowing.{Tested, for_none, for_type, for_list, is_within, member_within, member_passing, member_failing, passing, failing, tested_as, narrow_current, narrow_local, test_named, test_of, test_of_argument, local_of_argument, first_argument, second_argument, local_named, narrow_instance, narrow}
+use Rattle.pc_flow.specs.Narrowing.{Tested, for_none, for_type, for_list, is_within, member_passing, member_failing, tested_as, narrow_current, narrow_local, test_named, test_of, test_of_argument, local_of_argument, first_argument, second_argument, local_named, narrow_instance, narrow}
 use Rattle.pc_sound.proofs.Keys.{IsKeyed, AreKeyed}
 use Rattle.pc_sound.proofs.Members.{AllOf}
 use Rattle.pc_sound.proofs.Indexing.{keyed_members}
