@@ -55,3 +55,6 @@ pub mod CallNodes
 pub mod Proceeding
 pub mod Binds
 pub mod ModuleOrder
+pub mod KnownTests
+pub mod KeyedTypes
+pub mod KeyedLabels
