@@ -146,11 +146,11 @@ module _ (around : Around) (ctx : Context) (fits : Fits around ctx) where
       go (Some t) e false a = narrowed_holds around.bases around.names around.declared k env s.frame n.text x t _ (fits.local n.text x local) e (λ w is h. failing_keeps around.bases fits.smaller k test t (can t e) w h (λ p. a (subst (λ y. Passes around.bases k test y) (sym (is_it w is)) p))) st.locals
 
   -- what a test tells of the local that an expression is, if it is one
-  pub test_tells : (env : Env) (k : HeapTyping) (s : State) (e : Expr) (v : Value) (test : Tested) (holds : Truth) → Stands around env k s → IsReadAs e v s → ((x : ℕ) (t : Tree) → local_named ctx.resolve e ≡ Some x → current env x ≡ Some t → CanFollowAll test (members t)) → Answers around holds k test v → Hold (narrow_local around.bases holds test (local_named ctx.resolve e) env) k s
+  pub test_tells : (env : Env) (k : HeapTyping) (s : State) (e : Expr) (v : Value) (test : Tested) (holds : Truth) → Stands around env k s → IsReadAs e v s → ((n : Name) (x : ℕ) (t : Tree) → ctx.resolve n.text ≡ res.Local x → local_named ctx.resolve e ≡ Some x → current env x ≡ Some t → CanFollowAll test (members t)) → ((n : Name) (x : ℕ) → ctx.resolve n.text ≡ res.Local x → Answers around holds k test v) → Hold (narrow_local around.bases holds test (local_named ctx.resolve e) env) k s
   test_tells env k s (name n) v test holds st reads can answers = go (ctx.resolve n.text) refl
     where
       go : (r : Res) → ctx.resolve n.text ≡ r → Hold (narrow_local around.bases holds test (as_local r) env) k s
-      go (res.Local x) e = tested_holds env k s n x v test holds st e reads (λ t is. can x t (ap as_local e) is) answers
+      go (res.Local x) e = tested_holds env k s n x v test holds st e reads (λ t is. can n x t e (ap as_local e) is) (answers n x e)
       go _ e = st.locals
   test_tells env k s _ v test holds st reads can answers = st.locals
 
@@ -210,12 +210,12 @@ module _ (around : Around) (ctx : Context) (fits : Fits around ctx) (parts : Par
 
   none_tells : (p : Place) (e : Expr) (k : HeapTyping) (v : Value) (s : State) → Stands around env k s → CameTo e (λ w. boolean (is_nothing w)) v s → Tells around ctx env (is_none p e) k v s
   none_tells p e k v s st c = record {
-    by = λ holds is. test_tells around ctx fits env k s e c.operand for_none holds st c.came (λ x t l h. none_follows (members t)) (nothing_answers around k c.operand holds (sym (truth_is s.heap (is_nothing c.operand)) ∙ (ap (is_true s.heap) (sym c.is) ∙ is)));
+    by = λ holds is. test_tells around ctx fits env k s e c.operand for_none holds st c.came (λ n x t r l h. none_follows (members t)) (λ n x l. nothing_answers around k c.operand holds (sym (truth_is s.heap (is_nothing c.operand)) ∙ (ap (is_true s.heap) (sym c.is) ∙ is)));
   }
 
   not_none_tells : (p : Place) (e : Expr) (k : HeapTyping) (v : Value) (s : State) → Stands around env k s → CameTo e (λ w. boolean (not (is_nothing w))) v s → Tells around ctx env (is_not_none p e) k v s
   not_none_tells p e k v s st c = record {
-    by = λ holds is. test_tells around ctx fits env k s e c.operand for_none (not holds) st c.came (λ x t l h. none_follows (members t)) (nothing_answers around k c.operand (not holds) (not_back (is_nothing c.operand) holds (sym (truth_is s.heap (not (is_nothing c.operand))) ∙ (ap (is_true s.heap) (sym c.is) ∙ is))));
+    by = λ holds is. test_tells around ctx fits env k s e c.operand for_none (not holds) st c.came (λ n x t r l h. none_follows (members t)) (λ n x l. nothing_answers around k c.operand (not holds) (not_back (is_nothing c.operand) holds (sym (truth_is s.heap (not (is_nothing c.operand))) ∙ (ap (is_true s.heap) (sym c.is) ∙ is))));
   }
 
   pub is_none_told : (p : Place) (e : Expr) (t : Tree) → IsSafe around env (λ k. Unit {0}) (Node (is_none p e)) (λ k v. HasType around.bases k t v) → TellsSafely env (is_none p e) t (Node (is_none p e))
@@ -420,10 +420,10 @@ module _ (around : Around) (ctx : Context) (fits : Fits around ctx) (parts : Par
         go : (o : Option Tested) → test_named (ctx.resolve n.text) ≡ o → test_codes env (local_named ctx.resolve e) o ≡ [] → Narrowed holds true (local_named ctx.resolve e) o k s
         go None named found = st.locals
         go (Some test) named found =
-            let r = tests.right k s st.outside st.frame n.text test named in
-            let same : tr.test ≡ r.made = gives_inj (sym tr.tested ∙ r.is) in
-            let passed : passes s tr.operand r.made ≡ holds = ap (passes s tr.operand) (sym same) ∙ (sym (truth_is s.heap (passes s tr.operand tr.test)) ∙ (ap (is_true s.heap) (sym tr.is) ∙ is)) in
-            test_tells around ctx fits env k s e tr.operand test holds st tr.came (λ x t l c. follows s.classes test r.made r.right (local_named ctx.resolve e) x t l c found) (as_answers holds k test tr.operand (passes_agree around.bases around.classes k s st.well test r.made tr.operand r.right holds passed))
+            let right = λ (local : Name) (x : ℕ) (l : ctx.resolve local.text ≡ res.Local x). tests.right env k s st local.text x l n.text test named tr.test tr.tested in
+            let passed : passes s tr.operand tr.test ≡ holds = sym (truth_is s.heap (passes s tr.operand tr.test)) ∙ (ap (is_true s.heap) (sym tr.is) ∙ is) in
+            test_tells around ctx fits env k s e tr.operand test holds st tr.came (λ m x t r l c. follows s.classes test tr.test (right m x r) (local_named ctx.resolve e) x t l c found)
+            (λ m x l. as_answers holds k test tr.operand (passes_agree around.bases around.classes k s st.well test tr.test tr.operand (right m x l) holds passed))
     instance_tells e _ k v s st tr found holds is = st.locals
 
     name_run : (p : Place) (n : Name) (args : Exprs) (kws : Keywords) (found : List Code) → IsAllowed around.listed p found → found ≡ (test_mark ctx env args).codes → is_instance_test (name n) args kws ≡ true → (k : HeapTyping) (s s' : State) (events : List Place) (v : Value) → Stands around env k s' → Node (call p (name n) args kws) s events (Gives v) s' → HasListed around.listed events ⊎ Tells around ctx env (call p (name n) args kws) k v s'

@@ -1,10 +1,12 @@
 -- Tests of instances: what a run tests for where types see a test; a value passes the one where it passes the other.
 use Rattle.std.proofs.Common.{◌≡◌, ℕ, zero, suc, List, [], ◌∷◌, length, refl, sym, ap, ◌∙◌, subst, arith}
 use Rattle.std.specs.Prelude.{Bool as Truth, true, false, Option, Some, None, slice_get}
+use Rattle.pc_scope.specs.declared.resolution.Res.TheVariants as res
 use Rattle.pc_types.specs.Tree.{Tree, Int, Bool, Str}
 use Rattle.pc_types.specs.Tree as tree
 use Rattle.pc_types.specs.Below.{Bases, Below}
 use Rattle.pc_class.specs.Facts as facts
+use Rattle.pc_flow.specs.Environment.{Env}
 use Rattle.pc_flow.specs.Narrowing.{Tested, for_type, for_list, test_named}
 use Rattle.pc_expr.specs.Context.{Context}
 use Rattle.pc_value.specs.Value.{Value, whole, boolean, string, tuple_of, location, Gives, Cell, list_cell, dict_cell, instance_cell, Heap, is_list, seen_cell, class_seen}
@@ -14,7 +16,7 @@ use Rattle.pc_run.specs.Names.{meaning}
 use Rattle.pc_run.specs.Calls.{Test, tests_int, tests_str, tests_bool, tests_list, tests_class, test_of_meaning, descends_from, class_at, passes}
 use Rattle.pc_sound.specs.Values.{HeapTyping, Recorded, a_list, a_dict, a_class, IsInstance, CellHas, IsWell}
 use Rattle.pc_sound.specs.Kept.{IsRecordedList, Passes}
-use Rattle.pc_sound.specs.Judgment.{Around, HasNames}
+use Rattle.pc_sound.specs.Judgment.{Around, Stands}
 
 -- the ancestors of the classes made are those that are above them
 pub record Descends (bases : Bases) (made : List Class) (c : ℕ) : Type 0 where
@@ -30,14 +32,10 @@ IsRight bases made (for_type (tree.Class c)) (tests_class d) = (c ≡ d) × Desc
 IsRight bases made for_list tests_list = Unit {0}
 IsRight bases made _ _ = ⊥
 
-pub record RightTest (bases : Bases) (s : State) (word : List ℕ) (test : Tested) : Type 0 where
-  pub made : Test
-  pub is : test_of_meaning word (meaning word s) ≡ Gives made
-  pub right : IsRight bases s.classes test made
-
--- each name that types see as a test is that test in a run
+-- where there are locals, each name that types see as a test is that test in a run; in an initializer there are none, and
+-- not all classes are made
 pub record RightTests (around : Around) (ctx : Context) : Type 0 where
-  pub right : (k : HeapTyping) (s : State) → around.outside k s.classes s.globals → HasNames around.names s.frame → (word : List ℕ) (test : Tested) → test_named (ctx.resolve word) ≡ Some test → RightTest around.bases s word test
+  pub right : (env : Env) (k : HeapTyping) (s : State) → Stands around env k s → (local : List ℕ) (x : ℕ) → ctx.resolve local ≡ res.Local x → (word : List ℕ) (test : Tested) → test_named (ctx.resolve word) ≡ Some test → (made : Test) → test_of_meaning word (meaning word s) ≡ Gives made → IsRight around.bases s.classes test made
 
 -- a fact holds, or fails
 abbrev pub AsTold : Truth → Type 0 → Type 0

@@ -15,19 +15,19 @@ some_inj : {A : Type 0} {x y : A} → Some x ≡ Some y → x ≡ y
 some_inj e = grind arith
 
 -- what a local is where two ways meet
-record Met (bases : Bases) (d : Tree) (left right : Option Tree) (t : Tree) : Type 0 where
-  first : Tree
-  second : Tree
-  is_left : left ≡ Some first
-  is_right : right ≡ Some second
-  is : unwrap_or (join bases first second) d ≡ t
+pub record Met (bases : Bases) (d : Tree) (left right : Option Tree) (t : Tree) : Type 0 where
+  pub first : Tree
+  pub second : Tree
+  pub is_left : left ≡ Some first
+  pub is_right : right ≡ Some second
+  pub is : unwrap_or (join bases first second) d ≡ t
 
 met_local : (bases : Bases) (d : Tree) (s r : Option Tree) (t : Tree) → join_local bases d s r ≡ Some t → Met bases d s r t
 met_local bases d None r t e = absurd (grind (arith, e))
 met_local bases d (Some s) None t e = absurd (grind (arith, e))
 met_local bases d (Some s) (Some r) t e = record { first = s; second = r; is_left = refl; is_right = refl; is = some_inj e }
 
-met : (bases : Bases) (ds : List Tree) (left right : Env) (x : ℕ) (t : Tree) → current (join_env bases ds left right) x ≡ Some t → Met bases (declared_type ds x) (current left x) (current right x) t
+pub met : (bases : Bases) (ds : List Tree) (left right : Env) (x : ℕ) (t : Tree) → current (join_env bases ds left right) x ≡ Some t → Met bases (declared_type ds x) (current left x) (current right x) t
 met bases [] left right x t e = absurd (grind (arith, e))
 met bases (d ∷ ds) [] right x t e = absurd (grind (arith, e))
 met bases (d ∷ ds) (s ∷ left) [] x t e = absurd (grind (arith, e))

@@ -260,6 +260,15 @@ module _ (bases : Bases) (k : HeapTyping) where
       go (Some us) is e _ h = elim h [ inl a ↦ absurd a | inr b ↦ absurd b ]
   tuple_makes bases' ss each v _ f r e h = absurd (grind (arith, ap (λ p. p.0) r))
 
+-- a join within the limit of nodes is the join
+pub within_is : (o : Option Tree) (u : Tree) → within_limit o ≡ Some u → o ≡ Some u
+within_is None u e = absurd (some_none e)
+within_is (Some t) u e = go (nat_le (nodes t) limit) e
+  where
+    go : (x : Test) → (if x then Some t else None) ≡ Some u → Some t ≡ Some u
+    go true e = e
+    go false e = absurd (some_none e)
+
 -- ---- the members of one type put among those of another
 
 module _ (bases : Bases) (ordered : AreSmaller bases) (k : HeapTyping) where
@@ -377,16 +386,8 @@ module _ (bases : Bases) (ordered : AreSmaller bases) (k : HeapTyping) where
   pub joined_holds : (s t u : Tree) → joined bases s t ≡ Some u → (v : Value) → HasType bases k s v ⊎ HasType bases k t v → HasType bases k u v
   joined_holds s t u e v h = settled_holds s t u (λ l f. put_all_keeps t s (unabsorbed bases t s) l f) (λ l f. put_all_adds t s (unabsorbed bases t s) l f) e v h
 
-  within_holds : (o : Option Tree) (u : Tree) → within_limit o ≡ Some u → o ≡ Some u
-  within_holds None u e = absurd (some_none e)
-  within_holds (Some t) u e = go (nat_le (nodes t) limit) e
-    where
-      go : (x : Test) → (if x then Some t else None) ≡ Some u → Some t ≡ Some u
-      go true e = e
-      go false e = absurd (some_none e)
-
   pub join_holds : (s t u : Tree) → join bases s t ≡ Some u → (v : Value) → HasType bases k s v ⊎ HasType bases k t v → HasType bases k u v
-  join_holds s t u e v h = joined_holds s t u (within_holds (joined bases s t) u e) v h
+  join_holds s t u e v h = joined_holds s t u (within_is (joined bases s t) u e) v h
 
   -- where there is no join, another type takes its place
   pub join_or_holds : (s t d : Tree) (v : Value) → HasType bases k s v ⊎ HasType bases k t v → HasType bases k d v → HasType bases k (unwrap_or (join bases s t) d) v

@@ -45,6 +45,9 @@ pub mod Calling
 pub mod OrdinaryCalls
 pub mod BuiltIns
 pub mod InstanceCalls
+pub mod BuiltInMethods
+pub mod Inheritance
+pub mod Dispatch
 pub mod Displays
 pub mod Stores
 pub mod CallOffers
@@ -53,3 +56,6 @@ pub mod Proceeding
 pub mod Binds
 pub mod ModuleOrder
 pub mod Items
+pub mod KnownTests
+pub mod KeyedTypes
+pub mod KeyedLabels
