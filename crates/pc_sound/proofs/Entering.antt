@@ -66,7 +66,7 @@ bound_local k f c (class_item p i ∷ rest) word x e = go (λ r. bound_local k f
     go others true e = grind (arith, e)
     go others false e = others e
 
-module_local : (m : Module) (word : List ℕ) (x : ℕ) → resolve_in_module m word ≡ res.Local x → ⊥
+pub module_local : (m : Module) (word : List ℕ) (x : ℕ) → resolve_in_module m word ≡ res.Local x → ⊥
 module_local m word x e = go (builtin_of word) (bound_first 0 0 0 m.items word) refl e
   where
     go : (b : Option Builtin) (o : Option Res) → bound_first 0 0 0 m.items word ≡ o → or_else (builtin_res b) (or_else o res.None) ≡ res.Local x → ⊥

@@ -59,3 +59,4 @@ pub mod Items
 pub mod KnownTests
 pub mod KeyedTypes
 pub mod KeyedLabels
+pub mod Whole
