@@ -167,7 +167,7 @@ module _ (m : Module) (constants : List Tree) (listed : Place → Type 0) where
       well = well;
       frame = entry_has_names (entry_texts owner d ++ texts (bound_by d.body)) (frame_of f arguments) names_are lab.free;
       locals = entry_holds (bases_of m) k (locals owner d) lab.marks.declared (resolve_among m (locals owner d)) fits_of.local (frame_of f arguments) (entries_of m owner d) arguments (map unbound (names_bound f.body)) (none_assigned (length (locals owner d))) refl args lab.lawful.entry
-        (record { each = λ word x t named e. absurd (none_is (length (locals owner d)) x t e) });
+          (record { each = λ word x t named e. absurd (none_is (length (locals owner d)) x t e) });
       outside = world;
     }
       where

@@ -252,9 +252,9 @@ module _ (m : Module) (constants : List Tree) (listed : Place → Type 0) where
         entered : (c : Callee) → IsSafe (around_items m listed types (functions_in m.items) n names) [] (λ k. Unit {0} × IsMain main.function k c) (call_callee Step free parts c [] []) (λ k v. Unit {0})
         entered (calls_function f) = record {
           run = λ k s s' events out knows st r.
-            (weaken AtEnd [] (λ j. MadeOf m j f main.function) (λ j. MadeOf m j f main.function) _ (λ j v. HasType (bases_of m) j (returned m main.function) v) (λ j v. Unit {0}) (λ j h. h) (λ j v h. tt)
-            (function_call_safe m inherits listed [] [] (BoundSoFar m types (functions_in m.items) n names) (λ j j' made globals grows w. bound_later m types (functions_in m.items) n names j j' made globals grows w) parts [] (λ j. MadeOf m j f main.function) (λ j j' x h. made_later m x f main.function h) constants (λ j made globals w. world_at_end types n names j made globals same count w) main.number main.function lab good f [] [] knows.1.body
-            (λ j h. none_left (parameters_of m main.function.params) (ap (parameters_of m) main.plain) j f h.parameters))).run k s s' events out knows.1 st r;
+              (weaken AtEnd [] (λ j. MadeOf m j f main.function) (λ j. MadeOf m j f main.function) _ (λ j v. HasType (bases_of m) j (returned m main.function) v) (λ j v. Unit {0}) (λ j h. h) (λ j v h. tt)
+              (function_call_safe m inherits listed [] [] (BoundSoFar m types (functions_in m.items) n names) (λ j j' made globals grows w. bound_later m types (functions_in m.items) n names j j' made globals grows w) parts [] (λ j. MadeOf m j f main.function) (λ j j' x h. made_later m x f main.function h) constants (λ j made globals w. world_at_end types n names j made globals same count w) main.number main.function lab good f [] [] knows.1.body
+              (λ j h. none_left (parameters_of m main.function.params) (ap (parameters_of m) main.plain) j f h.parameters))).run k s s' events out knows.1 st r;
         }
         entered (calls_value v) = impossible_safe AtEnd [] _ _ _ λ k h. h.1
         entered (calls_class b) = impossible_safe AtEnd [] _ _ _ λ k h. h.1

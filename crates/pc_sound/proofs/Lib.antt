@@ -60,3 +60,4 @@ pub mod KnownTests
 pub mod KeyedTypes
 pub mod KeyedLabels
 pub mod Whole
+pub mod Dispatching

@@ -110,8 +110,8 @@ module _ (m : Module) where
       constant word i u r e = elim (get_one_more types t i u e) [
         | inl old ↦ let c = w.constant word i u r old in record { value = c.value; is = bound_more word globals (record { name = name; is = a_value v }) (a_value c.value) c.is; has = c.has }
         | inr here ↦
-          let same = means word (r ∙ ap res.Const here.0) in
-          record { value = v; is = bound_new word globals (record { name = name; is = a_value v }) (subst (λ x. global_of x globals ≡ None) same (w.fresh name new)) same; has = subst (λ x. HasType (bases_of m) k x v) here.1 has }
+            let same = means word (r ∙ ap res.Const here.0) in
+            record { value = v; is = bound_new word globals (record { name = name; is = a_value v }) (subst (λ x. global_of x globals ≡ None) same (w.fresh name new)) same; has = subst (λ x. HasType (bases_of m) k x v) here.1 has }
       ]
 
   -- one more function
@@ -130,8 +130,8 @@ module _ (m : Module) where
       function word i e r at = elim (get_one_more defs d i e at) [
         | inl old ↦ let g = w.function word i e r old in record { function = g.function; is = bound_more word globals (record { name = name; is = a_function f }) (a_function g.function) g.is; made = g.made }
         | inr here ↦
-          let same = means word (r ∙ ap res.Func here.0) in
-          record { function = f; is = bound_new word globals (record { name = name; is = a_function f }) (subst (λ x. global_of x globals ≡ None) same (w.fresh name new)) same; made = subst (λ x. MadeOf m k f x) here.1 is_made }
+            let same = means word (r ∙ ap res.Func here.0) in
+            record { function = f; is = bound_new word globals (record { name = name; is = a_function f }) (subst (λ x. global_of x globals ≡ None) same (w.fresh name new)) same; made = subst (λ x. MadeOf m k f x) here.1 is_made }
       ]
 
   -- one more class
@@ -193,11 +193,17 @@ module _ (m : Module) where
         go : (k : HeapTyping) (s s' : State) (events : List Place) (out : Out A) → Between types defs n names k s → step s events out s' → HasListed listed events ⊎ Arrives (λ k a s. Between types defs n names k s × P k a) out s'
         go k s s' events out b r = elim (safe.run k s s' events out tt (stands_between types defs n names k s b) r) [
           | inl e ↦ inl e
-          | inr g ↦ inr (record { typing = g.typing; ends = ends_as (P g.typing) (λ a. Between types defs n names g.typing s' × P g.typing a) out (λ a p. (record {
-            well = g.well;
-            frame = g.same_frame ∙ b.frame;
-            bound = subst (λ x. BoundSoFar types defs n names g.typing x s'.globals) (sym g.same_classes) (subst (λ x. BoundSoFar types defs n names g.typing s.classes x) (sym g.same_globals) (bound_later types defs n names k g.typing s.classes s.globals g.grows b.bound));
-          }, p)) g.ends })
+          | inr g ↦ inr (record {
+            typing = g.typing;
+            ends = ends_as (P g.typing) (λ a. Between types defs n names g.typing s' × P g.typing a) out (λ a p. (
+              record {
+                well = g.well;
+                frame = g.same_frame ∙ b.frame;
+                bound = subst (λ x. BoundSoFar types defs n names g.typing x s'.globals) (sym g.same_classes) (subst (λ x. BoundSoFar types defs n names g.typing s.classes x) (sym g.same_globals) (bound_later types defs n names k g.typing s.classes s.globals g.grows b.bound));
+              },
+              p,
+            )) g.ends;
+          })
         ]
 
     -- an action that leaves the heap as it is
