@@ -21,6 +21,7 @@ use Rattle.pc_run.specs.Evaluation.{eval_node, is_nothing}
 use Rattle.pc_run.specs.Free.{Step, free}
 use Rattle.pc_sound.specs.Values.{HeapTyping, HasType}
 use Rattle.pc_sound.specs.Judgment.{IsAllowed, Around, IsSafe}
+use Rattle.pc_sound.proofs.Keys.{Keyed}
 use Rattle.pc_sound.proofs.Steps.{bind_safe, comes_safe, emits_safe, act_safe, weaken}
 
 -- each finding is a listed dynamic place
@@ -29,9 +30,9 @@ Covered around finds = (f : Finding) → finds f → around.listed f.place × (�
 
 -- the evaluation of lawfully labelled expressions is safe
 pub record GoodEval (around : Around) (ctx : Context) (eval : Expr → Step Value) : Type 0 where
-  pub safe : (env : Env) (want : Option Tree) (e : Expr) (m : Marks e) → Lawful ctx around.declared env want e m → Covered around (Finds e m) → IsSafe around env (λ k. Unit {0}) (eval e) (λ k v. HasType around.bases k (type_of e m) v)
+  pub safe : (env : Env) (want : Option Tree) (e : Expr) (m : Marks e) → Lawful ctx around.declared env want e m → Covered around (Finds e m) → Keyed e m → IsSafe around env (λ k. Unit {0}) (eval e) (λ k v. HasType around.bases k (type_of e m) v)
 
-allowed : (around : Around) (p : Place) (codes : List Code) → Covered around (IsFoundAt p codes) → IsAllowed around.listed p codes
+pub allowed : (around : Around) (p : Place) (codes : List Code) → Covered around (IsFoundAt p codes) → IsAllowed around.listed p codes
 allowed around p [] h = tt
 allowed around p (c ∷ cs) h = (h (finding p c) (record { code = c; among = (0, omega arith, refl); is = refl })).0
 
@@ -40,8 +41,8 @@ module _ (around : Around) (ctx : Context) (parts : Parts Step) (good : GoodEval
   Safe known m P = IsSafe around env known m P
 
   -- a part, whatever else is known
-  pub part : (known : HeapTyping → Type 0) (want : Option Tree) (e : Expr) (m : Marks e) → Lawful ctx around.declared env want e m → Covered around (Finds e m) → Safe known (parts.eval e) (λ k v. HasType around.bases k (type_of e m) v)
-  part known want e m law covered = weaken around env known (λ k. Unit {0}) (parts.eval e) (λ k v. HasType around.bases k (type_of e m) v) (λ k v. HasType around.bases k (type_of e m) v) (λ k h. tt) (λ k v h. h) (good.safe env want e m law covered)
+  pub part : (known : HeapTyping → Type 0) (want : Option Tree) (e : Expr) (m : Marks e) → Lawful ctx around.declared env want e m → Covered around (Finds e m) → Keyed e m → Safe known (parts.eval e) (λ k v. HasType around.bases k (type_of e m) v)
+  part known want e m law covered keyed = weaken around env known (λ k. Unit {0}) (parts.eval e) (λ k v. HasType around.bases k (type_of e m) v) (λ k v. HasType around.bases k (type_of e m) v) (λ k h. tt) (λ k v h. h) (good.safe env want e m law covered keyed)
 
   pub number_safe : (p : Place) (digits : List ℕ) (m : Mark) → m ≡ clean Int → Covered around (IsFoundAt p m.codes) → Safe (λ k. Unit {0}) (eval_node Step free parts (number p digits)) (λ k v. HasType around.bases k m.type v)
   number_safe p digits m law covered = bind_safe around env _ _ _ (λ k u. m.codes ≡ []) _ (λ k k' x h. tt)
@@ -63,23 +64,23 @@ module _ (around : Around) (ctx : Context) (parts : Parts Step) (good : GoodEval
       (emits_safe around env _ p m.codes (allowed around p m.codes covered))
       λ u. comes_safe around env _ (Gives value.none) _ λ k h. subst (λ t. HasType around.bases k t value.none) (ap (λ x. x.type) (sym law)) tt
 
-  pub negation_safe : (want : Option Tree) (p : Place) (e : Expr) (m : Marks (negation p e)) → Lawful ctx around.declared env want (negation p e) m → Covered around (Finds (negation p e) m) → Safe (λ k. Unit {0}) (eval_node Step free parts (negation p e)) (λ k v. HasType around.bases k m.here.type v)
-  negation_safe want p e m law covered = bind_safe around env _ _ _ (λ k v. Unit {0}) _ (λ k k' x h. tt)
-      (weaken around env _ _ _ (λ k v. HasType around.bases k (type_of e m.operand) v) _ (λ k h. h) (λ k v h. tt) (part _ None e m.operand law.operand (λ f h. covered f (inr h))))
+  pub negation_safe : (want : Option Tree) (p : Place) (e : Expr) (m : Marks (negation p e)) → Lawful ctx around.declared env want (negation p e) m → Covered around (Finds (negation p e) m) → Keyed (negation p e) m → Safe (λ k. Unit {0}) (eval_node Step free parts (negation p e)) (λ k v. HasType around.bases k m.here.type v)
+  negation_safe want p e m law covered keyed = bind_safe around env _ _ _ (λ k v. Unit {0}) _ (λ k k' x h. tt)
+      (weaken around env _ _ _ (λ k v. HasType around.bases k (type_of e m.operand) v) _ (λ k h. h) (λ k v h. tt) (part _ None e m.operand law.operand (λ f h. covered f (inr h)) keyed.1))
       λ v. bind_safe around env _ _ _ (λ k u. m.here.codes ≡ []) _ (λ k k' x h. h)
       (emits_safe around env _ p m.here.codes (allowed around p m.here.codes (λ f h. covered f (inl h))))
       λ u. act_safe around env _ value_out (action.negation v) _ λ f k s h st. (refl, subst (λ t. HasType around.bases k t (boolean (not (is_true s.heap v)))) (ap (λ x. x.type) (sym law.here)) tt)
 
-  pub is_none_safe : (want : Option Tree) (p : Place) (e : Expr) (m : Marks (is_none p e)) → Lawful ctx around.declared env want (is_none p e) m → Covered around (Finds (is_none p e) m) → Safe (λ k. Unit {0}) (eval_node Step free parts (is_none p e)) (λ k v. HasType around.bases k m.here.type v)
-  is_none_safe want p e m law covered = bind_safe around env _ _ _ (λ k v. Unit {0}) _ (λ k k' x h. tt)
-      (weaken around env _ _ _ (λ k v. HasType around.bases k (type_of e m.operand) v) _ (λ k h. h) (λ k v h. tt) (part _ None e m.operand law.operand (λ f h. covered f (inr h))))
+  pub is_none_safe : (want : Option Tree) (p : Place) (e : Expr) (m : Marks (is_none p e)) → Lawful ctx around.declared env want (is_none p e) m → Covered around (Finds (is_none p e) m) → Keyed (is_none p e) m → Safe (λ k. Unit {0}) (eval_node Step free parts (is_none p e)) (λ k v. HasType around.bases k m.here.type v)
+  is_none_safe want p e m law covered keyed = bind_safe around env _ _ _ (λ k v. Unit {0}) _ (λ k k' x h. tt)
+      (weaken around env _ _ _ (λ k v. HasType around.bases k (type_of e m.operand) v) _ (λ k h. h) (λ k v h. tt) (part _ None e m.operand law.operand (λ f h. covered f (inr h)) keyed.1))
       λ v. bind_safe around env _ _ _ (λ k u. m.here.codes ≡ []) _ (λ k k' x h. h)
       (emits_safe around env _ p m.here.codes (allowed around p m.here.codes (λ f h. covered f (inl h))))
       λ u. comes_safe around env _ (Gives (boolean (is_nothing v))) _ λ k h. subst (λ t. HasType around.bases k t (boolean (is_nothing v))) (ap (λ x. x.type) (sym law.here)) tt
 
-  pub is_not_none_safe : (want : Option Tree) (p : Place) (e : Expr) (m : Marks (is_not_none p e)) → Lawful ctx around.declared env want (is_not_none p e) m → Covered around (Finds (is_not_none p e) m) → Safe (λ k. Unit {0}) (eval_node Step free parts (is_not_none p e)) (λ k v. HasType around.bases k m.here.type v)
-  is_not_none_safe want p e m law covered = bind_safe around env _ _ _ (λ k v. Unit {0}) _ (λ k k' x h. tt)
-      (weaken around env _ _ _ (λ k v. HasType around.bases k (type_of e m.operand) v) _ (λ k h. h) (λ k v h. tt) (part _ None e m.operand law.operand (λ f h. covered f (inr h))))
+  pub is_not_none_safe : (want : Option Tree) (p : Place) (e : Expr) (m : Marks (is_not_none p e)) → Lawful ctx around.declared env want (is_not_none p e) m → Covered around (Finds (is_not_none p e) m) → Keyed (is_not_none p e) m → Safe (λ k. Unit {0}) (eval_node Step free parts (is_not_none p e)) (λ k v. HasType around.bases k m.here.type v)
+  is_not_none_safe want p e m law covered keyed = bind_safe around env _ _ _ (λ k v. Unit {0}) _ (λ k k' x h. tt)
+      (weaken around env _ _ _ (λ k v. HasType around.bases k (type_of e m.operand) v) _ (λ k h. h) (λ k v h. tt) (part _ None e m.operand law.operand (λ f h. covered f (inr h)) keyed.1))
       λ v. bind_safe around env _ _ _ (λ k u. m.here.codes ≡ []) _ (λ k k' x h. h)
       (emits_safe around env _ p m.here.codes (allowed around p m.here.codes (λ f h. covered f (inl h))))
       λ u. comes_safe around env _ (Gives (boolean (not (is_nothing v)))) _ λ k h. subst (λ t. HasType around.bases k t (boolean (not (is_nothing v)))) (ap (λ x. x.type) (sym law.here)) tt

@@ -19,6 +19,7 @@ use Rattle.pc_run.specs.State.{State}
 use Rattle.pc_run.specs.Free.{Step, ◌>>=◌, Emits}
 use Rattle.pc_sound.specs.Values.{HeapTyping, HasType}
 use Rattle.pc_sound.specs.Judgment.{HasListed, EndsWell, Around, Stands, Keeps, IsSafe}
+use Rattle.pc_sound.proofs.Keys.{Keyed}
 use Rattle.pc_sound.proofs.ValuesFlow.{of_static}
 use Rattle.pc_sound.proofs.Steps.{weaken}
 use Rattle.pc_sound.proofs.Expressions.{Covered, GoodEval}
@@ -49,14 +50,14 @@ first_evaluates p m f h = record {
   ];
 }
 
-stopped : {A B : Type 0} (P : A → Type 0) (Q : B → Type 0) (stop : Stop) → EndsWell P (Stops stop) → EndsWell Q (Stops stop)
+pub stopped : {A B : Type 0} (P : A → Type 0) (Q : B → Type 0) (stop : Stop) → EndsWell P (Stops stop) → EndsWell Q (Stops stop)
 stopped P Q (Raised x) h = h
 stopped P Q Outside h = h
 stopped P Q Other h = h
 stopped P Q Cut h = h
 
 -- the codes of an expression's own label are found at its place
-found_here : (e : Expr) (m : Marks e) (f : Finding) → IsFoundAt (place_of e) (mark_of e m).codes f → Finds e m f
+pub found_here : (e : Expr) (m : Marks e) (f : Finding) → IsFoundAt (place_of e) (mark_of e m).codes f → Finds e m f
 found_here (name n) m f h = h
 found_here (number p d) m f h = h
 found_here (text p d) m f h = h
@@ -78,18 +79,18 @@ found_here (index p a b) m f h = inl h
 found_here (call p c args kws) m f h = inl h
 
 -- a node with E03 is in error
-late_code : (codes : List Code) → is_late codes ≡ true → Contains codes E03
+pub late_code : (codes : List Code) → is_late codes ≡ true → Contains codes E03
 late_code [] e = absurd (grind (arith, e))
 late_code (E03 ∷ cs) e = (0, omega arith, refl)
 late_code (c ∷ cs) e = absurd (grind (arith, e))
 
 module _ (around : Around) (ctx : Context) (eval : Expr → Step Value) (good : GoodEval around ctx eval) (evaluates : (e : Expr) → Evaluates (place_of e) (eval e)) (env : Env) where
   -- an expression that flows into a type, whose flow's code is allowed
-  pub flow_safe : (known : HeapTyping → Type 0) (want : Option Tree) (e : Expr) (m : Marks e) (t : Tree) (c : Option Code) → Lawful ctx around.declared env want e m → Covered around (Finds e m) → FlowAt around.bases (mark_of e m) t c → Covered around (IsFlowAt (place_of e) (c ∷ [])) → IsSafe around env known (eval e) (λ k v. HasType around.bases k t v)
-  flow_safe known want e m t c law covered flow allowed = go (is_late (mark_of e m).codes) refl flow
+  pub flow_safe : (known : HeapTyping → Type 0) (want : Option Tree) (e : Expr) (m : Marks e) (t : Tree) (c : Option Code) → Lawful ctx around.declared env want e m → Covered around (Finds e m) → FlowAt around.bases (mark_of e m) t c → Covered around (IsFlowAt (place_of e) (c ∷ [])) → Keyed e m → IsSafe around env known (eval e) (λ k v. HasType around.bases k t v)
+  flow_safe known want e m t c law covered flow allowed keyed = go (is_late (mark_of e m).codes) refl flow
     where
       part : IsSafe around env known (eval e) (λ k v. HasType around.bases k (type_of e m) v)
-      part = weaken around env known (λ k. Unit {0}) (eval e) (λ k v. HasType around.bases k (type_of e m) v) (λ k v. HasType around.bases k (type_of e m) v) (λ k h. tt) (λ k v h. h) (good.safe env want e m law covered)
+      part = weaken around env known (λ k. Unit {0}) (eval e) (λ k v. HasType around.bases k (type_of e m) v) (λ k v. HasType around.bases k (type_of e m) v) (λ k h. tt) (λ k v h. h) (good.safe env want e m law covered keyed)
 
       no_error : (d : Code) → c ≡ Some d → IsError d → ⊥
       no_error d is err = (allowed (finding (place_of e) d) (record { code = d; among = (0, omega arith, is); is = refl })).1 err

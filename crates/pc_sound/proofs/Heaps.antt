@@ -17,7 +17,7 @@ get_left [] ys i x e = grind arith
 get_left (y ∷ xs) ys zero x e = e
 get_left (y ∷ xs) ys (suc i) x e = get_left xs ys i x e
 
-get_end : {A : Type 0} (xs : List A) (y : A) → slice_get (xs ++ y ∷ []) (length xs) ≡ Some y
+pub get_end : {A : Type 0} (xs : List A) (y : A) → slice_get (xs ++ y ∷ []) (length xs) ≡ Some y
 get_end [] y = refl
 get_end (x ∷ xs) y = get_end xs y
 
@@ -159,3 +159,7 @@ module _ (bases : Bases) (classes : List Class) where
       go (boolean b) hi at = rw at.is (store_keeps_at k heap l h.item at.items (index_among (length at.items) (number_of_truth b)) w h.is at.have (of_static bases k t h.item h.equal.fro w hw) well)
       go _ hi at = absurd hi
   store_keeps k heap t _ i w well h hi hw = absurd h
+
+-- what was put behind a list is its last element
+pub last_is : {A : Type 0} (xs : List A) (y : A) → slice_get (xs ++ y ∷ []) (length xs) ≡ Some y
+last_is xs y = get_end xs y

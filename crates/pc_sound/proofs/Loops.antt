@@ -1,5 +1,5 @@
 -- Loops: at the head each local that the body binds has its declared type, so each turn finds what the head says.
-use Rattle.std.proofs.Common.{◌≡◌, ℕ, zero, suc, List, [], ◌∷◌, length, refl, sym, ◌∙◌, subst, inl, inr, arith}
+use Rattle.std.proofs.Common.{◌≡◌, ℕ, zero, suc, List, [], ◌∷◌, refl, sym, ◌∙◌, subst, inl, inr, arith}
 use Rattle.std.specs.Prelude.{◌⊎◌, Bool as Test, true, false, Option, Some, None}
 use Rattle.pc_types.specs.Tree.{Tree}
 use Rattle.pc_types.specs.Below.{Bases}
@@ -26,23 +26,20 @@ head_cases bound d t None e = absurd (grind (arith, e))
 head_cases true d t (Some u) e = record { type = u; assigned = refl; is = inl (refl, sym (some_inj e)) }
 head_cases false d t (Some u) e = record { type = u; assigned = refl; is = inr (refl, sym (some_inj e)) }
 
-at_head : (bound : ℕ → Test) (ds : List Tree) (env : Env) → length ds ≡ length env → (x : ℕ) (t : Tree) → current (loop_head bound ds env) x ≡ Some t → AtHead (bound x) (declared_type ds x) (current env x) t
-at_head bound [] env long x t e = absurd (grind (arith, e))
-at_head bound (d ∷ ds) [] long x t e = absurd (grind (arith, e))
-at_head bound (d ∷ ds) (s ∷ env) long zero t e = head_cases (bound zero) d t s e
-at_head bound (d ∷ ds) (s ∷ env) long (suc x) t e = at_head (λ y. bound (suc y)) ds env (suc_inj long) x t e
-  where
-    suc_inj : {m n : ℕ} → suc m ≡ suc n → m ≡ n
-    suc_inj e = grind arith
+at_head : (bound : ℕ → Test) (ds : List Tree) (env : Env) → (x : ℕ) (t : Tree) → current (loop_head bound ds env) x ≡ Some t → AtHead (bound x) (declared_type ds x) (current env x) t
+at_head bound [] env x t e = absurd (grind (arith, e))
+at_head bound (d ∷ ds) [] x t e = absurd (grind (arith, e))
+at_head bound (d ∷ ds) (s ∷ env) zero t e = head_cases (bound zero) d t s e
+at_head bound (d ∷ ds) (s ∷ env) (suc x) t e = at_head (λ y. bound (suc y)) ds env x t e
 
-module _ (bases : Bases) (names : List (List ℕ)) (declared : List Tree) (bound : ℕ → Test) (env : Env) (long : length declared ≡ length env) where
+module _ (bases : Bases) (names : List (List ℕ)) (declared : List Tree) (bound : ℕ → Test) (env : Env) where
   -- before the first turn
   pub into_head : (k : HeapTyping) (frame : Frame) → HasLocals bases k names declared env frame → HasLocals bases k names declared (loop_head bound declared env) frame
   into_head k frame locals = record { each = each }
     where
       each : (word : List ℕ) (x : ℕ) (t : Tree) → index_of word names ≡ Some x → current (loop_head bound declared env) x ≡ Some t → HasLocal bases k declared frame word x t
       each word x t named e =
-          let h = at_head bound declared env long x t e in
+          let h = at_head bound declared env x t e in
           let l = locals.each word x h.type named h.assigned in
           record { value = l.value; is = l.is; now = elim h.is [ inl b ↦ subst (λ u. HasType bases k u l.value) (sym b.1) l.always | inr b ↦ subst (λ u. HasType bases k u l.value) (sym b.1) l.now ]; always = l.always }
 
@@ -58,7 +55,7 @@ module _ (bases : Bases) (names : List (List ℕ)) (declared : List Tree) (bound
     where
       each : (word : List ℕ) (x : ℕ) (t : Tree) → index_of word names ≡ Some x → current (loop_head bound declared env) x ≡ Some t → HasLocal bases k' declared new word x t
       each word x t named e =
-          let h = at_head bound declared env long x t e in
+          let h = at_head bound declared env x t e in
           let l = locals.each word x t named e in
           let m = kept word x l.value named l.is l.always in
           record {

@@ -369,3 +369,15 @@ module _ (bases : Bases) (ordered : AreSmaller bases) (k : HeapTyping) where
         | inl x ↦ kept_first bases k (member_failing bases test m) (filter_map (member_failing bases test) ms) v (failing_has test m c.0 v x n)
         | inr y ↦ kept_rest bases k (member_failing bases test m) (filter_map (member_failing bases test) ms) v (go ms c.1 y)
       ]
+
+-- ---- members, for joins
+
+-- a value of one of these types
+abbrev pub HasSome : Bases → HeapTyping → List Tree → Value → Type 0
+HasSome bases k ms v = SomeHas bases k ms v
+
+pub of_members : (bases : Bases) (k : HeapTyping) (ms : List Tree) (v : Value) → HasSome bases k ms v → HasType bases k (union ms) v
+of_members bases k ms v h = of_union bases k ms v h
+
+pub descends : (bases : Bases) (n c d : ℕ) → reaches bases n c d ≡ true → Below bases (Class c) (Class d)
+descends bases n c d e = reaches_below bases n c d e

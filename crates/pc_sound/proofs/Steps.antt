@@ -14,7 +14,7 @@ use Rattle.pc_run.specs.State.{State, Frame}
 use Rattle.pc_run.specs.Free.{Step, ◌>>=◌, comes, may_end, may_stop, Emits, Looks, act}
 use Rattle.pc_sound.specs.Values.{HeapTyping, Extends, IsWell}
 use Rattle.pc_sound.specs.Kept.{HasLocals}
-use Rattle.pc_sound.specs.Judgment.{HasListed, IsAllowed, EndsWell, Around, Stands, Keeps, IsSafe}
+use Rattle.pc_sound.specs.Judgment.{HasListed, IsAllowed, EndsWell, Around, HasNames, Stands, Keeps, IsSafe}
 use Rattle.pc_sound.proofs.ValuesFlow.{later, extends_refl, extends_through}
 
 -- locals of the same frame under a later heap typing
@@ -28,16 +28,17 @@ abbrev pub Stays : (HeapTyping → Type 0) → Type 0
 Stays known = (k k' : HeapTyping) → Extends k k' → known k → known k'
 
 module _ (around : Around) (env : Env) where
-  listed_left : (es fs gs : List Place) → gs ≡ es ++ fs → HasListed around.listed es → HasListed around.listed gs
+  pub listed_left : (es fs gs : List Place) → gs ≡ es ++ fs → HasListed around.listed es → HasListed around.listed gs
   listed_left es fs gs e h = record { place = h.place; is = h.is; event = subst (λ l. Contains l h.place) (sym e) (Contains-append_left es fs h.place h.event) }
 
-  listed_right : (es fs gs : List Place) → gs ≡ es ++ fs → HasListed around.listed fs → HasListed around.listed gs
+  pub listed_right : (es fs gs : List Place) → gs ≡ es ++ fs → HasListed around.listed fs → HasListed around.listed gs
   listed_right es fs gs e h = record { place = h.place; is = h.is; event = subst (λ l. Contains l h.place) (sym e) (Contains-append_right es fs h.place h.event) }
 
   -- a state after a step that kept all stands
   pub stands_after : {A : Type 0} (P : HeapTyping → A → Type 0) (k : HeapTyping) (s s' : State) (out : Out A) → Stands around env k s → (h : Keeps around P k s out s') → Stands around env h.typing s'
   stands_after P k s s' out st h = record {
     well = h.well;
+    frame = subst (λ f. HasNames around.names f) (sym h.same_frame) st.frame;
     locals = locals_later h.grows h.same_frame st.locals;
     outside = subst (λ c. around.outside h.typing c s'.globals) (sym h.same_classes) (subst (λ g. around.outside h.typing s.classes g) (sym h.same_globals) (around.stays k h.typing s.classes s.globals h.grows st.outside));
   }
@@ -82,7 +83,7 @@ module _ (around : Around) (env : Env) where
       ]
 
   -- the state as it was
-  still : {A : Type 0} (P : HeapTyping → A → Type 0) (k : HeapTyping) (s s' : State) (out : Out A) → s' ≡ s → Stands around env k s → EndsWell (P k) out → Keeps around P k s out s'
+  pub still : {A : Type 0} (P : HeapTyping → A → Type 0) (k : HeapTyping) (s s' : State) (out : Out A) → s' ≡ s → Stands around env k s → EndsWell (P k) out → Keeps around P k s out s'
   still P k s s' out e st h = record {
     typing = k;
     grows = extends_refl k;
@@ -101,7 +102,7 @@ module _ (around : Around) (env : Env) where
   pub looks_safe : {A : Type 0} (known : HeapTyping → Type 0) (f : State → Out A) (P : HeapTyping → A → Type 0) → ((k : HeapTyping) (s : State) → known k → Stands around env k s → EndsWell (P k) (f s)) → IsSafe around env known (Looks f) P
   looks_safe known f P h = record { run = λ k s s' events o knows st r. inr (still P k s s' o r.same st (subst (EndsWell (P k)) (sym r.is) (h k s knows st))) }
 
-  ended : {A : Type 0} (P : HeapTyping → A → Type 0) (k : HeapTyping) (s s' : State) (events : List Place) (out : Out A) → Stands around env k s → may_end s events out s' → Keeps around P k s out s'
+  pub ended : {A : Type 0} (P : HeapTyping → A → Type 0) (k : HeapTyping) (s s' : State) (events : List Place) (out : Out A) → Stands around env k s → may_end s events out s' → Keeps around P k s out s'
   ended P k s s' events out st (inl r) = still P k s s' out r.same st (subst (EndsWell (P k)) (sym r.is) tt)
   ended P k s s' events out st (inr r) = still P k s s' out r.same st (subst (EndsWell (P k)) (sym r.is) tt)
 

@@ -1,7 +1,8 @@
-ghost use Rattle.std.specs.Prelude.{List};
+ghost use Rattle.std.specs.Prelude.{◌≡◌, ◌⊎◌, List, Some};
 ghost use Rattle.pc_types.specs.Below.{AreSmaller, Bases, Static};
 ghost use Rattle.pc_types.specs.Tree.{Int, ListOf, NoneType, Tree};
 ghost use Rattle.pc_types.specs.Shape.{members};
+ghost use Rattle.pc_types.specs.Join.{join};
 ghost use Rattle.pc_class.specs.Facts.{Class};
 ghost use Rattle.pc_flow.specs.Narrowing.{Tested, passing, failing};
 ghost use Rattle.pc_value.specs.Value.{Heap, Value, seen};
@@ -26,4 +27,9 @@ pub fn narrowing_keeps_values()
 pub fn aliases_keep_heaps()
     ensures append { (bases : Bases) (classes : List Class) (k : HeapTyping) (heap : Heap) (t : Tree) (list item : Value) → IsWell bases classes k heap → HasType bases k (ListOf t) list → HasType bases k t item → ActsWell bases classes k NoneType (append_outcome heap (seen heap list) item) }
     ensures store { (bases : Bases) (classes : List Class) (k : HeapTyping) (heap : Heap) (t : Tree) (list index item : Value) → IsWell bases classes k heap → HasType bases k (ListOf t) list → HasType bases k Int index → HasType bases k t item → ActsWell bases classes k NoneType (store_outcome heap (seen heap list) (seen heap index) index item) }
+{}
+
+/// The law that a value of either of two types is one of their join, whatever the two are.
+pub fn joins_keep_values()
+    ensures { (bases : Bases) → AreSmaller bases → (k : HeapTyping) (s t u : Tree) → join bases s t ≡ Some u → (v : Value) → HasType bases k s v ⊎ HasType bases k t v → HasType bases k u v }
 {}

@@ -3,4 +3,6 @@
 
 mod laws;
 
-pub use laws::{aliases_keep_heaps, narrowing_keeps_values, values_flow_statically};
+pub use laws::{
+    aliases_keep_heaps, joins_keep_values, narrowing_keeps_values, values_flow_statically,
+};
