@@ -1,5 +1,9 @@
+pub mod Bounds
 pub mod Expressions
 pub mod Fits
+pub mod Lists
 pub mod Modules
 pub mod Rows
 pub mod Statements
+pub mod Steps
+pub mod Trees

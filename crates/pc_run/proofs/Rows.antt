@@ -1,9 +1,9 @@
 -- Small modules against the definitions: what their plain runs evaluate, and how they end.
-use Rattle.std.proofs.Common.{◌≡◌, ℕ, suc, List, [], ◌∷◌, refl}
-use Rattle.std.specs.Prelude.{Option, Some, None, false}
+use Rattle.std.proofs.Common.{◌≡◌, ℕ, List, [], ◌∷◌, refl}
+use Rattle.std.specs.Prelude.{Some, None, false}
 use Rattle.pc_source.specs.declared.place.Place.{Place}
 use Rattle.pc_tree.specs.declared.tree.BinaryOperator.TheVariants.{Add, Sub}
-use Rattle.pc_tree.specs.Tree.{Name, Expr, name, number, binary, nothing, call, list, no_exprs, more_exprs, no_keywords, returns, evaluates, for_loop, pass, no_stmts, more_stmts, Stmts, FuncDef, Param, Item, def_item, Module}
+use Rattle.pc_tree.specs.Tree.{Name, name, number, binary, nothing, call, list, no_exprs, more_exprs, no_keywords, returns, evaluates, for_loop, pass, no_stmts, more_stmts, Stmts, Param, Item, def_item, Module}
 use Rattle.pc_value.specs.Value.{Raised, TypeError, Cut}
 use Rattle.pc_run.specs.Plain.{After, Came, Ended, begin}
 use Rattle.pc_run.specs.Runs.{End, done, stopped, plain_module}

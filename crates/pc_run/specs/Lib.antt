@@ -1,8 +1,12 @@
 pub mod Calls
+pub mod Entering
 pub mod Evaluation
 pub mod Free
+pub mod Machine
 pub mod Names
 pub mod Plain
 pub mod Runs
 pub mod State
 pub mod Steps
+pub mod Traced
+pub mod Traces

@@ -3,6 +3,8 @@ pub mod Depth
 pub mod Faults
 pub mod Fronts
 pub mod Grammar
+pub mod Lists
 pub mod Machine
+pub mod Runnable
 pub mod Stopping
 pub mod Tree

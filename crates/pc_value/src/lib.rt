@@ -18,4 +18,6 @@ mod whole;
 
 pub use action::{Action, Exception, Iteration, Outcome};
 pub use actions::{act, takes_choice};
+pub use seen::{Seen, see};
 pub use value::{Cell, Entry, Heap, Slot, Value};
+pub use whole::read_number;

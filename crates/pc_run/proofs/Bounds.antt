@@ -1,0 +1,26 @@
+-- Bounds on nested steps that are above the fuel.
+use Rattle.std.proofs.Common.{◌≡◌, ◌<◌, ℕ, List}
+use Rattle.pc_value.specs.declared.action.Action.{Action as RustAction}
+use Rattle.pc_value.specs.declared.action.Action.TheVariants as rust_action
+use Rattle.pc_value.specs.Actions.{Iteration}
+use Rattle.pc_tree.specs.Tree.{Expr, Stmts}
+use Rattle.pc_run.specs.Steps.{Flow}
+use Rattle.pc_run.specs.Plain.{Progress, After}
+use Rattle.pc_run.specs.Runs.{plain_parts}
+
+-- the further turns of a `while` from here are what is wanted
+pub record Above (fuel : ℕ) (e : Expr) (body : Stmts) (w : Progress) (l : After Flow) : Type 0 where
+  pub bound : ℕ
+  pub room : fuel < bound
+  pub is : l ≡ (plain_parts bound).again e body w
+
+-- the further turns of a `for` too
+pub record Turns (fuel : ℕ) (over : Iteration) (i : ℕ) (name : List ℕ) (body : Stmts) (w : Progress) (l : After Flow) : Type 0 where
+  pub bound : ℕ
+  pub room : fuel < bound
+  pub is : l ≡ (plain_parts bound).turns over i name body w
+
+-- which turn of a `for` an action is
+abbrev pub turn_index : RustAction → ℕ
+turn_index (rust_action.Turn over i) = i
+turn_index a = 0

@@ -1,0 +1,91 @@
+ghost use Rattle.std.specs.Prelude.{◌≡◌, ◌<◌, ◌+◌, ◌-◌, ◌^◌, ℕ};
+ghost use Rattle.pc_tree.specs.Tree.{expr_of};
+ghost use Rattle.pc_value.specs.Meaning.{value_of};
+ghost use Rattle.pc_run.specs.Evaluation.{is_nothing, value_of_flow, call_form, iterable_form};
+ghost use Rattle.pc_run.specs.Machine.{flow_of, form_seen, range_seen, exprs_of_list, keywords_of_list};
+ghost use Rattle.pc_value.specs.declared.action.Iteration.{Iteration as RustIteration};
+ghost use Rattle.pc_value.specs.declared.action.Action.TheVariants as rust_action;
+ghost use Rattle.pc_run.specs.declared.state.Callee.TheVariants as callee;
+
+use crate::names::is_same;
+use crate::state::Flow;
+use pc_source::Place;
+use pc_tree::{Expr, KeywordArgument, Name};
+use pc_value::{Action, Value};
+
+/// A value is None.
+pub fn is_nothing(value: &Value) -> bool
+    ensures { result ≡ is_nothing (value_of value.now) }
+{
+    match value {
+        Value::None => true,
+        Value::Int(_) => false,
+        Value::Bool(_) => false,
+        Value::Str(_) => false,
+        Value::Tuple(_) => false,
+        Value::Location(_) => false,
+    }
+}
+
+/// What a call gives, by how the body ended.
+pub fn value_of_flow(flow: Flow) -> Value
+    ensures { value_of result ≡ value_of_flow (flow_of flow) }
+{
+    match flow {
+        Flow::Next => Value::None,
+        Flow::Breaking => Value::None,
+        Flow::Continuing => Value::None,
+        Flow::Leaves(value) => value,
+    }
+}
+
+/// The callee, its object and its test, where a call is a test `isinstance(e, T)`.
+pub fn instance_test<'m>(
+    callee: &'m Expr,
+    arguments: &'m [Expr],
+    by_name: &'m [KeywordArgument],
+) -> Option<(&'m Name, &'m Expr, &'m Expr)>
+    ensures { form_seen result ≡ call_form (expr_of callee.now) (exprs_of_list arguments.now) (keywords_of_list by_name.now) }
+{
+    let Expr::Name(name) = callee else {
+        return None;
+    };
+    if arguments.len() != 2 {
+        return None;
+    }
+    if !by_name.is_empty() {
+        return None;
+    }
+    if !is_same(name.text.as_str(), "isinstance") {
+        return None;
+    }
+    Some((name, &arguments[0], &arguments[1]))
+}
+
+/// The place, the name and the arguments, where a `for` goes over a call of `range`.
+pub fn range_call<'m>(e: &'m Expr) -> Option<(Place, &'m Name, &'m [Expr], &'m [KeywordArgument])>
+    ensures { range_seen result ≡ iterable_form (expr_of e.now) }
+{
+    let Expr::Call(place, callee, arguments, by_name) = e else {
+        return None;
+    };
+    let Expr::Name(name) = callee.as_ref() else {
+        return None;
+    };
+    if is_same(name.text.as_str(), "range") {
+        Some((*place, name, arguments, by_name))
+    } else {
+        None
+    }
+}
+
+/// The next turn of a `for`.
+pub fn next_turn(turn: Action) -> Action
+    requires { (over : RustIteration) × ((i : ℕ) × ((turn ≡ rust_action.Turn over i) × (i < 2 ^ 64 - 1))) }
+    ensures { (over : RustIteration) (i : ℕ) → turn ≡ rust_action.Turn over i → result ≡ rust_action.Turn over (i + 1) }
+{
+    match turn {
+        Action::Turn(over, index) => Action::Turn(over, index + 1),
+        other => other,
+    }
+}
