@@ -1,4 +1,5 @@
 pub mod Bounds
+pub mod Defaults
 pub mod Expressions
 pub mod Fits
 pub mod Lists

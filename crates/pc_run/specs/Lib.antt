@@ -2,6 +2,7 @@ pub mod Calls
 pub mod Entering
 pub mod Evaluation
 pub mod Free
+pub mod Items
 pub mod Machine
 pub mod Names
 pub mod Plain

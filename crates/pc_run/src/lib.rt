@@ -7,6 +7,7 @@ mod depth;
 mod evaluate;
 mod forms;
 mod halt;
+mod items;
 mod laws;
 mod look_up;
 mod machine;
@@ -17,4 +18,5 @@ mod state;
 mod trace;
 
 pub use laws::plain_runs_are_runs;
+pub use running::run;
 pub use trace::{End, Trace, trace_text};

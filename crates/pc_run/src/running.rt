@@ -1,7 +1,9 @@
-ghost use Rattle.std.specs.Prelude.{◌≡◌, ◌≤◌, ◌<◌, ℕ};
+ghost use Rattle.std.specs.Prelude.{◌≡◌, ◌≤◌, ◌<◌, ℕ, IfOk};
+ghost use Rattle.pc_tree.specs.Tree.{module_of};
+ghost use Rattle.pc_value.specs.Value.{Value as ValueOf};
 ghost use Rattle.pc_value.specs.Meaning.{value_of};
-ghost use Rattle.pc_run.specs.Plain.{begin};
-ghost use Rattle.pc_run.specs.Runs.{stopped};
+ghost use Rattle.pc_run.specs.Plain.{begin, After};
+ghost use Rattle.pc_run.specs.Runs.{stopped, Leaves, PlainRun};
 ghost use Rattle.pc_run.specs.Traces.{end_of_rust};
 ghost use Rattle.pc_run.specs.Entering.{main_entered};
 ghost use Rattle.pc_run.specs.Machine.{Tells, progress_of, stop_of};
@@ -9,7 +11,9 @@ ghost use Rattle.pc_run.specs.Machine.{Tells, progress_of, stop_of};
 use crate::depth::Depth;
 use crate::halt::{Halt, Stop};
 use crate::machine::Machine;
-use crate::trace::End;
+use crate::trace::{End, Trace};
+use pc_source::OutOfMemory;
+use pc_tree::Module;
 use pc_value::{Exception, Heap, Value};
 use std::alloc::Global as Allocator;
 
@@ -53,4 +57,46 @@ impl<'m> Machine<'m> {
         let called = self.look_up_callee(alloc, "main")?;
         self.call(alloc, called, &[], &[])
     }
+}
+
+/// The trace of a run that came to its end.
+fn trace_of(machine: Machine<'_>, ended: Result<Value, Halt>) -> Result<Trace, OutOfMemory>
+    ensures { (l : After ValueOf) → Tells value_of ended machine.entry l → IfOk result (λ trace. Leaves l trace.events.items (end_of_rust trace.end)) }
+{
+    match ended {
+        Ok(_) => Ok(Trace {
+            events: machine.events,
+            end: End::Done,
+        }),
+        Err(Halt::Stopped(stop)) => Ok(Trace {
+            events: machine.events,
+            end: end_of_stop(stop),
+        }),
+        Err(Halt::OutOfMemory) => Err(OutOfMemory),
+    }
+}
+
+/// Runs a module: the trace is its plain run for this fuel and these choices, each a byte from which one free answer is
+/// taken. A module that a code stops leaves the profile without an event. Own rule of the profile.
+///
+/// # Errors
+///
+/// `OutOfMemory` where the run or its trace has no room.
+pub fn run(
+    alloc: Allocator,
+    program: &Module,
+    fuel: u64,
+    choices: &[u8],
+) -> Result<Trace, OutOfMemory>
+    ensures { IfOk result (λ trace. PlainRun (module_of program.now) fuel choices.now trace.events.items (end_of_rust trace.end)) }
+{
+    if !program.is_runnable() {
+        return Ok(Trace {
+            events: Vec::new(alloc),
+            end: End::Outside,
+        });
+    }
+    let mut machine = Machine::begin(alloc, fuel, choices);
+    let ended = machine.run_module(alloc, program);
+    trace_of(machine, ended)
 }

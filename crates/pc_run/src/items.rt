@@ -1,0 +1,329 @@
+ghost use Rattle.std.specs.Prelude.{◌≡◌, ◌≤◌, ◌<◌, ◌++◌, ◌∷◌, ℕ, IfOk, OnOk, map, length, is_some};
+ghost use Rattle.pc_tree.specs.Tree.{literal_of, option_literal_of, option_name_of, param_of, member_of, class_of as class_def_of, item_of, module_of};
+ghost use Rattle.pc_value.specs.Meaning.{value_of};
+ghost use Rattle.pc_run.specs.Calls.{class_at};
+ghost use Rattle.pc_run.specs.Evaluation.{base_of, defaults_last, class_behind, fields_of, methods_of, ancestors_of, binds_global, binds_class};
+ghost use Rattle.pc_run.specs.Items.{items_in, item_in, class_made, has_value, have_values, member_has_values, members_have_values, members_made, base_seen};
+ghost use Rattle.pc_run.specs.Machine.{Tells, Comes, class_of, found_class, bound_of, parameter_of, method_of_def, literal_value, unit, progress_of, state_of};
+ghost use Rattle.pc_run.specs.Plain.{changed};
+ghost use Rattle.pc_run.specs.Runs.{plain_module};
+
+use crate::halt::{Halt, Stop};
+use crate::machine::{Machine, raised};
+use crate::state::{Bound, Class, Global, Meaning, Parameter};
+use pc_source::OutOfMemory;
+use pc_tree::{
+    ClassDef, FuncDef, Item, ItemKind, Literal, LiteralKind, Member, Module, Name, Param,
+};
+use pc_value::{Exception, Value, read_number};
+use std::alloc::Global as Allocator;
+
+/// A literal has a value: a whole number fits 128 signed bits.
+fn literal_has_value(literal: &Literal) -> bool
+    ensures { result ≡ is_some (literal_value (literal_of literal.now)) }
+{
+    match &literal.kind {
+        LiteralKind::Int(digits) => read_number(false, digits.as_bytes()).is_some(),
+        LiteralKind::NegativeInt(digits) => read_number(true, digits.as_bytes()).is_some(),
+        LiteralKind::Str(_) => true,
+        LiteralKind::True => true,
+        LiteralKind::False => true,
+        LiteralKind::NoneValue => true,
+    }
+}
+
+/// So has a default, where there is one.
+fn has_value(default: &Option<Literal>) -> bool
+    ensures { result ≡ has_value (option_literal_of default.now) }
+{
+    match default {
+        Some(literal) => literal_has_value(literal),
+        None => true,
+    }
+}
+
+/// Each default of a def has a value.
+fn have_values(params: &[Param]) -> bool
+    ensures { result ≡ have_values (map param_of params.now) }
+{
+    for param in params {
+        if !has_value(&param.default) {
+            return false;
+        }
+    }
+    true
+}
+
+/// Each default of a member has one.
+fn member_has_values(member: &Member) -> bool
+    ensures { result ≡ member_has_values (member_of member.now) }
+{
+    match member {
+        Member::Field(field) => has_value(&field.default),
+        Member::Method(def) => have_values(&def.params),
+    }
+}
+
+/// Each default in a class has one.
+fn members_have_values(members: &[Member]) -> bool
+    ensures { result ≡ members_have_values (map member_of members.now) }
+{
+    for member in members {
+        if !member_has_values(member) {
+            return false;
+        }
+    }
+    true
+}
+
+/// A field has a default with a value.
+fn is_defaulted(field: &Parameter<'_>) -> bool
+    ensures { result ≡ is_some (parameter_of field.now).default }
+{
+    match field.default {
+        Some(literal) => literal_has_value(literal),
+        None => false,
+    }
+}
+
+/// No field without default follows one with default.
+fn defaults_last(fields: &[Parameter<'_>]) -> bool
+    ensures { result ≡ defaults_last (map parameter_of fields.now) }
+{
+    let mut defaulted = false;
+    for field in fields {
+        if is_defaulted(field) {
+            defaulted = true;
+        } else if defaulted {
+            return false;
+        }
+    }
+    true
+}
+
+/// The numbers of a class and its ancestors.
+fn ancestors(
+    alloc: Allocator,
+    number: usize,
+    base: Option<&Class<'_>>,
+) -> Result<Vec<usize>, OutOfMemory>
+    ensures { IfOk result (λ ns. ns.items ≡ number ∷ ancestors_of (found_class base.entry)) }
+{
+    let mut numbers = Vec::new(alloc);
+    numbers.push(number)?;
+    let Some(made) = base else {
+        return Ok(numbers);
+    };
+    for ancestor in &made.ancestors {
+        numbers.push(*ancestor)?;
+    }
+    Ok(numbers)
+}
+
+/// The fields that a class has from its base.
+fn inherited_fields<'m>(
+    alloc: Allocator,
+    base: Option<&Class<'m>>,
+) -> Result<Vec<Parameter<'m>>, OutOfMemory>
+    ensures { IfOk result (λ fs. map parameter_of fs.items ≡ fields_of (found_class base.entry)) }
+{
+    let mut fields = Vec::new(alloc);
+    let Some(made) = base else {
+        return Ok(fields);
+    };
+    for field in &made.fields {
+        fields.push(*field)?;
+    }
+    Ok(fields)
+}
+
+/// The fields of a class, with those of its base first.
+fn fields<'m>(
+    alloc: Allocator,
+    base: Option<&Class<'m>>,
+    members: &'m [Member],
+) -> Result<Vec<Parameter<'m>>, OutOfMemory>
+    ensures { IfOk result (λ fs. map parameter_of fs.items ≡ fields_of (found_class base.entry) ++ (members_made (map member_of members.now)).fields) }
+{
+    let mut fields = inherited_fields(alloc, base)?;
+    for member in members {
+        if let Member::Field(field) = member {
+            fields.push(Parameter {
+                name: field.name.text.as_str(),
+                default: field.default.as_ref(),
+            })?;
+        }
+    }
+    Ok(fields)
+}
+
+/// The methods of a class that are its own.
+fn own_methods<'m>(alloc: Allocator, members: &'m [Member]) -> Result<Vec<&'m FuncDef>, OutOfMemory>
+    ensures { IfOk result (λ fs. map method_of_def fs.items ≡ (members_made (map member_of members.now)).methods) }
+{
+    let mut methods = Vec::new(alloc);
+    for member in members {
+        if let Member::Method(def) = member {
+            methods.push(def)?;
+        }
+    }
+    Ok(methods)
+}
+
+/// The methods of a class, and then those of its base.
+fn methods<'m>(
+    alloc: Allocator,
+    base: Option<&Class<'m>>,
+    members: &'m [Member],
+) -> Result<Vec<&'m FuncDef>, OutOfMemory>
+    ensures { IfOk result (λ fs. map method_of_def fs.items ≡ (members_made (map member_of members.now)).methods ++ methods_of (found_class base.entry)) }
+{
+    let mut methods = own_methods(alloc, members)?;
+    let Some(made) = base else {
+        return Ok(methods);
+    };
+    for method in &made.methods {
+        methods.push(*method)?;
+    }
+    Ok(methods)
+}
+
+impl<'m> Machine<'m> {
+    /// The number of the base of a class, if it names one: a class that was made.
+    fn find_base(&self, base: &Option<Name>) -> Result<Option<usize>, Halt>
+        ensures { Comes base_seen result (base_of (option_name_of base.now) (state_of self.now)) }
+    {
+        let Some(name) = base else {
+            return Ok(None);
+        };
+        match self.meaning(name.text.as_str()) {
+            Meaning::Value(_) => Err(Halt::Stopped(Stop::Outside)),
+            Meaning::Unbound => Err(Halt::Stopped(Stop::Outside)),
+            Meaning::Function(_) => Err(Halt::Stopped(Stop::Outside)),
+            Meaning::Class(class) => Ok(Some(class)),
+            Meaning::Reserved => Err(Halt::Stopped(Stop::Outside)),
+            Meaning::Nothing => Err(raised(Exception::NameError)),
+        }
+    }
+
+    /// The class that comes next, behind its base. Language Reference 8.8 "Class definitions".
+    fn class_behind(
+        &self,
+        alloc: Allocator,
+        base: Option<usize>,
+        members: &'m [Member],
+    ) -> Result<Class<'m>, OutOfMemory>
+        ensures { IfOk result (λ c. class_of c ≡ class_behind (class_at (state_of self.now).classes base) (members_made (map member_of members.now)) (length (state_of self.now).classes)) }
+    {
+        let base = match base {
+            Some(number) => self.classes.get(number),
+            None => None,
+        };
+        Ok(Class {
+            ancestors: ancestors(alloc, self.classes.len(), base)?,
+            fields: fields(alloc, base, members)?,
+            methods: methods(alloc, base, members)?,
+        })
+    }
+
+    /// The module binds a name.
+    fn bind_global(&mut self, name: &'m str, bound: Bound<'m>) -> Result<(), OutOfMemory>
+        ensures plain { OnOk result (progress_of self.new ≡ changed (binds_global name.now (bound_of bound.entry)) (progress_of self.old)) }
+        ensures fuel { self.new.fuel ≡ self.old.fuel }
+    {
+        match self.globals.push(Global { name, bound }) {
+            Ok(()) => Ok(()),
+            Err(_) => Err(OutOfMemory),
+        }
+    }
+
+    /// The module binds a name to a class that was made.
+    fn bind_class(&mut self, name: &'m str, class: Class<'m>) -> Result<(), OutOfMemory>
+        ensures plain { OnOk result (progress_of self.new ≡ changed (binds_class name.now (class_of class.entry)) (progress_of self.old)) }
+        ensures fuel { self.new.fuel ≡ self.old.fuel }
+    {
+        let number = self.classes.len();
+        match self.classes.push(class) {
+            Ok(()) => self.bind_global(name, Bound::Class(number)),
+            Err(_) => Err(OutOfMemory),
+        }
+    }
+
+    /// A class is made: `@dataclass`, the base, the defaults, the order of its fields.
+    fn make_class(
+        &mut self,
+        alloc: Allocator,
+        imports_dataclass: bool,
+        class: &'m ClassDef,
+    ) -> Result<(), Halt>
+        ensures plain { Tells unit result self.new (class_made imports_dataclass (class_def_of class.now) (progress_of self.old)) }
+        ensures fuel { self.new.fuel ≤ self.old.fuel }
+    {
+        if !imports_dataclass {
+            return Err(raised(Exception::NameError));
+        }
+        let base = self.find_base(&class.base)?;
+        if !members_have_values(&class.members) {
+            return Err(Halt::Stopped(Stop::Cut));
+        }
+        let made = self.class_behind(alloc, base, &class.members)?;
+        if !defaults_last(&made.fields) {
+            return Err(raised(Exception::TypeError));
+        }
+        self.bind_class(class.name.text.as_str(), made)?;
+        Ok(())
+    }
+
+    /// A constant, a class or a def runs.
+    fn run_item(
+        &mut self,
+        alloc: Allocator,
+        imports_dataclass: bool,
+        item: &'m Item,
+    ) -> Result<(), Halt>
+        ensures plain { (n : ℕ) → self.old.fuel < n → Tells unit result self.new (item_in n imports_dataclass (item_of item.now) (progress_of self.old)) }
+        ensures fuel { self.new.fuel ≤ self.old.fuel }
+    {
+        match &item.kind {
+            ItemKind::Constant(constant) => {
+                self.charge()?;
+                let value = self.eval(alloc, &constant.value)?;
+                self.bind_global(constant.name.text.as_str(), Bound::Value(value))?;
+                Ok(())
+            }
+            ItemKind::Class(class) => self.make_class(alloc, imports_dataclass, class),
+            ItemKind::Def(def) => {
+                if !have_values(&def.params) {
+                    return Err(Halt::Stopped(Stop::Cut));
+                }
+                self.bind_global(def.name.text.as_str(), Bound::Function(def))?;
+                Ok(())
+            }
+        }
+    }
+
+    /// The items, in the order of the text.
+    fn run_items(
+        &mut self,
+        alloc: Allocator,
+        imports_dataclass: bool,
+        items: &'m [Item],
+    ) -> Result<(), Halt>
+        ensures plain { (n : ℕ) → self.old.fuel < n → Tells unit result self.new (items_in n imports_dataclass (map item_of items.now) (progress_of self.old)) }
+        ensures fuel { self.new.fuel ≤ self.old.fuel }
+    {
+        for item in items {
+            self.run_item(alloc, imports_dataclass, item)?;
+        }
+        Ok(())
+    }
+
+    /// The items, and then `main` is entered.
+    pub fn run_module(&mut self, alloc: Allocator, program: &'m Module) -> Result<Value, Halt>
+        ensures plain { (n : ℕ) → self.old.fuel < n → Tells value_of result self.new (plain_module n (module_of program.now) (progress_of self.old)) }
+        ensures fuel { self.new.fuel ≤ self.old.fuel }
+    {
+        self.run_items(alloc, program.imports_dataclass, &program.items)?;
+        self.enter_main(alloc)
+    }
+}
