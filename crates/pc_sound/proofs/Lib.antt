@@ -61,3 +61,4 @@ pub mod KeyedTypes
 pub mod KeyedLabels
 pub mod Whole
 pub mod Dispatching
+pub mod MethodNodes
