@@ -21,7 +21,7 @@ use Rattle.pc_class.specs.Overrides.{has_shape_of, IsStatic}
 use Rattle.pc_flow.specs.Environment.{Env}
 use Rattle.pc_expr.specs.Operations.{Mark, attribute_found, attribute_member}
 use Rattle.pc_expr.specs.Context.{Context, Signature}
-use Rattle.pc_expr.specs.Calls.{Given, given, is_suited, Seat, CallOffer, called, fails_at_call, value_offer, value_offers, method_signature, class_offers, list_offers, dict_offers, method_offers, call_codes, all_codes, call_mark, positional_seat, named_seat, type_at}
+use Rattle.pc_expr.specs.Calls.{Given, given, is_suited, Seat, CallOffer, called, fails_at_call, value_offer, value_offers, method_signature, class_offers, list_offers, dict_offers, method_offers, call_codes, all_codes, call_mark, signatures, positional_seat, named_seat, type_at}
 use Rattle.pc_expr.specs.Labels.{Marks, type_of, Finds, ItemsMarks, KeywordsMarks, ItemsFind, KeywordsFind, IsFoundAt}
 use Rattle.pc_expr.specs.Lawful.{Lawful, LawfulItems, LawfulKeywords}
 use Rattle.pc_value.specs.Value.{Value, location, seen, Out, Gives}
@@ -33,7 +33,7 @@ use Rattle.pc_run.specs.Steps.{Parts, value_out}
 use Rattle.pc_run.specs.Free.{Step, ◌>>=◌, Emits, free}
 use Rattle.pc_run.specs.Evaluation.{eval_callee, callee_of_attribute, eval_all, eval_keywords, call_callee, call_method}
 use Rattle.pc_sound.specs.Values.{HeapTyping, HasType, Extends, IsWell}
-use Rattle.pc_sound.specs.Judgment.{EndsWell, Around, Stands, IsSafe, Fits}
+use Rattle.pc_sound.specs.Judgment.{HasListed, EndsWell, Around, Stands, Keeps, IsSafe, Fits}
 use Rattle.pc_sound.proofs.ValuesFlow.{later}
 use Rattle.pc_sound.proofs.Steps.{Stays, bind_safe, comes_safe, looks_safe, emits_safe, may_stop_safe, act_safe, weaken}
 use Rattle.pc_sound.proofs.Keys.{Keyed, IsKeyed, keyed_type, ItemsKeyed, KeywordsKeyed}
@@ -273,3 +273,81 @@ module _ (m : Module) (inherits : Inherits (bases_of m) (classes_of m)) (constan
           named v (Some c) = comes_safe Here env _ (Gives c) _ λ k h. h.1
           named v None = weaken Here env _ (λ k. (CalleeCodes (flat_map (method_offers ctx g w.text) (members (type_of e om))) ≡ []) × CallsField (flat_map (method_offers ctx g w.text) (members (type_of e om))) k v w.text) _ _ _ (λ k h. h.1) (λ k c h. h)
               (field_read (flat_map (method_offers ctx g w.text) (members (type_of e om))) g v w.text _ (λ k k' x h. (h.0, record { class = h.1.class; field = h.1.field; is = h.1.is; object = later (bases_of m) x (tree.Class h.1.class) v h.1.object; fails = h.1.fails })) (λ k h. h))
+
+      -- ---- the call
+
+      module _ (labelled : (owner : Owner) (d : FuncDef) → function_of m owner ≡ Some d → Labelled m constants listed owner d) (runs : (owner : Owner) (d : FuncDef) (lab : Labelled m constants listed owner d) → GoodExec (around_of m constants listed owner d lab) (context_of m constants listed owner d) m (returned m d) parts.exec) (distinct : (c : ℕ) (word : List ℕ) (old : Method) → method_of (class_at (classes_of m) c).methods word ≡ Some old → Distinct [] old.parameters) (offers : List CallOffer) (args : Exprs) (kws : Keywords) (im : ItemsMarks args) (km : KeywordsMarks kws) (here : Mark) (is_mark : here ≡ call_mark (bases_of m) offers) (quiet : all_codes offers ≡ []) where
+        abbrev Given_args : HeapTyping → List Value → List NamedValue → Type 0
+        Given_args k values more = ArgumentsHave (bases_of m) k (positional_seat offers) args im values × KeywordsHave (bases_of m) k (named_seat offers) [] kws km more
+
+        given_later : (values : List Value) (more : List NamedValue) → Stays (λ k. Given_args k values more)
+        given_later values more k k' x h = (arguments_later (bases_of m) x (positional_seat offers) args im values h.0, keywords_later (bases_of m) x (named_seat offers) [] kws km more h.1)
+
+        -- what a signature that is offered gives is of the call's type
+        of_call : (s : Signature) → IsOffer (called (given args kws) s) offers → is_suited (given args kws) s ≡ true → (k : HeapTyping) (v : Value) → HasType (bases_of m) k s.returns v → HasType (bases_of m) k here.type v
+        of_call s among suited k v h = subst (λ t. HasType (bases_of m) k t v) (ap (λ x. x.type) (sym is_mark)) (gives_call_type (bases_of m) fits.smaller k (called (given args kws) s) offers among quiet v (subst (λ t. HasType (bases_of m) k t v) (sym (suited_gives (given args kws) s suited)) h))
+
+        suited_offer : (s : Signature) → IsOffer (called (given args kws) s) offers → is_suited (given args kws) s ≡ true
+        suited_offer s among = suited_where_quiet (given args kws) s (offer_quiet (called (given args kws) s) offers among quiet).1
+
+        one_offer : (s : Signature) → IsOffer (called (given args kws) s) offers → IsOneOf s (signatures offers)
+        one_offer s among = offered_called (called (given args kws) s) s offers among quiet (suited_called (given args kws) s (suited_offer s among))
+
+        -- a method of a class
+        class_method_safe : (v : Value) (f : Function) (k0 : HeapTyping) → (c : CallsMethod offers (given args kws) k0 v f) → (values : List Value) (more : List NamedValue) → IsSafe Here env (λ k. (MadeOf m k f c.is.def × HasType (bases_of m) k (tree.Class c.new.owner) v) × Given_args k values more) (call_method Step free parts v f values more) (λ k w. HasType (bases_of m) k here.type w)
+        class_method_safe v f k0 c values more =
+            weaken Here env _ _ _ (λ k w. HasType (bases_of m) k c.old.returns w) _ (λ k h. h) (λ k w h. of_call (method_signature c.old) c.among (suited_offer (method_signature c.old) c.among) k w h)
+            (override_call_safe m inherits listed names declared (World m constants) (λ k k' made globals grows w. world_later m constants k k' made globals grows w) parts env _
+            (λ k k' x h. ((made_later m x f c.is.def h.0.0, later (bases_of m) x (tree.Class c.new.owner) v h.0.1), given_later values more k k' x h.1)) constants (λ k made globals w. w)
+            v f c.new c.old c.is.def (labelled (owners.Method c.new.owner c.new.number) c.is.def c.is.at) (runs (owners.Method c.new.owner c.new.number) c.is.def (labelled (owners.Method c.new.owner c.new.number) c.is.def c.is.at)) c.is.made.name c.is.made.body c.is.place c.is.parameters c.is.returns c.fits values more
+            λ k h. (h.0.1, (subst (λ ps. DefaultsHave (bases_of m) k f.parameters ps) (sym c.is.parameters) h.0.0.parameters,
+            suits (bases_of m) k offers (method_signature c.old) args kws im km values more (suited_offer (method_signature c.old) c.among) (distinct c.named.0 c.named.1 c.old c.named.2) (one_offer (method_signature c.old) c.among) h.1.0 h.1.1)))
+
+        -- a method of a list or a dict
+        builtin_method_safe : (v : Value) (b : BuiltinMethod) (s : Signature) → IsOffer (called (given args kws) s) offers → (values : List Value) (more : List NamedValue) → IsSafe Here env (λ k. BuiltinCall (bases_of m) k v b s × Given_args k values more) (call_callee Step free parts (calls_builtin_method v b) values more) (λ k w. HasType (bases_of m) k here.type w)
+        builtin_method_safe v b s among values more =
+            performs_safe Here env parts _ (λ k k' x h. (builtin_later (bases_of m) x v b s h.0, given_later values more k k' x h.1)) v here.type b values more
+            λ k h. suited_performs (bases_of m) fits.smaller k v b s h.0 (positional_seat offers) (named_seat offers) args im kws km values more (suited_offer s among)
+            (λ w x. each_of_one (bases_of m) k (λ t. type_at (slice_get t.parameters 0)) (signatures offers) s w (one_offer s among) x) h.1.0 h.1.1 here.type
+            (λ j grows x y. of_call s among (suited_offer s among) j x y)
+
+        -- whatever was named
+        pub named_call_safe : (c : Callee) (values : List Value) (more : List NamedValue) → IsSafe Here env (λ k. Ready offers (given args kws) k c × Given_args k values more) (call_callee Step free parts c values more) (λ k w. HasType (bases_of m) k here.type w)
+        named_call_safe c values more = record { run = go c }
+          where
+            failed : Fails offers → ⊥
+            failed f = f.found (offer_quiet f.offer offers f.among quiet).1
+
+            go : (c : Callee) (k : HeapTyping) (s s' : State) (events : List Place) (out : Out Value) → Ready offers (given args kws) k c × Given_args k values more → Stands Here env k s → call_callee Step free parts c values more s events out s' → HasListed listed events ⊎ Keeps Here (λ k w. HasType (bases_of m) k here.type w) k s out s'
+            go (calls_method v f) k s s' events out knows st r = elim knows.0.1 [
+              | inl x ↦ absurd (failed x)
+              | inr x ↦ (class_method_safe v f k x values more).run k s s' events out ((x.is.made, x.receiver), knows.1) st r
+            ]
+            go (calls_builtin_method v b) k s s' events out knows st r = elim knows.0.1 [
+              | inl x ↦ absurd (failed x)
+              | inr x ↦ (builtin_method_safe v b x.signature x.among values more).run k s s' events out (x.calls, knows.1) st r
+            ]
+            go (calls_value v) k s s' events out knows st r = elim knows.0.1 [ inl x ↦ absurd (failed x) | inr x ↦ absurd x ]
+            go (calls_function f) k s s' events out knows st r = elim knows.0.1 [ inl x ↦ absurd (failed x) | inr x ↦ absurd x ]
+            go (calls_class b) k s s' events out knows st r = elim knows.0.1 [ inl x ↦ absurd (failed x) | inr x ↦ absurd x ]
+            go (calls_reserved w) k s s' events out knows st r = elim knows.0.1 [ inl x ↦ absurd (failed x) | inr x ↦ absurd x ]
+
+      module _ (labelled : (owner : Owner) (d : FuncDef) → function_of m owner ≡ Some d → Labelled m constants listed owner d) (runs : (owner : Owner) (d : FuncDef) (lab : Labelled m constants listed owner d) → GoodExec (around_of m constants listed owner d lab) (context_of m constants listed owner d) m (returned m d) parts.exec) (distinct : (c : ℕ) (word : List ℕ) (old : Method) → method_of (class_at (classes_of m) c).methods word ≡ Some old → Distinct [] old.parameters) where
+        -- a call of `e.m`
+        pub method_node_safe :
+            (p q : Place) (e : Expr) (w : Name) (args : Exprs) (kws : Keywords) (om : Marks e) (codes : List Code) (im : ItemsMarks args) (km : KeywordsMarks kws) (here : Mark)
+            → Lawful ctx declared env None e om → Covered Here (Finds e om) → Keyed e om
+            → codes ≡ CalleeCodes (flat_map (method_offers ctx (given args kws) w.text) (members (type_of e om))) → Covered Here (IsFoundAt q codes)
+            → here ≡ call_mark (bases_of m) (flat_map (method_offers ctx (given args kws) w.text) (members (type_of e om)))
+            → LawfulItems ctx declared env (positional_seat (flat_map (method_offers ctx (given args kws) w.text) (members (type_of e om)))) args im → LawfulKeywords ctx declared env (named_seat (flat_map (method_offers ctx (given args kws) w.text) (members (type_of e om)))) [] kws km
+            → Covered Here (ItemsFind args im) → Covered Here (KeywordsFind kws km) → Covered Here (IsFoundAt p here.codes) → ItemsKeyed args im → KeywordsKeyed kws km
+            → IsSafe Here env (λ k. Unit {0}) (eval_callee Step free parts (attribute q e w) >>= λ c. eval_all Step free parts.eval args >>= λ values. eval_keywords Step free parts.eval kws >>= λ more. Emits p >>= λ u. call_callee Step free parts c values more) (λ k v. HasType (bases_of m) k here.type v)
+        method_node_safe p q e w args kws om codes im km here olaw ocovered okeyed is found is_mark law klaw covered kcovered hcovered keyed kkeyed =
+            ordinary_safe Here ctx fits parts good evaluates env p (eval_callee Step free parts (attribute q e w)) (λ k c. Ready (flat_map (method_offers ctx (given args kws) w.text) (members (type_of e om))) (given args kws) k c) (ready_later (flat_map (method_offers ctx (given args kws) w.text) (members (type_of e om))) (given args kws))
+            (callee_safe q e w (given args kws) om codes olaw ocovered okeyed is found)
+            (positional_seat (flat_map (method_offers ctx (given args kws) w.text) (members (type_of e om)))) (named_seat (flat_map (method_offers ctx (given args kws) w.text) (members (type_of e om)))) args im kws km here law klaw covered kcovered hcovered keyed kkeyed _
+            λ c values more. record {
+              run = λ k s s' events out knows st r.
+                (named_call_safe labelled runs distinct (flat_map (method_offers ctx (given args kws) w.text) (members (type_of e om))) args kws im km here is_mark
+                (all_quiet (flat_map (method_offers ctx (given args kws) w.text) (members (type_of e om))) knows.0.0.0.1.0 (ap (λ x. x.codes) (sym is_mark) ∙ knows.1)) c values more).run k s s' events out (knows.0.0.0.1, (knows.0.0.1, knows.0.1)) st r;
+            }
