@@ -62,3 +62,4 @@ pub mod KeyedLabels
 pub mod Whole
 pub mod Dispatching
 pub mod MethodNodes
+pub mod ValueCalls
