@@ -58,3 +58,4 @@ pub mod ModuleOrder
 pub mod KnownTests
 pub mod KeyedTypes
 pub mod KeyedLabels
+pub mod FieldStores
