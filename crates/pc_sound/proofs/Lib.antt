@@ -59,3 +59,4 @@ pub mod KnownTests
 pub mod KeyedTypes
 pub mod KeyedLabels
 pub mod FieldStores
+pub mod Ranges
