@@ -162,7 +162,7 @@ module _ (m : Module) (inherits : Inherits (bases_of m) (classes_of m)) (listed 
           run : (known : HeapTyping → Type 0) → Stays known → (c : Callee) (values : List Value) (more : List NamedValue) → ((k : HeapTyping) → known k → IsFunction d k c × Suits (bases_of m) k (parameters_of m d.params) values more) → IsSafe Here env known (call_callee Step free parts c values more) (λ k v. HasType (bases_of m) k (returned m d) v)
           run known stays (calls_function f) values more h = record {
             run = λ k s s' events out knows st r.
-              (function_call_safe m inherits listed names declared outside outside_stays parts env known stays constants world i d lab exec f values more (h k knows).0.body (λ j x. suited_bound (bases_of m) j f.parameters (parameters_of m d.params) values more (h j x).0.parameters (h j x).1)).run k s s' events out knows st r;
+                (function_call_safe m inherits listed names declared outside outside_stays parts env known stays constants world i d lab exec f values more (h k knows).0.body (λ j x. suited_bound (bases_of m) j f.parameters (parameters_of m d.params) values more (h j x).0.parameters (h j x).1)).run k s s' events out knows st r;
           }
           run known stays (calls_class b) values more h = impossible_safe Here env _ _ _ λ k x. (h k x).0
           run known stays (calls_value v) values more h = impossible_safe Here env _ _ _ λ k x. (h k x).0

@@ -45,7 +45,7 @@ pub offer_quiet : (o : CallOffer) (offers : List CallOffer) → IsOffer o offers
 offer_quiet o [] h e = absurd h
 offer_quiet o (p ∷ ps) h e = elim h [
   | inl is ↦ let f = front_empty (p.at_callee ++ p.at_call) (all_codes ps) e in
-    (subst (λ x. x.at_callee ≡ []) is (front_empty p.at_callee p.at_call f), subst (λ x. x.at_call ≡ []) is (rest_empty p.at_callee p.at_call f))
+      (subst (λ x. x.at_callee ≡ []) is (front_empty p.at_callee p.at_call f), subst (λ x. x.at_call ≡ []) is (rest_empty p.at_callee p.at_call f))
   | inr r ↦ offer_quiet o ps r (rest_empty (p.at_callee ++ p.at_call) (all_codes ps) e)
 ]
 

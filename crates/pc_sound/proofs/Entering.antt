@@ -66,7 +66,7 @@ bound_local k f c (class_item p i ∷ rest) word x e = go (λ r. bound_local k f
     go others true e = grind (arith, e)
     go others false e = others e
 
-module_local : (m : Module) (word : List ℕ) (x : ℕ) → resolve_in_module m word ≡ res.Local x → ⊥
+pub module_local : (m : Module) (word : List ℕ) (x : ℕ) → resolve_in_module m word ≡ res.Local x → ⊥
 module_local m word x e = go (builtin_of word) (bound_first 0 0 0 m.items word) refl e
   where
     go : (b : Option Builtin) (o : Option Res) → bound_first 0 0 0 m.items word ≡ o → or_else (builtin_res b) (or_else o res.None) ≡ res.Local x → ⊥
@@ -167,7 +167,7 @@ module _ (m : Module) (constants : List Tree) (listed : Place → Type 0) where
       well = well;
       frame = entry_has_names (entry_texts owner d ++ texts (bound_by d.body)) (frame_of f arguments) names_are lab.free;
       locals = entry_holds (bases_of m) k (locals owner d) lab.marks.declared (resolve_among m (locals owner d)) fits_of.local (frame_of f arguments) (entries_of m owner d) arguments (map unbound (names_bound f.body)) (none_assigned (length (locals owner d))) refl args lab.lawful.entry
-        (record { each = λ word x t named e. absurd (none_is (length (locals owner d)) x t e) });
+          (record { each = λ word x t named e. absurd (none_is (length (locals owner d)) x t e) });
       outside = world;
     }
       where

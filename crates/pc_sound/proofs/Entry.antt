@@ -229,13 +229,13 @@ module _ (bases : Bases) (k : HeapTyping) (names : List (List ℕ)) (declared : 
           each : (word : List ℕ) (y : ℕ) (t : Tree) → index_of word names ≡ Some y → current (assign env x p.type) y ≡ Some t → HasLocal bases k declared frame word y t
           each word y t named e = elim (assigned_cases env x p.type y t e) [
             | inl a ↦
-              let same = index_same word p.name names x (named ∙ ap Some a.0) (local p.name x is) in
-              record {
-                value = args.0.value;
-                is = subst (λ w. local_of w frame ≡ Some (Some args.0.value)) (sym same) here;
-                now = subst (λ u. HasType bases k u args.0.value) (sym a.1) args.0.has;
-                always = subst (λ u. HasType bases k u args.0.value) (sym (ap (declared_type declared) a.0 ∙ d)) args.0.has;
-              }
+                let same = index_same word p.name names x (named ∙ ap Some a.0) (local p.name x is) in
+                record {
+                  value = args.0.value;
+                  is = subst (λ w. local_of w frame ≡ Some (Some args.0.value)) (sym same) here;
+                  now = subst (λ u. HasType bases k u args.0.value) (sym a.1) args.0.has;
+                  always = subst (λ u. HasType bases k u args.0.value) (sym (ap (declared_type declared) a.0 ∙ d)) args.0.has;
+                }
             | inr o ↦ locals.each word y t named o.is
           ]
 

@@ -252,9 +252,13 @@ module _ (bases : Bases) (k : HeapTyping) (named : List NamedValue) (words : Lis
   pub suited_fills : (before : List (List ℕ)) (ps : List Parameter) (vs : List Value) → Distinct before ps → PositionalHave bases k ps vs → ((word : List ℕ) → is_among word words ≡ true → is_free (length vs) (position_of ps word) ≡ true) → NamedBehind bases k [] ps named → are_filled words (parameter_names (take (length vs) ps)) (drop (length vs) ps) ≡ true → Fills bases k ps vs named
   suited_fills before ps [] distinct positional free have all_filled = rest_fills before ps distinct (λ word w q new e f. have word w q refl e f) all_filled
   suited_fills before [] (v ∷ vs) distinct positional free have all_filled = absurd positional
-  suited_fills before (p ∷ ps) (v ∷ vs) distinct positional free have all_filled =
-      (positional.0, (none (value_named p.name named) refl,
-      suited_fills (p.name ∷ before) ps vs distinct.1 positional.1 behind_free behind (fewer_before words (parameter_names (take (length vs) ps)) p.name (drop (length vs) ps) all_filled)))
+  suited_fills before (p ∷ ps) (v ∷ vs) distinct positional free have all_filled = (
+    positional.0,
+    (
+      none (value_named p.name named) refl,
+      suited_fills (p.name ∷ before) ps vs distinct.1 positional.1 behind_free behind (fewer_before words (parameter_names (take (length vs) ps)) p.name (drop (length vs) ps) all_filled),
+    ),
+  )
     where
       other : (word : List ℕ) → is_among word words ≡ true → bytes_eq word p.name ≡ false
       other word among = go (bytes_eq word p.name) refl

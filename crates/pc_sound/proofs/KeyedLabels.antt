@@ -42,8 +42,7 @@ abbrev pub MethodsKeyed : List Method → Type 0
 MethodsKeyed [] = Unit {0}
 MethodsKeyed (m ∷ ms) = (ParametersKeyed m.parameters × IsKeyed m.returns) × MethodsKeyed ms
 
-pub record ContextKeyed (ctx : Context) (declared : List Tree) : Type 0 where
-  pub locals : (x : ℕ) → IsKeyed (declared_type declared x)
+pub record ContextKeyed (ctx : Context) : Type 0 where
   pub constants : (i : ℕ) (t : Tree) → slice_get ctx.constants i ≡ Some t → IsKeyed t
   pub functions : (i : ℕ) (s : Signature) → slice_get ctx.functions i ≡ Some s → SignatureKeyed s
   pub fields : (c : ℕ) → ParametersKeyed (class_at ctx.classes c).fields
@@ -485,7 +484,7 @@ module _ (ctx : Context) (declared : List Tree) where
   second_timely env seat (more_exprs e no_exprs) m law t = refl
   second_timely env seat (more_exprs e (more_exprs f rest)) m law t = t env (seat 1).want m.rest.first law.rest.first
 
-  module _ (keyed : ContextKeyed ctx declared) where
+  module _ (keyed : ContextKeyed ctx) where
     local_mark_keyed : (o : Option Tree) → OptionKeyed o → IsKeyed (local_mark o).type
     local_mark_keyed None h = tt
     local_mark_keyed (Some t) h = h
@@ -502,8 +501,8 @@ module _ (ctx : Context) (declared : List Tree) where
     error_keyed true = tt
     error_keyed false = tt
 
-    name_keyed : (env : Env) → EnvKeyed env → (r : Res) → IsKeyed (name_mark ctx env r).type
-    name_keyed env h (res.Local x) = local_mark_keyed (current env x) (some_keyed (current env x) (h x))
+    name_keyed : (env : Env) → EnvKeyed declared env → (r : Res) → IsKeyed (name_mark ctx env r).type
+    name_keyed env h (res.Local x) = local_mark_keyed (current env x) (some_keyed (current env x) (λ t e. (h x t e).0))
     name_keyed env h (res.Const i) = constant_mark_keyed (slice_get ctx.constants i) (some_keyed (slice_get ctx.constants i) (keyed.constants i))
     name_keyed env h (res.Func i) = error_keyed ctx.in_body
     name_keyed env h (res.Class c) = error_keyed (nat_lt c ctx.known)
@@ -520,7 +519,7 @@ module _ (ctx : Context) (declared : List Tree) where
     function_keyed g None h = ((tt, tt), tt)
     function_keyed g (Some s) h = called_keyed g s (h s refl)
 
-    name_callee_keyed : (env : Env) → EnvKeyed env → (g : Given) (r : Res) → CalleeKeyed (name_callee ctx env g r)
+    name_callee_keyed : (env : Env) → EnvKeyed declared env → (g : Given) (r : Res) → CalleeKeyed (name_callee ctx env g r)
     name_callee_keyed env h g (res.Func i) = go ctx.in_body
       where
         go : (x : Test) → CalleeKeyed (if x then good_callee (function_offer g (slice_get ctx.functions i) ∷ []) else value_callee (in_error E03))
@@ -554,7 +553,7 @@ module _ (ctx : Context) (declared : List Tree) where
     value_or_late m h true = value_callee_keyed m h
     value_or_late m h false = value_callee_keyed (in_error E03) tt
 
-    callee_keyed : (env : Env) → EnvKeyed env → (g : Given) (e : Expr) (m : Marks e) → Keyed e m → CalleeKeyed (callee_of ctx env g e m)
+    callee_keyed : (env : Env) → EnvKeyed declared env → (g : Given) (e : Expr) (m : Marks e) → Keyed e m → CalleeKeyed (callee_of ctx env g e m)
     callee_keyed env h g (name n) m k = name_callee_keyed env h g (ctx.resolve n.text)
     callee_keyed env h g (attribute p e field) m k = go ctx.in_body
       where
@@ -581,7 +580,7 @@ module _ (ctx : Context) (declared : List Tree) where
 
     -- the labels of a lawfully labelled expression
     mutual
-      pub labels_keyed : (env : Env) → EnvKeyed env → (want : Option Tree) → OptionKeyed want → (e : Expr) → Timely e → (m : Marks e) → Lawful ctx declared env want e m → Keyed e m
+      pub labels_keyed : (env : Env) → EnvKeyed declared env → (want : Option Tree) → OptionKeyed want → (e : Expr) → Timely e → (m : Marks e) → Lawful ctx declared env want e m → Keyed e m
       labels_keyed env ek want wk (name n) t m law = so_typed law (name_keyed env ek (ctx.resolve n.text))
       labels_keyed env ek want wk (number p d) t m law = so_typed law tt
       labels_keyed env ek want wk (text p d) t m law = so_typed law tt
@@ -610,11 +609,11 @@ module _ (ctx : Context) (declared : List Tree) where
       labels_keyed env ek want wk (is_not_none p e) t m law = (so_typed law.here tt, labels_keyed env ek None tt e t m.operand law.operand)
       labels_keyed env ek want wk (conjunction p l r) t m law =
           let k = labels_keyed env ek None tt l t.0 m.left law.left in
-          let h = labels_keyed (narrow ctx.bases declared ctx.resolve true l env) (narrow_keyed ctx.bases declared ctx.resolve keyed.locals true l env ek) None tt r t.1 m.right law.right in
+          let h = labels_keyed (narrow ctx.bases declared ctx.resolve true l env) (narrow_keyed ctx.bases declared ctx.resolve true l env ek) None tt r t.1 m.right law.right in
           (so_typed law.here (either_keyed ctx.bases (type_of l m.left) (type_of r m.right) (keyed_type l m.left k) (keyed_type r m.right h)), (k, h))
       labels_keyed env ek want wk (disjunction p l r) t m law =
           let k = labels_keyed env ek None tt l t.0 m.left law.left in
-          let h = labels_keyed (narrow ctx.bases declared ctx.resolve false l env) (narrow_keyed ctx.bases declared ctx.resolve keyed.locals false l env ek) None tt r t.1 m.right law.right in
+          let h = labels_keyed (narrow ctx.bases declared ctx.resolve false l env) (narrow_keyed ctx.bases declared ctx.resolve false l env ek) None tt r t.1 m.right law.right in
           (so_typed law.here (either_keyed ctx.bases (type_of l m.left) (type_of r m.right) (keyed_type l m.left k) (keyed_type r m.right h)), (k, h))
       labels_keyed env ek want wk (attribute p e n) t m law =
           let k = labels_keyed env ek None tt e t m.object law.object in
@@ -632,14 +631,14 @@ module _ (ctx : Context) (declared : List Tree) where
             (subst (Keyed c) (sym law.callee) (with_keyed c law.value (callee_of ctx env (given args kws) c law.value).mark value callee.0), (items, named)),
           )
 
-      items_keyed : (env : Env) → EnvKeyed env → (seat : ℕ → Seat) → ((i : ℕ) → OptionKeyed (seat i).want) → (es : Exprs) → ItemsTimely es → (m : ItemsMarks es) → LawfulItems ctx declared env seat es m → ItemsKeyed es m
+      items_keyed : (env : Env) → EnvKeyed declared env → (seat : ℕ → Seat) → ((i : ℕ) → OptionKeyed (seat i).want) → (es : Exprs) → ItemsTimely es → (m : ItemsMarks es) → LawfulItems ctx declared env seat es m → ItemsKeyed es m
       items_keyed env ek seat sk no_exprs t m law = tt
       items_keyed env ek seat sk (more_exprs e rest) t m law = (labels_keyed env ek (seat 0).want (sk 0) e t.0 m.first law.first, items_keyed env ek (λ i. seat (suc i)) (λ i. sk (suc i)) rest t.1 m.rest law.rest)
 
-      entries_keyed : (env : Env) → EnvKeyed env → (k v : Seat) → OptionKeyed k.want → OptionKeyed v.want → (es : Entries) → EntriesTimely es → (m : EntriesMarks es) → LawfulEntries ctx declared env k v es m → EntriesKeyed es m
+      entries_keyed : (env : Env) → EnvKeyed declared env → (k v : Seat) → OptionKeyed k.want → OptionKeyed v.want → (es : Entries) → EntriesTimely es → (m : EntriesMarks es) → LawfulEntries ctx declared env k v es m → EntriesKeyed es m
       entries_keyed env ek k v kk vk no_entries t m law = tt
       entries_keyed env ek k v kk vk (more_entries a b rest) t m law = (labels_keyed env ek k.want kk a t.0 m.key law.key, (labels_keyed env ek v.want vk b t.1.0 m.value law.value, entries_keyed env ek k v kk vk rest t.1.1 m.rest law.rest))
 
-      keywords_keyed : (env : Env) → EnvKeyed env → (seat : List ℕ → Seat) → (before : List (List ℕ)) → ((before : List (List ℕ)) (n : Name) → OptionKeyed (keyword_seat seat before n).want) → (es : Keywords) → KeywordsTimely es → (m : KeywordsMarks es) → LawfulKeywords ctx declared env seat before es m → KeywordsKeyed es m
+      keywords_keyed : (env : Env) → EnvKeyed declared env → (seat : List ℕ → Seat) → (before : List (List ℕ)) → ((before : List (List ℕ)) (n : Name) → OptionKeyed (keyword_seat seat before n).want) → (es : Keywords) → KeywordsTimely es → (m : KeywordsMarks es) → LawfulKeywords ctx declared env seat before es m → KeywordsKeyed es m
       keywords_keyed env ek seat before sk no_keywords t m law = tt
       keywords_keyed env ek seat before sk (more_keywords n e rest) t m law = (labels_keyed env ek (keyword_seat seat before n).want (sk before n) e t.0 m.first law.first, keywords_keyed env ek seat (n.text ∷ before) sk rest t.1 m.rest law.rest)

@@ -210,12 +210,15 @@ module _ (bases : Bases) where
 
 -- ---- environments
 
--- each current type is keyed
-abbrev pub EnvKeyed : Env → Type 0
-EnvKeyed env = (x : ℕ) (t : Tree) → current env x ≡ Some t → IsKeyed t
+-- each current type is keyed, and the declared type of each assigned local
+abbrev pub EnvKeyed : List Tree → Env → Type 0
+EnvKeyed declared env = (x : ℕ) (t : Tree) → current env x ≡ Some t → IsKeyed t × IsKeyed (declared_type declared x)
 
-pub assign_keyed : (env : Env) (x : ℕ) (t : Tree) → EnvKeyed env → IsKeyed t → EnvKeyed (assign env x t)
-assign_keyed env x t h k y u e = elim (assigned_cases env x t y u e) [ inl a ↦ subst IsKeyed (sym a.1) k | inr o ↦ h y u o.is ]
+pub assign_keyed : (declared : List Tree) (env : Env) (x : ℕ) (t : Tree) → EnvKeyed declared env → IsKeyed t → IsKeyed (declared_type declared x) → EnvKeyed declared (assign env x t)
+assign_keyed declared env x t h k d y u e = elim (assigned_cases env x t y u e) [
+  | inl a ↦ (subst IsKeyed (sym a.1) k, subst (λ z. IsKeyed (declared_type declared z)) (sym a.0) d)
+  | inr o ↦ h y u o.is
+]
 
 abbrev TestOptionKeyed : Option Tested → Type 0
 TestOptionKeyed None = Unit {0}
@@ -229,7 +232,7 @@ test_named_keyed (res.Builtin builtin.Bool) = tt
 test_named_keyed (res.Builtin builtin.List) = tt
 test_named_keyed _ = tt
 
-module _ (bases : Bases) (declared : List Tree) (resolve : List ℕ → Res) (declared_keyed : (x : ℕ) → IsKeyed (declared_type declared x)) where
+module _ (bases : Bases) (declared : List Tree) (resolve : List ℕ → Res) where
   test_keyed : (e : Expr) → TestOptionKeyed (test_of resolve e)
   test_keyed (name n) = test_named_keyed (resolve n.text)
   test_keyed _ = tt
@@ -238,25 +241,27 @@ module _ (bases : Bases) (declared : List Tree) (resolve : List ℕ → Res) (de
   argument_keyed None = tt
   argument_keyed (Some e) = test_keyed e
 
-  pub join_env_keyed : (left right : Env) → EnvKeyed left → EnvKeyed right → EnvKeyed (join_env bases declared left right)
+  pub join_env_keyed : (left right : Env) → EnvKeyed declared left → EnvKeyed declared right → EnvKeyed declared (join_env bases declared left right)
   join_env_keyed left right h k x t e =
       let m = met bases declared left right x t e in
-      subst IsKeyed m.is (join_or_keyed bases m.first m.second (declared_type declared x) (h x m.first m.is_left) (k x m.second m.is_right) (declared_keyed x))
+      let l = h x m.first m.is_left in
+      let r = k x m.second m.is_right in
+      (subst IsKeyed m.is (join_or_keyed bases m.first m.second (declared_type declared x) l.0 r.0 l.1), l.1)
 
-  narrow_local_keyed : (holds : Test) (test : Tested) → IsKeyedTest test → (x : Option ℕ) (env : Env) → EnvKeyed env → EnvKeyed (narrow_local bases holds test x env)
+  narrow_local_keyed : (holds : Test) (test : Tested) → IsKeyedTest test → (x : Option ℕ) (env : Env) → EnvKeyed declared env → EnvKeyed declared (narrow_local bases holds test x env)
   narrow_local_keyed holds test k None env h = h
   narrow_local_keyed holds test k (Some x) env h = go (current env x) refl
     where
-      go : (o : Option Tree) → current env x ≡ o → EnvKeyed (narrow_current bases holds test x env o)
+      go : (o : Option Tree) → current env x ≡ o → EnvKeyed declared (narrow_current bases holds test x env o)
       go None e = h
-      go (Some t) e = assign_keyed env x (tested_as bases holds test t) h (tested_as_keyed bases holds test k t (h x t e))
+      go (Some t) e = assign_keyed declared env x (tested_as bases holds test t) h (tested_as_keyed bases holds test k t (h x t e).0) (h x t e).1
 
-  narrow_instance_keyed : (holds is_test : Test) (x : Option ℕ) (test : Option Tested) → TestOptionKeyed test → (env : Env) → EnvKeyed env → EnvKeyed (narrow_instance bases declared resolve holds is_test x test env)
+  narrow_instance_keyed : (holds is_test : Test) (x : Option ℕ) (test : Option Tested) → TestOptionKeyed test → (env : Env) → EnvKeyed declared env → EnvKeyed declared (narrow_instance bases declared resolve holds is_test x test env)
   narrow_instance_keyed holds false x test k env h = h
   narrow_instance_keyed holds true x None k env h = h
   narrow_instance_keyed holds true x (Some test) k env h = narrow_local_keyed holds test k x env h
 
-  pub narrow_keyed : (holds : Test) (e : Expr) (env : Env) → EnvKeyed env → EnvKeyed (narrow bases declared resolve holds e env)
+  pub narrow_keyed : (holds : Test) (e : Expr) (env : Env) → EnvKeyed declared env → EnvKeyed declared (narrow bases declared resolve holds e env)
   narrow_keyed holds (is_none p e) env h = narrow_local_keyed holds for_none tt (local_named resolve e) env h
   narrow_keyed holds (is_not_none p e) env h = narrow_local_keyed (not holds) for_none tt (local_named resolve e) env h
   narrow_keyed holds (negation p e) env h = narrow_keyed (not holds) e env h

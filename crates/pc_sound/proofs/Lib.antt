@@ -55,8 +55,11 @@ pub mod CallNodes
 pub mod Proceeding
 pub mod Binds
 pub mod ModuleOrder
+pub mod Items
 pub mod KnownTests
 pub mod KeyedTypes
 pub mod KeyedLabels
 pub mod FieldStores
 pub mod Ranges
+pub mod Whole
+pub mod Dispatching

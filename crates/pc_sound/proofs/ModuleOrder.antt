@@ -21,6 +21,7 @@ use Rattle.pc_class.specs.Bases.{bases_of}
 use Rattle.pc_class.specs.Facts.{parameters_of, classes_of}
 use Rattle.pc_expr.specs.Labels.{Flowing, Marks, mark_of, type_of, Finds, IsFlowAt, IsCodeAt}
 use Rattle.pc_expr.specs.Context.{Flows, FlowsInto}
+use Rattle.pc_expr.specs.Lawful.{Lawful}
 use Rattle.pc_expr.specs.Signatures.{initializer_context, literal_type, literal_place, LawfulDefault, DefaultFinds, binds_parameter, ParamsMarks, LawfulParams, ParamsFind}
 use Rattle.pc_check.specs.Modules.{constant_type, annotated_types, first_of_types, binds_item, ItemMarks, LawfulItem, Before}
 use Rattle.pc_value.specs.Value as value
@@ -43,7 +44,7 @@ use Rattle.pc_sound.proofs.Leading.{Known, Promised, ends_as}
 use Rattle.pc_sound.proofs.Expressions.{Covered, GoodEval}
 use Rattle.pc_sound.proofs.Flows.{Evaluates, flow_safe}
 use Rattle.pc_sound.proofs.Keys.{Keyed}
-use Rattle.pc_sound.proofs.Binding.{atom_flow, one_flow}
+use Rattle.pc_sound.proofs.Binding.{IsAtom, atom_flow, one_flow}
 use Rattle.pc_sound.proofs.World.{DefaultHas, DefaultsHave, MadeOf, made_later, ClassIs, class_later, ConstantIs, FunctionIs}
 use Rattle.pc_sound.proofs.Proceeding.{Arrives, Proceeds, proceeds_bind, proceeds_comes, proceeds_looks, proceeds_changes, proceeds_charge, proceeds_as}
 use Rattle.pc_sound.proofs.Binds.{bound_more, bound_new, bound_other, get_one_more}
@@ -109,8 +110,8 @@ module _ (m : Module) where
       constant word i u r e = elim (get_one_more types t i u e) [
         | inl old ↦ let c = w.constant word i u r old in record { value = c.value; is = bound_more word globals (record { name = name; is = a_value v }) (a_value c.value) c.is; has = c.has }
         | inr here ↦
-          let same = means word (r ∙ ap res.Const here.0) in
-          record { value = v; is = bound_new word globals (record { name = name; is = a_value v }) (subst (λ x. global_of x globals ≡ None) same (w.fresh name new)) same; has = subst (λ x. HasType (bases_of m) k x v) here.1 has }
+            let same = means word (r ∙ ap res.Const here.0) in
+            record { value = v; is = bound_new word globals (record { name = name; is = a_value v }) (subst (λ x. global_of x globals ≡ None) same (w.fresh name new)) same; has = subst (λ x. HasType (bases_of m) k x v) here.1 has }
       ]
 
   -- one more function
@@ -129,8 +130,8 @@ module _ (m : Module) where
       function word i e r at = elim (get_one_more defs d i e at) [
         | inl old ↦ let g = w.function word i e r old in record { function = g.function; is = bound_more word globals (record { name = name; is = a_function f }) (a_function g.function) g.is; made = g.made }
         | inr here ↦
-          let same = means word (r ∙ ap res.Func here.0) in
-          record { function = f; is = bound_new word globals (record { name = name; is = a_function f }) (subst (λ x. global_of x globals ≡ None) same (w.fresh name new)) same; made = subst (λ x. MadeOf m k f x) here.1 is_made }
+            let same = means word (r ∙ ap res.Func here.0) in
+            record { function = f; is = bound_new word globals (record { name = name; is = a_function f }) (subst (λ x. global_of x globals ≡ None) same (w.fresh name new)) same; made = subst (λ x. MadeOf m k f x) here.1 is_made }
       ]
 
   -- one more class
@@ -192,11 +193,17 @@ module _ (m : Module) where
         go : (k : HeapTyping) (s s' : State) (events : List Place) (out : Out A) → Between types defs n names k s → step s events out s' → HasListed listed events ⊎ Arrives (λ k a s. Between types defs n names k s × P k a) out s'
         go k s s' events out b r = elim (safe.run k s s' events out tt (stands_between types defs n names k s b) r) [
           | inl e ↦ inl e
-          | inr g ↦ inr (record { typing = g.typing; ends = ends_as (P g.typing) (λ a. Between types defs n names g.typing s' × P g.typing a) out (λ a p. (record {
-            well = g.well;
-            frame = g.same_frame ∙ b.frame;
-            bound = subst (λ x. BoundSoFar types defs n names g.typing x s'.globals) (sym g.same_classes) (subst (λ x. BoundSoFar types defs n names g.typing s.classes x) (sym g.same_globals) (bound_later types defs n names k g.typing s.classes s.globals g.grows b.bound));
-          }, p)) g.ends })
+          | inr g ↦ inr (record {
+            typing = g.typing;
+            ends = ends_as (P g.typing) (λ a. Between types defs n names g.typing s' × P g.typing a) out (λ a p. (
+              record {
+                well = g.well;
+                frame = g.same_frame ∙ b.frame;
+                bound = subst (λ x. BoundSoFar types defs n names g.typing x s'.globals) (sym g.same_classes) (subst (λ x. BoundSoFar types defs n names g.typing s.classes x) (sym g.same_globals) (bound_later types defs n names k g.typing s.classes s.globals g.grows b.bound));
+              },
+              p,
+            )) g.ends;
+          })
         ]
 
     -- an action that leaves the heap as it is
@@ -218,3 +225,81 @@ module _ (m : Module) where
       literal_made (text_literal p bytes) = proceeds_comes listed before (Gives (string (chars bytes))) _ λ k s b. (b, tt)
       literal_made (truth_literal p t) = proceeds_comes listed before (Gives (boolean t)) _ λ k s b. (b, tt)
       literal_made (none_literal p) = proceeds_comes listed before (Gives value.none) _ λ k s b. (b, tt)
+
+    -- ---- defs
+
+    literal_atom : (l : Literal) → IsAtom (literal_type l)
+    literal_atom (number_literal p digits) = tt
+    literal_atom (negative_literal p digits) = tt
+    literal_atom (text_literal p bytes) = tt
+    literal_atom (truth_literal p t) = tt
+    literal_atom (none_literal p) = tt
+
+    code_found : (p : Place) (code : Option Code) (c : Code) → code ≡ Some c → IsCodeAt p code (finding p c)
+    code_found p None c e = absurd (none_here e)
+    code_found p (Some x) c e = ap (finding p) (sym (some_same e))
+      where
+        some_same : Some x ≡ Some c → x ≡ c
+        some_same e = grind arith
+
+    -- each finding is a listed dynamic place
+    abbrev pub Listed : (Finding → Type 0) → Type 0
+    Listed finds = (f : Finding) → finds f → listed f.place × (¬ (IsError f.code))
+
+    module _ (before : Known) where
+      -- a default is of the type that it flows into
+      default_made : (l : Option Literal) (t : Tree) (code : Option Code) → LawfulDefault (bases_of m) true l t code → Listed (DefaultFinds l code) → Proceeds listed before (make_default Step free l) (λ k v s. before k s × DefaultHas (bases_of m) k t (is_some l) v)
+      default_made None t code law clean = proceeds_comes listed before (Gives None) _ λ k s b. (b, tt)
+      default_made (Some l) t code law clean =
+          let below = atom_flow (bases_of m) (literal_type l) t code (literal_atom l) law (λ d e. (clean (finding (literal_place l) d) (code_found (literal_place l) code d e)).1) in
+          proceeds_bind listed before _ _ (λ k v s. before k s × HasType (bases_of m) k (literal_type l) v) _ (literal_made before l)
+          λ v. proceeds_comes listed _ (Gives (Some v)) _ λ k s b. (b.0, of_static (bases_of m) k (literal_type l) t below v b.1)
+
+    -- no parameter's name stands twice or is reserved
+    abbrev pub ParametersBind : List (List ℕ) → List Param → Type 0
+    ParametersBind names [] = Unit {0}
+    ParametersBind names (p ∷ ps) = (binds_parameter names p.name ≡ true) × ParametersBind (p.name.text ∷ names) ps
+
+    -- the parameters of a def, with their defaults
+    parameters_made : (before : Known) (names : List (List ℕ)) (ps : List Param) (marks : ParamsMarks ps) → LawfulParams m names ps marks → ParametersBind names ps → Listed (ParamsFind m ps marks) → Proceeds listed before (make_parameters Step free ps) (λ k qs s. before k s × DefaultsHave (bases_of m) k qs (parameters_of m ps))
+    parameters_made before names [] marks law binds clean = proceeds_comes listed before (Gives []) _ λ k s b. (b, tt)
+    parameters_made before names (p ∷ ps) marks law binds clean =
+        proceeds_bind listed before _ _ (λ k v s. before k s × DefaultHas (bases_of m) k (read_option m (bases_of m) p.annotation) (is_some p.default) v) _
+        (default_made before p.default (read_option m (bases_of m) p.annotation) marks.default (subst (λ b. LawfulDefault (bases_of m) b p.default (read_option m (bases_of m) p.annotation) marks.default) binds.0 law.default) (λ f h. clean f (inr (inl h))))
+        λ v. proceeds_bind listed _ _ _ (λ k qs s. (before k s × DefaultHas (bases_of m) k (read_option m (bases_of m) p.annotation) (is_some p.default) v) × DefaultsHave (bases_of m) k qs (parameters_of m ps)) _
+        (parameters_made (λ k s. before k s × DefaultHas (bases_of m) k (read_option m (bases_of m) p.annotation) (is_some p.default) v) (p.name.text ∷ names) ps marks.rest law.rest binds.1 (λ f h. clean f (inr (inr h))))
+        λ qs. proceeds_comes listed _ (Gives (record { name = p.name.text; default = v } ∷ qs)) _ λ k s b. (b.0.0, (refl, (b.0.1, b.1)))
+
+    -- a def makes its function
+    pub function_made : (before : Known) (names : List (List ℕ)) (d : FuncDef) (marks : ParamsMarks d.params) → LawfulParams m names d.params marks → ParametersBind names d.params → Listed (ParamsFind m d.params marks) → Proceeds listed before (make_function Step free d) (λ k f s. before k s × MadeOf m k f d)
+    function_made before names d marks law binds clean =
+        proceeds_bind listed before _ _ (λ k qs s. before k s × DefaultsHave (bases_of m) k qs (parameters_of m d.params)) _ (parameters_made before names d.params marks law binds clean)
+        λ qs. proceeds_comes listed _ (Gives (record { name = d.name; parameters = qs; body = d.body })) _ λ k s b. (b.0, record { name = refl; body = refl; parameters = b.1 })
+
+    -- ---- items
+
+    module _ (parts : Parts Step) (imports : Test) (types : List Tree) (defs : List FuncDef) (n : ℕ) (names : List (List ℕ)) where
+      -- a def binds its name
+      pub def_proceeds : (p : Place) (d : FuncDef) (marks : ParamsMarks d.params) → LawfulParams m [] d.params marks → ParametersBind [] d.params → Listed (ParamsFind m d.params marks) → ((word : List ℕ) → resolve_in_module m word ≡ res.Func (length defs) → d.name.text ≡ word) → is_among d.name.text names ≡ false → is_reserved d.name.text ≡ false
+          → Proceeds listed (λ k s. Between types defs n names k s) (exec_item Step free parts imports (def_item p d)) (λ k u s. Between types (defs ++ d ∷ []) n (d.name.text ∷ names) k s)
+      def_proceeds p d marks law binds clean means new unreserved =
+          proceeds_bind listed _ _ _ (λ k f s. Between types defs n names k s × MadeOf m k f d) _ (function_made (λ k s. Between types defs n names k s) [] d marks law binds clean)
+          λ f. proceeds_changes listed _ (binds_global d.name.text (a_function f)) _ λ k s b. record { well = b.0.well; frame = b.0.frame; bound = bound_function types defs n names k s.classes s.globals d.name.text d f means new unreserved b.1 b.0.bound }
+
+      -- a constant binds its name to a value of its type
+      pub constant_proceeds : (p : Place) (c : Constant) (marks : Marks c.value) (flows : Flowing) → GoodEval (around_items types defs n names) (initializer_context m types n) parts.eval → ((e : Expr) → Evaluates (place_of e) (parts.eval e))
+          → Lawful (initializer_context m types n) [] [] (first_of_types (annotated_types m true c.annotation)) c.value marks → FlowsInto (bases_of m) (mark_of c.value marks) (annotated_types m true c.annotation) flows
+          → Listed (λ f. IsFlowAt (place_of c.value) flows f ⊎ Finds c.value marks f) → Keyed c.value marks
+          → ((word : List ℕ) → resolve_in_module m word ≡ res.Const (length types) → c.name.text ≡ word) → is_among c.name.text names ≡ false → is_reserved c.name.text ≡ false
+          → Proceeds listed (λ k s. Between types defs n names k s) (exec_item Step free parts imports (constant_item p c)) (λ k u s. Between (types ++ constant_type m c.annotation (type_of c.value marks) ∷ []) defs n (c.name.text ∷ names) k s)
+      constant_proceeds p c marks flows good evaluates law flow clean keyed means new unreserved =
+          proceeds_bind listed _ _ _ (λ k u s. Between types defs n names k s) _ (proceeds_charge listed _)
+          λ u. proceeds_bind listed _ _ _ (λ k v s. Between types defs n names k s × HasType (bases_of m) k (constant_type m c.annotation (type_of c.value marks)) v) _
+          (proceeds_safe types defs n names (parts.eval c.value) (λ k v. HasType (bases_of m) k (constant_type m c.annotation (type_of c.value marks)) v) (typed c.annotation law flow))
+          λ v. proceeds_changes listed _ (binds_global c.name.text (a_value v)) _ λ k s b. record { well = b.0.well; frame = b.0.frame; bound = bound_constant types defs n names k s.classes s.globals c.name.text (constant_type m c.annotation (type_of c.value marks)) v means new unreserved b.1 b.0.bound }
+        where
+          typed : (a : Option Ann) → Lawful (initializer_context m types n) [] [] (first_of_types (annotated_types m true a)) c.value marks → FlowsInto (bases_of m) (mark_of c.value marks) (annotated_types m true a) flows → IsSafe (around_items types defs n names) [] (λ k. Unit {0}) (parts.eval c.value) (λ k v. HasType (bases_of m) k (constant_type m a (type_of c.value marks)) v)
+          typed None l fl = good.safe [] None c.value marks l (λ f h. clean f (inr h)) keyed
+          typed (Some a) l fl =
+              let one = one_flow (bases_of m) (mark_of c.value marks) (read_ann m (bases_of m) a) flows fl in
+              flow_safe (around_items types defs n names) (initializer_context m types n) parts.eval good evaluates [] (λ k. Unit {0}) (Some (read_ann m (bases_of m) a)) c.value marks (read_ann m (bases_of m) a) one.0 l (λ f h. clean f (inr h)) one.2 (subst (λ x. Covered (around_items types defs n names) (IsFlowAt (place_of c.value) x)) one.1 (λ f h. clean f (inl h))) keyed

@@ -54,10 +54,13 @@ module _ (listed : Place → Type 0) where
 
   pub proceeds_charge : (before : Known) → Proceeds listed before may_stop (λ k u s. before k s)
   proceeds_charge before = record {
-    run = λ k s s' events o b r. inr (record { typing = k; ends = elim r [
-      | inl g ↦ subst (EndsWell (λ a. before k s')) (sym g.is) (subst (λ x. before k x) (sym g.same) b)
-      | inr e ↦ elim e [ inl x ↦ subst (EndsWell (λ a. before k s')) (sym x.is) tt | inr x ↦ subst (EndsWell (λ a. before k s')) (sym x.is) tt ]
-    ] });
+    run = λ k s s' events o b r. inr (record {
+      typing = k;
+      ends = elim r [
+        | inl g ↦ subst (EndsWell (λ a. before k s')) (sym g.is) (subst (λ x. before k x) (sym g.same) b)
+        | inr e ↦ elim e [ inl x ↦ subst (EndsWell (λ a. before k s')) (sym x.is) tt | inr x ↦ subst (EndsWell (λ a. before k s')) (sym x.is) tt ]
+      ];
+    });
   }
 
   pub proceeds_as : {A : Type 0} (before before' : Known) (m : Step A) (after after' : Promised A) → ((k : HeapTyping) (s : State) → before k s → before' k s) → ((k : HeapTyping) (a : A) (s : State) → after k a s → after' k a s) → Proceeds listed before' m after → Proceeds listed before m after'
