@@ -66,11 +66,11 @@ listed_keyed : (ts : Trees) → AreKeyed ts → Keyeds (listed ts)
 listed_keyed end h = tt
 listed_keyed (more t ts) h = (h.0, listed_keyed ts h.1)
 
-trees_keyed : (ts : List Tree) → Keyeds ts → AreKeyed (trees ts)
+pub trees_keyed : (ts : List Tree) → Keyeds ts → AreKeyed (trees ts)
 trees_keyed [] h = tt
 trees_keyed (t ∷ ts) h = (h.0, trees_keyed ts h.1)
 
-or_keyed : (o : Option Tree) (d : Tree) → OptionKeyed o → IsKeyed d → IsKeyed (unwrap_or o d)
+pub or_keyed : (o : Option Tree) (d : Tree) → OptionKeyed o → IsKeyed d → IsKeyed (unwrap_or o d)
 or_keyed None d h k = k
 or_keyed (Some t) d h k = h
 

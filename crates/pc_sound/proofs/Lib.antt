@@ -45,3 +45,4 @@ pub mod BuiltIns
 pub mod InstanceCalls
 pub mod KeyedTypes
 pub mod KeyedLabels
+pub mod KeyedModules
