@@ -46,3 +46,4 @@ pub mod InstanceCalls
 pub mod KeyedTypes
 pub mod KeyedLabels
 pub mod KeyedModules
+pub mod KeyedSuites
