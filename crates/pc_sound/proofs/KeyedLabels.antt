@@ -479,7 +479,7 @@ module _ (ctx : Context) (declared : List Tree) where
     KeywordsTimely no_keywords = Unit {0}
     KeywordsTimely (more_keywords n e rest) = Timely e × KeywordsTimely rest
 
-  second_timely : (env : Env) (seat : ℕ → Seat) (es : Exprs) (m : ItemsMarks es) → LawfulItems ctx declared env seat es m → SecondTimely es → late_second es m ≡ false
+  pub second_timely : (env : Env) (seat : ℕ → Seat) (es : Exprs) (m : ItemsMarks es) → LawfulItems ctx declared env seat es m → SecondTimely es → late_second es m ≡ false
   second_timely env seat no_exprs m law t = refl
   second_timely env seat (more_exprs e no_exprs) m law t = refl
   second_timely env seat (more_exprs e (more_exprs f rest)) m law t = t env (seat 1).want m.rest.first law.rest.first

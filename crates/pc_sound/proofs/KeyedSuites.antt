@@ -4,7 +4,9 @@ use Rattle.std.proofs.Common.{◌≡◌, ℕ, zero, suc, List, [], ◌∷◌, �
 use Rattle.std.specs.Prelude.{◌⊎◌, Bool as Test, true, false, not, ◌||◌, if◌then◌else◌, Option, Some, None, bytes_eq, option_to_list, flat_map}
 use Rattle.std.specs.List.{list_any}
 use Rattle.std.proofs.lemmas.Slice.Eq.{bytes_eq-Decides}
+use Rattle.pc_source.specs.declared.place.Place.{Place}
 use Rattle.pc_tree.specs.declared.code.Code.{Code}
+use Rattle.pc_tree.specs.declared.code.Code.TheVariants.{A5}
 use Rattle.pc_tree.specs.Stopping.{bound_by, bound_by_stmt, bound_by_branches}
 use Rattle.pc_tree.specs.Tree.{Name, Expr, Exprs, Keywords, name, number, text, truth, nothing, tuple, list, dict, negative, negation, binary, compare, is_none, is_not_none, conjunction, disjunction, attribute, index, call, Target, to_name, to_attribute, to_index, Stmt, Stmts, Branches, pass, breaks, continues, returns, asserts, annotated, assigns, evaluates, while_loop, for_loop, conditional, no_stmts, more_stmts, no_branches, more_branches, Module}
 use Rattle.pc_scope.specs.declared.resolution.Res.{Res}
@@ -21,13 +23,14 @@ use Rattle.pc_flow.specs.Narrowing.{narrow}
 use Rattle.pc_expr.specs.Context.{Context}
 use Rattle.pc_class.specs.Facts.{Parameter, Method, field_of, method_of, class_at}
 use Rattle.pc_expr.specs.Operations.{Mark, clean, Offer, has_error, found_of, iterate_member, store_found, store_attribute_member, store_index_member, stored_type, stored_types, only_type}
+use Rattle.pc_expr.specs.Calls.{given, is_suited, builtin_signature, positional_seat, named_seat}
 use Rattle.pc_expr.specs.Labels.{Flowing, Marks, type_of}
 use Rattle.pc_expr.specs.Lawful.{Lawful}
 use Rattle.pc_check.specs.StatementLabels.{OptionMarks, TargetMarks, StmtMarks, SuiteMarks, BranchesMarks, Behind, BehindRule, breaks_in, breaks_in_suite, breaks_in_branches, behind_list, ways_in}
-use Rattle.pc_check.specs.Statements.{Seen, is_first, only_code, DeclaredAt, known_type, bound_env, LawfulBinding, LawfulStore, UndeclaredName, Undeclared}
+use Rattle.pc_check.specs.Statements.{Seen, is_first, only_code, range_offers, range_item, is_range, LawfulRange, LawfulValues, RangeOrValues, LawfulIterable, LawfulTarget, LawfulDeclaration, annotation_at, LawfulAnnotated, LawfulAssignment, LawfulReturn, LawfulOption, LawfulStmt, LawfulSuite, LawfulBranches, binds_number, DeclaredAt, known_type, bound_env, LawfulBinding, LawfulStore, UndeclaredName, Undeclared}
 use Rattle.pc_sound.proofs.Keys.{IsKeyed, Keyed, keyed_type}
 use Rattle.pc_sound.proofs.KeyedTypes.{OptionKeyed, EnvKeyed, assign_keyed, narrow_keyed, join_env_keyed, all_keyed}
-use Rattle.pc_sound.proofs.KeyedLabels.{ContextKeyed, Timely, Keyeds, FieldKeyed, field_keyed, append_keyed, labels_keyed}
+use Rattle.pc_sound.proofs.KeyedLabels.{ContextKeyed, Timely, Keyeds, FieldKeyed, field_keyed, append_keyed, key_keyed, listed_keyed, operation_keyed, called_keyed, call_keyed, positional_keyed, keyword_keyed, items_keyed, keywords_keyed, second_timely, labels_keyed}
 use Rattle.pc_sound.proofs.Indexing.{keyed_members}
 use Rattle.pc_sound.proofs.KeyedModules.{ann_keyed}
 use Rattle.pc_sound.proofs.KeyedStatements as keyed_statements
@@ -241,3 +244,90 @@ module _ (m : Module) (ctx : Context) (declared : List Tree) (keyed : ContextKey
   store_keyed env (to_index p o i) target e marks flows ek law =
       let k = labels_keyed ctx declared keyed env ek None tt o (timely o) target.object law.object in
       record { labels = labels_keyed ctx declared keyed env ek _ (stored_keyed store_index_member store_index_keyed (type_of o target.object) (keyed_type o target.object k)) e (timely e) marks law.value; target_keyed = (k, labels_keyed ctx declared keyed env ek None tt i (timely i) target.key law.key) }
+
+  -- ---- what a `for` goes over, and its target
+
+  record IterableKeyed (e : Expr) (marks : Marks e) (item : Mark) : Type 0 where
+    labels : Keyed e marks
+    item_keyed : IsKeyed item.type
+
+  iterate_keyed : (t : Tree) → IsKeyed t → IsKeyed (iterate_member ctx.bases t).gives
+  iterate_keyed (ListOf t) h = h
+  iterate_keyed (DictOf k v) h = key_keyed k h.0
+  iterate_keyed Str h = tt
+  iterate_keyed (TupleOf ts) h = all_keyed ctx.bases (listed ts) (listed_keyed ts h)
+  iterate_keyed _ h = tt
+
+  values_keyed : (env : Env) (e : Expr) (marks : Marks e) (item : Mark) → EnvKeyed declared env → LawfulValues m ctx declared env e marks item → IterableKeyed e marks item
+  values_keyed env e marks item ek law =
+      let k = labels_keyed ctx declared keyed env ek None tt e (timely e) marks law.0 in
+      record { labels = k; item_keyed = subst (λ x. IsKeyed x.type) (sym law.1) (operation_keyed ctx.bases (iterate_member ctx.bases) iterate_keyed (type_of e marks) (keyed_type e marks k)) }
+
+  range_keyed : (env : Env) (p : Place) (n : Name) (args : Exprs) (kws : Keywords) (marks : Marks (call p (name n) args kws)) (item : Mark) → EnvKeyed declared env → LawfulRange m ctx declared env (name n) args kws p marks → item ≡ range_item (given args kws) → IterableKeyed (call p (name n) args kws) marks item
+  range_keyed env p n args kws marks item ek law is =
+      let g = given args kws in
+      let offers = range_offers g in
+      let ok = called_keyed g (builtin_signature (Int ∷ []) Object) ((tt, tt), tt) in
+      let t = timely (call p (name n) args kws) in
+      record {
+        labels = (
+          (subst (λ x. IsKeyed x.type) (sym law.here) (call_keyed offers ok ctx.bases), λ test. second_timely ctx declared env (positional_seat offers) args marks.arguments law.arguments (t.0 test)),
+          (subst (λ x. IsKeyed x.type) (sym law.callee) tt,
+          (items_keyed ctx declared keyed env ek (positional_seat offers) (positional_keyed offers ok) args t.1.1.0 marks.arguments law.arguments,
+          keywords_keyed ctx declared keyed env ek (named_seat offers) [] (keyword_keyed offers ok) kws t.1.1.1 marks.keywords law.keywords))
+        );
+        item_keyed = subst (λ x. IsKeyed x.type) (sym is) (one (is_suited g (builtin_signature (Int ∷ []) Object)));
+      }
+    where
+      one : (b : Test) → IsKeyed (if b then clean Int else record { type = Any; codes = A5 ∷ [] }).type
+      one true = tt
+      one false = tt
+
+  call_iterable_keyed : (env : Env) (p : Place) (c : Expr) (args : Exprs) (kws : Keywords) (marks : Marks (call p c args kws)) (item : Mark) → EnvKeyed declared env → LawfulIterable m ctx declared env (call p c args kws) marks item → IterableKeyed (call p c args kws) marks item
+  call_iterable_keyed env p (name n) args kws marks item ek law = go (is_range (ctx.resolve n.text)) law
+    where
+      go : (b : Test) → RangeOrValues m ctx declared b (LawfulRange m ctx declared env (name n) args kws p marks × (item ≡ range_item (given args kws))) (LawfulValues m ctx declared env (call p (name n) args kws) marks item) → IterableKeyed (call p (name n) args kws) marks item
+      go true law = range_keyed env p n args kws marks item ek law.0 law.1
+      go false law = values_keyed env (call p (name n) args kws) marks item ek law
+  call_iterable_keyed env p c args kws marks item ek law = values_keyed env (call p c args kws) marks item ek law
+
+  iterable_keyed : (env : Env) (e : Expr) (marks : Marks e) (item : Mark) → EnvKeyed declared env → LawfulIterable m ctx declared env e marks item → IterableKeyed e marks item
+  iterable_keyed env (call p c args kws) marks item ek law = call_iterable_keyed env p c args kws marks item ek law
+  iterable_keyed env e marks item ek law = values_keyed env e marks item ek law
+
+  record TargetBound (n : Name) (inside : Env) : Type 0 where
+    name_keyed : NameKeyed n.text
+    env_keyed : EnvKeyed declared inside
+
+  for_target_keyed : (seen : Seen) (n : Name) (head : Env) (item : Mark) (flows : Flowing) (inside : Env) → EnvKeyed declared head → SeenKeyed seen → IsKeyed item.type → LawfulTarget m ctx declared seen n (ctx.resolve n.text) head item flows inside → TargetBound n inside
+  for_target_keyed seen n head item flows inside ek sk ik law = go (ctx.resolve n.text) refl law
+    where
+      elsewhere : (r : Res) → ctx.resolve n.text ≡ r → ((x : ℕ) → r ≡ res.Local x → ⊥) → inside ≡ head → TargetBound n inside
+      elsewhere r is other same = record { name_keyed = no_local_named n (λ x i. other x (sym is ∙ i)); env_keyed = subst (EnvKeyed declared) (sym same) ek }
+
+      go : (r : Res) → ctx.resolve n.text ≡ r → LawfulTarget m ctx declared seen n r head item flows inside → TargetBound n inside
+      go (res.Local x) is law =
+          let d = declared_keyed (is_first seen n) x None item.type tt ik (seen_first seen n x sk is) law.at_first in
+          record { name_keyed = local_named n x is d; env_keyed = subst (EnvKeyed declared) (sym law.inside_is) (bound_keyed head x item.type flows ek d ik) }
+      go (res.Const i) is law = elsewhere (res.Const i) is (λ x e. absurd (grind (arith, e))) law.1
+      go (res.Func i) is law = elsewhere (res.Func i) is (λ x e. absurd (grind (arith, e))) law.1
+      go (res.Class i) is law = elsewhere (res.Class i) is (λ x e. absurd (grind (arith, e))) law.1
+      go (res.Builtin b) is law = elsewhere (res.Builtin b) is (λ x e. absurd (grind (arith, e))) law.1
+      go res.None is law = elsewhere res.None is (λ x e. absurd (grind (arith, e))) law.1
+
+  -- ---- annotated names
+
+  declaration_keyed : (seen : Seen) (n : Name) (t : Tree) → SeenKeyed seen → IsKeyed t → LawfulDeclaration m ctx declared seen n (ctx.resolve n.text) t → NameKeyed n.text
+  declaration_keyed seen n t sk tk law = go (ctx.resolve n.text) refl law
+    where
+      go : (r : Res) → ctx.resolve n.text ≡ r → LawfulDeclaration m ctx declared seen n r t → NameKeyed n.text
+      go (res.Local x) is law = local_named n x is (declared_keyed (is_first seen n) x (Some t) t tk tk (seen_first seen n x sk is) law)
+      go (res.Const i) is law = no_local_named n (λ x e. absurd (grind (arith, sym is ∙ e)))
+      go (res.Func i) is law = no_local_named n (λ x e. absurd (grind (arith, sym is ∙ e)))
+      go (res.Class i) is law = no_local_named n (λ x e. absurd (grind (arith, sym is ∙ e)))
+      go (res.Builtin b) is law = no_local_named n (λ x e. absurd (grind (arith, sym is ∙ e)))
+      go res.None is law = no_local_named n (λ x e. absurd (grind (arith, sym is ∙ e)))
+
+  annotation_keyed : (first : Test) (t : Tree) → IsKeyed t → OptionKeyed (annotation_at m ctx declared first t)
+  annotation_keyed true t h = h
+  annotation_keyed false t h = tt
