@@ -63,3 +63,5 @@ pub mod FieldStores
 pub mod Ranges
 pub mod Whole
 pub mod Dispatching
+pub mod KeyedModules
+pub mod KeyedSuites
