@@ -65,3 +65,4 @@ pub mod Whole
 pub mod Dispatching
 pub mod KeyedModules
 pub mod KeyedSuites
+pub mod Forms
