@@ -66,3 +66,4 @@ pub mod Dispatching
 pub mod KeyedModules
 pub mod KeyedSuites
 pub mod Forms
+pub mod Classes
