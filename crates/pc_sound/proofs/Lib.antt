@@ -47,3 +47,4 @@ pub mod KeyedTypes
 pub mod KeyedLabels
 pub mod KeyedModules
 pub mod KeyedSuites
+pub mod TimelyBodies
