@@ -82,10 +82,13 @@ module _ (around : Around) (ctx : Context) (fits : Fits around ctx) where
     branches_run seen env (more_branches c b rest) marks last after o else_marks out law else_law covered else_covered keyed else_keyed wider e w1 w2 b1 b2 l1 l2 more lasts else_lasts =
         decided around ctx fits parts.eval decides more lasts.grow env c marks.condition _ _ _ law.condition (λ f h. covered f (inl h)) keyed.0
         (leads_to around _ _ (λ k flow s. FlowEnds around (ways_out around ctx m returned marks.out (breaks_in_suite b marks.body) (loose_in b)) k flow s × more k s.frame) _
-        (λ k flow s h. (flow_wider around ctx k s (ways_out around ctx m returned marks.out (breaks_in_suite b marks.body) (loose_in b)) wider e
-        (λ x i. w1 x (Contains-append_left (option_to_list marks.out) (ways_in rest marks.rest) x (option_among marks.out x i)))
-        (λ x i. b1 x (Contains-append_left (breaks_in_suite b marks.body) (breaks_in_branches rest marks.rest) x i))
-        (λ p i. l1 p (Contains-append_left (loose_in b) (loose_in_branches rest) p i)) flow h.0, h.1))
+        (λ k flow s h. (
+          flow_wider around ctx k s (ways_out around ctx m returned marks.out (breaks_in_suite b marks.body) (loose_in b)) wider e
+              (λ x i. w1 x (Contains-append_left (option_to_list marks.out) (ways_in rest marks.rest) x (option_among marks.out x i)))
+              (λ x i. b1 x (Contains-append_left (breaks_in_suite b marks.body) (breaks_in_branches rest marks.rest) x i))
+              (λ p i. l1 p (Contains-append_left (loose_in b) (loose_in_branches rest) p i)) flow h.0,
+          h.1,
+        ))
         (exec.runs seen (narrow ctx.bases around.declared ctx.resolve true c env) b marks.body marks.out law.body (λ f h. covered f (inr (inl h))) keyed.1.0 more (lasts_left around ctx (bound_by b) (bound_by_branches rest) lasts)))
         (branches_run (texts (bound_by b) ++ seen) (narrow ctx.bases around.declared ctx.resolve false c env) rest marks.rest last after o else_marks out law.others else_law (λ f h. covered f (inr (inr h))) else_covered keyed.1.1 else_keyed wider e
         (λ x i. w1 x (Contains-append_right (option_to_list marks.out) (ways_in rest marks.rest) x i)) w2

@@ -167,6 +167,14 @@ among_index word free before (t ∷ ts) e n = go (is_reserved t || is_among t be
           | inr m ↦ elim (or_cases (bytes_eq word t) (is_among word before) (later m.1 f.1)) [ inl c ↦ absurd (clash c f.0) | inr d ↦ d.1 ]
         ]
 
+-- a name that is not reserved has a number
+pub numbered : (word : List ℕ) (ts : List (List ℕ)) → is_among word ts ≡ true → is_reserved word ≡ false → (x : ℕ) × (index_of word (first_of_each [] ts) ≡ Some x)
+numbered word ts among free = go (index_of word (first_of_each [] ts)) refl
+  where
+    go : (o : Option ℕ) → index_of word (first_of_each [] ts) ≡ o → (x : ℕ) × (index_of word (first_of_each [] ts) ≡ Some x)
+    go None e = absurd (grind (arith, among_index word free [] ts among e))
+    go (Some x) e = (x, e)
+
 -- the frame has just the locals
 pub entry_has_names : (ts : List (List ℕ)) (frame : Frame) → frame_names frame ≡ ts → ((word : List ℕ) → is_among word ts ≡ true → is_reserved word ≡ false) → HasNames (first_of_each [] ts) frame
 entry_has_names ts frame e free = record {
@@ -193,11 +201,11 @@ ParametersHave bases k [] [] = Unit {0}
 ParametersHave bases k (p ∷ ps) (l ∷ ls) = ParameterHas bases k p l × ParametersHave bases k ps ls
 ParametersHave bases k _ _ = ⊥
 
-pub arguments_named : (bases : Bases) (k : HeapTyping) (ps : List Parameter) (ls : List Local) → ParametersHave bases k ps ls → frame_names ls ≡ map (λ (p : Parameter). p.name) ps
-arguments_named bases k [] [] h = refl
-arguments_named bases k [] (l ∷ ls) h = absurd h
-arguments_named bases k (p ∷ ps) [] h = absurd h
-arguments_named bases k (p ∷ ps) (l ∷ ls) h = λ i. h.0.same i ∷ arguments_named bases k ps ls h.1 i
+pub parameters_named : (bases : Bases) (k : HeapTyping) (ps : List Parameter) (ls : List Local) → ParametersHave bases k ps ls → frame_names ls ≡ map (λ (p : Parameter). p.name) ps
+parameters_named bases k [] [] h = refl
+parameters_named bases k [] (l ∷ ls) h = absurd h
+parameters_named bases k (p ∷ ps) [] h = absurd h
+parameters_named bases k (p ∷ ps) (l ∷ ls) h = λ i. h.0.same i ∷ parameters_named bases k ps ls h.1 i
 
 module _ (bases : Bases) (k : HeapTyping) (names : List (List ℕ)) (declared : List Tree) (resolve : List ℕ → Res) (local : (word : List ℕ) (x : ℕ) → resolve word ≡ res.Local x → index_of word names ≡ Some x) (frame : Frame) where
   -- behind some of the parameters: what was assigned so far holds, and the others' values are those of the locals left
@@ -221,13 +229,13 @@ module _ (bases : Bases) (k : HeapTyping) (names : List (List ℕ)) (declared : 
           each : (word : List ℕ) (y : ℕ) (t : Tree) → index_of word names ≡ Some y → current (assign env x p.type) y ≡ Some t → HasLocal bases k declared frame word y t
           each word y t named e = elim (assigned_cases env x p.type y t e) [
             | inl a ↦
-              let same = index_same word p.name names x (named ∙ ap Some a.0) (local p.name x is) in
-              record {
-                value = args.0.value;
-                is = subst (λ w. local_of w frame ≡ Some (Some args.0.value)) (sym same) here;
-                now = subst (λ u. HasType bases k u args.0.value) (sym a.1) args.0.has;
-                always = subst (λ u. HasType bases k u args.0.value) (sym (ap (declared_type declared) a.0 ∙ d)) args.0.has;
-              }
+                let same = index_same word p.name names x (named ∙ ap Some a.0) (local p.name x is) in
+                record {
+                  value = args.0.value;
+                  is = subst (λ w. local_of w frame ≡ Some (Some args.0.value)) (sym same) here;
+                  now = subst (λ u. HasType bases k u args.0.value) (sym a.1) args.0.has;
+                  always = subst (λ u. HasType bases k u args.0.value) (sym (ap (declared_type declared) a.0 ∙ d)) args.0.has;
+                }
             | inr o ↦ locals.each word y t named o.is
           ]
 

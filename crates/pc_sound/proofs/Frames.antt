@@ -158,18 +158,18 @@ module _ (bases : Bases) (names : List (List ℕ)) (declared : List Tree) where
       each : (w : List ℕ) (y : ℕ) (u : Tree) → index_of w names ≡ Some y → current (assign env x t) y ≡ Some u → HasLocal bases k declared (with_local word v frame) w y u
       each w y u is e = elim (assigned_cases env x t y u e) [
         | inl a ↦
-          let same = index_same word w names x named (is ∙ ap Some a.0) in
-          let old = has.held word x named in
-          record {
-            value = v;
-            is = subst (λ z. local_of z (with_local word v frame) ≡ Some (Some v)) same (local_bound word v frame old.value old.is);
-            now = subst (λ z. HasType bases k z v) (sym a.1) now;
-            always = subst (λ z. HasType bases k (declared_type declared z) v) (sym a.0) always;
-          }
+            let same = index_same word w names x named (is ∙ ap Some a.0) in
+            let old = has.held word x named in
+            record {
+              value = v;
+              is = subst (λ z. local_of z (with_local word v frame) ≡ Some (Some v)) same (local_bound word v frame old.value old.is);
+              now = subst (λ z. HasType bases k z v) (sym a.1) now;
+              always = subst (λ z. HasType bases k (declared_type declared z) v) (sym a.0) always;
+            }
         | inr o ↦
-          let l = locals.each w y u is o.is in
-          let differ : ¬ (word ≡ w) = λ same. o.other (some_inj (sym is ∙ sym (ap (λ z. index_of z names) same) ∙ named)) in
-          record { value = l.value; is = local_kept word w v frame differ ∙ l.is; now = l.now; always = l.always }
+            let l = locals.each w y u is o.is in
+            let differ : ¬ (word ≡ w) = λ same. o.other (some_inj (sym is ∙ sym (ap (λ z. index_of z names) same) ∙ named)) in
+            record { value = l.value; is = local_kept word w v frame differ ∙ l.is; now = l.now; always = l.always }
       ]
 
   -- a local whose value is of another type too
@@ -179,13 +179,13 @@ module _ (bases : Bases) (names : List (List ℕ)) (declared : List Tree) where
       each : (w : List ℕ) (y : ℕ) (u : Tree) → index_of w names ≡ Some y → current (assign env x t) y ≡ Some u → HasLocal bases k declared frame w y u
       each w y u is e = elim (assigned_cases env x t y u e) [
         | inl a ↦
-          let l = locals.each word x s named was in
-          let same = index_same word w names x named (is ∙ ap Some a.0) in
-          record {
-            value = l.value;
-            is = subst (λ z. local_of z frame ≡ Some (Some l.value)) same l.is;
-            now = subst (λ z. HasType bases k z l.value) (sym a.1) (has l.value l.is l.now);
-            always = subst (λ z. HasType bases k (declared_type declared z) l.value) (sym a.0) l.always;
-          }
+            let l = locals.each word x s named was in
+            let same = index_same word w names x named (is ∙ ap Some a.0) in
+            record {
+              value = l.value;
+              is = subst (λ z. local_of z frame ≡ Some (Some l.value)) same l.is;
+              now = subst (λ z. HasType bases k z l.value) (sym a.1) (has l.value l.is l.now);
+              always = subst (λ z. HasType bases k (declared_type declared z) l.value) (sym a.0) l.always;
+            }
         | inr o ↦ locals.each w y u is o.is
       ]

@@ -59,13 +59,13 @@ module _ (m : Module) (bodies : Bodies) where
     over_eval : (n : ℕ) → AllGood n → (b : bodies.Body) → GoodEval (bodies.around b) (bodies.ctx b) (eval_over Step free (steps Step free n))
     over_eval n good b = record {
       safe = λ env want e marks law covered keyed. bind_safe (bodies.around b) env _ _ _ (λ k u. Unit {0}) _ (λ k k' x h. tt) (may_stop_safe (bodies.around b) env _)
-        λ u. weaken (bodies.around b) env _ (λ k. Unit {0}) _ _ _ (λ k h. tt) (λ k v h. h) ((forms.eval n good b).safe env want e marks law covered keyed);
+          λ u. weaken (bodies.around b) env _ (λ k. Unit {0}) _ _ _ (λ k h. tt) (λ k v h. h) ((forms.eval n good b).safe env want e marks law covered keyed);
     }
 
     over_decides : (n : ℕ) → AllGood n → (b : bodies.Body) → Decides (bodies.around b) (bodies.ctx b) (eval_over Step free (steps Step free n))
     over_decides n good b = record {
       decides = λ env want e marks law covered keyed frame. leads_bind (bodies.around b) _ _ _ _ _ (leads_charge (bodies.around b) _)
-        λ u. (forms.decides n good b).decides env want e marks law covered keyed frame;
+          λ u. (forms.decides n good b).decides env want e marks law covered keyed frame;
     }
 
     -- what statements of one step more stand on

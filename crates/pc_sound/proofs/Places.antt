@@ -10,9 +10,9 @@ use Rattle.pc_run.specs.Evaluation.{CallForm, instance_test, ordinary, call_form
 use Rattle.pc_sound.proofs.Flows.{Evaluates, emit_evaluates, later_evaluates, first_evaluates}
 
 module _ (parts : Parts Step) where
-  call_evaluates : (p : Place) (callee : Expr) (arguments : Exprs) (keywords : Keywords) (form : CallForm) → Evaluates p (eval_call Step free parts p callee arguments keywords form)
-  call_evaluates p callee arguments keywords (instance_test n e t) = later_evaluates p _ _ λ a. later_evaluates p _ _ λ b. later_evaluates p _ _ λ v. first_evaluates p _ _ (emit_evaluates p)
-  call_evaluates p callee arguments keywords ordinary = later_evaluates p _ _ λ a. later_evaluates p _ _ λ b. later_evaluates p _ _ λ v. first_evaluates p _ _ (emit_evaluates p)
+  call_evaluates : (p : Place) (callee : Expr) (arguments : Exprs) (by_name : Keywords) (form : CallForm) → Evaluates p (eval_call Step free parts p callee arguments by_name form)
+  call_evaluates p callee arguments by_name (instance_test n e t) = later_evaluates p _ _ λ a. later_evaluates p _ _ λ b. later_evaluates p _ _ λ v. first_evaluates p _ _ (emit_evaluates p)
+  call_evaluates p callee arguments by_name ordinary = later_evaluates p _ _ λ a. later_evaluates p _ _ λ b. later_evaluates p _ _ λ v. first_evaluates p _ _ (emit_evaluates p)
 
   pub node_evaluates : (e : Expr) → Evaluates (place_of e) (eval_node Step free parts e)
   node_evaluates (name n) = first_evaluates n.place _ _ (emit_evaluates n.place)
@@ -33,7 +33,7 @@ module _ (parts : Parts Step) where
   node_evaluates (disjunction p l r) = later_evaluates p _ _ λ v. later_evaluates p _ _ λ b. later_evaluates p _ _ λ w. first_evaluates p _ _ (emit_evaluates p)
   node_evaluates (attribute p e f) = later_evaluates p _ _ λ v. first_evaluates p _ _ (emit_evaluates p)
   node_evaluates (index p e i) = later_evaluates p _ _ λ v. later_evaluates p _ _ λ k. first_evaluates p _ _ (emit_evaluates p)
-  node_evaluates (call p callee arguments keywords) = call_evaluates p callee arguments keywords (call_form callee arguments keywords)
+  node_evaluates (call p callee arguments by_name) = call_evaluates p callee arguments by_name (call_form callee arguments by_name)
 
   -- so do steps over these parts
   pub over_evaluates : (e : Expr) → Evaluates (place_of e) (eval_over Step free parts e)

@@ -68,7 +68,7 @@ module _ (around : Around) (ctx : Context) (fits : Fits around ctx) (eval : Expr
         same_globals = g.same_globals;
         same_classes = g.same_classes;
         ends = ends_as (λ v. (Stands around env g.typing s' × (s'.frame ≡ s.frame)) × (HasType around.bases g.typing (type_of e marks) v × Tells around ctx env e g.typing v s')) (λ v. At around env more g.typing s' × Tells around ctx env e g.typing v s') out
-          (λ v h. (record { stands = h.0.0; known = subst (more g.typing) (sym h.0.1) (grow k g.typing s.frame g.grows b.known) }, h.1.1)) g.ends;
+            (λ v h. (record { stands = h.0.0; known = subst (more g.typing) (sym h.0.1) (grow k g.typing s.frame g.grows b.known) }, h.1.1)) g.ends;
       })
     ];
   }
@@ -83,7 +83,7 @@ module _ (around : Around) (ctx : Context) (fits : Fits around ctx) (eval : Expr
       λ v. leads_bind around _ _ _ (λ k b s. At around (narrow ctx.bases around.declared ctx.resolve b c env) more k s) _
       (leads_looks around _ (λ s. Gives (is_true s.heap v)) _ λ k s b. record {
         stands = subst (λ bases. Stands around (narrow bases around.declared ctx.resolve (is_true s.heap v) c env) k s) fits.bases
-          (record { well = b.0.stands.well; frame = b.0.stands.frame; locals = b.1.by (is_true s.heap v) refl; outside = b.0.stands.outside });
+            (record { well = b.0.stands.well; frame = b.0.stands.frame; locals = b.1.by (is_true s.heap v) refl; outside = b.0.stands.outside });
         known = b.0.known;
       })
       go
@@ -116,7 +116,7 @@ module _ (around : Around) (ctx : Context) (fits : Fits around ctx) (m : Module)
   pub evaluates_runs : (p : Place) (e : Expr) → GoodStmt around ctx m returned (evaluates p e) (exec_node Step free parts (evaluates p e))
   evaluates_runs p e = record {
     runs = λ seen env marks out law covered keyed more lasts. dropped more lasts.grow env e marks _ _ law.0 covered keyed
-      (leads_comes around _ (Gives next) _ λ k s at. (record { env = env; is = law.1; stands = at.stands }, at.known));
+        (leads_comes around _ (Gives next) _ λ k s at. (record { env = env; is = law.1; stands = at.stands }, at.known));
   }
 
   -- ---- `return`
@@ -155,8 +155,8 @@ module _ (around : Around) (ctx : Context) (fits : Fits around ctx) (m : Module)
   pub asserts_runs : (p : Place) (c : Expr) (e : Option Expr) → GoodStmt around ctx m returned (asserts p c e) (exec_node Step free parts (asserts p c e))
   asserts_runs p c e = record {
     runs = λ seen env marks out law covered keyed more lasts. decided around ctx fits parts.eval decides more lasts.grow env c marks.condition _ _ _ law.condition (λ g h. covered g (inl h)) keyed.0
-      (leads_comes around _ (Gives next) _ λ k s at. (record { env = narrow ctx.bases around.declared ctx.resolve true c env; is = law.after; stands = at.stands }, at.known))
-      (fails more lasts.grow (narrow ctx.bases around.declared ctx.resolve false c env) e marks.message _ law.message (λ g h. covered g (inr h)) keyed.1);
+        (leads_comes around _ (Gives next) _ λ k s at. (record { env = narrow ctx.bases around.declared ctx.resolve true c env; is = law.after; stands = at.stands }, at.known))
+        (fails more lasts.grow (narrow ctx.bases around.declared ctx.resolve false c env) e marks.message _ law.message (λ g h. covered g (inr h)) keyed.1);
   }
 
   -- ---- assignments to locals
@@ -193,13 +193,13 @@ module _ (around : Around) (ctx : Context) (fits : Fits around ctx) (m : Module)
   }
   assigns_runs p (to_attribute q o field) e = record {
     runs = λ seen env marks out law covered keyed more lasts.
-      leads_from around _ (λ k s. At around env more k s × Unit {0}) _ _ (λ k s b. (b, tt))
-      (leads_to around _ _ (λ k flow s. At around env more k s × (flow ≡ next)) _ (λ k flow s h. (subst (λ f. FlowEnds around (ways_out around ctx m returned out [] []) k f s) (sym h.1) (record { env = env; is = law.is ∙ ap Some law.assignment.1; stands = h.0.stands }), h.0.known))
-      (leads_safe around env (λ k. Unit {0}) _ (λ k flow. flow ≡ next) more lasts.grow (stores.stores env (to_attribute q o field) marks.target e marks.value marks.flows law.assignment.0 covered keyed.0 keyed.1)));
+        leads_from around _ (λ k s. At around env more k s × Unit {0}) _ _ (λ k s b. (b, tt))
+        (leads_to around _ _ (λ k flow s. At around env more k s × (flow ≡ next)) _ (λ k flow s h. (subst (λ f. FlowEnds around (ways_out around ctx m returned out [] []) k f s) (sym h.1) (record { env = env; is = law.is ∙ ap Some law.assignment.1; stands = h.0.stands }), h.0.known))
+        (leads_safe around env (λ k. Unit {0}) _ (λ k flow. flow ≡ next) more lasts.grow (stores.stores env (to_attribute q o field) marks.target e marks.value marks.flows law.assignment.0 covered keyed.0 keyed.1)));
   }
   assigns_runs p (to_index q o i) e = record {
     runs = λ seen env marks out law covered keyed more lasts.
-      leads_from around _ (λ k s. At around env more k s × Unit {0}) _ _ (λ k s b. (b, tt))
-      (leads_to around _ _ (λ k flow s. At around env more k s × (flow ≡ next)) _ (λ k flow s h. (subst (λ f. FlowEnds around (ways_out around ctx m returned out [] []) k f s) (sym h.1) (record { env = env; is = law.is ∙ ap Some law.assignment.1; stands = h.0.stands }), h.0.known))
-      (leads_safe around env (λ k. Unit {0}) _ (λ k flow. flow ≡ next) more lasts.grow (stores.stores env (to_index q o i) marks.target e marks.value marks.flows law.assignment.0 covered keyed.0 keyed.1)));
+        leads_from around _ (λ k s. At around env more k s × Unit {0}) _ _ (λ k s b. (b, tt))
+        (leads_to around _ _ (λ k flow s. At around env more k s × (flow ≡ next)) _ (λ k flow s h. (subst (λ f. FlowEnds around (ways_out around ctx m returned out [] []) k f s) (sym h.1) (record { env = env; is = law.is ∙ ap Some law.assignment.1; stands = h.0.stands }), h.0.known))
+        (leads_safe around env (λ k. Unit {0}) _ (λ k flow. flow ≡ next) more lasts.grow (stores.stores env (to_index q o i) marks.target e marks.value marks.flows law.assignment.0 covered keyed.0 keyed.1)));
   }

@@ -83,7 +83,7 @@ module _ (around : Around) (env : Env) where
       ]
 
   -- the state as it was
-  still : {A : Type 0} (P : HeapTyping → A → Type 0) (k : HeapTyping) (s s' : State) (out : Out A) → s' ≡ s → Stands around env k s → EndsWell (P k) out → Keeps around P k s out s'
+  pub still : {A : Type 0} (P : HeapTyping → A → Type 0) (k : HeapTyping) (s s' : State) (out : Out A) → s' ≡ s → Stands around env k s → EndsWell (P k) out → Keeps around P k s out s'
   still P k s s' out e st h = record {
     typing = k;
     grows = extends_refl k;
@@ -102,7 +102,7 @@ module _ (around : Around) (env : Env) where
   pub looks_safe : {A : Type 0} (known : HeapTyping → Type 0) (f : State → Out A) (P : HeapTyping → A → Type 0) → ((k : HeapTyping) (s : State) → known k → Stands around env k s → EndsWell (P k) (f s)) → IsSafe around env known (Looks f) P
   looks_safe known f P h = record { run = λ k s s' events o knows st r. inr (still P k s s' o r.same st (subst (EndsWell (P k)) (sym r.is) (h k s knows st))) }
 
-  ended : {A : Type 0} (P : HeapTyping → A → Type 0) (k : HeapTyping) (s s' : State) (events : List Place) (out : Out A) → Stands around env k s → may_end s events out s' → Keeps around P k s out s'
+  pub ended : {A : Type 0} (P : HeapTyping → A → Type 0) (k : HeapTyping) (s s' : State) (events : List Place) (out : Out A) → Stands around env k s → may_end s events out s' → Keeps around P k s out s'
   ended P k s s' events out st (inl r) = still P k s s' out r.same st (subst (EndsWell (P k)) (sym r.is) tt)
   ended P k s s' events out st (inr r) = still P k s s' out r.same st (subst (EndsWell (P k)) (sym r.is) tt)
 

@@ -109,8 +109,10 @@ module _ (around : Around) (ctx : Context) (fits : Fits around ctx) where
   also_lasts names all k old more within lasts = record {
     local = λ n c. lasts.local n (within n c);
     grow = λ j j' frame grows h. (lasts.grow j j' frame grows h.0, kept_grow (binds_number ctx.resolve all) k j j' old frame grows h.1);
-    bind = λ n x v j frame c is has of_type h. (lasts.bind n x v j frame (within n c) is has of_type h.0,
-      kept_bind (binds_number ctx.resolve all) k j old frame n.text x v (fits.local n.text x is) (number_bound ctx.resolve all n x (within n c) is) of_type h.1);
+    bind = λ n x v j frame c is has of_type h. (
+      lasts.bind n x v j frame (within n c) is has of_type h.0,
+      kept_bind (binds_number ctx.resolve all) k j old frame n.text x v (fits.local n.text x is) (number_bound ctx.resolve all n x (within n c) is) of_type h.1,
+    );
   }
 
   -- at the head again
@@ -176,14 +178,14 @@ module _ (around : Around) (ctx : Context) (fits : Fits around ctx) where
     pub while_turn_runs : (eval : Expr → Step Value) (exec : Stmts → Step Flow) (again : Expr → Stmts → Step Flow) → Decides around ctx eval → GoodExec around ctx m returned exec → GoodAgain again → GoodAgain (λ c b. while_turn Step free eval exec (again c b) c b)
     while_turn_runs eval exec again decides good further = record {
       runs = λ seen c b cm bm out env head is law body_law covered body_covered keyed body_keyed more lasts. leads_each around _ _ _ λ k s at.
-        leads_from around _ (λ j t. At around head (AlsoKept (binds_number ctx.resolve (bound_by b)) k s.frame more) j t) _ _
-        (λ j t e. start (binds_number ctx.resolve (bound_by b)) head more k s j t e.0 e.1 at)
-        (decided around ctx fits eval decides (AlsoKept (binds_number ctx.resolve (bound_by b)) k s.frame more) (also_lasts (bound_by b) (bound_by b) k s.frame more (λ n c. c) lasts).grow head c cm _ _ _ law covered keyed
-        (leads_bind around _ _ _ (λ j flow t. FlowEnds around (ways_out around ctx m returned out (breaks_in_suite b bm) (loose_in b)) j flow t × AlsoKept (binds_number ctx.resolve (bound_by b)) k s.frame more j t.frame) _
-        (body_runs exec good seen (narrow ctx.bases around.declared ctx.resolve true c head) b bm out body_law body_covered body_keyed (AlsoKept (binds_number ctx.resolve (bound_by b)) k s.frame more) (also_lasts (bound_by b) (bound_by b) k s.frame more (λ n c. c) lasts))
-        (turn_ends (binds_number ctx.resolve (bound_by b)) env head (narrow ctx.bases around.declared ctx.resolve false c head) (breaks_in_suite b bm) (loose_in b) out k s more (again c b) is at.stands.locals
-        (further.runs seen c b cm bm out env head is law body_law covered body_covered keyed body_keyed more lasts)))
-        (leads_comes around _ (Gives next) _ λ j t e. (left_at_head (narrow ctx.bases around.declared ctx.resolve false c head) (breaks_in_suite b bm) j t e.stands, e.known.0)));
+          leads_from around _ (λ j t. At around head (AlsoKept (binds_number ctx.resolve (bound_by b)) k s.frame more) j t) _ _
+          (λ j t e. start (binds_number ctx.resolve (bound_by b)) head more k s j t e.0 e.1 at)
+          (decided around ctx fits eval decides (AlsoKept (binds_number ctx.resolve (bound_by b)) k s.frame more) (also_lasts (bound_by b) (bound_by b) k s.frame more (λ n c. c) lasts).grow head c cm _ _ _ law covered keyed
+          (leads_bind around _ _ _ (λ j flow t. FlowEnds around (ways_out around ctx m returned out (breaks_in_suite b bm) (loose_in b)) j flow t × AlsoKept (binds_number ctx.resolve (bound_by b)) k s.frame more j t.frame) _
+          (body_runs exec good seen (narrow ctx.bases around.declared ctx.resolve true c head) b bm out body_law body_covered body_keyed (AlsoKept (binds_number ctx.resolve (bound_by b)) k s.frame more) (also_lasts (bound_by b) (bound_by b) k s.frame more (λ n c. c) lasts))
+          (turn_ends (binds_number ctx.resolve (bound_by b)) env head (narrow ctx.bases around.declared ctx.resolve false c head) (breaks_in_suite b bm) (loose_in b) out k s more (again c b) is at.stands.locals
+          (further.runs seen c b cm bm out env head is law body_law covered body_covered keyed body_keyed more lasts)))
+          (leads_comes around _ (Gives next) _ λ j t e. (left_at_head (narrow ctx.bases around.declared ctx.resolve false c head) (breaks_in_suite b bm) j t e.stands, e.known.0)));
     }
       where
         start : (bound : ℕ → Test) (head : Env) (more : HeapTyping → Frame → Type 0) (k : HeapTyping) (s : State) (j : HeapTyping) (t : State) → j ≡ k → t ≡ s → At around head more k s → At around head (AlsoKept bound k s.frame more) j t
@@ -193,9 +195,9 @@ module _ (around : Around) (ctx : Context) (fits : Fits around ctx) where
     pub while_runs : (parts : Parts Step) → GoodAgain parts.again → (p : Place) (c : Expr) (b : Stmts) → GoodStmt around ctx m returned (while_loop p c b) (exec_node Step free parts (while_loop p c b))
     while_runs parts further p c b = record {
       runs = λ seen env marks out law covered keyed more lasts.
-        leads_from around _ (λ k s. At around marks.head more k s) _ _
-        (λ k s at. record { stands = stands_with around ctx fits env marks.head k s at.stands (subst (λ e. HasLocals around.bases k around.names around.declared e s.frame) (sym law.head) (into_head around.bases around.names around.declared (binds_number ctx.resolve (bound_by b)) env k s.frame at.stands.locals)); known = at.known })
-        (leads_to around _ _ (λ k flow s. FlowEnds around (loop_ways (narrow ctx.bases around.declared ctx.resolve false c marks.head) (breaks_in_suite b marks.body)) k flow s × more k s.frame) _
-        (λ k flow s h. (flow_wider around ctx k s (loop_ways (narrow ctx.bases around.declared ctx.resolve false c marks.head) (breaks_in_suite b marks.body)) (ways_out around ctx m returned out [] []) refl (λ e i. law.after ∙ i) (λ e i. absurd i) (λ q i. absurd i) flow h.0, h.1))
-        (further.runs seen c b marks.condition marks.body marks.out env marks.head law.head law.condition law.body (λ f h. covered f (inl h)) (λ f h. covered f (inr h)) keyed.0 keyed.1 more lasts));
+          leads_from around _ (λ k s. At around marks.head more k s) _ _
+          (λ k s at. record { stands = stands_with around ctx fits env marks.head k s at.stands (subst (λ e. HasLocals around.bases k around.names around.declared e s.frame) (sym law.head) (into_head around.bases around.names around.declared (binds_number ctx.resolve (bound_by b)) env k s.frame at.stands.locals)); known = at.known })
+          (leads_to around _ _ (λ k flow s. FlowEnds around (loop_ways (narrow ctx.bases around.declared ctx.resolve false c marks.head) (breaks_in_suite b marks.body)) k flow s × more k s.frame) _
+          (λ k flow s h. (flow_wider around ctx k s (loop_ways (narrow ctx.bases around.declared ctx.resolve false c marks.head) (breaks_in_suite b marks.body)) (ways_out around ctx m returned out [] []) refl (λ e i. law.after ∙ i) (λ e i. absurd i) (λ q i. absurd i) flow h.0, h.1))
+          (further.runs seen c b marks.condition marks.body marks.out env marks.head law.head law.condition law.body (λ f h. covered f (inl h)) (λ f h. covered f (inr h)) keyed.0 keyed.1 more lasts));
     }
