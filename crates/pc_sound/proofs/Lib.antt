@@ -67,3 +67,4 @@ pub mod KeyedModules
 pub mod KeyedSuites
 pub mod TimelyBodies
 pub mod Forms
+pub mod MethodNodes
