@@ -68,3 +68,4 @@ pub mod KeyedSuites
 pub mod TimelyBodies
 pub mod Forms
 pub mod MethodNodes
+pub mod FunctionsKeyed
