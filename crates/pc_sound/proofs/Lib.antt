@@ -67,5 +67,7 @@ pub mod MethodNodes
 pub mod ValueCalls
 pub mod KeyedModules
 pub mod KeyedSuites
+pub mod TimelyBodies
 pub mod Forms
 pub mod Classes
+pub mod FunctionsKeyed
