@@ -71,3 +71,4 @@ pub mod TimelyBodies
 pub mod Forms
 pub mod Classes
 pub mod FunctionsKeyed
+pub mod BodyCalls
