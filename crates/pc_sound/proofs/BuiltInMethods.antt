@@ -183,7 +183,7 @@ Performs bases k v dict_get (key ∷ []) [] t = Gets bases k v key t
 Performs bases k v method values more t = ⊥
 
 -- it is so where the call suits what the method takes
-abbrev IsOneArgument : Exprs → Keywords → Type 0
+abbrev pub IsOneArgument : Exprs → Keywords → Type 0
 IsOneArgument (more_exprs e no_exprs) no_keywords = Unit {0}
 IsOneArgument _ _ = ⊥
 
@@ -194,7 +194,7 @@ IsNoArgument _ _ = ⊥
 no_truth : false ≡ true → ⊥
 no_truth e = absurd (grind (arith, e))
 
-one_suits : (t r : Tree) (args : Exprs) (kws : Keywords) → is_suited (given args kws) (builtin_signature (t ∷ []) r) ≡ true → IsOneArgument args kws
+pub one_suits : (t r : Tree) (args : Exprs) (kws : Keywords) → is_suited (given args kws) (builtin_signature (t ∷ []) r) ≡ true → IsOneArgument args kws
 one_suits t r (more_exprs e no_exprs) no_keywords is = tt
 one_suits t r no_exprs no_keywords is = no_truth is
 one_suits t r no_exprs (more_keywords w e rest) is = no_truth is

@@ -10,7 +10,7 @@ use Rattle.pc_tree.specs.Tree.{Expr, Exprs, Keywords, Name, name, call, no_exprs
 use Rattle.pc_scope.specs.declared.resolution.Builtin.{Builtin}
 use Rattle.pc_scope.specs.declared.resolution.Builtin.TheVariants as builtin
 use Rattle.pc_scope.specs.declared.resolution.Res.TheVariants as res
-use Rattle.pc_scope.specs.Expressions.{place_of, are_two}
+use Rattle.pc_scope.specs.Expressions.{place_of, is_instance_test, are_two}
 use Rattle.pc_types.specs.Tree.{Tree, Int, Str, NoneType, ListOf, DictOf, TupleOf}
 use Rattle.pc_types.specs.Below.{Bases}
 use Rattle.pc_types.specs.Shape.{members}
@@ -130,7 +130,7 @@ module _ (around : Around) (ctx : Context) (fits : Fits around ctx) (knows : Kno
     offered g = ap (name_callee ctx env g) is ∙ ap (λ x. if x then good_callee (builtin_offer g b ∷ []) else value_callee (in_error E20)) (callable b o)
 
     -- the label of the call, where it is no `len` of one argument
-    plain_mark : (args : Exprs) (kws : Keywords) (types : List Tree) (here : Mark) → is_length_of_one (given args kws) ctx.resolve (name n) ≡ false → here ≡ whole_call_mark ctx env (name n) args kws (name_callee ctx env (given args kws) (ctx.resolve n.text)).offers types → here ≡ call_mark around.bases (builtin_offer (given args kws) b ∷ [])
+    pub plain_mark : (args : Exprs) (kws : Keywords) (types : List Tree) (here : Mark) → is_length_of_one (given args kws) ctx.resolve (name n) ≡ false → here ≡ whole_call_mark ctx env (name n) args kws (name_callee ctx env (given args kws) (ctx.resolve n.text)).offers types → here ≡ call_mark around.bases (builtin_offer (given args kws) b ∷ [])
     plain_mark args kws types here no_length law =
         let g = given args kws in
         let offers = (name_callee ctx env g (ctx.resolve n.text)).offers in
@@ -170,7 +170,7 @@ module _ (around : Around) (ctx : Context) (fits : Fits around ctx) (knows : Kno
 
   -- ---- labels of calls
 
-  wrong_call : (p : Place) (here : Mark) (code : Code) → here ≡ call_mark around.bases (fails_at_call code ∷ []) → IsError code → Covered around (IsFoundAt p here.codes) → ⊥
+  pub wrong_call : (p : Place) (here : Mark) (code : Code) → here ≡ call_mark around.bases (fails_at_call code ∷ []) → IsError code → Covered around (IsFoundAt p here.codes) → ⊥
   wrong_call p here code e err covered = no_error_at around ctx fits knows env p here code [] (ap (λ x. x.codes) e) err covered
 
   of_plain : (k : HeapTyping) (here : Mark) (t : Tree) → here ≡ call_mark around.bases (plain_call t ∷ []) → (w : Value) → HasType around.bases k t w → HasType around.bases k here.type w
@@ -276,15 +276,30 @@ module _ (around : Around) (ctx : Context) (fits : Fits around ctx) (knows : Kno
 
   -- ---- `range` outside a `for`, and reserved names that are not called
 
-  range_error : (p : Place) (n : Name) → ctx.resolve n.text ≡ res.Builtin builtin.Range → (want : Option Tree) (args : Exprs) (kws : Keywords) (m : Marks (call p (name n) args kws)) → Lawful ctx around.declared env want (call p (name n) args kws) m → Covered around (Finds (call p (name n) args kws) m) → ⊥
+  pub range_error : (p : Place) (n : Name) → ctx.resolve n.text ≡ res.Builtin builtin.Range → (want : Option Tree) (args : Exprs) (kws : Keywords) (m : Marks (call p (name n) args kws)) → Lawful ctx around.declared env want (call p (name n) args kws) m → Covered around (Finds (call p (name n) args kws) m) → ⊥
   range_error p n is want args kws m law covered = go (is_one (given args kws)) (plain_mark p n builtin.Range is tt args kws (item_types args m.arguments) m.here (ap (λ r. is_length r && is_one (given args kws)) is) law.here)
     where
       go : (x : Test) → m.here ≡ call_mark around.bases ((if x then fails_at_call E27 else fails_at_call E14) ∷ []) → ⊥
       go true e = wrong_call p m.here E27 e refl (λ f h. covered f (inl h))
       go false e = wrong_call p m.here E14 e refl (λ f h. covered f (inl h))
 
-  not_callable : (b : Builtin) → is_callable_builtin b ≡ false → (p : Place) (n : Name) → ctx.resolve n.text ≡ res.Builtin b → (want : Option Tree) (args : Exprs) (kws : Keywords) (m : Marks (call p (name n) args kws)) → Lawful ctx around.declared env want (call p (name n) args kws) m → Covered around (Finds (call p (name n) args kws) m) → ⊥
+  pub not_callable : (b : Builtin) → is_callable_builtin b ≡ false → (p : Place) (n : Name) → ctx.resolve n.text ≡ res.Builtin b → (want : Option Tree) (args : Exprs) (kws : Keywords) (m : Marks (call p (name n) args kws)) → Lawful ctx around.declared env want (call p (name n) args kws) m → Covered around (Finds (call p (name n) args kws) m) → ⊥
   not_callable b other p n is want args kws m law covered =
       no_error_at around ctx fits knows env n.place m.callee E20 []
       (ap (λ x. x.codes) (law.callee ∙ ap (λ r. (name_callee ctx env (given args kws) r).mark) is ∙ ap (λ x. (if x then good_callee (builtin_offer (given args kws) b ∷ []) else value_callee (in_error E20)).mark) other))
       refl (λ f h. covered f (inr (inl h)))
+
+  -- `isinstance` on other arguments than two by position
+  pub test_error : (p : Place) (n : Name) → ctx.resolve n.text ≡ res.Builtin builtin.IsInstance → (want : Option Tree) (args : Exprs) (kws : Keywords) (m : Marks (call p (name n) args kws)) → is_instance_test (name n) args kws ≡ false → Lawful ctx around.declared env want (call p (name n) args kws) m → Covered around (Finds (call p (name n) args kws) m) → ⊥
+  test_error p n is want args kws m no_test_here law covered =
+      let g = given args kws in
+      let types = item_types args m.arguments in
+      let offers = (name_callee ctx env g (ctx.resolve n.text)).offers in
+      let rest = if is_length_of_one g ctx.resolve (name n) then length_mark ctx.bases types else call_mark ctx.bases offers in
+      wrong_call p m.here E14 (
+      law.here
+      ∙ ap (λ x. if x then test_mark ctx env args else rest) no_test_here
+      ∙ ap (λ x. if x then length_mark ctx.bases types else call_mark ctx.bases offers) (ap (λ r. is_length r && is_one g) is)
+      ∙ ap (λ r. call_mark ctx.bases (name_callee ctx env g r).offers) is
+      ∙ ap (λ x. call_mark x (fails_at_call E14 ∷ [])) (sym fits.bases)
+      ) refl (λ f h. covered f (inl h))

@@ -23,7 +23,7 @@ use Rattle.pc_value.specs.Numbers.{number_behind, number_of_digits}
 use Rattle.pc_value.specs.Containers.{index_among, at_index, item_of, gives_item, gives_character, item_outcome}
 use Rattle.pc_run.specs.State.{State}
 use Rattle.pc_run.specs.Steps.{Parts, value_out}
-use Rattle.pc_run.specs.Evaluation.{eval_node}
+use Rattle.pc_run.specs.Evaluation.{eval_node, eval_over, steps}
 use Rattle.pc_run.specs.Free.{Step, free}
 use Rattle.pc_sound.specs.Values.{HeapTyping, HasType, HaveTypes, AllHave, IsWell}
 use Rattle.pc_sound.specs.Judgment.{HasListed, EndsWell, Around, Stands, Keeps, IsSafe, Fits}
@@ -200,3 +200,22 @@ module _ (around : Around) (ctx : Context) (fits : Fits around ctx) (parts : Par
         offers_end_where around.bases k fits.smaller IsKeyed m.here (index_member around.bases literal) object v (keyed_members object (keyed_type e m.object keyed.1.0)) here h.1 h.0.0.1 (value_out (item_outcome (seen s.heap v) (seen s.heap w)))
             λ n keys x found takes. index_ends around.bases k around.classes s.heap st.well fits.smaller literal n v w keys x found (takes w h.0.1.0.1) h.0.1.1,
       )
+
+-- ---- numbers as they are written, over any number of nested steps
+
+no_stop : {v : Value} {stop : value.Stop} → Gives v ≡ value.Stops stop → ⊥
+no_stop e = absurd (grind (arith, e))
+
+gives_inj : {v w : Value} → Gives v ≡ Gives w → v ≡ w
+gives_inj e = grind arith
+
+number_read : (p : Place) (parts : Parts Step) (digits : List ℕ) (s s' : State) (events : List Place) (v : Value) → eval_node Step free parts (number p digits) s events (Gives v) s' → v ≡ whole (number_of_digits digits)
+number_read p parts digits s s' events v (inl r) = elim r.after [ inl a ↦ gives_inj a.is | inr a ↦ elim a [ inl b ↦ absurd (no_stop b.is) | inr b ↦ absurd (no_stop b.is) ] ]
+number_read p parts digits s s' events v (inr r) = absurd (no_stop r.is)
+
+over_reads : (parts : Parts Step) → ReadsNumbers (eval_over Step free parts)
+over_reads parts = record { number = λ p digits s s' events v r. elim r [ inl w ↦ number_read p parts digits w.middle s' w.late v w.after | inr w ↦ absurd (no_stop w.is) ] }
+
+pub steps_read_numbers : (n : ℕ) → ReadsNumbers (steps Step free n).eval
+steps_read_numbers zero = record { number = λ p digits s s' events v r. absurd (no_stop r.is) }
+steps_read_numbers (suc n) = over_reads (steps Step free n)

@@ -17,7 +17,7 @@ use Rattle.pc_types.specs.Below.{Bases}
 use Rattle.pc_types.specs.Normal.{IsKey}
 use Rattle.pc_types.specs.Shape.{members, listed, trees, nodes, limit, count}
 use Rattle.pc_class.specs.Facts.{Parameter, Method, field_of, method_of, class_at}
-use Rattle.pc_flow.specs.Environment.{Env, current, declared_type, join_or_object, join_all}
+use Rattle.pc_flow.specs.Environment.{Env, current, join_or_object, join_all}
 use Rattle.pc_flow.specs.Narrowing.{narrow}
 use Rattle.pc_expr.specs.Operations.{Mark, clean, in_error, Offer, has_error, found_of, offers_mark, tuple_item, index_member, attribute_found, attribute_member, contain_member, length_member, negative_member, Kind, whole_kind, text_kind, kind_of, kind_type, row_of_kinds, pair_found, pair_offers, pairs_mark, takes_kind, is_never, is_any, is_dynamic, display_mark}
 use Rattle.pc_expr.specs.Context.{Context, Signature, local_mark, constant_mark, name_mark, is_late}
@@ -50,10 +50,10 @@ pub record ContextKeyed (ctx : Context) : Type 0 where
 
 -- ---- lists of types
 
-abbrev Keyeds : List Tree → Type 0
+abbrev pub Keyeds : List Tree → Type 0
 Keyeds ts = AllOf IsKeyed ts
 
-append_keyed : (ss ts : List Tree) → Keyeds ss → Keyeds ts → Keyeds (ss ++ ts)
+pub append_keyed : (ss ts : List Tree) → Keyeds ss → Keyeds ts → Keyeds (ss ++ ts)
 append_keyed [] ts h k = k
 append_keyed (s ∷ ss) ts h k = (h.0, append_keyed ss ts h.1 k)
 
@@ -62,19 +62,19 @@ get_keyed [] i h = tt
 get_keyed (t ∷ ts) zero h = h.0
 get_keyed (t ∷ ts) (suc i) h = get_keyed ts i h.1
 
-listed_keyed : (ts : Trees) → AreKeyed ts → Keyeds (listed ts)
+pub listed_keyed : (ts : Trees) → AreKeyed ts → Keyeds (listed ts)
 listed_keyed end h = tt
 listed_keyed (more t ts) h = (h.0, listed_keyed ts h.1)
 
-trees_keyed : (ts : List Tree) → Keyeds ts → AreKeyed (trees ts)
+pub trees_keyed : (ts : List Tree) → Keyeds ts → AreKeyed (trees ts)
 trees_keyed [] h = tt
 trees_keyed (t ∷ ts) h = (h.0, trees_keyed ts h.1)
 
-or_keyed : (o : Option Tree) (d : Tree) → OptionKeyed o → IsKeyed d → IsKeyed (unwrap_or o d)
+pub or_keyed : (o : Option Tree) (d : Tree) → OptionKeyed o → IsKeyed d → IsKeyed (unwrap_or o d)
 or_keyed None d h k = k
 or_keyed (Some t) d h k = h
 
-key_keyed : (t : Tree) → IsKey t → IsKeyed t
+pub key_keyed : (t : Tree) → IsKey t → IsKeyed t
 key_keyed Int h = tt
 key_keyed Str h = tt
 key_keyed _ h = absurd h
@@ -100,7 +100,7 @@ module _ (bases : Bases) where
       go true = tt
       go false = all_keyed bases (map (λ o. o.gives) offers) h
 
-  operation_keyed : (offer : Tree → Offer) → ((m : Tree) → IsKeyed m → IsKeyed (offer m).gives) → (t : Tree) → IsKeyed t → IsKeyed (offers_mark bases (map offer (members t))).type
+  pub operation_keyed : (offer : Tree → Offer) → ((m : Tree) → IsKeyed m → IsKeyed (offer m).gives) → (t : Tree) → IsKeyed t → IsKeyed (offers_mark bases (map offer (members t))).type
   operation_keyed offer each t h = mark_keyed (map offer (members t)) (gives_keyed offer each (members t) (keyed_members t h))
 
   item_keyed : (literal : Option ℕ) (ts : Trees) → AreKeyed ts → IsKeyed (tuple_item bases literal ts)
@@ -174,7 +174,7 @@ module _ (bases : Bases) where
 
 -- ---- fields and methods
 
-abbrev FieldKeyed : Option Parameter → Type 0
+abbrev pub FieldKeyed : Option Parameter → Type 0
 FieldKeyed None = Unit {0}
 FieldKeyed (Some p) = IsKeyed p.type
 
@@ -182,7 +182,7 @@ abbrev MethodKeyed : Option Method → Type 0
 MethodKeyed None = Unit {0}
 MethodKeyed (Some m) = ParametersKeyed m.parameters × IsKeyed m.returns
 
-field_keyed : (ps : List Parameter) (word : List ℕ) → ParametersKeyed ps → FieldKeyed (field_of ps word)
+pub field_keyed : (ps : List Parameter) (word : List ℕ) → ParametersKeyed ps → FieldKeyed (field_of ps word)
 field_keyed [] word h = tt
 field_keyed (p ∷ ps) word h = go (bytes_eq word p.name) (field_keyed ps word h.1)
   where
@@ -205,11 +205,11 @@ attribute_keyed None None h = tt
 
 -- ---- calls
 
-abbrev CallsKeyed : List Signature → Type 0
+abbrev pub CallsKeyed : List Signature → Type 0
 CallsKeyed [] = Unit {0}
 CallsKeyed (s ∷ ss) = SignatureKeyed s × CallsKeyed ss
 
-abbrev OffersKeyed : List CallOffer → Type 0
+abbrev pub OffersKeyed : List CallOffer → Type 0
 OffersKeyed [] = Unit {0}
 OffersKeyed (o ∷ os) = (IsKeyed o.gives × CallsKeyed o.calls) × OffersKeyed os
 
@@ -221,7 +221,7 @@ offers_append : (os ps : List CallOffer) → OffersKeyed os → OffersKeyed ps �
 offers_append [] ps h k = k
 offers_append (o ∷ os) ps h k = (h.0, offers_append os ps h.1 k)
 
-called_keyed : (g : Given) (s : Signature) → SignatureKeyed s → OffersKeyed (called g s ∷ [])
+pub called_keyed : (g : Given) (s : Signature) → SignatureKeyed s → OffersKeyed (called g s ∷ [])
 called_keyed g s h = go (is_suited g s)
   where
     go : (x : Test) → OffersKeyed ((if x then record { at_callee = []; at_call = []; gives = s.returns; calls = s ∷ [] } else fails_at_call E14) ∷ [])
@@ -285,7 +285,7 @@ module _ (offers : List CallOffer) (keyed : OffersKeyed offers) where
   gives_of [] h = tt
   gives_of (o ∷ os) h = (h.0.0, gives_of os h.1)
 
-  call_keyed : (bases : Bases) → IsKeyed (call_mark bases offers).type
+  pub call_keyed : (bases : Bases) → IsKeyed (call_mark bases offers).type
   call_keyed bases = go (has_error (all_codes offers))
     where
       go : (x : Test) → IsKeyed (if x then Any else join_all bases (map (λ o. o.gives) offers))
@@ -322,13 +322,13 @@ module _ (offers : List CallOffer) (keyed : OffersKeyed offers) where
   wanted_keyed true (t ∷ (s ∷ ts)) h = tt
   wanted_keyed false ts h = tt
 
-  positional_keyed : (i : ℕ) → OptionKeyed (positional_seat offers i).want
+  pub positional_keyed : (i : ℕ) → OptionKeyed (positional_seat offers i).want
   positional_keyed i = wanted_keyed (only_member offers) (flat_map (λ s. type_at (slice_get s.parameters i)) (signatures offers)) (types_keyed (λ s. slice_get s.parameters i) (λ s h. parameter_keyed s.parameters i h.0) (signatures offers) signatures_keyed)
 
   named_keyed : (word : List ℕ) → OptionKeyed (named_seat offers word).want
   named_keyed word = wanted_keyed (only_member offers) (flat_map (λ s. type_at (field_of s.parameters word)) (signatures offers)) (types_keyed (λ s. field_of s.parameters word) (λ s h. field_keyed s.parameters word h.0) (signatures offers) signatures_keyed)
 
-  keyword_keyed : (before : List (List ℕ)) (n : Name) → OptionKeyed (keyword_seat (named_seat offers) before n).want
+  pub keyword_keyed : (before : List (List ℕ)) (n : Name) → OptionKeyed (keyword_seat (named_seat offers) before n).want
   keyword_keyed before n = go (is_among n.text before)
     where
       go : (x : Test) → OptionKeyed (if x then nowhere else named_seat offers n.text).want
@@ -409,7 +409,7 @@ module _ (bases : Bases) where
   compare_keyed _ s t h = pairs_keyed bases (λ k. true) (λ k. Bool) (λ k. tt) Bool s t tt
 
 -- another label for the expression itself
-with_keyed : (e : Expr) (m : Marks e) (here : Mark) → Keyed e m → IsKeyed here.type → Keyed e (with_mark e m here)
+pub with_keyed : (e : Expr) (m : Marks e) (here : Mark) → Keyed e m → IsKeyed here.type → Keyed e (with_mark e m here)
 with_keyed (name n) m here h k = k
 with_keyed (number p d) m here h k = k
 with_keyed (text p d) m here h k = k
@@ -479,7 +479,7 @@ module _ (ctx : Context) (declared : List Tree) where
     KeywordsTimely no_keywords = Unit {0}
     KeywordsTimely (more_keywords n e rest) = Timely e × KeywordsTimely rest
 
-  second_timely : (env : Env) (seat : ℕ → Seat) (es : Exprs) (m : ItemsMarks es) → LawfulItems ctx declared env seat es m → SecondTimely es → late_second es m ≡ false
+  pub second_timely : (env : Env) (seat : ℕ → Seat) (es : Exprs) (m : ItemsMarks es) → LawfulItems ctx declared env seat es m → SecondTimely es → late_second es m ≡ false
   second_timely env seat no_exprs m law t = refl
   second_timely env seat (more_exprs e no_exprs) m law t = refl
   second_timely env seat (more_exprs e (more_exprs f rest)) m law t = t env (seat 1).want m.rest.first law.rest.first
@@ -631,7 +631,7 @@ module _ (ctx : Context) (declared : List Tree) where
             (subst (Keyed c) (sym law.callee) (with_keyed c law.value (callee_of ctx env (given args kws) c law.value).mark value callee.0), (items, named)),
           )
 
-      items_keyed : (env : Env) → EnvKeyed declared env → (seat : ℕ → Seat) → ((i : ℕ) → OptionKeyed (seat i).want) → (es : Exprs) → ItemsTimely es → (m : ItemsMarks es) → LawfulItems ctx declared env seat es m → ItemsKeyed es m
+      pub items_keyed : (env : Env) → EnvKeyed declared env → (seat : ℕ → Seat) → ((i : ℕ) → OptionKeyed (seat i).want) → (es : Exprs) → ItemsTimely es → (m : ItemsMarks es) → LawfulItems ctx declared env seat es m → ItemsKeyed es m
       items_keyed env ek seat sk no_exprs t m law = tt
       items_keyed env ek seat sk (more_exprs e rest) t m law = (labels_keyed env ek (seat 0).want (sk 0) e t.0 m.first law.first, items_keyed env ek (λ i. seat (suc i)) (λ i. sk (suc i)) rest t.1 m.rest law.rest)
 
@@ -639,6 +639,6 @@ module _ (ctx : Context) (declared : List Tree) where
       entries_keyed env ek k v kk vk no_entries t m law = tt
       entries_keyed env ek k v kk vk (more_entries a b rest) t m law = (labels_keyed env ek k.want kk a t.0 m.key law.key, (labels_keyed env ek v.want vk b t.1.0 m.value law.value, entries_keyed env ek k v kk vk rest t.1.1 m.rest law.rest))
 
-      keywords_keyed : (env : Env) → EnvKeyed declared env → (seat : List ℕ → Seat) → (before : List (List ℕ)) → ((before : List (List ℕ)) (n : Name) → OptionKeyed (keyword_seat seat before n).want) → (es : Keywords) → KeywordsTimely es → (m : KeywordsMarks es) → LawfulKeywords ctx declared env seat before es m → KeywordsKeyed es m
+      pub keywords_keyed : (env : Env) → EnvKeyed declared env → (seat : List ℕ → Seat) → (before : List (List ℕ)) → ((before : List (List ℕ)) (n : Name) → OptionKeyed (keyword_seat seat before n).want) → (es : Keywords) → KeywordsTimely es → (m : KeywordsMarks es) → LawfulKeywords ctx declared env seat before es m → KeywordsKeyed es m
       keywords_keyed env ek seat before sk no_keywords t m law = tt
       keywords_keyed env ek seat before sk (more_keywords n e rest) t m law = (labels_keyed env ek (keyword_seat seat before n).want (sk before n) e t.0 m.first law.first, keywords_keyed env ek seat (n.text ∷ before) sk rest t.1 m.rest law.rest)

@@ -59,5 +59,16 @@ pub mod Items
 pub mod KnownTests
 pub mod KeyedTypes
 pub mod KeyedLabels
+pub mod FieldStores
+pub mod Ranges
 pub mod Whole
 pub mod Dispatching
+pub mod MethodNodes
+pub mod ValueCalls
+pub mod KeyedModules
+pub mod KeyedSuites
+pub mod TimelyBodies
+pub mod Forms
+pub mod Classes
+pub mod FunctionsKeyed
+pub mod BodyCalls

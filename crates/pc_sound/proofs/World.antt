@@ -14,7 +14,8 @@ use Rattle.pc_scope.specs.Reserved.{builtin_of, is_reserved}
 use Rattle.pc_scope.specs.Bindings.{texts, functions_in, classes_in}
 use Rattle.pc_scope.specs.Resolution.{is_among, entry_texts, locals, function_of, resolve_in_module}
 use Rattle.pc_types.specs.Tree.{Tree}
-use Rattle.pc_types.specs.Below.{Bases}
+use Rattle.pc_types.specs.Tree as tree
+use Rattle.pc_types.specs.Below.{Bases, Below}
 use Rattle.pc_class.specs.Bases.{bases_of}
 use Rattle.pc_class.specs.Facts as facts
 use Rattle.pc_class.specs.Facts.{Parameter, Method, parameters_of, returned, classes_of, class_at}
@@ -25,12 +26,18 @@ use Rattle.pc_value.specs.Value.{Value}
 use Rattle.pc_run.specs.State as state
 use Rattle.pc_run.specs.State.{Function, Class, Globals, a_value, a_function, a_class}
 use Rattle.pc_run.specs.Names.{global_of}
+use Rattle.pc_run.specs.Calls.{is_ancestor}
 use Rattle.pc_sound.specs.Values.{HeapTyping, HasType, Extends}
 use Rattle.pc_sound.specs.Judgment.{Around}
 use Rattle.pc_sound.proofs.ValuesFlow.{later}
 use Rattle.pc_sound.proofs.KeyedStatements.{SuiteKeyed}
 
 -- ---- what was made of defs and classes
+
+-- the ancestors of a class that was made are the classes above it
+pub record AncestorsAre (bases : Bases) (c : ℕ) (ancestors : List ℕ) : Type 0 where
+  pub below : (e : ℕ) → is_ancestor e ancestors ≡ true → Below bases (tree.Class c) (tree.Class e)
+  pub reached : (e : ℕ) → Below bases (tree.Class c) (tree.Class e) → is_ancestor e ancestors ≡ true
 
 -- a default of its type stands where the facts say that there is one
 abbrev pub DefaultHas : Bases → HeapTyping → Tree → Test → Option Value → Type 0
@@ -70,6 +77,7 @@ module _ (m : Module) where
     pub is : slice_get made c ≡ Some class
     pub fields : DefaultsHave (bases_of m) k class.fields (class_at (classes_of m) c).fields
     pub methods : MethodsAre k class.methods (class_at (classes_of m) c).methods
+    pub ancestors : AncestorsAre (bases_of m) c class.ancestors
 
   pub record ConstantIs (k : HeapTyping) (globals : Globals) (word : List ℕ) (t : Tree) : Type 0 where
     pub value : Value
@@ -115,7 +123,7 @@ module _ (m : Module) where
     methods_later (f ∷ fs) (q ∷ qs) h = (record { def = h.0.def; at = h.0.at; made = made_later f h.0.def h.0.made; name = h.0.name; place = h.0.place; parameters = h.0.parameters; returns = h.0.returns }, methods_later fs qs h.1)
 
     pub class_later : (made : List Class) (c : ℕ) → ClassIs k made c → ClassIs k' made c
-    class_later made c h = record { class = h.class; is = h.is; fields = defaults_later h.class.fields (class_at (classes_of m) c).fields h.fields; methods = methods_later h.class.methods (class_at (classes_of m) c).methods h.methods }
+    class_later made c h = record { class = h.class; is = h.is; fields = defaults_later h.class.fields (class_at (classes_of m) c).fields h.fields; methods = methods_later h.class.methods (class_at (classes_of m) c).methods h.methods; ancestors = h.ancestors }
 
   pub world_later : (constants : List Tree) (k k' : HeapTyping) (made : List Class) (globals : Globals) → Extends k k' → World constants k made globals → World constants k' made globals
   world_later constants k k' made globals grows w = record {
