@@ -4,7 +4,7 @@ pub mod Annotations
 pub mod Expressions
 pub mod Modules
 pub mod Statements
-use Rattle.std.specs.Prelude.{◌≡◌, ◌⊎◌, ℕ, ◌-◌, ◌==◌, Bool, true, false, not, if◌then◌else◌, List, [], ◌∷◌, ◌++◌, length, take, drop, filter, Option, Some, None}
+use Rattle.std.specs.Prelude.{◌≡◌, ◌⊎◌, ℕ, ◌==◌, Bool, true, false, not, if◌then◌else◌, List, [], ◌∷◌, ◌++◌, filter, Option, Some, None}
 use Rattle.pc_source.specs.declared.place.Place.{Place}
 use Rattle.pc_token.specs.declared.token.TokenKind.{TokenKind}
 use Rattle.pc_token.specs.declared.token.TokenKind.TheVariants as kind
@@ -12,6 +12,7 @@ use Rattle.pc_token.specs.declared.token.Keyword.{Keyword}
 use Rattle.pc_token.specs.declared.token.Operator.{Operator}
 use Rattle.pc_token.specs.declared.token.Operator.TheVariants as sign
 use Rattle.pc_token.specs.Lexeme.{Lexeme}
+use Rattle.pc_token.specs.Strings.{is_quote}
 use Rattle.pc_tree.specs.Tree.{Name}
 
 infixr 30 ◌⟫◌
@@ -120,9 +121,20 @@ decoded after_backslash [] = []
 decoded true (c ∷ rest) = escaped c ∷ decoded false rest
 decoded false (c ∷ rest) = (if c == 92 then [] else c ∷ []) ++ decoded (c == 92) rest
 
+-- a text without the quote that it begins with
+abbrev pub unopened : List ℕ → List ℕ
+unopened [] = []
+unopened (b ∷ text) = if is_quote b then text else b ∷ text
+
+-- a text without the quote that it ends with
+abbrev pub unclosed : List ℕ → List ℕ
+unclosed [] = []
+unclosed (b ∷ []) = if is_quote b then [] else b ∷ []
+unclosed (b ∷ c ∷ text) = b ∷ unclosed (c ∷ text)
+
 -- the characters of a string: its text without the quotes, with the escapes replaced by what they stand for
 abbrev pub characters_of : List ℕ → List ℕ
-characters_of text = decoded false (take (length text - 2) (drop 1 text))
+characters_of text = decoded false (unclosed (unopened text))
 
 abbrev pub IsNumber : List ℕ → Spelling
 IsNumber digits ts = (t : Lexeme) × (t.kind ≡ kind.Int) × (digits ≡ digits_of t.text) × (ts ≡ t ∷ [])

@@ -6,6 +6,7 @@ mod code;
 mod given;
 mod laws;
 mod members;
+mod places;
 mod stopping;
 mod tree;
 

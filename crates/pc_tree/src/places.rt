@@ -1,0 +1,44 @@
+//! Where nodes stand.
+ghost use Rattle.std.specs.Prelude.{◌≡◌};
+ghost use Rattle.pc_tree.specs.Tree.{expr_of, ann_of};
+ghost use Rattle.pc_tree.specs.Depth.{place_of, place_of_ann};
+
+use crate::tree::{Ann, Expr};
+use pc_source::Place;
+
+impl Expr {
+    /// Its place, from its first to its last token, without parentheses around it. Own rule of the profile.
+    pub fn place(&self) -> Place
+        ensures { result ≡ place_of (expr_of self.now) }
+    {
+        match self {
+            Expr::Name(name) => name.place,
+            Expr::Int(place, _) | Expr::Str(place, _) => *place,
+            Expr::True(place) | Expr::False(place) | Expr::NoneValue(place) => *place,
+            Expr::Tuple(place, _) | Expr::List(place, _) => *place,
+            Expr::Dict(place, _) => *place,
+            Expr::Negative(place, _) | Expr::Not(place, _) => *place,
+            Expr::Binary(place, _, _, _) => *place,
+            Expr::Compare(place, _, _, _) => *place,
+            Expr::IsNone(place, _) | Expr::IsNotNone(place, _) => *place,
+            Expr::And(place, _, _) | Expr::Or(place, _, _) => *place,
+            Expr::Attribute(place, _, _) => *place,
+            Expr::Index(place, _, _) => *place,
+            Expr::Call(place, _, _, _) => *place,
+        }
+    }
+}
+
+impl Ann {
+    /// Its place, from its first to its last token. Own rule of the profile.
+    pub fn place(&self) -> Place
+        ensures { result ≡ place_of_ann (ann_of self.now) }
+    {
+        match self {
+            Ann::Name(name) => name.place,
+            Ann::NoneValue(place) => *place,
+            Ann::Apply(place, _, _) | Ann::Union(place, _) => *place,
+            Ann::ApplyEmpty(place, _) => *place,
+        }
+    }
+}
