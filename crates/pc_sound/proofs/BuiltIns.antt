@@ -130,7 +130,7 @@ module _ (around : Around) (ctx : Context) (fits : Fits around ctx) (knows : Kno
     offered g = ap (name_callee ctx env g) is ∙ ap (λ x. if x then good_callee (builtin_offer g b ∷ []) else value_callee (in_error E20)) (callable b o)
 
     -- the label of the call, where it is no `len` of one argument
-    plain_mark : (args : Exprs) (kws : Keywords) (types : List Tree) (here : Mark) → is_length_of_one (given args kws) ctx.resolve (name n) ≡ false → here ≡ whole_call_mark ctx env (name n) args kws (name_callee ctx env (given args kws) (ctx.resolve n.text)).offers types → here ≡ call_mark around.bases (builtin_offer (given args kws) b ∷ [])
+    pub plain_mark : (args : Exprs) (kws : Keywords) (types : List Tree) (here : Mark) → is_length_of_one (given args kws) ctx.resolve (name n) ≡ false → here ≡ whole_call_mark ctx env (name n) args kws (name_callee ctx env (given args kws) (ctx.resolve n.text)).offers types → here ≡ call_mark around.bases (builtin_offer (given args kws) b ∷ [])
     plain_mark args kws types here no_length law =
         let g = given args kws in
         let offers = (name_callee ctx env g (ctx.resolve n.text)).offers in
@@ -170,7 +170,7 @@ module _ (around : Around) (ctx : Context) (fits : Fits around ctx) (knows : Kno
 
   -- ---- labels of calls
 
-  wrong_call : (p : Place) (here : Mark) (code : Code) → here ≡ call_mark around.bases (fails_at_call code ∷ []) → IsError code → Covered around (IsFoundAt p here.codes) → ⊥
+  pub wrong_call : (p : Place) (here : Mark) (code : Code) → here ≡ call_mark around.bases (fails_at_call code ∷ []) → IsError code → Covered around (IsFoundAt p here.codes) → ⊥
   wrong_call p here code e err covered = no_error_at around ctx fits knows env p here code [] (ap (λ x. x.codes) e) err covered
 
   of_plain : (k : HeapTyping) (here : Mark) (t : Tree) → here ≡ call_mark around.bases (plain_call t ∷ []) → (w : Value) → HasType around.bases k t w → HasType around.bases k here.type w

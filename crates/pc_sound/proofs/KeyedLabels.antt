@@ -17,7 +17,7 @@ use Rattle.pc_types.specs.Below.{Bases}
 use Rattle.pc_types.specs.Normal.{IsKey}
 use Rattle.pc_types.specs.Shape.{members, listed, trees, nodes, limit, count}
 use Rattle.pc_class.specs.Facts.{Parameter, Method, field_of, method_of, class_at}
-use Rattle.pc_flow.specs.Environment.{Env, current, declared_type, join_or_object, join_all}
+use Rattle.pc_flow.specs.Environment.{Env, current, join_or_object, join_all}
 use Rattle.pc_flow.specs.Narrowing.{narrow}
 use Rattle.pc_expr.specs.Operations.{Mark, clean, in_error, Offer, has_error, found_of, offers_mark, tuple_item, index_member, attribute_found, attribute_member, contain_member, length_member, negative_member, Kind, whole_kind, text_kind, kind_of, kind_type, row_of_kinds, pair_found, pair_offers, pairs_mark, takes_kind, is_never, is_any, is_dynamic, display_mark}
 use Rattle.pc_expr.specs.Context.{Context, Signature, local_mark, constant_mark, name_mark, is_late}

@@ -1,6 +1,6 @@
 -- Annotations are read as types whose dicts have int or str as key; so fields, parameters and returns of a module have such types.
-use Rattle.std.proofs.Common.{◌≡◌, ℕ, zero, suc, List, [], ◌∷◌, ◌++◌, map, refl, sym, ap, ◌∙◌, subst, inl, inr, arith}
-use Rattle.std.specs.Prelude.{Bool as Test, true, false, if◌then◌else◌, nat_le, Option, Some, None, unwrap_or, slice_get, is_some}
+use Rattle.std.proofs.Common.{◌≡◌, ℕ, zero, suc, List, [], ◌∷◌, ◌++◌, map, subst, arith}
+use Rattle.std.specs.Prelude.{Bool as Test, true, false, if◌then◌else◌, nat_le, Option, Some, None, slice_get, is_some}
 use Rattle.pc_tree.specs.Tree.{Ann, Anns, named, none_type, applied, applied_empty, no_anns, more_anns, Param, FuncDef, Member, field_member, method_member, ClassDef, Module}
 use Rattle.pc_tree.specs.Tree as tree
 use Rattle.pc_scope.specs.Resolution.{resolve_in_module}
@@ -9,16 +9,16 @@ use Rattle.pc_scope.specs.declared.resolution.Builtin.{Builtin}
 use Rattle.pc_scope.specs.declared.resolution.Builtin.TheVariants as builtin
 use Rattle.pc_scope.specs.declared.resolution.Res.{Res}
 use Rattle.pc_scope.specs.declared.resolution.Res.TheVariants as res
-use Rattle.pc_types.specs.Tree.{Tree, Any, Int, Str, ListOf, DictOf, TupleOf, Union}
+use Rattle.pc_types.specs.Tree.{Tree, Any, Int, Str}
 use Rattle.pc_types.specs.Below.{Bases}
-use Rattle.pc_types.specs.Shape.{nodes, limit, union, trees}
+use Rattle.pc_types.specs.Shape.{nodes, limit, union}
 use Rattle.pc_types.specs.Join.{is_before}
 use Rattle.pc_types.specs.Annotations.{atom, named_type, dict_type, built_type, applied_type, empty_type, is_union, placed, in_order, union_type, reading, readings, read_ann, read_option}
 use Rattle.pc_class.specs.Bases.{bases_of, base_named}
-use Rattle.pc_class.specs.Facts.{Parameter, Method, Class, class_at, class_in, inherited, binds_field, binds_method, parameter_of, parameters_of, returned, own_fields, own_methods, class_behind, classes_behind, classes_of}
-use Rattle.pc_expr.specs.Context.{Context, Signature}
+use Rattle.pc_class.specs.Facts.{Parameter, Method, Class, class_at, inherited, binds_field, binds_method, parameters_of, returned, own_fields, own_methods, class_behind, classes_behind, classes_of}
+use Rattle.pc_expr.specs.Context.{Signature}
 use Rattle.pc_expr.specs.Signatures.{signature_of, signatures_of, body_context, initializer_context}
-use Rattle.pc_sound.proofs.Keys.{IsKeyed, AreKeyed}
+use Rattle.pc_sound.proofs.Keys.{IsKeyed}
 use Rattle.pc_sound.proofs.Members.{AllOf}
 use Rattle.pc_sound.proofs.KeyedTypes.{OptionKeyed, union_keyed}
 use Rattle.pc_sound.proofs.KeyedLabels.{ParametersKeyed, SignatureKeyed, MethodsKeyed, ContextKeyed, or_keyed, trees_keyed}

@@ -1,6 +1,6 @@
 -- The labels of lawful statements have types whose dicts have int or str as key: in text order each local's declared type is
 -- one of an annotation, of a label behind which it stands, or Any.
-use Rattle.std.proofs.Common.{◌≡◌, ℕ, zero, suc, List, [], ◌∷◌, ◌++◌, map, refl, sym, ap, ◌∙◌, subst, inl, inr, arith}
+use Rattle.std.proofs.Common.{◌≡◌, ℕ, zero, suc, List, [], ◌∷◌, ◌++◌, map, refl, sym, ◌∙◌, subst, inl, inr, arith}
 use Rattle.std.specs.Prelude.{◌⊎◌, Bool as Test, true, false, not, ◌||◌, if◌then◌else◌, Option, Some, None, bytes_eq, option_to_list, flat_map}
 use Rattle.std.specs.List.{list_any}
 use Rattle.std.proofs.lemmas.Slice.Eq.{bytes_eq-Decides}
@@ -8,17 +8,17 @@ use Rattle.pc_source.specs.declared.place.Place.{Place}
 use Rattle.pc_tree.specs.declared.code.Code.{Code}
 use Rattle.pc_tree.specs.declared.code.Code.TheVariants.{A5}
 use Rattle.pc_tree.specs.Stopping.{bound_by, bound_by_stmt, bound_by_branches}
-use Rattle.pc_tree.specs.Tree.{Name, Expr, Exprs, Keywords, name, number, text, truth, nothing, tuple, list, dict, negative, negation, binary, compare, is_none, is_not_none, conjunction, disjunction, attribute, index, call, Target, to_name, to_attribute, to_index, Stmt, Stmts, Branches, pass, breaks, continues, returns, asserts, annotated, assigns, evaluates, while_loop, for_loop, conditional, no_stmts, more_stmts, no_branches, more_branches, Module}
+use Rattle.pc_tree.specs.Tree.{Ann, Name, Expr, Exprs, Keywords, name, call, Target, to_name, to_attribute, to_index, Stmt, Stmts, Branches, pass, breaks, continues, returns, asserts, annotated, assigns, evaluates, while_loop, for_loop, conditional, no_stmts, more_stmts, no_branches, more_branches, Module}
 use Rattle.pc_scope.specs.declared.resolution.Res.{Res}
 use Rattle.pc_scope.specs.declared.resolution.Res.TheVariants as res
 use Rattle.pc_scope.specs.Bindings.{texts}
 use Rattle.pc_scope.specs.Reach.{completes}
 use Rattle.pc_scope.specs.Resolution.{is_among}
-use Rattle.pc_types.specs.Tree.{Tree, Any, Object, Never, Int, Str, Class, ListOf, DictOf, TupleOf, Union}
+use Rattle.pc_types.specs.Tree.{Tree, Any, Object, Int, Str, Class, ListOf, DictOf, TupleOf, Union}
 use Rattle.pc_types.specs.Below.{Bases}
 use Rattle.pc_types.specs.Shape.{members, listed}
 use Rattle.pc_types.specs.Annotations.{read_ann}
-use Rattle.pc_flow.specs.Environment.{Env, current, declared_type, assign, assigned_type, join_all, join_env, join_envs_onto, join_ways, head_local, loop_head}
+use Rattle.pc_flow.specs.Environment.{Env, current, declared_type, assigned_type, join_env, join_envs_onto, join_ways, head_local, loop_head}
 use Rattle.pc_flow.specs.Narrowing.{narrow}
 use Rattle.pc_expr.specs.Context.{Context}
 use Rattle.pc_class.specs.Facts.{Parameter, Method, field_of, method_of, class_at}
@@ -272,9 +272,13 @@ module _ (m : Module) (ctx : Context) (declared : List Tree) (keyed : ContextKey
       record {
         labels = (
           (subst (λ x. IsKeyed x.type) (sym law.here) (call_keyed offers ok ctx.bases), λ test. second_timely ctx declared env (positional_seat offers) args marks.arguments law.arguments (t.0 test)),
-          (subst (λ x. IsKeyed x.type) (sym law.callee) tt,
-          (items_keyed ctx declared keyed env ek (positional_seat offers) (positional_keyed offers ok) args t.1.1.0 marks.arguments law.arguments,
-          keywords_keyed ctx declared keyed env ek (named_seat offers) [] (keyword_keyed offers ok) kws t.1.1.1 marks.keywords law.keywords))
+          (
+            subst (λ x. IsKeyed x.type) (sym law.callee) tt,
+            (
+              items_keyed ctx declared keyed env ek (positional_seat offers) (positional_keyed offers ok) args t.1.1.0 marks.arguments law.arguments,
+              keywords_keyed ctx declared keyed env ek (named_seat offers) [] (keyword_keyed offers ok) kws t.1.1.1 marks.keywords law.keywords,
+            ),
+          ),
         );
         item_keyed = subst (λ x. IsKeyed x.type) (sym is) (one (is_suited g (builtin_signature (Int ∷ []) Object)));
       }
@@ -331,3 +335,163 @@ module _ (m : Module) (ctx : Context) (declared : List Tree) (keyed : ContextKey
   annotation_keyed : (first : Test) (t : Tree) → IsKeyed t → OptionKeyed (annotation_at m ctx declared first t)
   annotation_keyed true t h = h
   annotation_keyed false t h = tt
+
+  -- ---- statements
+
+  abbrev Envs : List Env → Type 0
+  Envs es = EnvsKeyed ctx.bases declared es
+
+  abbrev OutKeyed : Option Env → Type 0
+  OutKeyed out = (env : Env) → out ≡ Some env → EnvKeyed declared env
+
+  pub record StmtResult (s : Stmt) (marks : StmtMarks s) (out : Option Env) : Type 0 where
+    pub labels : StmtKeyed s marks
+    pub names : NamesKeyed (bound_by_stmt s)
+    pub after : OutKeyed out
+    pub breaks : Envs (breaks_in s marks)
+
+  pub record SuiteResult (b : Stmts) (marks : SuiteMarks b) (out : Option Env) : Type 0 where
+    pub labels : SuiteKeyed b marks
+    pub names : NamesKeyed (bound_by b)
+    pub after : OutKeyed out
+    pub breaks : Envs (breaks_in_suite b marks)
+
+  record BranchesResult (bs : Branches) (marks : BranchesMarks bs) (last : Env) : Type 0 where
+    labels : BranchesKeyed bs marks
+    names : NamesKeyed (bound_by_branches bs)
+    behind : EnvKeyed declared last
+    ways : Envs (ways_in bs marks)
+    breaks : Envs (breaks_in_branches bs marks)
+
+  out_is : (out : Option Env) (env : Env) → out ≡ Some env → EnvKeyed declared env → OutKeyed out
+  out_is out env e h other i = subst (EnvKeyed declared) (some_inj (sym e ∙ i)) h
+
+  out_none : (out : Option Env) → out ≡ None → OutKeyed out
+  out_none out e other i = absurd (grind (arith, sym e ∙ i))
+
+  option_envs : (out : Option Env) → OutKeyed out → Envs (option_to_list out)
+  option_envs None h = tt
+  option_envs (Some env) h = (h env refl, tt)
+
+  narrowed : (holds : Test) (c : Expr) (env : Env) → EnvKeyed declared env → EnvKeyed declared (narrow ctx.bases declared ctx.resolve holds c env)
+  narrowed holds c env h = narrow_keyed ctx.bases declared ctx.resolve holds c env h
+
+  expression_keyed : (env : Env) (e : Expr) (marks : Marks e) → EnvKeyed declared env → Lawful ctx declared env None e marks → Keyed e marks
+  expression_keyed env e marks ek law = labels_keyed ctx declared keyed env ek None tt e (timely e) marks law
+
+  option_keyed : (returned : Tree) (env : Env) (e : Option Expr) (marks : OptionMarks e) → EnvKeyed declared env → LawfulOption m ctx declared returned env e marks → keyed_statements.OptionKeyed e marks
+  option_keyed returned env None marks ek law = tt
+  option_keyed returned env (Some e) marks ek law = expression_keyed env e marks ek law
+
+  return_keyed : (returned : Tree) → IsKeyed returned → (env : Env) (e : Option Expr) (marks : OptionMarks e) (flows : Flowing) → EnvKeyed declared env → LawfulReturn m ctx declared returned env e marks flows → keyed_statements.OptionKeyed e marks
+  return_keyed returned rk env None marks flows ek law = tt
+  return_keyed returned rk env (Some e) marks flows ek law = labels_keyed ctx declared keyed env ek (Some returned) rk e (timely e) marks law.0
+
+  record AnnotatedKeyed (n : Name) (e : Option Expr) (marks : OptionMarks e) (after : Env) : Type 0 where
+    labels : keyed_statements.OptionKeyed e marks
+    name_keyed : NameKeyed n.text
+    env_keyed : EnvKeyed declared after
+
+  annotated_keyed : (env : Env) (seen : Seen) (n : Name) (a : Ann) (e : Option Expr) (marks : OptionMarks e) (flows : Flowing) (after : Env) → EnvKeyed declared env → SeenKeyed seen → LawfulAnnotated m ctx declared env seen n a e marks flows after → AnnotatedKeyed n e marks after
+  annotated_keyed env seen n a None marks flows after ek sk law = record { labels = tt; name_keyed = declaration_keyed seen n (read_ann m ctx.bases a) sk (ann_keyed m ctx.bases a) law.0; env_keyed = subst (EnvKeyed declared) (sym law.2) ek }
+  annotated_keyed env seen n a (Some e) marks flows after ek sk law =
+      let b = binding_keyed env seen n (annotation_at m ctx declared (is_first seen n) (read_ann m ctx.bases a)) e marks flows after ek sk (annotation_keyed (is_first seen n) (read_ann m ctx.bases a) (ann_keyed m ctx.bases a)) law in
+      record { labels = b.labels; name_keyed = b.name_keyed; env_keyed = b.env_keyed }
+
+  assignment_keyed : (returned : Tree) (env : Env) (seen : Seen) (p : Place) (t : Target) (e : Expr) (marks : StmtMarks (assigns p t e)) (after : Env) (out : Option Env) → EnvKeyed declared env → SeenKeyed seen → LawfulAssignment m ctx declared env seen t marks.target e marks.value marks.flows after → out ≡ Some after → StmtResult (assigns p t e) marks out
+  assignment_keyed returned env seen p (to_name n) e marks after out ek sk law is =
+      let b = binding_keyed env seen n None e marks.value marks.flows after ek sk tt law in
+      record { labels = (b.labels, tt); names = (b.name_keyed, tt); after = out_is out after is b.env_keyed; breaks = tt }
+  assignment_keyed returned env seen p (to_attribute q o f) e marks after out ek sk law is =
+      let s = store_keyed env (to_attribute q o f) marks.target e marks.value marks.flows ek law.0 in
+      record { labels = (s.labels, s.target_keyed); names = tt; after = out_is out after is (subst (EnvKeyed declared) (sym law.1) ek); breaks = tt }
+  assignment_keyed returned env seen p (to_index q o i) e marks after out ek sk law is =
+      let s = store_keyed env (to_index q o i) marks.target e marks.value marks.flows ek law.0 in
+      record { labels = (s.labels, s.target_keyed); names = tt; after = out_is out after is (subst (EnvKeyed declared) (sym law.1) ek); breaks = tt }
+
+  module _ (returned : Tree) (rk : IsKeyed returned) where
+    -- what stands behind a statement
+    record BehindResult (s : Stmt) (rest : Stmts) (first : StmtMarks s) (b : Test) (behind : Behind b (Env × SuiteMarks rest)) (out : Option Env) : Type 0 where
+      labels : StmtKeyed s first × BehindRule b behind (λ r. SuiteKeyed rest r.1) (Unit {0})
+      names : NamesKeyed (bound_by_stmt s ++ bound_by rest)
+      after : OutKeyed out
+      breaks : Envs (breaks_in s first ++ behind_list b behind (λ r. breaks_in_suite rest r.1))
+
+    behind_keyed :
+        (seen : Seen) (env : Env) (s : Stmt) (rest : Stmts) (first : StmtMarks s) → SeenKeyed seen → ((out : Option Env) → LawfulStmt m ctx declared returned seen env s first out → StmtResult s first out)
+        → ((seen : Seen) (env : Env) (marks : SuiteMarks rest) (out : Option Env) → SeenKeyed seen → EnvKeyed declared env → LawfulSuite m ctx declared returned seen env rest marks out → SuiteResult rest marks out) → (b : Test) (behind : Behind b (Env × SuiteMarks rest)) (out : Option Env)
+        → BehindRule b behind (λ r. LawfulStmt m ctx declared returned seen env s first (Some r.0) × LawfulSuite m ctx declared returned (texts (bound_by_stmt s) ++ seen) r.0 rest r.1 out) (LawfulStmt m ctx declared returned seen env s first None × Undeclared m ctx declared (texts (bound_by_stmt s) ++ seen) (bound_by rest) × (out ≡ None))
+        → BehindResult s rest first b behind out
+    behind_keyed seen env s rest first sk one others true behind out law =
+        let a = one (Some behind.0) law.0 in
+        let r = others (texts (bound_by_stmt s) ++ seen) behind.0 behind.1 out (seen_names (bound_by_stmt s) seen a.names sk) (a.after behind.0 refl) law.1 in
+        record { labels = (a.labels, r.labels); names = names_append (bound_by_stmt s) (bound_by rest) a.names r.names; after = r.after; breaks = envs_append ctx.bases declared (breaks_in s first) (breaks_in_suite rest behind.1) a.breaks r.breaks }
+    behind_keyed seen env s rest first sk one others false behind out law =
+        let a = one None law.0 in
+        record { labels = (a.labels, tt); names = names_append (bound_by_stmt s) (bound_by rest) a.names (undeclared_keyed (texts (bound_by_stmt s) ++ seen) (bound_by rest) (seen_names (bound_by_stmt s) seen a.names sk) law.1); after = out_none out law.2; breaks = envs_append ctx.bases declared (breaks_in s first) [] a.breaks tt }
+
+    mutual
+      pub stmt_keyed : (seen : Seen) (env : Env) (s : Stmt) (marks : StmtMarks s) (out : Option Env) → SeenKeyed seen → EnvKeyed declared env → LawfulStmt m ctx declared returned seen env s marks out → StmtResult s marks out
+      stmt_keyed seen env (pass p) marks out sk ek law = record { labels = tt; names = tt; after = out_is out env law ek; breaks = tt }
+      stmt_keyed seen env (breaks p) marks out sk ek law = record { labels = tt; names = tt; after = out_none out law.1; breaks = (subst (EnvKeyed declared) (sym law.0) ek, tt) }
+      stmt_keyed seen env (continues p) marks out sk ek law = record { labels = tt; names = tt; after = out_none out law; breaks = tt }
+      stmt_keyed seen env (returns p e) marks out sk ek law = record { labels = return_keyed returned rk env e marks.value marks.flows ek law.0; names = tt; after = out_none out law.1; breaks = tt }
+      stmt_keyed seen env (asserts p c e) marks out sk ek law = record {
+        labels = (expression_keyed env c marks.condition ek law.condition, option_keyed returned (narrow ctx.bases declared ctx.resolve false c env) e marks.message (narrowed false c env ek) law.message);
+        names = tt;
+        after = out_is out (narrow ctx.bases declared ctx.resolve true c env) law.after (narrowed true c env ek);
+        breaks = tt;
+      }
+      stmt_keyed seen env (annotated p n a e) marks out sk ek law =
+          let k = annotated_keyed env seen n a e marks.value marks.flows law.after ek sk law.binding in
+          record { labels = k.labels; names = (k.name_keyed, tt); after = out_is out law.after law.is k.env_keyed; breaks = tt }
+      stmt_keyed seen env (assigns p t e) marks out sk ek law = assignment_keyed returned env seen p t e marks law.after out ek sk law.assignment law.is
+      stmt_keyed seen env (evaluates p e) marks out sk ek law = record { labels = expression_keyed env e marks ek law.0; names = tt; after = out_is out env law.1 ek; breaks = tt }
+      stmt_keyed seen env (while_loop p c b) marks out sk ek law =
+          let hk = subst (EnvKeyed declared) (sym law.head) (head_keyed (binds_number ctx.resolve (bound_by b)) declared env ek) in
+          let body = suite_keyed seen (narrow ctx.bases declared ctx.resolve true c marks.head) b marks.body marks.out sk (narrowed true c marks.head hk) law.body in
+          record {
+            labels = (expression_keyed marks.head c marks.condition hk law.condition, body.labels);
+            names = body.names;
+            after = out_is out _ law.after (onto_keyed ctx.bases declared ctx.resolve (narrow ctx.bases declared ctx.resolve false c marks.head) (breaks_in_suite b marks.body) (narrowed false c marks.head hk) body.breaks);
+            breaks = tt;
+          }
+      stmt_keyed seen env (for_loop p n e b) marks out sk ek law =
+          let i = iterable_keyed env e marks.iterable marks.item ek law.iterable in
+          let hk = subst (EnvKeyed declared) (sym law.head) (head_keyed (binds_number ctx.resolve (n ∷ bound_by b)) declared env ek) in
+          let t = for_target_keyed seen n marks.head marks.item marks.flows law.inside hk sk i.item_keyed law.target in
+          let body = suite_keyed (n.text ∷ seen) law.inside b marks.body marks.out (seen_more n seen t.name_keyed sk) t.env_keyed law.body in
+          record {
+            labels = (i.labels, body.labels);
+            names = (t.name_keyed, body.names);
+            after = out_is out _ law.after (onto_keyed ctx.bases declared ctx.resolve marks.head (breaks_in_suite b marks.body) hk body.breaks);
+            breaks = tt;
+          }
+      stmt_keyed seen env (conditional p bs o) marks out sk ek law =
+          let r = branches_keyed seen env bs marks.branches marks.last sk ek law.branches in
+          let b = suite_keyed (texts (bound_by_branches bs) ++ seen) marks.last o marks.otherwise marks.out (seen_names (bound_by_branches bs) seen r.names sk) r.behind law.otherwise in
+          record {
+            labels = (r.labels, b.labels);
+            names = names_append (bound_by_branches bs) (bound_by o) r.names b.names;
+            after = λ env' is. ways_keyed ctx.bases declared ctx.resolve (ways_in bs marks.branches ++ option_to_list marks.out) env' (sym law.after ∙ is) (envs_append ctx.bases declared (ways_in bs marks.branches) (option_to_list marks.out) r.ways (option_envs marks.out b.after));
+            breaks = envs_append ctx.bases declared (breaks_in_branches bs marks.branches) (breaks_in_suite o marks.otherwise) r.breaks b.breaks;
+          }
+
+      pub suite_keyed : (seen : Seen) (env : Env) (b : Stmts) (marks : SuiteMarks b) (out : Option Env) → SeenKeyed seen → EnvKeyed declared env → LawfulSuite m ctx declared returned seen env b marks out → SuiteResult b marks out
+      suite_keyed seen env no_stmts marks out sk ek law = record { labels = tt; names = tt; after = out_is out env law ek; breaks = tt }
+      suite_keyed seen env (more_stmts s rest) marks out sk ek law =
+          let r = behind_keyed seen env s rest marks.0 sk (λ o l. stmt_keyed seen env s marks.0 o sk ek l) (λ seen' env' marks' o sk' ek' l. suite_keyed seen' env' rest marks' o sk' ek' l) (completes s) marks.1 out law in
+          record { labels = r.labels; names = r.names; after = r.after; breaks = r.breaks }
+
+      branches_keyed : (seen : Seen) (env : Env) (bs : Branches) (marks : BranchesMarks bs) (last : Env) → SeenKeyed seen → EnvKeyed declared env → LawfulBranches m ctx declared returned seen env bs marks last → BranchesResult bs marks last
+      branches_keyed seen env no_branches marks last sk ek law = record { labels = tt; names = tt; behind = subst (EnvKeyed declared) (sym law) ek; ways = tt; breaks = tt }
+      branches_keyed seen env (more_branches c b rest) marks last sk ek law =
+          let body = suite_keyed seen (narrow ctx.bases declared ctx.resolve true c env) b marks.body marks.out sk (narrowed true c env ek) law.body in
+          let r = branches_keyed (texts (bound_by b) ++ seen) (narrow ctx.bases declared ctx.resolve false c env) rest marks.rest last (seen_names (bound_by b) seen body.names sk) (narrowed false c env ek) law.others in
+          record {
+            labels = (expression_keyed env c marks.condition ek law.condition, (body.labels, r.labels));
+            names = names_append (bound_by b) (bound_by_branches rest) body.names r.names;
+            behind = r.behind;
+            ways = envs_append ctx.bases declared (option_to_list marks.out) (ways_in rest marks.rest) (option_envs marks.out body.after) r.ways;
+            breaks = envs_append ctx.bases declared (breaks_in_suite b marks.body) (breaks_in_branches rest marks.rest) body.breaks r.breaks;
+          }

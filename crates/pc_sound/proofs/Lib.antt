@@ -63,7 +63,12 @@ pub mod FieldStores
 pub mod Ranges
 pub mod Whole
 pub mod Dispatching
+pub mod MethodNodes
+pub mod ValueCalls
 pub mod KeyedModules
 pub mod KeyedSuites
+pub mod TimelyBodies
 pub mod Forms
 pub mod Classes
+pub mod FunctionsKeyed
+pub mod BodyCalls

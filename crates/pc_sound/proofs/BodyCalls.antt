@@ -1,0 +1,130 @@
+-- Calls in bodies, whatever is called.
+use Rattle.std.proofs.Common.{◌≡◌, ℕ, zero, suc, List, [], ◌∷◌, ◌++◌, map, refl, sym, ap, ◌∙◌, subst, inl, inr, arith}
+use Rattle.std.specs.Prelude.{◌⊎◌, Bool as Test, true, false, ◌&&◌, if◌then◌else◌, nat_lt, flat_map, Option, Some, None, slice_get}
+use Rattle.pc_source.specs.declared.place.Place.{Place}
+use Rattle.pc_tree.specs.declared.code.Code.{Code}
+use Rattle.pc_tree.specs.declared.code.Code.TheVariants.{E03, E14}
+use Rattle.pc_tree.specs.declared.code.Finding.{Finding}
+use Rattle.pc_tree.specs.Tree.{Name, Expr, name, number, text, truth, nothing, tuple, list, dict, negative, negation, binary, compare, is_none, is_not_none, conjunction, disjunction, attribute, index, call, Exprs, Keywords, FuncDef, Module}
+use Rattle.pc_scope.specs.declared.resolution.Builtin.{Builtin}
+use Rattle.pc_scope.specs.declared.resolution.Builtin.TheVariants as builtin
+use Rattle.pc_scope.specs.declared.resolution.Owner.{Owner}
+use Rattle.pc_scope.specs.declared.resolution.Owner.TheVariants as owners
+use Rattle.pc_scope.specs.declared.resolution.Res.{Res}
+use Rattle.pc_scope.specs.declared.resolution.Res.TheVariants as res
+use Rattle.pc_scope.specs.Expressions.{place_of, is_instance_test}
+use Rattle.pc_scope.specs.Bindings.{functions_in, classes_in}
+use Rattle.pc_scope.specs.Resolution.{index_of, locals, function_of, local_of, or_else, resolve_in_module, resolve_among}
+use Rattle.pc_types.specs.Tree.{Tree}
+use Rattle.pc_types.specs.Tree as tree
+use Rattle.pc_types.specs.Below.{Bases, Below}
+use Rattle.pc_types.specs.Shape.{members}
+use Rattle.pc_class.specs.Bases.{bases_of}
+use Rattle.pc_class.specs.Facts as facts
+use Rattle.pc_class.specs.Facts.{Method, parameters_of, returned, classes_of, class_at, method_of}
+use Rattle.pc_flow.specs.Environment.{Env}
+use Rattle.pc_expr.specs.Operations.{Mark, in_error}
+use Rattle.pc_expr.specs.Context.{Context, Signature, name_mark}
+use Rattle.pc_expr.specs.Signatures.{signature_of, signatures_of}
+use Rattle.pc_expr.specs.Calls.{Given, given, CallOffer, called, function_offer, class_signature, builtin_offer, good_callee, value_callee, name_callee, value_offers, method_offers, method_callee, Callee, call_mark, positional_seat, named_seat}
+use Rattle.pc_expr.specs.Labels.{Marks, mark_of, type_of, with_mark, item_types, Finds, IsFoundAt}
+use Rattle.pc_expr.specs.Lawful.{Lawful, LawfulItems, LawfulKeywords, callee_of, is_length, is_length_of_one, whole_call_mark}
+use Rattle.pc_value.specs.Value.{Value, Gives}
+use Rattle.pc_run.specs.State.{State, Function, Class, Globals, a_function}
+use Rattle.pc_run.specs.Names.{meaning_of_global, is_reserved}
+use Rattle.pc_run.specs.Calls.{calls_value, callee_of_meaning}
+use Rattle.pc_run.specs.Steps.{Parts}
+use Rattle.pc_run.specs.Free.{Step, ◌>>=◌, comes, Emits, free}
+use Rattle.pc_run.specs.Evaluation.{eval_call, eval_node, eval_all, eval_keywords, call_callee}
+use Rattle.pc_sound.specs.Values.{HeapTyping, HasType}
+use Rattle.pc_sound.specs.Judgment.{EndsWell, Around, Stands, IsSafe, Fits}
+use Rattle.pc_sound.proofs.Keys.{Keyed}
+use Rattle.pc_sound.proofs.Expressions.{Covered, GoodEval}
+use Rattle.pc_sound.proofs.Flows.{Evaluates}
+use Rattle.pc_sound.proofs.Fields.{Inherits}
+use Rattle.pc_sound.proofs.Globals.{KnowsNames, meaning_outside, means_a_class, no_error_at}
+use Rattle.pc_sound.proofs.BuiltIns.{print_safe, str_safe, len_safe, plain_mark, wrong_call, range_error, not_callable}
+use Rattle.pc_sound.proofs.InstanceCalls.{instance_safe}
+use Rattle.pc_sound.proofs.Dispatch.{IsIn, Dispatched}
+use Rattle.pc_sound.proofs.Statements.{GoodExec}
+use Rattle.pc_sound.proofs.World.{MadeOf, World, world_later, ClassIs, Labelled, around_of, context_of}
+use Rattle.pc_sound.proofs.Entering.{fits_of}
+use Rattle.pc_sound.proofs.Filling.{Distinct}
+use Rattle.pc_sound.proofs.Binds.{function_named, class_named}
+use Rattle.pc_sound.proofs.CallNodes.{function_node_safe, class_node_safe}
+use Rattle.pc_sound.proofs.MethodNodes.{method_node_safe}
+use Rattle.pc_sound.proofs.ValueCalls.{with_own, ordinary_call, ordinary_mark, values_quiet, fails_safe, value_callee_safe, named_value_safe, arguments_covered}
+
+-- a name that is no local means what the module says
+outside_func : (o : Option ℕ) (r : Res) (i : ℕ) → or_else (local_of o) r ≡ res.Func i → r ≡ res.Func i
+outside_func None r i e = e
+outside_func (Some x) r i e = absurd (grind (arith, e))
+
+outside_class : (o : Option ℕ) (r : Res) (i : ℕ) → or_else (local_of o) r ≡ res.Class i → r ≡ res.Class i
+outside_class None r i e = e
+outside_class (Some x) r i e = absurd (grind (arith, e))
+
+mapped_at : {A B : Type 0} (f : A → B) (xs : List A) (i : ℕ) (x : A) → slice_get xs i ≡ Some x → slice_get (map f xs) i ≡ Some (f x)
+mapped_at f [] i x e = absurd (grind (arith, e))
+mapped_at f (y ∷ ys) zero x e = ap (λ z. Some (f z)) (some_inj e)
+  where
+    some_inj : Some y ≡ Some x → y ≡ x
+    some_inj e = grind arith
+mapped_at f (y ∷ ys) (suc i) x e = mapped_at f ys i x e
+
+signature_at : (m : Module) (i : ℕ) (d : FuncDef) → slice_get (functions_in m.items) i ≡ Some d → slice_get (signatures_of m) i ≡ Some (signature_of m d)
+unfolding signatures_of
+signature_at m i d e = mapped_at (signature_of m) (functions_in m.items) i d e
+
+-- what is known of a module whose labels are lawful and without errors, as calls need it
+pub record Facts (m : Module) (constants : List Tree) (listed : Place → Type 0) : Type 0 where
+  pub inherits : Inherits (bases_of m) (classes_of m)
+  pub dispatched : (d c : ℕ) → Below (bases_of m) (tree.Class d) (tree.Class c) → (word : List ℕ) (old : Method) → method_of (class_at (classes_of m) c).methods word ≡ Some old → Dispatched m listed d word old
+  pub owner_above : (c : ℕ) (q : Method) → IsIn (class_at (classes_of m) c).methods q → Below (bases_of m) (tree.Class c) (tree.Class q.owner)
+  pub labelled : (owner : Owner) (d : FuncDef) → function_of m owner ≡ Some d → Labelled m constants listed owner d
+  pub distinct_methods : (c : ℕ) (word : List ℕ) (old : Method) → method_of (class_at (classes_of m) c).methods word ≡ Some old → Distinct [] old.parameters
+  pub distinct_fields : (c : ℕ) → Distinct [] (class_at (classes_of m) c).fields
+  pub distinct_functions : (i : ℕ) (d : FuncDef) → slice_get (functions_in m.items) i ≡ Some d → Distinct [] (parameters_of m d.params)
+
+module _ (m : Module) (constants : List Tree) (listed : Place → Type 0) (facts : Facts m constants listed) (owner : Owner) (d : FuncDef) (lab : Labelled m constants listed owner d) where
+  abbrev Here : Around
+  Here = around_of m constants listed owner d lab
+
+  abbrev Ctx : Context
+  Ctx = context_of m constants listed owner d
+
+  module _ (knows : KnowsNames (around_of m constants listed owner d lab) (context_of m constants listed owner d)) (parts : Parts Step) (good : GoodEval (around_of m constants listed owner d lab) (context_of m constants listed owner d) parts.eval) (evaluates : (e : Expr) → Evaluates (place_of e) (parts.eval e)) (runs : (o : Owner) (f : FuncDef) (l : Labelled m constants listed o f) → GoodExec (around_of m constants listed o f l) (context_of m constants listed o f) m (returned m f) parts.exec) (env : Env) where
+    abbrev Fit : Fits (around_of m constants listed owner d lab) (context_of m constants listed owner d)
+    Fit = fits_of m constants listed owner d lab
+
+    -- what a whole call is
+    abbrev CallSafe : (p : Place) (c : Expr) (args : Exprs) (kws : Keywords) → Marks (call p c args kws) → Type 0
+    CallSafe p c args kws k = IsSafe Here env (λ j. Unit {0}) (eval_node Step free parts (call p c args kws)) (λ j v. HasType (bases_of m) j k.here.type v)
+
+    -- ---- values
+
+    -- the callee is a value, and so labelled
+    value_node : (want : Option Tree) (p : Place) (c : Expr) (args : Exprs) (kws : Keywords) (k : Marks (call p c args kws)) (law : Lawful Ctx lab.marks.declared env want (call p c args kws) k) → callee_of Ctx env (given args kws) c law.value ≡ value_callee (mark_of c law.value) → is_instance_test c args kws ≡ false → is_length_of_one (given args kws) Ctx.resolve c ≡ false → Covered Here (Finds (call p c args kws) k) → Keyed (call p c args kws) k
+        → IsSafe Here env (λ j. Unit {0}) ((parts.eval c >>= λ v. comes (Gives (calls_value v))) >>= λ called. eval_all Step free parts.eval args >>= λ values. eval_keywords Step free parts.eval kws >>= λ more. Emits p >>= λ u. call_callee Step free parts called values more) (λ j v. HasType (bases_of m) j k.here.type v)
+    value_node want p c args kws k law is no_test no_length covered keyed =
+        let own : k.callee ≡ law.value = law.callee ∙ ap (λ x. with_mark c law.value x.mark) is ∙ with_own c law.value in
+        fails_safe Here Ctx Fit parts good evaluates env p _ (value_offers (type_of c law.value)) (values_quiet (type_of c law.value))
+        (value_callee_safe Here Ctx parts good env c law.value law.lawful (subst (λ x. Covered Here (Finds c x)) own (λ f h. covered f (inr (inl h)))) (subst (λ x. Keyed c x) own keyed.1.0))
+        args k.arguments kws k.keywords k.here
+        (ordinary_mark Ctx env c args kws (callee_of Ctx env (given args kws) c law.value).offers (item_types args k.arguments) k.here no_test no_length law.here ∙ ap (λ x. call_mark (bases_of m) x.offers) is)
+        (subst (λ x. LawfulItems Ctx lab.marks.declared env (positional_seat x.offers) args k.arguments) is law.arguments)
+        (subst (λ x. LawfulKeywords Ctx lab.marks.declared env (named_seat x.offers) [] kws k.keywords) is law.keywords)
+        (arguments_covered Here c args kws k.arguments no_test (λ f h. covered f (inr (inr (inr (inl h)))))) (λ f h. covered f (inr (inr (inr (inr h))))) (λ f h. covered f (inl h)) keyed.1.1.0 keyed.1.1.1
+
+    -- ---- `e.m`
+
+    attribute_node : (want : Option Tree) (p q : Place) (e : Expr) (w : Name) (args : Exprs) (kws : Keywords) (k : Marks (call p (attribute q e w) args kws)) → Lawful Ctx lab.marks.declared env want (call p (attribute q e w) args kws) k → Covered Here (Finds (call p (attribute q e w) args kws) k) → Keyed (call p (attribute q e w) args kws) k → CallSafe p (attribute q e w) args kws k
+    attribute_node want p q e w args kws k law covered keyed =
+        let found = subst (λ x. Covered Here (Finds (attribute q e w) x)) law.callee (λ f h. covered f (inr (inl h))) in
+        let keys = subst (λ x. Keyed (attribute q e w) x) law.callee keyed.1.0 in
+        method_node_safe m facts.inherits constants listed facts.dispatched facts.owner_above (locals owner d) lab.marks.declared Ctx Fit parts good evaluates env facts.labelled runs facts.distinct_methods
+        p q e w args kws law.value.object (method_callee Ctx (given args kws) w.text (type_of e law.value.object)).mark.codes k.arguments k.keywords k.here law.lawful.object
+        (λ f h. found f (inr h)) keys.1 refl (λ f h. found f (inl h))
+        (ordinary_mark Ctx env (attribute q e w) args kws (callee_of Ctx env (given args kws) (attribute q e w) law.value).offers (item_types args k.arguments) k.here refl refl law.here)
+        law.arguments law.keywords
+        (arguments_covered Here (attribute q e w) args kws k.arguments refl (λ f h. covered f (inr (inr (inr (inl h)))))) (λ f h. covered f (inr (inr (inr (inr h))))) (λ f h. covered f (inl h)) keyed.1.1.0 keyed.1.1.1

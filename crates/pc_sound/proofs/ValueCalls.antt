@@ -1,0 +1,155 @@
+-- Calls of values: a code stands at each, so where none is found no value comes to be called. And what an ordinary call's labels say.
+use Rattle.std.proofs.Common.{◌≡◌, ℕ, List, [], ◌∷◌, ◌++◌, map, refl, sym, ap, ◌∙◌, subst, inl, inr, arith}
+use Rattle.std.specs.Prelude.{◌⊎◌, Bool as Test, true, false, ◌&&◌, if◌then◌else◌, codes, Option, Some, None, bytes_eq}
+use Rattle.std.proofs.lemmas.Slice.Eq.{bytes_eq-Decides}
+use Rattle.pc_source.specs.declared.place.Place.{Place}
+use Rattle.pc_tree.specs.declared.code.Code.{Code}
+use Rattle.pc_tree.specs.declared.code.Finding.{Finding}
+use Rattle.pc_tree.specs.Tree.{Name, Expr, name, number, text, truth, nothing, tuple, list, dict, negative, negation, binary, compare, is_none, is_not_none, conjunction, disjunction, attribute, index, call, Exprs, no_exprs, more_exprs, Keywords, no_keywords, more_keywords}
+use Rattle.pc_scope.specs.Expressions.{place_of, is_instance_test}
+use Rattle.pc_types.specs.Tree.{Tree, Any, Object, Never, Int, Bool, Str, NoneType, Class, ListOf, DictOf, TupleOf, Union}
+use Rattle.pc_types.specs.Shape.{members}
+use Rattle.pc_flow.specs.Environment.{Env}
+use Rattle.pc_expr.specs.Operations.{Mark}
+use Rattle.pc_expr.specs.Context.{Context, name_mark}
+use Rattle.pc_expr.specs.Calls.{Given, given, CallOffer, value_offer, value_offers, all_codes, call_codes, call_mark, length_mark, test_mark, positional_seat, named_seat}
+use Rattle.pc_expr.specs.Labels.{Marks, ItemsMarks, KeywordsMarks, mark_of, type_of, with_mark, Finds, ItemsFind, ArgumentsFind, KeywordsFind, IsFoundAt}
+use Rattle.pc_expr.specs.Lawful.{Lawful, LawfulItems, LawfulKeywords, is_length_of_one, whole_call_mark}
+use Rattle.pc_value.specs.Value.{Value, Stop, Raised, Other, Outside, Cut, Out, Gives, Stops}
+use Rattle.pc_value.specs.Texts.{same_text}
+use Rattle.pc_run.specs.State.{State}
+use Rattle.pc_run.specs.Names.{Meaning, means_value, means_unbound, means_function, means_class, means_reserved, means_nothing, meaning}
+use Rattle.pc_run.specs.Calls.{Callee, calls_value, callee_of_meaning, value_of_meaning, NamedValue}
+use Rattle.pc_run.specs.Steps.{Parts}
+use Rattle.pc_run.specs.Free.{Step, ◌>>=◌, comes, Emits, Looks, free}
+use Rattle.pc_run.specs.Evaluation.{call_form, instance_test, ordinary, eval_callee, eval_all, eval_keywords, call_callee}
+use Rattle.pc_sound.specs.Values.{HeapTyping, HasType}
+use Rattle.pc_sound.specs.Judgment.{HasListed, EndsWell, Around, Stands, Keeps, IsSafe, Fits}
+use Rattle.pc_sound.proofs.Steps.{Stays, bind_safe, comes_safe, looks_safe, may_stop_safe, weaken}
+use Rattle.pc_sound.proofs.Keys.{Keyed, ItemsKeyed, KeywordsKeyed}
+use Rattle.pc_sound.proofs.Expressions.{Covered, GoodEval, part}
+use Rattle.pc_sound.proofs.Flows.{Evaluates}
+use Rattle.pc_sound.proofs.Arguments.{ArgumentsHave, KeywordsHave, found_in_arguments}
+use Rattle.pc_sound.proofs.OrdinaryCalls.{impossible_safe, KnownCall, ordinary_safe}
+use Rattle.pc_sound.proofs.BuiltInMethods.{CalleeCodes}
+use Rattle.pc_sound.proofs.Globals.{KnowsNames, name_safe}
+use Rattle.pc_sound.proofs.CallOffers.{IsOffer, all_quiet, offer_quiet}
+use Rattle.pc_sound.proofs.MethodNodes.{Fails, values_fail}
+
+-- ---- labels of calls
+
+-- labels with their own label are the same
+pub with_own : (e : Expr) (m : Marks e) → with_mark e m (mark_of e m) ≡ m
+with_own (name n) m = refl
+with_own (number p d) m = refl
+with_own (text p d) m = refl
+with_own (truth p d) m = refl
+with_own (nothing p) m = refl
+with_own (tuple p es) m = refl
+with_own (list p es) m = refl
+with_own (dict p es) m = refl
+with_own (negative p e) m = refl
+with_own (negation p e) m = refl
+with_own (binary p o a b) m = refl
+with_own (compare p o a b) m = refl
+with_own (is_none p e) m = refl
+with_own (is_not_none p e) m = refl
+with_own (conjunction p a b) m = refl
+with_own (disjunction p a b) m = refl
+with_own (attribute p e f) m = refl
+with_own (index p a b) m = refl
+with_own (call p c args by_name) m = refl
+
+-- a call that is no test of an instance is ordinary
+pub ordinary_call : (n : Name) (args : Exprs) (kws : Keywords) → is_instance_test (name n) args kws ≡ false → call_form (name n) args kws ≡ ordinary
+ordinary_call n no_exprs kws e = refl
+ordinary_call n (more_exprs a no_exprs) kws e = refl
+ordinary_call n (more_exprs a (more_exprs b (more_exprs c rest))) kws e = refl
+ordinary_call n (more_exprs a (more_exprs b no_exprs)) (more_keywords w x rest) e = refl
+ordinary_call n (more_exprs a (more_exprs b no_exprs)) no_keywords e = ap (λ t. if t then instance_test n a b else ordinary) (flipped (same_text n.text (codes "isinstance")) refl)
+  where
+    clash : {t : Test} → t ≡ true → t ≡ false → ⊥
+    clash e f = grind (arith, sym e ∙ f)
+
+    both_false : (t : Test) → (t && true) ≡ false → t ≡ false
+    both_false true e = absurd (grind (arith, e))
+    both_false false e = refl
+
+    flipped : (t : Test) → same_text n.text (codes "isinstance") ≡ t → same_text n.text (codes "isinstance") ≡ false
+    flipped true t = absurd (clash ((bytes_eq-Decides (codes "isinstance") n.text).1 (sym ((bytes_eq-Decides n.text (codes "isinstance")).0 t))) (both_false (bytes_eq (codes "isinstance") n.text) e))
+    flipped false t = t
+
+-- its label is that of its offers
+pub ordinary_mark : (ctx : Context) (env : Env) (c : Expr) (args : Exprs) (kws : Keywords) (offers : List CallOffer) (types : List Tree) (here : Mark) → is_instance_test c args kws ≡ false → is_length_of_one (given args kws) ctx.resolve c ≡ false → here ≡ whole_call_mark ctx env c args kws offers types → here ≡ call_mark ctx.bases offers
+ordinary_mark ctx env c args kws offers types here no_test no_length law =
+    law ∙ ap (λ t. if t then test_mark ctx env args else (if is_length_of_one (given args kws) ctx.resolve c then length_mark ctx.bases types else call_mark ctx.bases offers)) no_test
+    ∙ ap (λ t. if t then length_mark ctx.bases types else call_mark ctx.bases offers) no_length
+
+-- ---- values that are called
+
+value_quiet : (t : Tree) → (value_offer t).at_callee ≡ []
+value_quiet Any = refl
+value_quiet Object = refl
+value_quiet Never = refl
+value_quiet Int = refl
+value_quiet Bool = refl
+value_quiet Str = refl
+value_quiet NoneType = refl
+value_quiet (Class c) = refl
+value_quiet (ListOf t) = refl
+value_quiet (DictOf s t) = refl
+value_quiet (TupleOf ts) = refl
+value_quiet (Union a b) = refl
+
+pub values_quiet : (t : Tree) → CalleeCodes (value_offers t) ≡ []
+values_quiet t = go (members t)
+  where
+    go : (ms : List Tree) → CalleeCodes (map value_offer ms) ≡ []
+    go [] = refl
+    go (x ∷ ms) = λ i. value_quiet x i ++ go ms i
+
+-- where a code stands at a call whatever is called, the call is safe
+pub fails_safe :
+    (around : Around) (ctx : Context) (fits : Fits around ctx) (parts : Parts Step) (good : GoodEval around ctx parts.eval) (evaluates : (e : Expr) → Evaluates (place_of e) (parts.eval e)) (env : Env)
+    → (p : Place) (callee : Step Callee) (offers : List CallOffer) → CalleeCodes offers ≡ [] → IsSafe around env (λ k. Unit {0}) callee (λ k c. Fails offers)
+    → (args : Exprs) (marks : ItemsMarks args) (kws : Keywords) (kmarks : KeywordsMarks kws) (here : Mark) → here ≡ call_mark around.bases offers
+    → LawfulItems ctx around.declared env (positional_seat offers) args marks → LawfulKeywords ctx around.declared env (named_seat offers) [] kws kmarks
+    → Covered around (ItemsFind args marks) → Covered around (KeywordsFind kws kmarks) → Covered around (IsFoundAt p here.codes) → ItemsKeyed args marks → KeywordsKeyed kws kmarks
+    → IsSafe around env (λ k. Unit {0}) (callee >>= λ c. eval_all Step free parts.eval args >>= λ values. eval_keywords Step free parts.eval kws >>= λ more. Emits p >>= λ u. call_callee Step free parts c values more) (λ k v. HasType around.bases k here.type v)
+fails_safe around ctx fits parts good evaluates env p callee offers quiet safe args marks kws kmarks here is law klaw covered kcovered hcovered keyed kkeyed =
+    ordinary_safe around ctx fits parts good evaluates env p callee (λ k c. Fails offers) (λ c k k' x h. h) safe (positional_seat offers) (named_seat offers) args marks kws kmarks here law klaw covered kcovered hcovered keyed kkeyed _
+    λ c values more. impossible_safe around env _ _ _ λ k h. let f = h.0.0.0.1 in f.found (offer_quiet f.offer offers f.among (all_quiet offers quiet (ap (λ x. x.codes) (sym is) ∙ h.1))).1
+
+-- a value that is called
+pub value_callee_safe : (around : Around) (ctx : Context) (parts : Parts Step) (good : GoodEval around ctx parts.eval) (env : Env) (e : Expr) (m : Marks e) → Lawful ctx around.declared env None e m → Covered around (Finds e m) → Keyed e m → IsSafe around env (λ k. Unit {0}) (parts.eval e >>= λ v. comes (Gives (calls_value v))) (λ k c. Fails (value_offers (type_of e m)))
+value_callee_safe around ctx parts good env e m law covered keyed =
+    bind_safe around env _ _ _ (λ k v. HasType around.bases k (type_of e m) v) _ (λ k k' x h. tt) (part around ctx parts good env _ None e m law covered keyed)
+    λ v. comes_safe around env _ (Gives (calls_value v)) _ λ k h. values_fail around.bases k (type_of e m) v h.1
+
+-- what a name that is no function, class or reserved name is as a callee
+meant : (around : Around) (k : HeapTyping) (word : List ℕ) (t : Tree) (m : Meaning) → EndsWell (λ v. HasType around.bases k t v) (value_of_meaning m) → EndsWell (λ c. Fails (value_offers t)) (callee_of_meaning word m)
+meant around k word t (means_value v) h = values_fail around.bases k t v h
+meant around k word t means_unbound h = h
+meant around k word t (means_function f) h = absurd h
+meant around k word t (means_class c) h = absurd h
+meant around k word t means_reserved h = absurd h
+meant around k word t means_nothing h = h
+
+not_stopped : {A : Type 0} {a : A} {stop : Stop} → Stops stop ≡ Gives a → ⊥
+not_stopped e = grind arith
+
+pub named_value_safe : (around : Around) (ctx : Context) (fits : Fits around ctx) (knows : KnowsNames around ctx) (env : Env) (parts : Parts Step) (n : Name) (m : Mark) → m ≡ name_mark ctx env (ctx.resolve n.text) → Covered around (IsFoundAt n.place m.codes) → IsSafe around env (λ k. Unit {0}) (eval_callee Step free parts (name n)) (λ k c. Fails (value_offers m.type))
+named_value_safe around ctx fits knows env parts n m law covered =
+    bind_safe around env _ _ _ (λ k u. Unit {0}) _ (λ k k' x h. tt) (may_stop_safe around env _)
+    λ u. weaken around env _ (λ k. Unit {0}) _ _ _ (λ k h. tt) (λ k c h. h) (record { run = go })
+  where
+    go : (k : HeapTyping) (s s' : State) (events : List Place) (out : Out Callee) → Unit {0} → Stands around env k s → (Emits n.place >>= λ u. Looks (λ st. callee_of_meaning n.text (meaning n.text st))) s events out s' → HasListed around.listed events ⊎ Keeps around (λ k c. Fails (value_offers m.type)) k s out s'
+    go k s s' events out knows_nothing st (inl w) = elim ((name_safe around ctx fits knows env parts n m law covered).run k s s' events (value_of_meaning (meaning n.text w.middle)) tt st (inl (record { value = w.value; middle = w.middle; early = w.early; late = w.late; before = w.before; after = record { is = refl; quiet = w.after.quiet; same = w.after.same }; both = w.both }))) [
+      | inl h ↦ inl h
+      | inr g ↦ inr (record { typing = g.typing; grows = g.grows; well = g.well; same_frame = g.same_frame; same_globals = g.same_globals; same_classes = g.same_classes; ends = subst (EndsWell (λ c. Fails (value_offers m.type))) (sym w.after.is) (meant around g.typing n.text m.type (meaning n.text w.middle) g.ends) })
+    ]
+    go k s s' events out knows_nothing st (inr w) = absurd (not_stopped w.before.is)
+
+-- what is found in the arguments of an ordinary call
+pub arguments_covered : (around : Around) (c : Expr) (args : Exprs) (kws : Keywords) (marks : ItemsMarks args) → is_instance_test c args kws ≡ false → Covered around (ArgumentsFind (is_instance_test c args kws) args marks) → Covered around (ItemsFind args marks)
+arguments_covered around c args kws marks no_test covered f h = covered f (subst (λ t. ArgumentsFind t args marks f) (sym no_test) (found_in_arguments args marks f h))
