@@ -74,3 +74,4 @@ pub mod FunctionsKeyed
 pub mod BodyCalls
 pub mod InitializerCalls
 pub mod AllForms
+pub mod LabelledBodies
