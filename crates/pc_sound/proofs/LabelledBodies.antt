@@ -174,7 +174,7 @@ module _ (m : Module) (marks : Labelling m) (lawful : IsLawful m marks) (clean :
       go false e = absurd (never_stops E28 tt refl m.main (subst (λ b. Contains (one_if (not b) m.main) m.main) (sym e) (0, omega arith, refl)))
 
   -- the places of E05 and E29 in a function or method
-  function_places : (places : FuncDef → List Place) (owner : Owner) (d : FuncDef) (p : Place) → function_of m owner ≡ Some d → Contains (places d) p → Contains (of_defs places places m.items) p
+  pub function_places : (places : FuncDef → List Place) (owner : Owner) (d : FuncDef) (p : Place) → function_of m owner ≡ Some d → Contains (places d) p → Contains (of_defs places places m.items) p
   function_places places owners.Module d p e c = absurd (none_some e)
   function_places places (owners.Func i) d p e c = of_function_at places places m.items i d p e c
   function_places places (owners.Method c i) d p e h = go (slice_get (classes_in m.items) c) refl e

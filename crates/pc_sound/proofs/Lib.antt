@@ -75,3 +75,4 @@ pub mod BodyCalls
 pub mod InitializerCalls
 pub mod AllForms
 pub mod LabelledBodies
+pub mod UniqueNames
