@@ -72,3 +72,4 @@ pub mod Forms
 pub mod Classes
 pub mod FunctionsKeyed
 pub mod BodyCalls
+pub mod Knowing
