@@ -73,3 +73,4 @@ pub mod Classes
 pub mod FunctionsKeyed
 pub mod BodyCalls
 pub mod Knowing
+pub mod InitializerCalls
