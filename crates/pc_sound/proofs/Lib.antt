@@ -74,3 +74,4 @@ pub mod FunctionsKeyed
 pub mod BodyCalls
 pub mod Knowing
 pub mod InitializerCalls
+pub mod ReadyClasses
