@@ -75,3 +75,4 @@ pub mod BodyCalls
 pub mod Knowing
 pub mod InitializerCalls
 pub mod ReadyClasses
+pub mod MembersBind
