@@ -115,7 +115,7 @@ earlier_is c b (res.Func n) e = absurd (grind (arith, e))
 earlier_is c b (res.Builtin n) e = absurd (grind (arith, e))
 earlier_is c b res.None e = absurd (grind (arith, e))
 
-chain_below : {bases : Bases} {c d : ℕ} → Chain bases c d → Below bases (tree.Class c) (tree.Class d)
+pub chain_below : {bases : Bases} {c d : ℕ} → Chain bases c d → Below bases (tree.Class c) (tree.Class d)
 chain_below here = same
 chain_below (up e p) = through (subtyping.base e) (chain_below p)
 

@@ -72,7 +72,10 @@ pub mod Forms
 pub mod Classes
 pub mod FunctionsKeyed
 pub mod BodyCalls
+pub mod Knowing
 pub mod InitializerCalls
 pub mod AllForms
 pub mod LabelledBodies
 pub mod UniqueNames
+pub mod ReadyClasses
+pub mod MembersBind

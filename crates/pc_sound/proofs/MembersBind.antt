@@ -1,0 +1,212 @@
+-- In a module without errors each member of a class binds its name: none is reserved, stands twice or clashes with an ancestor's.
+use Rattle.std.proofs.Common.{◌≡◌, ℕ, zero, suc, ◌+◌, ◌<◌, List, [], ◌∷◌, ◌++◌, map, refl, sym, ap, ◌∙◌, subst, inl, inr, arith, Contains}
+use Rattle.std.specs.Prelude.{◌⊎◌, Bool as Test, true, false, ◌||◌, ◌&&◌, not, cond, if◌then◌else◌, is_some, Option, Some, None, slice_get, bytes_eq, codes}
+use Rattle.std.specs.List.{list_any}
+use Rattle.std.specs.Option.{option_or}
+use Rattle.std.proofs.lemmas.Slice.Eq.{bytes_eq-Decides}
+use Rattle.std.proofs.lemmas.List.Folds.{find-append}
+use Rattle.pc_source.specs.declared.place.Place.{Place}
+use Rattle.pc_tree.specs.declared.code.Code.TheVariants.{E01, E06, E29}
+use Rattle.pc_tree.specs.Code.{finding}
+use Rattle.pc_tree.specs.Stopping as stopping
+use Rattle.pc_tree.specs.Stopping.{one_if, name_of_item, name_of_member, bound_again, reserved_among, reserved_members, reserved_in_classes, is_reserved_member, Held, held_text, is_field_of, is_clash, held_by, own_members, is_first_binding, members_of, clashing, clashing_in, clashing_members, reserved_bound, twice, option_text}
+use Rattle.pc_tree.specs.Tree.{Name, Member, field_member, method_member, ClassDef, Item, constant_item, class_item, def_item, Module}
+use Rattle.pc_scope.specs.declared.resolution.Builtin.{Builtin}
+use Rattle.pc_scope.specs.declared.resolution.Builtin.TheVariants as builtin
+use Rattle.pc_scope.specs.Reserved.{builtin_of, is_reserved}
+use Rattle.pc_scope.specs.Bindings.{classes_in}
+use Rattle.pc_scope.specs.Resolution.{is_among, resolve_in_module}
+use Rattle.pc_scope.specs.Findings as scope
+use Rattle.pc_types.specs.Annotations.{read_ann}
+use Rattle.pc_class.specs.Bases.{bases_of, base_named}
+use Rattle.pc_class.specs.Facts as facts
+use Rattle.pc_class.specs.Facts.{Parameter, Method, field_of, method_of, inherited, classes_of, class_at, binds_field, binds_method, own_fields, own_methods}
+use Rattle.pc_class.specs.Findings as findings
+use Rattle.pc_class.specs.Findings.{base_class}
+use Rattle.pc_check.specs.Modules.{Labelling, IsLawful}
+use Rattle.pc_sound.specs.Sound.{HasNoError}
+use Rattle.pc_sound.proofs.Fields.{same_text_back}
+use Rattle.pc_sound.proofs.Globals.{builtin_text, text_of_builtin}
+use Rattle.pc_sound.proofs.Members.{front_empty, rest_empty}
+use Rattle.pc_sound.proofs.Inheritance.{class_over, class_is, below_class}
+use Rattle.pc_sound.proofs.Binds.{class_named}
+use Rattle.pc_sound.proofs.Classes.{earlier_is}
+
+some_inj : {A : Type 0} {x y : A} → Some x ≡ Some y → x ≡ y
+some_inj e = grind arith
+
+no_truth : false ≡ true → ⊥
+no_truth e = absurd (grind (arith, e))
+
+both_false : (x y : Test) → (x || y) ≡ false → (x ≡ false) × (y ≡ false)
+both_false true y e = absurd (no_truth (sym e))
+both_false false y e = (refl, e)
+
+false_of : (x : Test) → (x ≡ true → ⊥) → x ≡ false
+false_of true h = absurd (h refl)
+false_of false h = refl
+
+or_first : (x y : Test) → x ≡ true → (x || y) ≡ true
+or_first x y e = ap (λ z. z || y) e
+
+or_second : (x y : Test) → y ≡ true → (x || y) ≡ true
+or_second true y e = refl
+or_second false y e = e
+
+either_true : (x y : Test) → (x || y) ≡ true → (x ≡ true) ⊎ (y ≡ true)
+either_true true y e = inl refl
+either_true false y e = inr e
+
+none_there : (x : Test) (p : Place) → one_if x p ≡ [] → x ≡ false
+none_there true p e = absurd (grind (arith, e))
+none_there false p e = refl
+
+-- ---- texts
+
+among_same : (names : List (List ℕ)) (w : List ℕ) → stopping.is_among names w ≡ is_among w names
+among_same [] w = refl
+among_same (n ∷ names) w = ap (λ x. x || stopping.is_among names w) (same_text_back n w) ∙ ap (λ x. bytes_eq w n || x) (among_same names w)
+
+reserved_there : (b : Builtin) → stopping.is_reserved (builtin_text b) ≡ true
+reserved_there builtin.Any = refl
+reserved_there builtin.Annotations = refl
+reserved_there builtin.Bool = refl
+reserved_there builtin.Dataclass = refl
+reserved_there builtin.Dict = refl
+reserved_there builtin.Int = refl
+reserved_there builtin.IsInstance = refl
+reserved_there builtin.Len = refl
+reserved_there builtin.List = refl
+reserved_there builtin.Object = refl
+reserved_there builtin.Print = refl
+reserved_there builtin.Range = refl
+reserved_there builtin.Str = refl
+reserved_there builtin.Tuple = refl
+
+-- a name that is not reserved to the tree is none to the scope
+pub unreserved : (w : List ℕ) → stopping.is_reserved w ≡ false → is_reserved w ≡ false
+unreserved w e = go (builtin_of w) refl
+  where
+    go : (o : Option Builtin) → builtin_of w ≡ o → is_some (builtin_of w) ≡ false
+    go None is = ap is_some is
+    go (Some b) is = absurd (no_truth (sym e ∙ (ap stopping.is_reserved (text_of_builtin w b is) ∙ reserved_there b)))
+
+-- ---- what a class holds
+
+any_append : (p : Held → Test) (xs ys : List Held) → list_any p (xs ++ ys) ≡ (list_any p xs || list_any p ys)
+any_append p [] ys = refl
+any_append p (x ∷ xs) ys = ap (λ z. p x || z) (any_append p xs ys) ∙ sym (group (p x) (list_any p xs) (list_any p ys))
+  where
+    group : (a b c : Test) → ((a || b) || c) ≡ (a || (b || c))
+    group true b c = refl
+    group false b c = refl
+
+-- the name is held, by a field or by any member
+abbrev HoldsField : List Held → List ℕ → Type 0
+HoldsField hs w = list_any (is_field_of w) hs ≡ true
+
+abbrev HoldsName : List Held → List ℕ → Type 0
+HoldsName hs w = list_any (λ h. bytes_eq h.text w) hs ≡ true
+
+field_is_name : (hs : List Held) (w : List ℕ) → HoldsField hs w → HoldsName hs w
+field_is_name [] w h = h
+field_is_name (x ∷ hs) w h = elim (either_true (is_field_of w x) (list_any (is_field_of w) hs) h) [
+  | inl a ↦ or_first (bytes_eq x.text w) (list_any (λ y. bytes_eq y.text w) hs) (second x.is_field (bytes_eq x.text w) a)
+  | inr b ↦ or_second (bytes_eq x.text w) (list_any (λ y. bytes_eq y.text w) hs) (field_is_name hs w b)
+]
+  where
+    second : (a b : Test) → (a && b) ≡ true → b ≡ true
+    second true b e = e
+    second false b e = absurd (no_truth e)
+
+held_texts : (hs : List Held) (w : List ℕ) → stopping.is_among (map held_text hs) w ≡ list_any (λ h. bytes_eq h.text w) hs
+held_texts [] w = refl
+held_texts (x ∷ hs) w = ap (λ z. bytes_eq x.text w || z) (held_texts hs w)
+
+-- what is held has each field and each method of a class
+record Covers (hs : List Held) (class : facts.Class) : Type 0 where
+  fields : (w : List ℕ) → is_some (field_of class.fields w) ≡ true → HoldsField hs w
+  methods : (w : List ℕ) → is_some (method_of class.methods w) ≡ true → HoldsName hs w
+
+-- no member is reserved, and none clashes
+abbrev IsClear : List (List ℕ) → List Held → List Member → Type 0
+IsClear before hs [] = Unit {0}
+IsClear before hs (x ∷ rest) = ((is_reserved_member x ≡ false) × (is_clash before hs x ≡ false)) × IsClear ((name_of_member x).text ∷ before) hs rest
+
+clear_of : (before : List (List ℕ)) (hs : List Held) (ms : List Member) → clashing before hs ms ≡ [] → reserved_members ms ≡ [] → IsClear before hs ms
+clear_of before hs [] c r = tt
+clear_of before hs (x ∷ rest) c r =
+    let here = one_if (is_clash before hs x) (name_of_member x).place in
+    let reserved = one_if (is_reserved_member x) (name_of_member x).place in
+    (
+      (none_there (is_reserved_member x) (name_of_member x).place (front_empty reserved (reserved_members rest) r), none_there (is_clash before hs x) (name_of_member x).place (front_empty here (clashing ((name_of_member x).text ∷ before) hs rest) c)),
+      clear_of ((name_of_member x).text ∷ before) hs rest (rest_empty here (clashing ((name_of_member x).text ∷ before) hs rest) c) (rest_empty reserved (reserved_members rest) r),
+    )
+
+-- where members are clear, all are held
+all_held : (before : List (List ℕ)) (hs : List Held) (ms : List Member) → IsClear before hs ms → own_members before hs ms ≡ map held_by ms
+all_held before hs [] clear = refl
+all_held before hs (x ∷ rest) clear =
+    ap (λ b. (if b then [] else held_by x ∷ []) ++ own_members ((name_of_member x).text ∷ before) hs rest) (ap (λ b. b || is_clash before hs x) clear.0.0 ∙ clear.0.1)
+    ∙ ap (λ l. held_by x ∷ l) (all_held ((name_of_member x).text ∷ before) hs rest clear.1)
+
+module _ (m : Module) where
+  -- the fields and methods of a class's own are among its members
+  own_field_held : (base : facts.Class) (before : List (List ℕ)) (ms : List Member) (w : List ℕ) → is_some (field_of (own_fields m base before ms) w) ≡ true → HoldsField (map held_by ms) w
+  own_field_held base before [] w h = absurd (no_truth h)
+  own_field_held base before (method_member f ∷ rest) w h = own_field_held base (f.name.text ∷ before) rest w h
+  own_field_held base before (field_member f ∷ rest) w h = go (binds_field base before f.name.text) h (λ h'. own_field_held base (f.name.text ∷ before) rest w h')
+    where
+      found : (x : Test) (p : Parameter) → bytes_eq w f.name.text ≡ x → is_some (cond x (Some p) (field_of (own_fields m base (f.name.text ∷ before) rest) w)) ≡ true → (is_some (field_of (own_fields m base (f.name.text ∷ before) rest) w) ≡ true → HoldsField (map held_by rest) w) → HoldsField (map held_by (field_member f ∷ rest)) w
+      found true p is h others = or_first (bytes_eq f.name.text w) (list_any (is_field_of w) (map held_by rest)) (same_text_back f.name.text w ∙ is)
+      found false p is h others = or_second (bytes_eq f.name.text w) (list_any (is_field_of w) (map held_by rest)) (others h)
+
+      go : (x : Test) → is_some (field_of ((if x then record { name = f.name.text; type = read_ann m (bases_of m) f.annotation; has_default = is_some f.default } ∷ [] else []) ++ own_fields m base (f.name.text ∷ before) rest) w) ≡ true → (is_some (field_of (own_fields m base (f.name.text ∷ before) rest) w) ≡ true → HoldsField (map held_by rest) w) → HoldsField (map held_by (field_member f ∷ rest)) w
+      go true h others = found (bytes_eq w f.name.text) (record { name = f.name.text; type = read_ann m (bases_of m) f.annotation; has_default = is_some f.default }) refl h others
+      go false h others = or_second (bytes_eq f.name.text w) (list_any (is_field_of w) (map held_by rest)) (others h)
+
+  own_method_held : (base : facts.Class) (c number : ℕ) (before : List (List ℕ)) (ms : List Member) (w : List ℕ) → is_some (method_of (own_methods m base c number before ms) w) ≡ true → HoldsName (map held_by ms) w
+  own_method_held base c number before [] w h = absurd (no_truth h)
+  own_method_held base c number before (field_member f ∷ rest) w h = or_second (bytes_eq f.name.text w) (list_any (λ y. bytes_eq y.text w) (map held_by rest)) (own_method_held base c number (f.name.text ∷ before) rest w h)
+  own_method_held base c number before (method_member f ∷ rest) w h = go (binds_method base before f.name.text) h (λ h'. own_method_held base c (suc number) (f.name.text ∷ before) rest w h')
+    where
+      found : (x : Test) (p : Method) → bytes_eq w f.name.text ≡ x → is_some (cond x (Some p) (method_of (own_methods m base c (suc number) (f.name.text ∷ before) rest) w)) ≡ true → (is_some (method_of (own_methods m base c (suc number) (f.name.text ∷ before) rest) w) ≡ true → HoldsName (map held_by rest) w) → HoldsName (map held_by (method_member f ∷ rest)) w
+      found true p is h others = or_first (bytes_eq f.name.text w) (list_any (λ y. bytes_eq y.text w) (map held_by rest)) (same_text_back f.name.text w ∙ is)
+      found false p is h others = or_second (bytes_eq f.name.text w) (list_any (λ y. bytes_eq y.text w) (map held_by rest)) (others h)
+
+      go : (x : Test) → is_some (method_of ((if x then findings.method_made m c number f ∷ [] else []) ++ own_methods m base c (suc number) (f.name.text ∷ before) rest) w) ≡ true → (is_some (method_of (own_methods m base c (suc number) (f.name.text ∷ before) rest) w) ≡ true → HoldsName (map held_by rest) w) → HoldsName (map held_by (method_member f ∷ rest)) w
+      go true h others = found (bytes_eq w f.name.text) (findings.method_made m c number f) refl h others
+      go false h others = or_second (bytes_eq f.name.text w) (list_any (λ y. bytes_eq y.text w) (map held_by rest)) (others h)
+
+  -- each member binds its name
+  abbrev pub BindAll : facts.Class → List (List ℕ) → List Member → Type 0
+  BindAll base before [] = Unit {0}
+  BindAll base before (field_member f ∷ rest) = (binds_field base before f.name.text ≡ true) × BindAll base (f.name.text ∷ before) rest
+  BindAll base before (method_member f ∷ rest) = (binds_method base before f.name.text ≡ true) × BindAll base (f.name.text ∷ before) rest
+
+  bind_all : (base : facts.Class) (hs : List Held) → Covers hs base → (before : List (List ℕ)) (ms : List Member) → IsClear before hs ms → BindAll base before ms
+  bind_all base hs covers before [] clear = tt
+  bind_all base hs covers before (field_member f ∷ rest) clear =
+      let w = f.name.text in
+      let r = both_false (stopping.is_reserved w) (bytes_eq w (codes "mro")) clear.0.0 in
+      let c = both_false (stopping.is_among before w) (stopping.is_among (map held_text hs) w) clear.0.1 in
+      let no_field : is_some (field_of base.fields w) ≡ false = false_of (is_some (field_of base.fields w)) (λ h. no_truth (sym c.1 ∙ (held_texts hs w ∙ field_is_name hs w (covers.fields w h)))) in
+      let no_method : is_some (method_of base.methods w) ≡ false = false_of (is_some (method_of base.methods w)) (λ h. no_truth (sym c.1 ∙ (held_texts hs w ∙ covers.methods w h))) in
+      (
+        ap (λ x. not (x || bytes_eq w (codes "mro")) && (not (is_among w before) && not (is_some (field_of base.fields w) || is_some (method_of base.methods w)))) (unreserved w r.0)
+          ∙ ap (λ x. not x && (not (is_among w before) && not (is_some (field_of base.fields w) || is_some (method_of base.methods w)))) r.1
+          ∙ ap (λ x. not x && not (is_some (field_of base.fields w) || is_some (method_of base.methods w))) (sym (among_same before w) ∙ c.0)
+          ∙ ap (λ x. not (x || is_some (method_of base.methods w))) no_field
+          ∙ ap not no_method,
+        bind_all base hs covers (w ∷ before) rest clear.1,
+      )
+  bind_all base hs covers before (method_member f ∷ rest) clear =
+      let w = f.name.text in
+      let c = both_false (stopping.is_among before w) (list_any (is_field_of w) hs) clear.0.1 in
+      let no_field : is_some (field_of base.fields w) ≡ false = false_of (is_some (field_of base.fields w)) (λ h. no_truth (sym c.1 ∙ covers.fields w h)) in
+      (
+        ap (λ x. not x && (not (is_among w before) && not (is_some (field_of base.fields w)))) (unreserved w clear.0.0)
+          ∙ ap (λ x. not x && not (is_some (field_of base.fields w))) (sym (among_same before w) ∙ c.0)
+          ∙ ap not no_field,
+        bind_all base hs covers (w ∷ before) rest clear.1,
+      )
