@@ -99,11 +99,11 @@ methods_append m k (f ∷ fs) gs (q ∷ qs) rs h g = (h.0, methods_append m k fs
 -- ---- bases
 
 -- a class before the one of a number
-record EarlierClass (c b : ℕ) (r : Res) : Type 0 where
-  is : r ≡ res.Class b
-  before : nat_lt b c ≡ true
+pub record EarlierClass (c b : ℕ) (r : Res) : Type 0 where
+  pub is : r ≡ res.Class b
+  pub before : nat_lt b c ≡ true
 
-earlier_is : (c b : ℕ) (r : Res) → earlier_class c r ≡ Some b → EarlierClass c b r
+pub earlier_is : (c b : ℕ) (r : Res) → earlier_class c r ≡ Some b → EarlierClass c b r
 earlier_is c b (res.Class d) e = go (nat_lt d c) refl e
   where
     go : (x : Test) → nat_lt d c ≡ x → (if x then Some d else None) ≡ Some b → EarlierClass c b (res.Class d)

@@ -79,3 +79,4 @@ pub mod LabelledBodies
 pub mod UniqueNames
 pub mod ReadyClasses
 pub mod MembersBind
+pub mod Established
