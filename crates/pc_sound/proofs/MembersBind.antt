@@ -321,3 +321,84 @@ module _ (m : Module) where
           other : (x : Test) → bytes_eq c.name.text t.name.text ≡ x → (bytes_eq c.name.text t.name.text && is_first_binding before c.name) ≡ false
           other false e = ap (λ x. x && is_first_binding before c.name) e
           other true e = absurd (no_truth (sym (ap (λ x. not x && not (stopping.is_reserved c.name.text)) (ap (stopping.is_among (names_before before)) ((bytes_eq-Decides c.name.text t.name.text).0 e) ∙ named_before before placed.1 b t l is)) ∙ placed.0.first))
+
+  -- item by item
+  walk :
+    (before rest : List Item) → ArePlaced before → ((i : ℕ) → slice_get (classes_in m.items) (count before + i) ≡ slice_get (classes_in rest) i)
+      → clashing_in before rest ≡ [] → reserved_in_classes rest ≡ [] → reserved_among (map name_of_item rest) ≡ [] → bound_again (names_before before) (map name_of_item rest) ≡ []
+      → (i : ℕ) (class : ClassDef) → slice_get (classes_in rest) i ≡ Some class → BindAll (base_class m (count before + i) class) [] class.members
+  walk before [] placed at clash members names again i class is = absurd (grind (arith, is))
+  walk before (constant_item p c ∷ rest) placed at clash members names again i class is =
+      walk (constant_item p c ∷ before) rest placed at clash members
+      (rest_empty (one_if (stopping.is_reserved c.name.text) c.name.place) (reserved_among (map name_of_item rest)) names)
+      (rest_empty (one_if (stopping.is_among (names_before before) c.name.text && not (stopping.is_reserved c.name.text)) c.name.place) (bound_again (c.name.text ∷ names_before before) (map name_of_item rest)) again) i class is
+  walk before (def_item p f ∷ rest) placed at clash members names again i class is =
+      walk (def_item p f ∷ before) rest placed at clash members
+      (rest_empty (one_if (stopping.is_reserved f.name.text) f.name.place) (reserved_among (map name_of_item rest)) names)
+      (rest_empty (one_if (stopping.is_among (names_before before) f.name.text && not (stopping.is_reserved f.name.text)) f.name.place) (bound_again (f.name.text ∷ names_before before) (map name_of_item rest)) again) i class is
+  walk before (class_item p c ∷ rest) placed at clash members names again i class is = by_number i is (λ j e. walk (class_item p c ∷ before) rest (here, placed) (λ k. ap (slice_get (classes_in m.items)) (omega arith) ∙ at (suc k)) clash_rest members_rest names_rest again_rest j class e)
+    where
+      held : List Held
+      held = members_of before (option_text c.base)
+
+      clash_rest : clashing_in (class_item p c ∷ before) rest ≡ []
+      clash_rest = rest_empty (clashing [] held c.members) (clashing_in (class_item p c ∷ before) rest) clash
+
+      members_rest : reserved_in_classes rest ≡ []
+      members_rest = rest_empty (reserved_members c.members) (reserved_in_classes rest) members
+
+      names_rest : reserved_among (map name_of_item rest) ≡ []
+      names_rest = rest_empty (one_if (stopping.is_reserved c.name.text) c.name.place) (reserved_among (map name_of_item rest)) names
+
+      again_rest : bound_again (c.name.text ∷ names_before before) (map name_of_item rest) ≡ []
+      again_rest = rest_empty (one_if (stopping.is_among (names_before before) c.name.text && not (stopping.is_reserved c.name.text)) c.name.place) (bound_again (c.name.text ∷ names_before before) (map name_of_item rest)) again
+
+      free : stopping.is_reserved c.name.text ≡ false
+      free = none_there (stopping.is_reserved c.name.text) c.name.place (front_empty (one_if (stopping.is_reserved c.name.text) c.name.place) (reserved_among (map name_of_item rest)) names)
+
+      new : stopping.is_among (names_before before) c.name.text ≡ false
+      new = go (stopping.is_among (names_before before) c.name.text) (sym (ap (λ x. stopping.is_among (names_before before) c.name.text && not x) free) ∙ none_there (stopping.is_among (names_before before) c.name.text && not (stopping.is_reserved c.name.text)) c.name.place (front_empty (one_if (stopping.is_among (names_before before) c.name.text && not (stopping.is_reserved c.name.text)) c.name.place) (bound_again (c.name.text ∷ names_before before) (map name_of_item rest)) again))
+        where
+          go : (x : Test) → (x && true) ≡ false → x ≡ false
+          go true e = e
+          go false e = refl
+
+      here : IsPlaced before c
+      here = record {
+        number = ap (slice_get (classes_in m.items)) (omega arith) ∙ at 0;
+        first = ap (λ x. not x && not (stopping.is_reserved c.name.text)) new ∙ ap not free;
+        clear = clear_of [] held c.members (front_empty (clashing [] held c.members) (clashing_in (class_item p c ∷ before) rest) clash) (front_empty (reserved_members c.members) (reserved_in_classes rest) members);
+      }
+
+      by_number : (j : ℕ) → slice_get (c ∷ classes_in rest) j ≡ Some class → ((k : ℕ) → slice_get (classes_in rest) k ≡ Some class → BindAll (base_class m (suc (count before) + k) class) [] class.members) → BindAll (base_class m (count before + j) class) [] class.members
+      by_number zero e others =
+          subst (λ x. BindAll (base_class m (count before + zero) x) [] x.members) (some_inj e)
+          (subst (λ k. BindAll (base_class m k c) [] c.members) (omega arith) (bind_all (base_class m (count before) c) held (base_covers before placed c here.number (λ d u l x. held_covers before placed d u l x)) [] c.members here.clear))
+      by_number (suc j) e others = subst (λ k. BindAll (base_class m k class) [] class.members) (omega arith) (others j e)
+
+-- ---- a module without errors
+
+empty_of : (ps : List Place) → ((p : Place) → Contains ps p → ⊥) → ps ≡ []
+empty_of [] h = refl
+empty_of (p ∷ ps) h = absurd (h p (0, omega arith, refl))
+
+module _ (m : Module) (marks : Labelling m) (lawful : IsLawful m marks) (clean : HasNoError m) where
+  pub none_clash : clashing_members m ≡ []
+  none_clash = empty_of (clashing_members m) λ p h. clean (finding p E06) (record { marks = marks; lawful = lawful; found = inr (inl (findings.member (record { code = refl; stops = h }))) }) refl
+
+  pub none_reserved : reserved_bound m ≡ []
+  none_reserved = empty_of (reserved_bound m) λ p h. clean (finding p E29) (record { marks = marks; lawful = lawful; found = inl (scope.stopping tt h) }) refl
+
+  pub none_twice : twice m ≡ []
+  none_twice = empty_of (twice m) λ p h. clean (finding p E01) (record { marks = marks; lawful = lawful; found = inl (scope.stopping tt h) }) refl
+
+  -- each member of each class binds its name
+  pub members_bind : (c : ℕ) (class : ClassDef) → slice_get (classes_in m.items) c ≡ Some class → BindAll m (base_class m c class) [] class.members
+  members_bind c class is =
+      let others = rest_empty (reserved_among (map name_of_item m.items)) (reserved_in_classes m.items ++ stopping.of_defs stopping.reserved_in_def stopping.reserved_in_def m.items) none_reserved in
+      subst (λ k. BindAll m (base_class m k class) [] class.members) (omega arith)
+      (walk m [] m.items tt (λ i. ap (slice_get (classes_in m.items)) (omega arith)) none_clash
+      (front_empty (reserved_in_classes m.items) (stopping.of_defs stopping.reserved_in_def stopping.reserved_in_def m.items) others)
+      (front_empty (reserved_among (map name_of_item m.items)) (reserved_in_classes m.items ++ stopping.of_defs stopping.reserved_in_def stopping.reserved_in_def m.items) none_reserved)
+      (front_empty (bound_again [] (map name_of_item m.items)) (stopping.of_defs (stopping.params_again []) (stopping.params_again (codes "self" ∷ [])) m.items ++ (stopping.given_in_constants m.items ++ stopping.of_defs stopping.given_in_def stopping.given_in_def m.items)) none_twice)
+      c class is)
