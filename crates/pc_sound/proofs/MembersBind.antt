@@ -210,3 +210,195 @@ module _ (m : Module) where
           ∙ ap not no_field,
         bind_all base hs covers (w ∷ before) rest clear.1,
       )
+
+  -- ---- over items, the nearest first
+
+  abbrev count : List Item → ℕ
+  count [] = zero
+  count (class_item p c ∷ before) = suc (count before)
+  count (constant_item p c ∷ before) = count before
+  count (def_item p f ∷ before) = count before
+
+  abbrev names_before : List Item → List (List ℕ)
+  names_before before = map (λ i. (name_of_item i).text) before
+
+  -- a class among items is the one of its number, of a name that is bound first, and its members are clear
+  record IsPlaced (before : List Item) (c : ClassDef) : Type 0 where
+    number : slice_get (classes_in m.items) (count before) ≡ Some c
+    first : is_first_binding before c.name ≡ true
+    clear : IsClear [] (members_of before (option_text c.base)) c.members
+
+  abbrev ArePlaced : List Item → Type 0
+  ArePlaced [] = Unit {0}
+  ArePlaced (class_item p c ∷ before) = IsPlaced before c × ArePlaced before
+  ArePlaced (constant_item p c ∷ before) = ArePlaced before
+  ArePlaced (def_item p f ∷ before) = ArePlaced before
+
+  same_or_less : (b n : ℕ) → b < suc n → (b ≡ n) ⊎ (b < n)
+  same_or_less zero zero h = inl refl
+  same_or_less zero (suc n) h = inr (omega arith)
+  same_or_less (suc b) zero h = absurd (omega arith)
+  same_or_less (suc b) (suc n) h = elim (same_or_less b n (omega arith)) [ inl e ↦ inl (ap suc e) | inr l ↦ inr (omega arith) ]
+
+  -- the name of a class stands among the names of the items
+  named_before : (before : List Item) → ArePlaced before → (b : ℕ) (t : ClassDef) → b < count before → slice_get (classes_in m.items) b ≡ Some t → stopping.is_among (names_before before) t.name.text ≡ true
+  named_before [] placed b t less is = absurd (omega arith)
+  named_before (constant_item p c ∷ before) placed b t less is = or_second (bytes_eq c.name.text t.name.text) (stopping.is_among (names_before before) t.name.text) (named_before before placed b t less is)
+  named_before (def_item p f ∷ before) placed b t less is = or_second (bytes_eq f.name.text t.name.text) (stopping.is_among (names_before before) t.name.text) (named_before before placed b t less is)
+  named_before (class_item p c ∷ before) placed b t less is = elim (same_or_less b (count before) less) [
+    | inl e ↦ or_first (bytes_eq c.name.text t.name.text) (stopping.is_among (names_before before) t.name.text) ((bytes_eq-Decides c.name.text t.name.text).1 (ap (λ (x : ClassDef). x.name.text) (some_inj (sym placed.0.number ∙ (ap (slice_get (classes_in m.items)) (sym e) ∙ is)))))
+    | inr l ↦ or_second (bytes_eq c.name.text t.name.text) (stopping.is_among (names_before before) t.name.text) (named_before before placed.1 b t l is)
+  ]
+
+  find_either : (xs ys : List Parameter) (w : List ℕ) → is_some (field_of (xs ++ ys) w) ≡ true → (is_some (field_of xs w) ≡ true) ⊎ (is_some (field_of ys w) ≡ true)
+  find_either xs ys w h = go (field_of xs w) (sym (ap is_some (find-append (λ p. bytes_eq w p.name) xs ys)) ∙ h)
+    where
+      go : (o : Option Parameter) → is_some (option_or o (field_of ys w)) ≡ true → (is_some o ≡ true) ⊎ (is_some (field_of ys w) ≡ true)
+      go None e = inr e
+      go (Some p) e = inl refl
+
+  method_either : (xs ys : List Method) (w : List ℕ) → is_some (method_of (xs ++ ys) w) ≡ true → (is_some (method_of xs w) ≡ true) ⊎ (is_some (method_of ys w) ≡ true)
+  method_either xs ys w h = go (method_of xs w) (sym (ap is_some (find-append (λ p. bytes_eq w p.name) xs ys)) ∙ h)
+    where
+      go : (o : Option Method) → is_some (option_or o (method_of ys w)) ≡ true → (is_some o ≡ true) ⊎ (is_some (method_of ys w) ≡ true)
+      go None e = inr e
+      go (Some p) e = inl refl
+
+  -- what is held of a base and of clear members covers the class over that base
+  over_covers : (hs : List Held) (c : ℕ) (class : ClassDef) (base : facts.Class) → Covers hs base → IsClear [] hs class.members → Covers (hs ++ own_members [] hs class.members) (class_over m c class base)
+  over_covers hs c class base covers clear = record {
+    fields = λ w h. any_append (is_field_of w) hs (own_members [] hs class.members) ∙ elim (find_either base.fields (own_fields m base [] class.members) w h) [
+      | inl a ↦ or_first (list_any (is_field_of w) hs) (list_any (is_field_of w) (own_members [] hs class.members)) (covers.fields w a)
+      | inr b ↦ or_second (list_any (is_field_of w) hs) (list_any (is_field_of w) (own_members [] hs class.members)) (ap (list_any (is_field_of w)) (all_held [] hs class.members clear) ∙ own_field_held base [] class.members w b)
+    ];
+    methods = λ w h. any_append (λ x. bytes_eq x.text w) hs (own_members [] hs class.members) ∙ elim (method_either (own_methods m base c 0 [] class.members) base.methods w h) [
+      | inl a ↦ or_second (list_any (λ x. bytes_eq x.text w) hs) (list_any (λ x. bytes_eq x.text w) (own_members [] hs class.members)) (ap (list_any (λ x. bytes_eq x.text w)) (all_held [] hs class.members clear) ∙ own_method_held base c 0 [] class.members w a)
+      | inr b ↦ or_first (list_any (λ x. bytes_eq x.text w) hs) (list_any (λ x. bytes_eq x.text w) (own_members [] hs class.members)) (covers.methods w b)
+    ];
+  }
+
+  nothing_covers : (hs : List Held) → Covers hs facts.empty_class
+  nothing_covers hs = record { fields = λ w h. absurd (no_truth h); methods = λ w h. absurd (no_truth h) }
+
+  -- so does what is held of a base, where the classes before are covered
+  base_covers : (before : List Item) → ArePlaced before → (c : ClassDef) → slice_get (classes_in m.items) (count before) ≡ Some c → ((d : ℕ) (u : ClassDef) → d < count before → slice_get (classes_in m.items) d ≡ Some u → Covers (members_of before (Some u.name.text)) (class_at (classes_of m) d)) → Covers (members_of before (option_text c.base)) (base_class m (count before) c)
+  base_covers before placed c number below = by_name c.base refl
+    where
+      by_number : (n : Name) → c.base ≡ Some n → (o : Option ℕ) → base_named m (count before) (Some n) ≡ o → Covers (members_of before (Some n.text)) (inherited (classes_of m) o)
+      by_number n named None e = nothing_covers (members_of before (Some n.text))
+      by_number n named (Some d) e =
+          let early = earlier_is (count before) d (resolve_in_module m n.text) e in
+          let x = class_named m n.text d early.is in
+          let behind = x.behind in
+          let at : slice_get (classes_in m.items) d ≡ Some x.class = ap (slice_get (classes_in m.items)) (omega arith) ∙ x.is in
+          subst (λ w. Covers (members_of before (Some w)) (class_at (classes_of m) d)) x.named (below d x.class (below_class m (count before) d c number (ap (base_named m (count before)) named ∙ e)) at)
+
+      by_name : (o : Option Name) → c.base ≡ o → Covers (members_of before (option_text c.base)) (base_class m (count before) c)
+      by_name None e = subst (λ o. Covers (members_of before (option_text o)) (inherited (classes_of m) (base_named m (count before) o))) (sym e) (nothing_covers (members_of before None))
+      by_name (Some n) e = subst (λ o. Covers (members_of before (option_text o)) (inherited (classes_of m) (base_named m (count before) o))) (sym e) (by_number n e (base_named m (count before) (Some n)) refl)
+
+  -- what is held of each class among the items covers it
+  held_covers : (before : List Item) → ArePlaced before → (b : ℕ) (t : ClassDef) → b < count before → slice_get (classes_in m.items) b ≡ Some t → Covers (members_of before (Some t.name.text)) (class_at (classes_of m) b)
+  held_covers [] placed b t less is = absurd (omega arith)
+  held_covers (constant_item p c ∷ before) placed b t less is = held_covers before placed b t less is
+  held_covers (def_item p f ∷ before) placed b t less is = held_covers before placed b t less is
+  held_covers (class_item p c ∷ before) placed b t less is = elim (same_or_less b (count before) less) [
+    | inl e ↦ here e (base_covers before placed.1 c placed.0.number (λ d u l i. held_covers before placed.1 d u l i))
+    | inr l ↦ there l (held_covers before placed.1 b t l is)
+  ]
+    where
+      here : b ≡ count before → Covers (members_of before (option_text c.base)) (base_class m (count before) c) → Covers (members_of (class_item p c ∷ before) (Some t.name.text)) (class_at (classes_of m) b)
+      here e base =
+          let same_class : c ≡ t = some_inj (sym placed.0.number ∙ (ap (slice_get (classes_in m.items)) (sym e) ∙ is)) in
+          let found : (bytes_eq c.name.text t.name.text && is_first_binding before c.name) ≡ true = ap (λ x. x && is_first_binding before c.name) ((bytes_eq-Decides c.name.text t.name.text).1 (ap (λ (x : ClassDef). x.name.text) same_class)) ∙ placed.0.first in
+          subst (λ hs. Covers hs (class_at (classes_of m) b)) (sym (ap (λ x. if x then members_of before (option_text c.base) ++ own_members [] (members_of before (option_text c.base)) c.members else members_of before (Some t.name.text)) found))
+          (subst (λ x. Covers (members_of before (option_text c.base) ++ own_members [] (members_of before (option_text c.base)) c.members) x) (sym (ap (class_at (classes_of m)) e ∙ class_is m (count before) c placed.0.number))
+          (over_covers (members_of before (option_text c.base)) (count before) c (base_class m (count before) c) base placed.0.clear))
+
+      there : b < count before → Covers (members_of before (Some t.name.text)) (class_at (classes_of m) b) → Covers (members_of (class_item p c ∷ before) (Some t.name.text)) (class_at (classes_of m) b)
+      there l covers = subst (λ hs. Covers hs (class_at (classes_of m) b)) (sym (ap (λ x. if x then members_of before (option_text c.base) ++ own_members [] (members_of before (option_text c.base)) c.members else members_of before (Some t.name.text)) (other (bytes_eq c.name.text t.name.text) refl))) covers
+        where
+          other : (x : Test) → bytes_eq c.name.text t.name.text ≡ x → (bytes_eq c.name.text t.name.text && is_first_binding before c.name) ≡ false
+          other false e = ap (λ x. x && is_first_binding before c.name) e
+          other true e = absurd (no_truth (sym (ap (λ x. not x && not (stopping.is_reserved c.name.text)) (ap (stopping.is_among (names_before before)) ((bytes_eq-Decides c.name.text t.name.text).0 e) ∙ named_before before placed.1 b t l is)) ∙ placed.0.first))
+
+  -- item by item
+  walk :
+    (before rest : List Item) → ArePlaced before → ((i : ℕ) → slice_get (classes_in m.items) (count before + i) ≡ slice_get (classes_in rest) i)
+      → clashing_in before rest ≡ [] → reserved_in_classes rest ≡ [] → reserved_among (map name_of_item rest) ≡ [] → bound_again (names_before before) (map name_of_item rest) ≡ []
+      → (i : ℕ) (class : ClassDef) → slice_get (classes_in rest) i ≡ Some class → BindAll (base_class m (count before + i) class) [] class.members
+  walk before [] placed at clash members names again i class is = absurd (grind (arith, is))
+  walk before (constant_item p c ∷ rest) placed at clash members names again i class is =
+      walk (constant_item p c ∷ before) rest placed at clash members
+      (rest_empty (one_if (stopping.is_reserved c.name.text) c.name.place) (reserved_among (map name_of_item rest)) names)
+      (rest_empty (one_if (stopping.is_among (names_before before) c.name.text && not (stopping.is_reserved c.name.text)) c.name.place) (bound_again (c.name.text ∷ names_before before) (map name_of_item rest)) again) i class is
+  walk before (def_item p f ∷ rest) placed at clash members names again i class is =
+      walk (def_item p f ∷ before) rest placed at clash members
+      (rest_empty (one_if (stopping.is_reserved f.name.text) f.name.place) (reserved_among (map name_of_item rest)) names)
+      (rest_empty (one_if (stopping.is_among (names_before before) f.name.text && not (stopping.is_reserved f.name.text)) f.name.place) (bound_again (f.name.text ∷ names_before before) (map name_of_item rest)) again) i class is
+  walk before (class_item p c ∷ rest) placed at clash members names again i class is = by_number i is (λ j e. walk (class_item p c ∷ before) rest (here, placed) (λ k. ap (slice_get (classes_in m.items)) (omega arith) ∙ at (suc k)) clash_rest members_rest names_rest again_rest j class e)
+    where
+      held : List Held
+      held = members_of before (option_text c.base)
+
+      clash_rest : clashing_in (class_item p c ∷ before) rest ≡ []
+      clash_rest = rest_empty (clashing [] held c.members) (clashing_in (class_item p c ∷ before) rest) clash
+
+      members_rest : reserved_in_classes rest ≡ []
+      members_rest = rest_empty (reserved_members c.members) (reserved_in_classes rest) members
+
+      names_rest : reserved_among (map name_of_item rest) ≡ []
+      names_rest = rest_empty (one_if (stopping.is_reserved c.name.text) c.name.place) (reserved_among (map name_of_item rest)) names
+
+      again_rest : bound_again (c.name.text ∷ names_before before) (map name_of_item rest) ≡ []
+      again_rest = rest_empty (one_if (stopping.is_among (names_before before) c.name.text && not (stopping.is_reserved c.name.text)) c.name.place) (bound_again (c.name.text ∷ names_before before) (map name_of_item rest)) again
+
+      free : stopping.is_reserved c.name.text ≡ false
+      free = none_there (stopping.is_reserved c.name.text) c.name.place (front_empty (one_if (stopping.is_reserved c.name.text) c.name.place) (reserved_among (map name_of_item rest)) names)
+
+      new : stopping.is_among (names_before before) c.name.text ≡ false
+      new = go (stopping.is_among (names_before before) c.name.text) (sym (ap (λ x. stopping.is_among (names_before before) c.name.text && not x) free) ∙ none_there (stopping.is_among (names_before before) c.name.text && not (stopping.is_reserved c.name.text)) c.name.place (front_empty (one_if (stopping.is_among (names_before before) c.name.text && not (stopping.is_reserved c.name.text)) c.name.place) (bound_again (c.name.text ∷ names_before before) (map name_of_item rest)) again))
+        where
+          go : (x : Test) → (x && true) ≡ false → x ≡ false
+          go true e = e
+          go false e = refl
+
+      here : IsPlaced before c
+      here = record {
+        number = ap (slice_get (classes_in m.items)) (omega arith) ∙ at 0;
+        first = ap (λ x. not x && not (stopping.is_reserved c.name.text)) new ∙ ap not free;
+        clear = clear_of [] held c.members (front_empty (clashing [] held c.members) (clashing_in (class_item p c ∷ before) rest) clash) (front_empty (reserved_members c.members) (reserved_in_classes rest) members);
+      }
+
+      by_number : (j : ℕ) → slice_get (c ∷ classes_in rest) j ≡ Some class → ((k : ℕ) → slice_get (classes_in rest) k ≡ Some class → BindAll (base_class m (suc (count before) + k) class) [] class.members) → BindAll (base_class m (count before + j) class) [] class.members
+      by_number zero e others =
+          subst (λ x. BindAll (base_class m (count before + zero) x) [] x.members) (some_inj e)
+          (subst (λ k. BindAll (base_class m k c) [] c.members) (omega arith) (bind_all (base_class m (count before) c) held (base_covers before placed c here.number (λ d u l x. held_covers before placed d u l x)) [] c.members here.clear))
+      by_number (suc j) e others = subst (λ k. BindAll (base_class m k class) [] class.members) (omega arith) (others j e)
+
+-- ---- a module without errors
+
+empty_of : (ps : List Place) → ((p : Place) → Contains ps p → ⊥) → ps ≡ []
+empty_of [] h = refl
+empty_of (p ∷ ps) h = absurd (h p (0, omega arith, refl))
+
+module _ (m : Module) (marks : Labelling m) (lawful : IsLawful m marks) (clean : HasNoError m) where
+  pub none_clash : clashing_members m ≡ []
+  none_clash = empty_of (clashing_members m) λ p h. clean (finding p E06) (record { marks = marks; lawful = lawful; found = inr (inl (findings.member (record { code = refl; stops = h }))) }) refl
+
+  pub none_reserved : reserved_bound m ≡ []
+  none_reserved = empty_of (reserved_bound m) λ p h. clean (finding p E29) (record { marks = marks; lawful = lawful; found = inl (scope.stopping tt h) }) refl
+
+  pub none_twice : twice m ≡ []
+  none_twice = empty_of (twice m) λ p h. clean (finding p E01) (record { marks = marks; lawful = lawful; found = inl (scope.stopping tt h) }) refl
+
+  -- each member of each class binds its name
+  pub members_bind : (c : ℕ) (class : ClassDef) → slice_get (classes_in m.items) c ≡ Some class → BindAll m (base_class m c class) [] class.members
+  members_bind c class is =
+      let others = rest_empty (reserved_among (map name_of_item m.items)) (reserved_in_classes m.items ++ stopping.of_defs stopping.reserved_in_def stopping.reserved_in_def m.items) none_reserved in
+      subst (λ k. BindAll m (base_class m k class) [] class.members) (omega arith)
+      (walk m [] m.items tt (λ i. ap (slice_get (classes_in m.items)) (omega arith)) none_clash
+      (front_empty (reserved_in_classes m.items) (stopping.of_defs stopping.reserved_in_def stopping.reserved_in_def m.items) others)
+      (front_empty (reserved_among (map name_of_item m.items)) (reserved_in_classes m.items ++ stopping.of_defs stopping.reserved_in_def stopping.reserved_in_def m.items) none_reserved)
+      (front_empty (bound_again [] (map name_of_item m.items)) (stopping.of_defs (stopping.params_again []) (stopping.params_again (codes "self" ∷ [])) m.items ++ (stopping.given_in_constants m.items ++ stopping.of_defs stopping.given_in_def stopping.given_in_def m.items)) none_twice)
+      c class is)
