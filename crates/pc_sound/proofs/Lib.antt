@@ -81,3 +81,4 @@ pub mod ReadyClasses
 pub mod MembersBind
 pub mod Established
 pub mod DistinctMembers
+pub mod KeyedInitializers
