@@ -74,5 +74,9 @@ pub mod FunctionsKeyed
 pub mod BodyCalls
 pub mod Knowing
 pub mod InitializerCalls
+pub mod AllForms
+pub mod LabelledBodies
+pub mod UniqueNames
 pub mod ReadyClasses
 pub mod MembersBind
+pub mod Established
