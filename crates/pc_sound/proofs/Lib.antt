@@ -80,3 +80,4 @@ pub mod UniqueNames
 pub mod ReadyClasses
 pub mod MembersBind
 pub mod Established
+pub mod ClassesAreReady
