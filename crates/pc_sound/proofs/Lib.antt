@@ -82,3 +82,4 @@ pub mod MembersBind
 pub mod Established
 pub mod DistinctMembers
 pub mod KeyedInitializers
+pub mod ClassesAreReady

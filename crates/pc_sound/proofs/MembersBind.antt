@@ -137,8 +137,7 @@ clear_of : (before : List (List ℕ)) (hs : List Held) (ms : List Member) → cl
 clear_of before hs [] c r = tt
 clear_of before hs (x ∷ rest) c r =
     let here = one_if (is_clash before hs x) (name_of_member x).place in
-    let reserved = one_if (is_reserved_member x) (name_of_member x).place in
-    (
+    let reserved = one_if (is_reserved_member x) (name_of_member x).place in (
       (none_there (is_reserved_member x) (name_of_member x).place (front_empty reserved (reserved_members rest) r), none_there (is_clash before hs x) (name_of_member x).place (front_empty here (clashing ((name_of_member x).text ∷ before) hs rest) c)),
       clear_of ((name_of_member x).text ∷ before) hs rest (rest_empty here (clashing ((name_of_member x).text ∷ before) hs rest) c) (rest_empty reserved (reserved_members rest) r),
     )
@@ -191,23 +190,21 @@ module _ (m : Module) where
       let r = both_false (stopping.is_reserved w) (bytes_eq w (codes "mro")) clear.0.0 in
       let c = both_false (stopping.is_among before w) (stopping.is_among (map held_text hs) w) clear.0.1 in
       let no_field : is_some (field_of base.fields w) ≡ false = false_of (is_some (field_of base.fields w)) (λ h. no_truth (sym c.1 ∙ (held_texts hs w ∙ field_is_name hs w (covers.fields w h)))) in
-      let no_method : is_some (method_of base.methods w) ≡ false = false_of (is_some (method_of base.methods w)) (λ h. no_truth (sym c.1 ∙ (held_texts hs w ∙ covers.methods w h))) in
-      (
+      let no_method : is_some (method_of base.methods w) ≡ false = false_of (is_some (method_of base.methods w)) (λ h. no_truth (sym c.1 ∙ (held_texts hs w ∙ covers.methods w h))) in (
         ap (λ x. not (x || bytes_eq w (codes "mro")) && (not (is_among w before) && not (is_some (field_of base.fields w) || is_some (method_of base.methods w)))) (unreserved w r.0)
-          ∙ ap (λ x. not x && (not (is_among w before) && not (is_some (field_of base.fields w) || is_some (method_of base.methods w)))) r.1
-          ∙ ap (λ x. not x && not (is_some (field_of base.fields w) || is_some (method_of base.methods w))) (sym (among_same before w) ∙ c.0)
-          ∙ ap (λ x. not (x || is_some (method_of base.methods w))) no_field
-          ∙ ap not no_method,
+            ∙ ap (λ x. not x && (not (is_among w before) && not (is_some (field_of base.fields w) || is_some (method_of base.methods w)))) r.1
+            ∙ ap (λ x. not x && not (is_some (field_of base.fields w) || is_some (method_of base.methods w))) (sym (among_same before w) ∙ c.0)
+            ∙ ap (λ x. not (x || is_some (method_of base.methods w))) no_field
+            ∙ ap not no_method,
         bind_all base hs covers (w ∷ before) rest clear.1,
       )
   bind_all base hs covers before (method_member f ∷ rest) clear =
       let w = f.name.text in
       let c = both_false (stopping.is_among before w) (list_any (is_field_of w) hs) clear.0.1 in
-      let no_field : is_some (field_of base.fields w) ≡ false = false_of (is_some (field_of base.fields w)) (λ h. no_truth (sym c.1 ∙ covers.fields w h)) in
-      (
+      let no_field : is_some (field_of base.fields w) ≡ false = false_of (is_some (field_of base.fields w)) (λ h. no_truth (sym c.1 ∙ covers.fields w h)) in (
         ap (λ x. not x && (not (is_among w before) && not (is_some (field_of base.fields w)))) (unreserved w clear.0.0)
-          ∙ ap (λ x. not x && not (is_some (field_of base.fields w))) (sym (among_same before w) ∙ c.0)
-          ∙ ap not no_field,
+            ∙ ap (λ x. not x && not (is_some (field_of base.fields w))) (sym (among_same before w) ∙ c.0)
+            ∙ ap not no_field,
         bind_all base hs covers (w ∷ before) rest clear.1,
       )
 
@@ -324,7 +321,7 @@ module _ (m : Module) where
 
   -- item by item
   walk :
-    (before rest : List Item) → ArePlaced before → ((i : ℕ) → slice_get (classes_in m.items) (count before + i) ≡ slice_get (classes_in rest) i)
+      (before rest : List Item) → ArePlaced before → ((i : ℕ) → slice_get (classes_in m.items) (count before + i) ≡ slice_get (classes_in rest) i)
       → clashing_in before rest ≡ [] → reserved_in_classes rest ≡ [] → reserved_among (map name_of_item rest) ≡ [] → bound_again (names_before before) (map name_of_item rest) ≡ []
       → (i : ℕ) (class : ClassDef) → slice_get (classes_in rest) i ≡ Some class → BindAll (base_class m (count before + i) class) [] class.members
   walk before [] placed at clash members names again i class is = absurd (grind (arith, is))
