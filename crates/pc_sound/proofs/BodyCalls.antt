@@ -209,39 +209,39 @@ module _ (m : Module) (constants : List Tree) (listed : Place → Type 0) (facts
           found_args (λ f h. covered f (inr (inr (inr (inr h))))) (λ f h. covered f (inl h)) keyed.1.1.0 keyed.1.1.1)
 
       name_node : NotReserved Ctx (name n) → CallSafe p (name n) args kws k
-      name_node free = go (Ctx.resolve n.text) refl
+      name_node unreserved = go (Ctx.resolve n.text) refl
         where
           go : (r : Res) → Ctx.resolve n.text ≡ r → CallSafe p (name n) args kws k
           go (res.Local x) e = named_node (res.Local x) e (ap (name_callee Ctx env (given args kws)) e ∙ ap (λ r. value_callee (name_mark Ctx env r)) (sym e)) refl
           go (res.Const i) e = named_node (res.Const i) e (ap (name_callee Ctx env (given args kws)) e ∙ ap (λ r. value_callee (name_mark Ctx env r)) (sym e)) refl
           go (res.Func i) e = function_node i e
           go (res.Class c) e = class_node c e
-          go (res.Builtin b) e = absurd (free b e)
+          go (res.Builtin b) e = absurd (unreserved b e)
           go res.None e = named_node res.None e (ap (name_callee Ctx env (given args kws)) e ∙ ap (λ r. value_callee (name_mark Ctx env r)) (sym e)) refl
 
     -- ---- all other calls
 
     others_safe : (want : Option Tree) (p : Place) (c : Expr) (args : Exprs) (kws : Keywords) (k : Marks (call p c args kws)) → NotReserved Ctx c → is_instance_test c args kws ≡ false → Lawful Ctx lab.marks.declared env want (call p c args kws) k → Covered Here (Finds (call p c args kws) k) → Keyed (call p c args kws) k → CallSafe p c args kws k
-    others_safe want p (name n) args kws k free no_test law covered keyed = name_node want p n args kws k law no_test covered keyed free
-    others_safe want p (attribute q e w) args kws k free no_test law covered keyed = attribute_node want p q e w args kws k law covered keyed
-    others_safe want p (number q x) args kws k free no_test law covered keyed = value_node want p (number q x) args kws k law refl refl refl covered keyed
-    others_safe want p (text q x) args kws k free no_test law covered keyed = value_node want p (text q x) args kws k law refl refl refl covered keyed
-    others_safe want p (truth q x) args kws k free no_test law covered keyed = value_node want p (truth q x) args kws k law refl refl refl covered keyed
-    others_safe want p (nothing q) args kws k free no_test law covered keyed = value_node want p (nothing q) args kws k law refl refl refl covered keyed
-    others_safe want p (tuple q x) args kws k free no_test law covered keyed = value_node want p (tuple q x) args kws k law refl refl refl covered keyed
-    others_safe want p (list q x) args kws k free no_test law covered keyed = value_node want p (list q x) args kws k law refl refl refl covered keyed
-    others_safe want p (dict q x) args kws k free no_test law covered keyed = value_node want p (dict q x) args kws k law refl refl refl covered keyed
-    others_safe want p (negative q x) args kws k free no_test law covered keyed = value_node want p (negative q x) args kws k law refl refl refl covered keyed
-    others_safe want p (negation q x) args kws k free no_test law covered keyed = value_node want p (negation q x) args kws k law refl refl refl covered keyed
-    others_safe want p (binary q o x y) args kws k free no_test law covered keyed = value_node want p (binary q o x y) args kws k law refl refl refl covered keyed
-    others_safe want p (compare q o x y) args kws k free no_test law covered keyed = value_node want p (compare q o x y) args kws k law refl refl refl covered keyed
-    others_safe want p (is_none q x) args kws k free no_test law covered keyed = value_node want p (is_none q x) args kws k law refl refl refl covered keyed
-    others_safe want p (is_not_none q x) args kws k free no_test law covered keyed = value_node want p (is_not_none q x) args kws k law refl refl refl covered keyed
-    others_safe want p (conjunction q x y) args kws k free no_test law covered keyed = value_node want p (conjunction q x y) args kws k law refl refl refl covered keyed
-    others_safe want p (disjunction q x y) args kws k free no_test law covered keyed = value_node want p (disjunction q x y) args kws k law refl refl refl covered keyed
-    others_safe want p (index q x y) args kws k free no_test law covered keyed = value_node want p (index q x y) args kws k law refl refl refl covered keyed
-    others_safe want p (call q x y z) args kws k free no_test law covered keyed = value_node want p (call q x y z) args kws k law refl refl refl covered keyed
+    others_safe want p (name n) args kws k unreserved no_test law covered keyed = name_node want p n args kws k law no_test covered keyed unreserved
+    others_safe want p (attribute q e w) args kws k unreserved no_test law covered keyed = attribute_node want p q e w args kws k law covered keyed
+    others_safe want p (number q x) args kws k unreserved no_test law covered keyed = value_node want p (number q x) args kws k law refl refl refl covered keyed
+    others_safe want p (text q x) args kws k unreserved no_test law covered keyed = value_node want p (text q x) args kws k law refl refl refl covered keyed
+    others_safe want p (truth q x) args kws k unreserved no_test law covered keyed = value_node want p (truth q x) args kws k law refl refl refl covered keyed
+    others_safe want p (nothing q) args kws k unreserved no_test law covered keyed = value_node want p (nothing q) args kws k law refl refl refl covered keyed
+    others_safe want p (tuple q x) args kws k unreserved no_test law covered keyed = value_node want p (tuple q x) args kws k law refl refl refl covered keyed
+    others_safe want p (list q x) args kws k unreserved no_test law covered keyed = value_node want p (list q x) args kws k law refl refl refl covered keyed
+    others_safe want p (dict q x) args kws k unreserved no_test law covered keyed = value_node want p (dict q x) args kws k law refl refl refl covered keyed
+    others_safe want p (negative q x) args kws k unreserved no_test law covered keyed = value_node want p (negative q x) args kws k law refl refl refl covered keyed
+    others_safe want p (negation q x) args kws k unreserved no_test law covered keyed = value_node want p (negation q x) args kws k law refl refl refl covered keyed
+    others_safe want p (binary q o x y) args kws k unreserved no_test law covered keyed = value_node want p (binary q o x y) args kws k law refl refl refl covered keyed
+    others_safe want p (compare q o x y) args kws k unreserved no_test law covered keyed = value_node want p (compare q o x y) args kws k law refl refl refl covered keyed
+    others_safe want p (is_none q x) args kws k unreserved no_test law covered keyed = value_node want p (is_none q x) args kws k law refl refl refl covered keyed
+    others_safe want p (is_not_none q x) args kws k unreserved no_test law covered keyed = value_node want p (is_not_none q x) args kws k law refl refl refl covered keyed
+    others_safe want p (conjunction q x y) args kws k unreserved no_test law covered keyed = value_node want p (conjunction q x y) args kws k law refl refl refl covered keyed
+    others_safe want p (disjunction q x y) args kws k unreserved no_test law covered keyed = value_node want p (disjunction q x y) args kws k law refl refl refl covered keyed
+    others_safe want p (index q x y) args kws k unreserved no_test law covered keyed = value_node want p (index q x y) args kws k law refl refl refl covered keyed
+    others_safe want p (call q x y z) args kws k unreserved no_test law covered keyed = value_node want p (call q x y z) args kws k law refl refl refl covered keyed
 
   -- in a body all other calls are safe
   pub body_calls : (knows : KnowsNames (around_of m constants listed owner d lab) (context_of m constants listed owner d)) (parts : Parts Step) → GoodEval (around_of m constants listed owner d lab) (context_of m constants listed owner d) parts.eval → ((e : Expr) → Evaluates (place_of e) (parts.eval e)) → ((o : Owner) (f : FuncDef) (l : Labelled m constants listed o f) → GoodExec (around_of m constants listed o f l) (context_of m constants listed o f) m (returned m f) parts.exec) → OtherCalls (around_of m constants listed owner d lab) (context_of m constants listed owner d) parts
-  body_calls knows parts good evaluates runs = record { safe = λ env want p c args kws k free no_test law covered keyed. others_safe knows parts good evaluates runs env want p c args kws k free no_test law covered keyed }
+  body_calls knows parts good evaluates runs = record { safe = λ env want p c args kws k unreserved no_test law covered keyed. others_safe knows parts good evaluates runs env want p c args kws k unreserved no_test law covered keyed }

@@ -83,3 +83,4 @@ pub mod Established
 pub mod DistinctMembers
 pub mod KeyedInitializers
 pub mod ClassesAreReady
+pub mod Sounding
