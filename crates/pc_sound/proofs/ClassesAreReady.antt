@@ -21,11 +21,10 @@ module _ (m : Module) (marks : Labelling m) (lawful : IsLawful m marks) (clean :
   members_ready : (base : facts.Class) (c number : ℕ) (before : List (List ℕ)) (ms : List Member) → BindAll m base before ms → ((i : ℕ) (d : FuncDef) → slice_get (methods_in ms) i ≡ Some d → function_of m (owners.Method c (number + i)) ≡ Some d) → MembersReady m constants listed base before ms
   members_ready base c number before [] binds at = tt
   members_ready base c number before (field_member f ∷ rest) binds at = (binds.0, members_ready base c number (f.name.text ∷ before) rest binds.1 at)
-  members_ready base c number before (method_member f ∷ rest) binds at =
-      (
-        (binds.0, parameters_bind m listed (codes "self" ∷ []) f.params (function_binds m marks lawful clean (owners.Method c number) f (ap (λ j. function_of m (owners.Method c j)) (omega arith) ∙ at 0 f refl))),
-        members_ready base c (suc number) (f.name.text ∷ before) rest binds.1 (λ i d e. ap (λ j. function_of m (owners.Method c j)) (omega arith) ∙ at (suc i) d e),
-      )
+  members_ready base c number before (method_member f ∷ rest) binds at = (
+    (binds.0, parameters_bind m listed (codes "self" ∷ []) f.params (function_binds m marks lawful clean (owners.Method c number) f (ap (λ j. function_of m (owners.Method c j)) (omega arith) ∙ at 0 f refl))),
+    members_ready base c (suc number) (f.name.text ∷ before) rest binds.1 (λ i d e. ap (λ j. function_of m (owners.Method c j)) (omega arith) ∙ at (suc i) d e),
+  )
 
   pub classes_ready : ClassesReady m constants listed
   classes_ready = record {

@@ -116,12 +116,13 @@ module _ (m : Module) where
     MethodsDistinct c = (q : Method) → IsIn (class_at (classes_of m) c).methods q → Distinct [] q.parameters
 
     over_base : (c : ℕ) (class : ClassDef) → slice_get (classes_in m.items) c ≡ Some class → (base : facts.Class) → BindAll m base [] class.members → Distinct [] base.fields → ((q : Method) → IsIn base.methods q → Distinct [] q.parameters) → Distinct [] (class_over m c class base).fields × ((q : Method) → IsIn (class_over m c class base).methods q → Distinct [] q.parameters)
-    over_base c class is base binds fields methods =
-        (distinct_both [] base.fields (own_fields m base [] class.members) fields (own_distinct base [] (names_behind [] base.fields) class.members binds (λ word e n. none_behind [] base.fields word refl n)),
-        λ q h. elim (in_one (own_methods m base c 0 [] class.members) base.methods q h) [
-          | inl a ↦ let r = own_method base c 0 [] class.members q a in subst (λ ps. Distinct [] ps) (sym r.params) (parameters_distinct m (receiver (owners.Method c r.at)) r.def.params (function_binds m marks lawful clean (owners.Method c r.at) r.def (ap (λ o. method_at o r.at) is ∙ r.is)))
-          | inr b ↦ methods q b
-        ])
+    over_base c class is base binds fields methods = (
+      distinct_both [] base.fields (own_fields m base [] class.members) fields (own_distinct base [] (names_behind [] base.fields) class.members binds (λ word e n. none_behind [] base.fields word refl n)),
+      λ q h. elim (in_one (own_methods m base c 0 [] class.members) base.methods q h) [
+        | inl a ↦ let r = own_method base c 0 [] class.members q a in subst (λ ps. Distinct [] ps) (sym r.params) (parameters_distinct m (receiver (owners.Method c r.at)) r.def.params (function_binds m marks lawful clean (owners.Method c r.at) r.def (ap (λ o. method_at o r.at) is ∙ r.is)))
+        | inr b ↦ methods q b
+      ],
+    )
 
     distinct_below : (n c : ℕ) → c < n → FieldsDistinct c × MethodsDistinct c
     distinct_below zero c h = absurd (omega arith)

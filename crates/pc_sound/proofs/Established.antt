@@ -125,9 +125,10 @@ module _ (m : Module) (marks : Labelling m) (lawful : IsLawful m marks) (clean :
   judged_members : (base : Class) (c number : ℕ) (before : List (List ℕ)) (ms : List Member) (mm : MembersMarks ms) → LawfulMembers m (constant_types m m.items marks) base c number before ms mm → ((f : Finding) → MembersFind m (constant_types m m.items marks) c number ms mm f → IsListedPlace m f.place × (¬ (IsError f.code))) → AreJudged m (IsListedPlace m) base c number before ms
   judged_members base c number before [] mm law found = tt
   judged_members base c number before (field_member d ∷ ms) mm law found = judged_members base c number (d.name.text ∷ before) ms mm.rest law.others (λ f h. found f (inr (inr h)))
-  judged_members base c number before (method_member d ∷ ms) mm law found =
-      (record { code = mm.override; rule = law.override; allowed = allowed_rule base c before number d mm.override law.override (λ x e. found (finding d.name.place x) (inr (inl (code_found d.name.place mm.override x e)))) },
-      judged_members base c (suc number) (d.name.text ∷ before) ms mm.rest law.others (λ f h. found f (inr (inr h))))
+  judged_members base c number before (method_member d ∷ ms) mm law found = (
+    record { code = mm.override; rule = law.override; allowed = allowed_rule base c before number d mm.override law.override (λ x e. found (finding d.name.place x) (inr (inl (code_found d.name.place mm.override x e)))) },
+    judged_members base c (suc number) (d.name.text ∷ before) ms mm.rest law.others (λ f h. found f (inr (inr h))),
+  )
 
   judged_items : (items : List Item) (b : Before) (im : ItemsMarks items) → LawfulItems m (constant_types m m.items marks) b items im → ((f : Finding) → ItemsFind m (constant_types m m.items marks) b items im f → IsListedPlace m f.place × (¬ (IsError f.code))) → (j c : ℕ) (class : ClassDef) → slice_get (classes_in items) j ≡ Some class → c ≡ b.classes + j → AreJudged m (IsListedPlace m) (base_class m c class) c 0 [] class.members
   judged_items [] b im law found j c class e at = absurd (none_some e)
@@ -179,9 +180,10 @@ module _ (m : Module) (marks : Labelling m) (lawful : IsLawful m marks) (clean :
     all_ready done [] b im all binds keyed = tt
     all_ready done (constant_item p c ∷ rest) b im all binds keyed = ((binds.0, keyed.0), all_ready (done ++ constant_item p c ∷ []) rest (before_next m b (constant_item p c) im.0) im.1 (all ∙ sym (shifted done (constant_item p c) rest)) binds.1 keyed.1)
     all_ready done (class_item p c ∷ rest) b im all binds keyed = (binds.0, all_ready (done ++ class_item p c ∷ []) rest (before_next m b (class_item p c) im.0) im.1 (all ∙ sym (shifted done (class_item p c) rest)) binds.1 keyed)
-    all_ready done (def_item p f ∷ rest) b im all binds keyed =
-        ((binds.0, parameters_bind m (IsListedPlace m) [] f.params (function_binds m marks lawful clean (owners.Func (length (functions_in done))) f here)),
-        all_ready (done ++ def_item p f ∷ []) rest (before_next m b (def_item p f) im.0) im.1 (all ∙ sym (shifted done (def_item p f) rest)) binds.1 keyed)
+    all_ready done (def_item p f ∷ rest) b im all binds keyed = (
+      (binds.0, parameters_bind m (IsListedPlace m) [] f.params (function_binds m marks lawful clean (owners.Func (length (functions_in done))) f here)),
+      all_ready (done ++ def_item p f ∷ []) rest (before_next m b (def_item p f) im.0) im.1 (all ∙ sym (shifted done (def_item p f) rest)) binds.1 keyed,
+    )
       where
         here : slice_get (functions_in m.items) (length (functions_in done)) ≡ Some f
         here = ap (λ l. slice_get l (length (functions_in done))) (ap functions_in all ∙ functions_append done (def_item p f ∷ rest)) ∙ get_at_end (functions_in done) f (functions_in rest)

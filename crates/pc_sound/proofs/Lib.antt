@@ -84,3 +84,4 @@ pub mod DistinctMembers
 pub mod KeyedInitializers
 pub mod ClassesAreReady
 pub mod Sounding
+pub mod EarlyNames

@@ -50,9 +50,10 @@ among_same (x ∷ xs) word = λ i. flip x word i || among_same xs word i
 
 pub all_bind : (before : List (List ℕ)) (ns : List Name) → ((p : Place) → Contains (bound_again before ns) p → ⊥) → ((p : Place) → Contains (reserved_among ns) p → ⊥) → AllBind before ns
 all_bind before [] again reserved = tt
-all_bind before (n ∷ ns) again reserved =
-    (binds (is_reserved n.text) refl (is_among n.text before) refl,
-    all_bind (n.text ∷ before) ns (λ p c. again p (Contains-append_right (one_if (stopping.is_among before n.text && not (stopping.is_reserved n.text)) n.place) (bound_again (n.text ∷ before) ns) p c)) (λ p c. reserved p (Contains-append_right (one_if (stopping.is_reserved n.text) n.place) (reserved_among ns) p c)))
+all_bind before (n ∷ ns) again reserved = (
+  binds (is_reserved n.text) refl (is_among n.text before) refl,
+  all_bind (n.text ∷ before) ns (λ p c. again p (Contains-append_right (one_if (stopping.is_among before n.text && not (stopping.is_reserved n.text)) n.place) (bound_again (n.text ∷ before) ns) p c)) (λ p c. reserved p (Contains-append_right (one_if (stopping.is_reserved n.text) n.place) (reserved_among ns) p c)),
+)
   where
     here : {b : Test} → b ≡ true → (rest : List Place) → Contains (one_if b n.place ++ rest) n.place
     here e rest = subst (λ b. Contains (one_if b n.place ++ rest) n.place) (sym e) (0, omega arith, refl)
