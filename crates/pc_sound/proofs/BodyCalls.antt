@@ -26,8 +26,8 @@ use Rattle.pc_flow.specs.Environment.{Env}
 use Rattle.pc_expr.specs.Operations.{Mark, in_error}
 use Rattle.pc_expr.specs.Context.{Context, Signature, name_mark}
 use Rattle.pc_expr.specs.Signatures.{signature_of, signatures_of}
-use Rattle.pc_expr.specs.Calls.{Given, given, CallOffer, called, function_offer, class_signature, builtin_offer, good_callee, value_callee, name_callee, value_offers, method_offers, method_callee, Callee, call_mark, positional_seat, named_seat}
-use Rattle.pc_expr.specs.Labels.{Marks, mark_of, type_of, with_mark, item_types, Finds, IsFoundAt}
+use Rattle.pc_expr.specs.Calls.{Given, given, CallOffer, called, function_offer, class_signature, builtin_offer, good_callee, value_callee, name_callee, value_offers, method_offers, method_callee, Callee, is_one, call_mark, positional_seat, named_seat}
+use Rattle.pc_expr.specs.Labels.{Marks, mark_of, type_of, with_mark, item_types, Finds, ItemsFind, IsFoundAt}
 use Rattle.pc_expr.specs.Lawful.{Lawful, LawfulItems, LawfulKeywords, callee_of, is_length, is_length_of_one, whole_call_mark}
 use Rattle.pc_value.specs.Value.{Value, Gives}
 use Rattle.pc_run.specs.State.{State, Function, Class, Globals, a_function}
@@ -35,7 +35,7 @@ use Rattle.pc_run.specs.Names.{meaning_of_global, is_reserved}
 use Rattle.pc_run.specs.Calls.{calls_value, callee_of_meaning}
 use Rattle.pc_run.specs.Steps.{Parts}
 use Rattle.pc_run.specs.Free.{Step, ◌>>=◌, comes, Emits, free}
-use Rattle.pc_run.specs.Evaluation.{eval_call, eval_node, eval_all, eval_keywords, call_callee}
+use Rattle.pc_run.specs.Evaluation.{ordinary, eval_call, eval_node, eval_all, eval_keywords, call_callee}
 use Rattle.pc_sound.specs.Values.{HeapTyping, HasType}
 use Rattle.pc_sound.specs.Judgment.{EndsWell, Around, Stands, IsSafe, Fits}
 use Rattle.pc_sound.proofs.Keys.{Keyed}
@@ -43,8 +43,7 @@ use Rattle.pc_sound.proofs.Expressions.{Covered, GoodEval}
 use Rattle.pc_sound.proofs.Flows.{Evaluates}
 use Rattle.pc_sound.proofs.Fields.{Inherits}
 use Rattle.pc_sound.proofs.Globals.{KnowsNames, meaning_outside, means_a_class, no_error_at}
-use Rattle.pc_sound.proofs.BuiltIns.{print_safe, str_safe, len_safe, plain_mark, wrong_call, range_error, not_callable}
-use Rattle.pc_sound.proofs.InstanceCalls.{instance_safe}
+use Rattle.pc_sound.proofs.Forms.{NotReserved, OtherCalls}
 use Rattle.pc_sound.proofs.Dispatch.{IsIn, Dispatched}
 use Rattle.pc_sound.proofs.Statements.{GoodExec}
 use Rattle.pc_sound.proofs.World.{MadeOf, World, world_later, ClassIs, Labelled, around_of, context_of}
@@ -128,3 +127,121 @@ module _ (m : Module) (constants : List Tree) (listed : Place → Type 0) (facts
         (ordinary_mark Ctx env (attribute q e w) args kws (callee_of Ctx env (given args kws) (attribute q e w) law.value).offers (item_types args k.arguments) k.here refl refl law.here)
         law.arguments law.keywords
         (arguments_covered Here (attribute q e w) args kws k.arguments refl (λ f h. covered f (inr (inr (inr (inl h)))))) (λ f h. covered f (inr (inr (inr (inr h))))) (λ f h. covered f (inl h)) keyed.1.1.0 keyed.1.1.1
+
+    -- ---- names
+
+    record FunctionAt (word : List ℕ) (i : ℕ) : Type 0 where
+      def : FuncDef
+      at : slice_get (functions_in m.items) i ≡ Some def
+      resolves : resolve_in_module m word ≡ res.Func i
+
+    function_at : (word : List ℕ) (i : ℕ) → Ctx.resolve word ≡ res.Func i → FunctionAt word i
+    function_at word i e =
+        let r = outside_func (index_of word (locals owner d)) (resolve_in_module m word) i e in
+        let n = function_named m word i r in
+        let b = n.behind in
+        let at : i ≡ n.at = omega arith in
+        record { def = n.function; at = ap (slice_get (functions_in m.items)) at ∙ n.is; resolves = r }
+
+    no_local : (word : List ℕ) (r : Res) → Ctx.resolve word ≡ r → ((x : ℕ) → r ≡ res.Local x → ⊥) → (x : ℕ) → Ctx.resolve word ≡ res.Local x → ⊥
+    no_local word r e n x f = n x (sym e ∙ f)
+
+    module _ (want : Option Tree) (p : Place) (n : Name) (args : Exprs) (kws : Keywords) (k : Marks (call p (name n) args kws)) (law : Lawful Ctx lab.marks.declared env want (call p (name n) args kws) k) (no_test : is_instance_test (name n) args kws ≡ false) (covered : Covered Here (Finds (call p (name n) args kws) k)) (keyed : Keyed (call p (name n) args kws) k) where
+      found_args : Covered Here (ItemsFind args k.arguments)
+      found_args = arguments_covered Here (name n) args kws k.arguments no_test (λ f h. covered f (inr (inr (inr (inl h)))))
+
+      -- the offers and the label of the call, by what the name means
+      offers_are : (c : Callee) → name_callee Ctx env (given args kws) (Ctx.resolve n.text) ≡ c → (is_length_of_one (given args kws) Ctx.resolve (name n) ≡ false) → k.here ≡ call_mark (bases_of m) c.offers
+      offers_are c e no_length = ordinary_mark Ctx env (name n) args kws (name_callee Ctx env (given args kws) (Ctx.resolve n.text)).offers (item_types args k.arguments) k.here no_test no_length law.here ∙ ap (λ x. call_mark (bases_of m) x.offers) e
+
+      as_ordinary : IsSafe Here env (λ j. Unit {0}) (eval_call Step free parts p (name n) args kws ordinary) (λ j v. HasType (bases_of m) j k.here.type v) → CallSafe p (name n) args kws k
+      as_ordinary h = subst (λ form. IsSafe Here env (λ j. Unit {0}) (eval_call Step free parts p (name n) args kws form) (λ j v. HasType (bases_of m) j k.here.type v)) (sym (ordinary_call n args kws no_test)) h
+
+      not_length : (r : Res) → Ctx.resolve n.text ≡ r → is_length r ≡ false → is_length_of_one (given args kws) Ctx.resolve (name n) ≡ false
+      not_length r e f = λ i. (ap is_length e ∙ f) i && is_one (given args kws)
+
+      -- a function
+      function_node : (i : ℕ) → Ctx.resolve n.text ≡ res.Func i → CallSafe p (name n) args kws k
+      function_node i e =
+          let a = function_at n.text i e in
+          let is : name_callee Ctx env (given args kws) (Ctx.resolve n.text) ≡ good_callee (called (given args kws) (signature_of m a.def) ∷ []) = ap (name_callee Ctx env (given args kws)) e ∙ ap (λ o. good_callee (function_offer (given args kws) o ∷ [])) (signature_at m i a.def a.at) in
+          let l = facts.labelled (owners.Func i) a.def a.at in
+          as_ordinary
+          (function_node_safe m facts.inherits listed (locals owner d) lab.marks.declared (World m constants) (λ j j' made globals grows w. world_later m constants j j' made globals grows w) Ctx Fit parts good evaluates env constants (λ j made globals w. w)
+          p n args kws k.arguments k.keywords k.here i a.def l (runs (owners.Func i) a.def l)
+          (λ j st stands. let f = stands.outside.function n.text i a.def a.resolves a.at in
+          (f.function, meaning_outside Here Ctx Fit n.text (no_local n.text (res.Func i) e (λ x g. grind (arith, g))) env j st stands ∙ ap (meaning_of_global (is_reserved n.text)) f.is, f.made))
+          (offers_are (good_callee (called (given args kws) (signature_of m a.def) ∷ [])) is (not_length (res.Func i) e refl)) (facts.distinct_functions i a.def a.at)
+          (subst (λ x. LawfulItems Ctx lab.marks.declared env (positional_seat x.offers) args k.arguments) is law.arguments) (subst (λ x. LawfulKeywords Ctx lab.marks.declared env (named_seat x.offers) [] kws k.keywords) is law.keywords)
+          found_args (λ f h. covered f (inr (inr (inr (inr h))))) (λ f h. covered f (inl h)) keyed.1.1.0 keyed.1.1.1)
+
+      -- a class
+      class_node : (c : ℕ) → Ctx.resolve n.text ≡ res.Class c → CallSafe p (name n) args kws k
+      class_node c e = go (nat_lt c Ctx.known) refl
+        where
+          go : (b : Test) → nat_lt c Ctx.known ≡ b → CallSafe p (name n) args kws k
+          go false t =
+              let is : name_callee Ctx env (given args kws) (Ctx.resolve n.text) ≡ value_callee (in_error E03) = ap (name_callee Ctx env (given args kws)) e ∙ ap (λ x. if x then good_callee (called (given args kws) (class_signature (classes_of m) c) ∷ []) else value_callee (in_error E03)) t in
+              absurd (no_error_at Here Ctx Fit knows env n.place k.callee E03 [] (ap (λ x. x.codes) (law.callee ∙ ap (λ x. x.mark) is)) refl (λ f h. covered f (inr (inl h))))
+          go true t =
+              let is : name_callee Ctx env (given args kws) (Ctx.resolve n.text) ≡ good_callee (called (given args kws) (class_signature (classes_of m) c) ∷ []) = ap (name_callee Ctx env (given args kws)) e ∙ ap (λ x. if x then good_callee (called (given args kws) (class_signature (classes_of m) c) ∷ []) else value_callee (in_error E03)) t in
+              let h = class_named m n.text c (outside_class (index_of n.text (locals owner d)) (resolve_in_module m n.text) c e) in
+              let b = h.behind in
+              let at : c ≡ h.at = omega arith in
+              as_ordinary
+              (class_node_safe m facts.inherits listed (locals owner d) lab.marks.declared (World m constants) (λ j j' made globals grows w. world_later m constants j j' made globals grows w) Ctx Fit parts good evaluates env
+              p n args kws k.arguments k.keywords k.here c (λ j st stands. means_a_class Here Ctx Fit knows env n.text c e t j st stands) (λ j made globals w. w.classes c h.class (ap (slice_get (classes_in m.items)) at ∙ h.is))
+              (offers_are (good_callee (called (given args kws) (class_signature (classes_of m) c) ∷ [])) is (not_length (res.Class c) e refl)) (facts.distinct_fields c)
+              (subst (λ x. LawfulItems Ctx lab.marks.declared env (positional_seat x.offers) args k.arguments) is law.arguments) (subst (λ x. LawfulKeywords Ctx lab.marks.declared env (named_seat x.offers) [] kws k.keywords) is law.keywords)
+              found_args (λ f h. covered f (inr (inr (inr (inr h))))) (λ f h. covered f (inl h)) keyed.1.1.0 keyed.1.1.1)
+
+      -- a value
+      named_node : (r : Res) → Ctx.resolve n.text ≡ r → name_callee Ctx env (given args kws) (Ctx.resolve n.text) ≡ value_callee (name_mark Ctx env (Ctx.resolve n.text)) → is_length r ≡ false → CallSafe p (name n) args kws k
+      named_node r e is no_length =
+          let own : k.callee ≡ name_mark Ctx env (Ctx.resolve n.text) = law.callee ∙ ap (λ x. x.mark) is in
+          let same : value_offers (name_mark Ctx env (Ctx.resolve n.text)).type ≡ value_offers k.callee.type = ap (λ x. value_offers x.type) (sym own) in
+          as_ordinary
+          (fails_safe Here Ctx Fit parts good evaluates env p _ (value_offers k.callee.type) (values_quiet k.callee.type)
+          (named_value_safe Here Ctx Fit knows env parts n k.callee own (λ f h. covered f (inr (inl h))))
+          args k.arguments kws k.keywords k.here
+          (offers_are (value_callee (name_mark Ctx env (Ctx.resolve n.text))) is (not_length r e no_length) ∙ ap (call_mark (bases_of m)) same)
+          (subst (λ x. LawfulItems Ctx lab.marks.declared env (positional_seat x) args k.arguments) (ap (λ x. x.offers) is ∙ same) law.arguments) (subst (λ x. LawfulKeywords Ctx lab.marks.declared env (named_seat x) [] kws k.keywords) (ap (λ x. x.offers) is ∙ same) law.keywords)
+          found_args (λ f h. covered f (inr (inr (inr (inr h))))) (λ f h. covered f (inl h)) keyed.1.1.0 keyed.1.1.1)
+
+      name_node : NotReserved Ctx (name n) → CallSafe p (name n) args kws k
+      name_node unreserved = go (Ctx.resolve n.text) refl
+        where
+          go : (r : Res) → Ctx.resolve n.text ≡ r → CallSafe p (name n) args kws k
+          go (res.Local x) e = named_node (res.Local x) e (ap (name_callee Ctx env (given args kws)) e ∙ ap (λ r. value_callee (name_mark Ctx env r)) (sym e)) refl
+          go (res.Const i) e = named_node (res.Const i) e (ap (name_callee Ctx env (given args kws)) e ∙ ap (λ r. value_callee (name_mark Ctx env r)) (sym e)) refl
+          go (res.Func i) e = function_node i e
+          go (res.Class c) e = class_node c e
+          go (res.Builtin b) e = absurd (unreserved b e)
+          go res.None e = named_node res.None e (ap (name_callee Ctx env (given args kws)) e ∙ ap (λ r. value_callee (name_mark Ctx env r)) (sym e)) refl
+
+    -- ---- all other calls
+
+    others_safe : (want : Option Tree) (p : Place) (c : Expr) (args : Exprs) (kws : Keywords) (k : Marks (call p c args kws)) → NotReserved Ctx c → is_instance_test c args kws ≡ false → Lawful Ctx lab.marks.declared env want (call p c args kws) k → Covered Here (Finds (call p c args kws) k) → Keyed (call p c args kws) k → CallSafe p c args kws k
+    others_safe want p (name n) args kws k unreserved no_test law covered keyed = name_node want p n args kws k law no_test covered keyed unreserved
+    others_safe want p (attribute q e w) args kws k unreserved no_test law covered keyed = attribute_node want p q e w args kws k law covered keyed
+    others_safe want p (number q x) args kws k unreserved no_test law covered keyed = value_node want p (number q x) args kws k law refl refl refl covered keyed
+    others_safe want p (text q x) args kws k unreserved no_test law covered keyed = value_node want p (text q x) args kws k law refl refl refl covered keyed
+    others_safe want p (truth q x) args kws k unreserved no_test law covered keyed = value_node want p (truth q x) args kws k law refl refl refl covered keyed
+    others_safe want p (nothing q) args kws k unreserved no_test law covered keyed = value_node want p (nothing q) args kws k law refl refl refl covered keyed
+    others_safe want p (tuple q x) args kws k unreserved no_test law covered keyed = value_node want p (tuple q x) args kws k law refl refl refl covered keyed
+    others_safe want p (list q x) args kws k unreserved no_test law covered keyed = value_node want p (list q x) args kws k law refl refl refl covered keyed
+    others_safe want p (dict q x) args kws k unreserved no_test law covered keyed = value_node want p (dict q x) args kws k law refl refl refl covered keyed
+    others_safe want p (negative q x) args kws k unreserved no_test law covered keyed = value_node want p (negative q x) args kws k law refl refl refl covered keyed
+    others_safe want p (negation q x) args kws k unreserved no_test law covered keyed = value_node want p (negation q x) args kws k law refl refl refl covered keyed
+    others_safe want p (binary q o x y) args kws k unreserved no_test law covered keyed = value_node want p (binary q o x y) args kws k law refl refl refl covered keyed
+    others_safe want p (compare q o x y) args kws k unreserved no_test law covered keyed = value_node want p (compare q o x y) args kws k law refl refl refl covered keyed
+    others_safe want p (is_none q x) args kws k unreserved no_test law covered keyed = value_node want p (is_none q x) args kws k law refl refl refl covered keyed
+    others_safe want p (is_not_none q x) args kws k unreserved no_test law covered keyed = value_node want p (is_not_none q x) args kws k law refl refl refl covered keyed
+    others_safe want p (conjunction q x y) args kws k unreserved no_test law covered keyed = value_node want p (conjunction q x y) args kws k law refl refl refl covered keyed
+    others_safe want p (disjunction q x y) args kws k unreserved no_test law covered keyed = value_node want p (disjunction q x y) args kws k law refl refl refl covered keyed
+    others_safe want p (index q x y) args kws k unreserved no_test law covered keyed = value_node want p (index q x y) args kws k law refl refl refl covered keyed
+    others_safe want p (call q x y z) args kws k unreserved no_test law covered keyed = value_node want p (call q x y z) args kws k law refl refl refl covered keyed
+
+  -- in a body all other calls are safe
+  pub body_calls : (knows : KnowsNames (around_of m constants listed owner d lab) (context_of m constants listed owner d)) (parts : Parts Step) → GoodEval (around_of m constants listed owner d lab) (context_of m constants listed owner d) parts.eval → ((e : Expr) → Evaluates (place_of e) (parts.eval e)) → ((o : Owner) (f : FuncDef) (l : Labelled m constants listed o f) → GoodExec (around_of m constants listed o f l) (context_of m constants listed o f) m (returned m f) parts.exec) → OtherCalls (around_of m constants listed owner d lab) (context_of m constants listed owner d) parts
+  body_calls knows parts good evaluates runs = record { safe = λ env want p c args kws k unreserved no_test law covered keyed. others_safe knows parts good evaluates runs env want p c args kws k unreserved no_test law covered keyed }

@@ -151,13 +151,13 @@ module _ (m : Module) (inherits : Inherits (bases_of m) (classes_of m)) (listed 
       pub function_node_safe :
           (p : Place) (n : Name) (args : Exprs) (kws : Keywords) (im : ItemsMarks args) (km : KeywordsMarks kws) (here : Mark) (i : ℕ) (d : FuncDef) (lab : Labelled m constants listed (owners.Func i) d)
           → GoodExec (around_of m constants listed (owners.Func i) d lab) (context_of m constants listed (owners.Func i) d) m (returned m d) parts.exec
-          → ((k : HeapTyping) (st : State) → Stands Here env k st → EndsWell (λ c. IsFunction d k c) (callee_of_meaning n.text (meaning n.text st)))
+          → ((k : HeapTyping) (st : State) → Stands Here env k st → (f : Function) × (meaning n.text st ≡ means_function f) × MadeOf m k f d)
           → here ≡ call_mark (bases_of m) (called (given args kws) (signature_of m d) ∷ []) → Distinct [] (parameters_of m d.params)
           → LawfulItems ctx declared env (positional_seat (called (given args kws) (signature_of m d) ∷ [])) args im → LawfulKeywords ctx declared env (named_seat (called (given args kws) (signature_of m d) ∷ [])) [] kws km
           → Covered Here (ItemsFind args im) → Covered Here (KeywordsFind kws km) → Covered Here (IsFoundAt p here.codes) → ItemsKeyed args im → KeywordsKeyed kws km
           → IsSafe Here env (λ k. Unit {0}) (eval_callee Step free parts (name n) >>= λ c. eval_all Step free parts.eval args >>= λ values. eval_keywords Step free parts.eval kws >>= λ more. Emits p >>= λ u. call_callee Step free parts c values more) (λ k v. HasType (bases_of m) k here.type v)
       function_node_safe p n args kws im km here i d lab exec means is distinct law klaw covered kcovered hcovered keyed kkeyed =
-          one_called p n args kws im km here (signature_of m d) is distinct (IsFunction d) (function_stays d) means law klaw covered kcovered hcovered keyed kkeyed run
+          one_called p n args kws im km here (signature_of m d) is distinct (IsFunction d) (function_stays d) (λ k st stands. let f = means k st stands in subst (λ x. EndsWell (λ c. IsFunction d k c) (callee_of_meaning n.text x)) (sym f.1) f.2) law klaw covered kcovered hcovered keyed kkeyed run
         where
           run : (known : HeapTyping → Type 0) → Stays known → (c : Callee) (values : List Value) (more : List NamedValue) → ((k : HeapTyping) → known k → IsFunction d k c × Suits (bases_of m) k (parameters_of m d.params) values more) → IsSafe Here env known (call_callee Step free parts c values more) (λ k v. HasType (bases_of m) k (returned m d) v)
           run known stays (calls_function f) values more h = record {

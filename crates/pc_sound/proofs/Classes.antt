@@ -1,15 +1,17 @@
 -- A class that is made has the fields, the methods and the ancestors that its facts say.
 use Rattle.std.proofs.Common.{◌≡◌, ℕ, zero, suc, ◌+◌, List, [], ◌∷◌, ◌++◌, length, refl, sym, ap, ◌∙◌, subst, inl, inr, arith, length-append}
-use Rattle.std.specs.Prelude.{◌⊎◌, Bool as Test, true, false, ◌||◌, if◌then◌else◌, is_some, nat_lt, nat_eq, codes, Option, Some, None, slice_get}
+use Rattle.std.specs.Prelude.{◌⊎◌, Bool as Test, true, false, ◌||◌, not, if◌then◌else◌, is_some, nat_lt, nat_eq, codes, Option, Some, None, slice_get}
 use Rattle.std.proofs.lemmas.Bool.Decides.{nat_tests}
 use Rattle.pc_source.specs.declared.place.Place.{Place}
-use Rattle.pc_tree.specs.Tree.{Name, Param, FuncDef, Member, field_member, method_member, ClassDef, Module}
+use Rattle.pc_tree.specs.Tree.{Name, FuncDef, Member, field_member, method_member, ClassDef, class_item, Module}
 use Rattle.pc_scope.specs.declared.resolution.Owner.TheVariants as owners
 use Rattle.pc_scope.specs.declared.resolution.Res.{Res}
 use Rattle.pc_scope.specs.declared.resolution.Res.TheVariants as res
 use Rattle.pc_scope.specs.Bindings.{classes_in, methods_in}
-use Rattle.pc_scope.specs.Resolution.{function_of, resolve_in_module}
+use Rattle.pc_scope.specs.Reserved.{is_reserved as is_reserved_name}
+use Rattle.pc_scope.specs.Resolution.{function_of, method_at, is_among, resolve_in_module}
 use Rattle.pc_types.specs.Tree.{Tree}
+use Rattle.pc_types.specs.Annotations.{read_ann}
 use Rattle.pc_types.specs.Tree as tree
 use Rattle.pc_types.specs.Below as subtyping
 use Rattle.pc_types.specs.Below.{Bases, Below, base_of, same, through}
@@ -18,15 +20,27 @@ use Rattle.pc_class.specs.Bases.{bases_of, base_named, earlier_class}
 use Rattle.pc_class.specs.Facts as facts
 use Rattle.pc_class.specs.Facts.{Parameter, Method, inherited, classes_of, class_at, binds_field, binds_method, own_fields, own_methods}
 use Rattle.pc_class.specs.Findings.{base_class, method_made}
-use Rattle.pc_value.specs.Value.{Value}
+use Rattle.pc_value.specs.Value.{Value, Gives, Stops, Raised, TypeError}
 use Rattle.pc_run.specs.State as state
-use Rattle.pc_run.specs.State.{State, Function, Class}
+use Rattle.pc_run.specs.State.{State, Function, Class, a_class}
 use Rattle.pc_run.specs.Calls as run
 use Rattle.pc_run.specs.Calls.{is_ancestor}
-use Rattle.pc_run.specs.Evaluation.{Members, fields_of, methods_of, ancestors_of, class_behind, all_with, defaults_last}
+use Rattle.pc_run.specs.Names.{means_class, meaning, meaning_of_local, meaning_of_global, local_of, global_of, is_reserved}
+use Rattle.pc_run.specs.Steps.{Parts}
+use Rattle.pc_run.specs.Free.{Step, free}
+use Rattle.pc_run.specs.Evaluation as evaluation
+use Rattle.pc_run.specs.Evaluation.{make_members, exec_item, dataclass_found, binds_class, Members, fields_of, methods_of, ancestors_of, class_behind, all_with, defaults_last}
+use Rattle.pc_expr.specs.Signatures.{LawfulDefault}
+use Rattle.pc_check.specs.Modules.{MembersMarks, LawfulMembers, MembersFind, Before, ItemMarks, LawfulItem, ItemFinds}
 use Rattle.pc_sound.specs.Values.{HeapTyping}
-use Rattle.pc_sound.proofs.World.{AncestorsAre, DefaultHas, DefaultsHave, MadeOf, MethodIs, MethodsAre, ClassIs}
-use Rattle.pc_sound.proofs.Inheritance.{HasBase, has_base, base_known, class_over, class_is}
+use Rattle.pc_sound.specs.Judgment.{EndsWell}
+use Rattle.pc_sound.proofs.Leading.{Known}
+use Rattle.pc_sound.proofs.Proceeding.{Proceeds, proceeds_bind, proceeds_comes, proceeds_looks, proceeds_changes}
+use Rattle.pc_sound.proofs.Binds.{class_named}
+use Rattle.pc_sound.proofs.ModuleOrder.{BoundSoFar, bound_class, Between, Listed, ParametersBind, default_made, function_made}
+use Rattle.pc_sound.proofs.Items.{ItemReady, GoodClasses}
+use Rattle.pc_sound.proofs.World.{AncestorsAre, DefaultHas, DefaultsHave, MadeOf, MethodsAre, ClassIs}
+use Rattle.pc_sound.proofs.Inheritance.{has_base, base_known, class_is}
 
 some_inj : {A : Type 0} {x y : A} → Some x ≡ Some y → x ≡ y
 some_inj e = grind arith
@@ -85,11 +99,11 @@ methods_append m k (f ∷ fs) gs (q ∷ qs) rs h g = (h.0, methods_append m k fs
 -- ---- bases
 
 -- a class before the one of a number
-record EarlierClass (c b : ℕ) (r : Res) : Type 0 where
-  is : r ≡ res.Class b
-  before : nat_lt b c ≡ true
+pub record EarlierClass (c b : ℕ) (r : Res) : Type 0 where
+  pub is : r ≡ res.Class b
+  pub before : nat_lt b c ≡ true
 
-earlier_is : (c b : ℕ) (r : Res) → earlier_class c r ≡ Some b → EarlierClass c b r
+pub earlier_is : (c b : ℕ) (r : Res) → earlier_class c r ≡ Some b → EarlierClass c b r
 earlier_is c b (res.Class d) e = go (nat_lt d c) refl e
   where
     go : (x : Test) → nat_lt d c ≡ x → (if x then Some d else None) ≡ Some b → EarlierClass c b (res.Class d)
@@ -101,7 +115,7 @@ earlier_is c b (res.Func n) e = absurd (grind (arith, e))
 earlier_is c b (res.Builtin n) e = absurd (grind (arith, e))
 earlier_is c b res.None e = absurd (grind (arith, e))
 
-chain_below : {bases : Bases} {c d : ℕ} → Chain bases c d → Below bases (tree.Class c) (tree.Class d)
+pub chain_below : {bases : Bases} {c d : ℕ} → Chain bases c d → Below bases (tree.Class c) (tree.Class d)
 chain_below here = same
 chain_below (up e p) = through (subtyping.base e) (chain_below p)
 
@@ -155,8 +169,8 @@ module _ (m : Module) where
 
   -- a new class over what a run has of its base
   new_class : (k : HeapTyping) (n : ℕ) (class : ClassDef) → slice_get (classes_in m.items) n ≡ Some class → (made : Option Class) → BaseMade k (base_named m n class.base) made → (own : Members)
-    → DefaultsHave (bases_of m) k own.fields (own_fields m (base_class m n class) [] class.members) → MethodsAre m k own.methods (own_methods m (base_class m n class) n 0 [] class.members)
-    → NewClass k n (class_behind made own n)
+      → DefaultsHave (bases_of m) k own.fields (own_fields m (base_class m n class) [] class.members) → MethodsAre m k own.methods (own_methods m (base_class m n class) n 0 [] class.members)
+      → NewClass k n (class_behind made own n)
   new_class k n class is made base own fields methods = record {
     fields = subst (λ x. DefaultsHave (bases_of m) k (fields_of made ++ own.fields) x.fields) (sym (class_is m n class is)) (fields_append (bases_of m) k (fields_of made) own.fields (base_class m n class).fields (own_fields m (base_class m n class) [] class.members) base.fields fields);
     methods = subst (λ x. MethodsAre m k (own.methods ++ methods_of made) x.methods) (sym (class_is m n class is)) (methods_append m k own.methods (methods_of made) (own_methods m (base_class m n class) n 0 [] class.members) (base_class m n class).methods methods base.methods);
@@ -181,3 +195,143 @@ module _ (m : Module) where
 
       reached : (e : ℕ) → Below (bases_of m) (tree.Class n) (tree.Class e) → is_ancestor e (n ∷ ancestors_of made) ≡ true
       reached e h = by_chain e (chain_of h)
+
+get_kept : {A : Type 0} (xs : List A) (y : A) (i : ℕ) (x : A) → slice_get xs i ≡ Some x → slice_get (xs ++ y ∷ []) i ≡ Some x
+get_kept [] y i x e = absurd (grind (arith, e))
+get_kept (z ∷ xs) y zero x e = e
+get_kept (z ∷ xs) y (suc i) x e = get_kept xs y i x e
+
+get_last : {A : Type 0} (xs : List A) (y : A) → slice_get (xs ++ y ∷ []) (length xs) ≡ Some y
+get_last [] y = refl
+get_last (x ∷ xs) y = get_last xs y
+
+free_name : (x y : Test) → not (x || y) ≡ true → (x ≡ false) × (y ≡ false)
+free_name false false e = (refl, refl)
+free_name true y e = absurd (no_truth e)
+free_name false true e = absurd (no_truth e)
+
+-- ---- members
+
+module _ (m : Module) (constants : List Tree) (listed : Place → Type 0) where
+  -- each member binds its name, and each parameter of a method its own
+  abbrev pub MembersReady : facts.Class → List (List ℕ) → List Member → Type 0
+  MembersReady base before [] = Unit {0}
+  MembersReady base before (field_member f ∷ rest) = (binds_field base before f.name.text ≡ true) × MembersReady base (f.name.text ∷ before) rest
+  MembersReady base before (method_member f ∷ rest) = ((binds_method base before f.name.text ≡ true) × ParametersBind m listed (codes "self" ∷ []) f.params) × MembersReady base (f.name.text ∷ before) rest
+
+  members_made :
+      (known : Known) (base : facts.Class) (c number : ℕ) (before : List (List ℕ)) (ms : List Member) (marks : MembersMarks ms)
+      → ((i : ℕ) (d : FuncDef) → slice_get (methods_in ms) i ≡ Some d → function_of m (owners.Method c (number + i)) ≡ Some d)
+      → MembersReady base before ms → LawfulMembers m constants base c number before ms marks → Listed m listed (MembersFind m constants c number ms marks)
+      → Proceeds listed known (make_members Step free ms) (λ k own s. known k s × (DefaultsHave (bases_of m) k own.fields (own_fields m base before ms) × MethodsAre m k own.methods (own_methods m base c number before ms)))
+  members_made known base c number before [] marks at ready law clean = proceeds_comes listed known (Gives (record { fields = []; methods = [] })) _ λ k s b. (b, (tt, tt))
+  members_made known base c number before (field_member f ∷ rest) marks at ready law clean =
+      let t = read_ann m (bases_of m) f.annotation in
+      proceeds_bind listed known _ _ (λ k v s. known k s × DefaultHas (bases_of m) k t (is_some f.default) v) _
+      (default_made m listed known f.default t marks.default (subst (λ b. LawfulDefault (bases_of m) b f.default t marks.default) ready.0 law.default) (λ g h. clean g (inr (inl h))))
+      λ v. proceeds_bind listed _ _ _ (λ k own s. (known k s × DefaultHas (bases_of m) k t (is_some f.default) v) × (DefaultsHave (bases_of m) k own.fields (own_fields m base (f.name.text ∷ before) rest) × MethodsAre m k own.methods (own_methods m base c number (f.name.text ∷ before) rest))) _
+      (members_made (λ k s. known k s × DefaultHas (bases_of m) k t (is_some f.default) v) base c number (f.name.text ∷ before) rest marks.rest at ready.1 law.others (λ g h. clean g (inr (inr h))))
+      λ own. proceeds_comes listed _ (Gives (record { fields = record { name = f.name.text; default = v } ∷ own.fields; methods = own.methods })) _ λ k s b.
+      (b.0.0, (subst (λ x. DefaultsHave (bases_of m) k (record { name = f.name.text; default = v } ∷ own.fields) ((if x then record { name = f.name.text; type = t; has_default = is_some f.default } ∷ [] else []) ++ own_fields m base (f.name.text ∷ before) rest)) (sym ready.0) (refl, (b.0.1, b.1.0)), b.1.1))
+  members_made known base c number before (method_member f ∷ rest) marks at ready law clean =
+      proceeds_bind listed known _ _ (λ k g s. known k s × MadeOf m k g f) _
+      (function_made m listed known (codes "self" ∷ []) f marks.method.params law.method.params ready.0.1 (λ g h. clean g (inl (inl h))))
+      λ g. proceeds_bind listed _ _ _ (λ k own s. (known k s × MadeOf m k g f) × (DefaultsHave (bases_of m) k own.fields (own_fields m base (f.name.text ∷ before) rest) × MethodsAre m k own.methods (own_methods m base c (suc number) (f.name.text ∷ before) rest))) _
+      (members_made (λ k s. known k s × MadeOf m k g f) base c (suc number) (f.name.text ∷ before) rest marks.rest (λ i d e. ap (λ j. function_of m (owners.Method c j)) (omega arith) ∙ at (suc i) d e) ready.1 law.others (λ h x. clean h (inr (inr x))))
+      λ own. proceeds_comes listed _ (Gives (record { fields = own.fields; methods = g ∷ own.methods })) _ λ k s b. (
+        b.0.0,
+        (
+          b.1.0,
+          subst (λ x. MethodsAre m k (g ∷ own.methods) ((if x then method_made m c number f ∷ [] else []) ++ own_methods m base c (suc number) (f.name.text ∷ before) rest)) (sym ready.0.0)
+              (record { def = f; at = ap (λ j. function_of m (owners.Method c j)) (omega arith) ∙ at 0 f refl; made = b.0.1; name = refl; place = refl; parameters = refl; returns = refl }, b.1.1),
+        ),
+      )
+
+  -- the base that a class names is an earlier class
+  pub record BaseFound (c : ℕ) (n : Name) : Type 0 where
+    pub number : ℕ
+    pub is : base_named m c (Some n) ≡ Some number
+
+  -- what is known of each class before it runs
+  pub record ClassesReady : Type 0 where
+    pub imported : (c : ℕ) (class : ClassDef) → slice_get (classes_in m.items) c ≡ Some class → m.imports_dataclass ≡ true
+    pub based : (c : ℕ) (class : ClassDef) (n : Name) → slice_get (classes_in m.items) c ≡ Some class → class.base ≡ Some n → BaseFound c n
+    pub members : (c : ℕ) (class : ClassDef) → slice_get (classes_in m.items) c ≡ Some class → MembersReady (base_class m c class) [] class.members
+    pub ordered : (c : ℕ) (class : ClassDef) → slice_get (classes_in m.items) c ≡ Some class → fields_last (class_at (classes_of m) c).fields ≡ true
+
+  -- a class binds its name
+  pub classes_good : ClassesReady → (parts : Parts Step) → GoodClasses m constants listed parts
+  classes_good ready parts = record { proceeds = go }
+    where
+      go : (p : Place) (c : ClassDef) (b : Before) (defs : List FuncDef) (marks : ItemMarks (class_item p c)) → slice_get (classes_in m.items) b.classes ≡ Some c → LawfulItem m constants b (class_item p c) marks → Listed m listed (ItemFinds m constants b (class_item p c) marks) → ItemReady m constants listed b (class_item p c) marks
+          → Proceeds listed (λ k s. Between m listed b.constants defs b.classes b.names k s) (exec_item Step free parts m.imports_dataclass (class_item p c)) (λ k u s. Between m listed b.constants defs (suc b.classes) (c.name.text ∷ b.names) k s)
+      go p c b defs marks is law clean binds =
+          proceeds_bind listed _ _ _ (λ k u s. Now k s) _
+          (proceeds_looks listed _ _ _ λ k s h. subst (λ x. EndsWell (λ u. Now k s) (dataclass_found x)) (sym (ready.imported n c is)) h)
+          λ u. proceeds_bind listed _ _ _ (λ k o s. Now k s × (o ≡ base_named m n c.base)) _
+          (proceeds_looks listed _ (evaluation.base_of c.base) _ λ k s h. based_well k s h c.base refl)
+          λ o. proceeds_bind listed _ _ _ (λ k own s. (Now k s × (o ≡ base_named m n c.base)) × (DefaultsHave (bases_of m) k own.fields (own_fields m (base_class m n c) [] c.members) × MethodsAre m k own.methods (own_methods m (base_class m n c) n 0 [] c.members))) _
+          (members_made (λ k s. Now k s × (o ≡ base_named m n c.base)) (base_class m n c) n 0 [] c.members marks (λ i d e. ap (λ x. function_of m (owners.Method n x)) (omega arith) ∙ ap (λ x. method_at x i) is ∙ e) (ready.members n c is) law clean)
+          λ own. proceeds_bind listed _ _ _ (λ k x s. Now k s × NewClass m k n x) _
+          (proceeds_looks listed _ _ _ λ k s h. (h.0.0, made_now k s o own h.0.0 h.0.1 h.1.0 h.1.1))
+          λ x. proceeds_bind listed _ _ _ (λ k u s. Now k s × NewClass m k n x) _
+          (proceeds_looks listed _ _ _ λ k s h. subst (λ y. EndsWell (λ u. Now k s × NewClass m k n x) (if y then Gives tt else Stops (Raised TypeError))) (sym (last_same (bases_of m) k x.fields (class_at (classes_of m) n).fields h.1.fields ∙ ready.ordered n c is)) h)
+          λ u. proceeds_changes listed _ (binds_class c.name.text x) _ λ k s h. record { well = h.0.well; frame = h.0.frame; bound = bound_now k s x h.0 h.1 }
+        where
+          n : ℕ
+          n = b.classes
+
+          Now : HeapTyping → State → Type 0
+          Now k s = Between m listed b.constants defs b.classes b.names k s
+
+          based_well : (k : HeapTyping) (s : State) → Now k s → (o : Option Name) → c.base ≡ o → EndsWell (λ x. Now k s × (x ≡ base_named m n c.base)) (evaluation.base_of o s)
+          based_well k s h None e = (h, sym (ap (base_named m n) e))
+          based_well k s h (Some w) e =
+              let r = ready.based n c w is e in
+              let early = earlier_is n r.number (resolve_in_module m w.text) r.is in
+              let means : meaning w.text s ≡ means_class r.number =
+              ap (λ f. meaning_of_local (meaning_of_global (is_reserved w.text) (global_of w.text s.globals)) (local_of w.text f)) h.frame ∙ ap (meaning_of_global (is_reserved w.text)) (h.bound.class w.text r.number early.is early.before) in
+              subst (λ x. EndsWell (λ y. Now k s × (y ≡ base_named m n c.base)) (evaluation.base_of_meaning x)) (sym means) (h, sym (ap (base_named m n) e ∙ r.is))
+
+          class_before : (k : HeapTyping) (s : State) → Now k s → (d : ℕ) (o : Option Name) → base_named m n o ≡ Some d → ClassIs m k s.classes d
+          class_before k s h d None e = absurd (grind (arith, e))
+          class_before k s h d (Some w) e =
+              let early = earlier_is n d (resolve_in_module m w.text) e in
+              let r = class_named m w.text d early.is in
+              let behind = r.behind in
+              let at : r.at ≡ d = omega arith in
+              h.bound.classes d r.class early.before (ap (slice_get (classes_in m.items)) (sym at) ∙ r.is)
+
+          made_now : (k : HeapTyping) (s : State) (o : Option ℕ) (own : Members) → Now k s → o ≡ base_named m n c.base → DefaultsHave (bases_of m) k own.fields (own_fields m (base_class m n c) [] c.members) → MethodsAre m k own.methods (own_methods m (base_class m n c) n 0 [] c.members) → NewClass m k n (class_behind (run.class_at s.classes o) own (length s.classes))
+          made_now k s o own h e fields methods =
+              subst (λ l. NewClass m k n (class_behind (run.class_at s.classes o) own l)) (sym h.bound.count)
+              (new_class m k n c is (run.class_at s.classes o) (subst (λ x. BaseMade m k x (run.class_at s.classes o)) e (base_made m k s.classes o λ d e'. class_before k s h d c.base (sym e ∙ e'))) own fields methods)
+
+          named : (word : List ℕ) → resolve_in_module m word ≡ res.Class n → c.name.text ≡ word
+          named word r =
+              let x = class_named m word n r in
+              let behind = x.behind in
+              let at : x.at ≡ n = omega arith in
+              let same_class : x.class ≡ c = some_inj (sym x.is ∙ ap (slice_get (classes_in m.items)) at ∙ is) in
+              ap (λ y. y.name.text) (sym same_class) ∙ x.named
+
+          all_made : (k : HeapTyping) (s : State) (x : Class) → Now k s → NewClass m k n x → (d : ℕ) (t : ClassDef) → nat_lt d (suc n) ≡ true → slice_get (classes_in m.items) d ≡ Some t → ClassIs m k (s.classes ++ x ∷ []) d
+          all_made k s x h new d t less e = by_place (nat_lt d n) refl
+            where
+              last : nat_lt d n ≡ false → d ≡ n
+              last f = grind (arith, nat_tests, less, f)
+
+              by_place : (y : Test) → nat_lt d n ≡ y → ClassIs m k (s.classes ++ x ∷ []) d
+              by_place true l = let r = h.bound.classes d t l e in record { class = r.class; is = get_kept s.classes x d r.class r.is; fields = r.fields; methods = r.methods; ancestors = r.ancestors }
+              by_place false l = subst (λ i. ClassIs m k (s.classes ++ x ∷ []) i) (sym (last l)) (record {
+                class = x;
+                is = ap (slice_get (s.classes ++ x ∷ [])) (sym h.bound.count) ∙ get_last s.classes x;
+                fields = new.fields;
+                methods = new.methods;
+                ancestors = new.ancestors;
+              })
+
+          bound_now : (k : HeapTyping) (s : State) (x : Class) → Now k s → NewClass m k n x → BoundSoFar m b.constants defs (suc n) (c.name.text ∷ b.names) k (s.classes ++ x ∷ []) (s.globals ++ record { name = c.name.text; is = a_class (length s.classes) } ∷ [])
+          bound_now k s x h new =
+              let free = free_name (is_reserved_name c.name.text) (is_among c.name.text b.names) binds in
+              bound_class m b.constants defs n b.names k s.classes s.globals c.name.text x named free.1 free.0 (all_made k s x h new) (length-append s.classes (x ∷ []) ∙ ap (λ l. l + 1) h.bound.count ∙ omega arith) h.bound

@@ -1,9 +1,9 @@
 -- The labels of the body of a lawful function have types whose dicts have int or str as key.
-use Rattle.std.proofs.Common.{◌≡◌, ℕ, zero, suc, List, [], ◌∷◌, ◌++◌, length, refl, sym, ap, ◌∙◌, subst, arith}
-use Rattle.std.specs.Prelude.{Bool as Test, true, false, not, ◌||◌, Option, Some, None, slice_get, bytes_eq, replicate}
+use Rattle.std.proofs.Common.{◌≡◌, ℕ, zero, suc, List, [], ◌∷◌, length, refl, sym, ◌∙◌, subst, arith}
+use Rattle.std.specs.Prelude.{Bool as Test, true, false, not, ◌||◌, Some, slice_get, bytes_eq}
 use Rattle.std.specs.List.{list_any}
 use Rattle.std.proofs.lemmas.Slice.Eq.{bytes_eq-Decides}
-use Rattle.pc_tree.specs.Tree.{Expr, FuncDef, Module}
+use Rattle.pc_tree.specs.Tree.{FuncDef, Module}
 use Rattle.pc_scope.specs.declared.resolution.Owner.{Owner}
 use Rattle.pc_scope.specs.declared.resolution.Owner.TheVariants as owners
 use Rattle.pc_scope.specs.declared.resolution.Res.{Res}
@@ -13,16 +13,15 @@ use Rattle.pc_types.specs.Tree.{Tree}
 use Rattle.pc_class.specs.Facts.{Parameter, returned}
 use Rattle.pc_class.specs.Bases.{bases_of}
 use Rattle.pc_flow.specs.Environment.{Env, current, declared_type, none_assigned}
-use Rattle.pc_expr.specs.Context.{Context}
 use Rattle.pc_expr.specs.Signatures.{body_context}
 use Rattle.pc_check.specs.Statements.{Seen}
-use Rattle.pc_check.specs.Modules.{entries_of, receiver_type, names_entered, DeclaredEntry, LawfulEntry, entered, entry_env, FunctionMarks, LawfulFunction}
+use Rattle.pc_check.specs.Modules.{entries_of, names_entered, DeclaredEntry, LawfulEntry, entered, entry_env, FunctionMarks, LawfulFunction}
 use Rattle.pc_sound.proofs.Keys.{IsKeyed}
 use Rattle.pc_sound.proofs.KeyedStatements.{SuiteKeyed}
 use Rattle.pc_sound.proofs.KeyedTypes.{EnvKeyed, assign_keyed}
-use Rattle.pc_sound.proofs.KeyedLabels.{ContextKeyed, ParametersKeyed, Timely}
+use Rattle.pc_sound.proofs.KeyedLabels.{ParametersKeyed}
 use Rattle.pc_sound.proofs.KeyedModules.{body_keyed, option_ann_keyed, parameters_keyed}
-use Rattle.pc_sound.proofs.KeyedSuites.{SeenKeyed, suite_keyed}
+use Rattle.pc_sound.proofs.KeyedSuites.{suite_keyed}
 use Rattle.pc_sound.proofs.TimelyBodies.{NamesTimely, all_timely}
 
 none_current : (n x : ℕ) (t : Tree) → current (none_assigned n) x ≡ Some t → ⊥

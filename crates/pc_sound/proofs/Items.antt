@@ -1,13 +1,10 @@
 -- All items of a module, one after another, and then `main`.
 use Rattle.std.proofs.Common.{◌≡◌, ℕ, zero, suc, ◌+◌, List, [], ◌∷◌, ◌++◌, length, refl, sym, ap, ◌∙◌, subst, inl, inr, arith}
-use Rattle.std.specs.Prelude.{◌⊎◌, Bool as Test, true, false, ◌&&◌, ◌||◌, not, nat_lt, if◌then◌else◌, codes, Option, Some, None, is_some, slice_get, bytes_eq}
+use Rattle.std.specs.Prelude.{Bool as Test, true, false, ◌&&◌, ◌||◌, not, nat_lt, if◌then◌else◌, codes, Some, None, is_some, slice_get, bytes_eq}
 use Rattle.std.proofs.lemmas.Bool.Decides.{nat_tests}
-use Rattle.std.proofs.lemmas.Slice.Eq.{bytes_eq-Decides}
 use Rattle.pc_source.specs.declared.place.Place.{Place}
-use Rattle.pc_tree.specs.declared.code.Finding.{Finding}
-use Rattle.pc_tree.specs.Tree.{Name, Expr, Constant, ClassDef, FuncDef, Param, Item, constant_item, class_item, def_item, Module}
+use Rattle.pc_tree.specs.Tree.{Name, Expr, ClassDef, FuncDef, Param, Item, constant_item, class_item, def_item, Module}
 use Rattle.pc_tree.specs.Stopping.{is_plain_def, has_none}
-use Rattle.pc_scope.specs.declared.resolution.Builtin.{Builtin}
 use Rattle.pc_scope.specs.declared.resolution.Owner.TheVariants as owners
 use Rattle.pc_scope.specs.declared.resolution.Res.TheVariants as res
 use Rattle.pc_scope.specs.Reserved.{builtin_of, is_reserved}
@@ -17,20 +14,19 @@ use Rattle.pc_scope.specs.Expressions.{place_of}
 use Rattle.pc_types.specs.Tree.{Tree}
 use Rattle.pc_class.specs.Bases.{bases_of}
 use Rattle.pc_class.specs.Facts.{Parameter, parameters_of, returned, classes_of}
-use Rattle.pc_class.specs.Findings.{base_class}
 use Rattle.pc_expr.specs.Context.{FlowsInto}
 use Rattle.pc_expr.specs.Labels.{mark_of}
 use Rattle.pc_expr.specs.Lawful.{Lawful}
 use Rattle.pc_expr.specs.Signatures.{initializer_context}
-use Rattle.pc_check.specs.Modules.{annotated_types, first_of_types, constant_types, item_constants, binds_item, Before, before_next, ItemMarks, ItemsMarks, LawfulMembers, MembersFind, LawfulItem, LawfulItems, ItemFinds, ItemsFind}
-use Rattle.pc_value.specs.Value.{Value, Out, Gives}
-use Rattle.pc_run.specs.State.{State, Function, Class, Globals, a_value, a_function, a_class}
+use Rattle.pc_check.specs.Modules.{annotated_types, first_of_types, binds_item, Before, before_next, ItemMarks, ItemsMarks, LawfulItem, LawfulItems, ItemFinds, ItemsFind}
+use Rattle.pc_value.specs.Value.{Gives}
+use Rattle.pc_run.specs.State.{State, Function, Class, Globals}
 use Rattle.pc_run.specs.Names.{Meaning, means_function, meaning, meaning_of_bound, meaning_of_global, meaning_of_local, global_of, local_of}
 use Rattle.pc_run.specs.Names as run
 use Rattle.pc_run.specs.Calls.{Callee, calls_value, calls_function, calls_class, calls_reserved, calls_method, calls_builtin_method, callee_of_meaning, bound_arguments}
 use Rattle.pc_run.specs.Steps.{Parts}
 use Rattle.pc_run.specs.Free.{Step, free}
-use Rattle.pc_run.specs.Evaluation.{exec_item, exec_items, enter_main, exec_module, call_callee}
+use Rattle.pc_run.specs.Evaluation.{exec_item, exec_items, enter_main, call_callee}
 use Rattle.pc_sound.specs.Values.{HeapTyping, HasType}
 use Rattle.pc_sound.specs.Judgment.{EndsWell, Around, Stands, IsSafe}
 use Rattle.pc_sound.proofs.Steps.{bind_safe, looks_safe, weaken}
@@ -40,13 +36,13 @@ use Rattle.pc_sound.proofs.Keys.{Keyed}
 use Rattle.pc_sound.proofs.Fields.{Inherits}
 use Rattle.pc_sound.proofs.OrdinaryCalls.{impossible_safe}
 use Rattle.pc_sound.proofs.Statements.{GoodExec}
-use Rattle.pc_sound.proofs.World.{DefaultsHave, MadeOf, made_later, ClassIs, ConstantIs, FunctionIs, World, Labelled, around_of, context_of}
+use Rattle.pc_sound.proofs.World.{DefaultsHave, MadeOf, made_later, World, Labelled, around_of, context_of}
 use Rattle.pc_sound.proofs.Filling.{Filled}
 use Rattle.pc_sound.proofs.Suiting.{Suits, suited_bound}
 use Rattle.pc_sound.proofs.Calling.{function_call_safe}
-use Rattle.pc_sound.proofs.Proceeding.{Proceeds, proceeds_bind, proceeds_comes, proceeds_as}
-use Rattle.pc_sound.proofs.Binds.{get_at_end, constants_append, classes_append, functions_append, ConstantNamed, constant_named, FunctionNamed, function_named, class_named}
-use Rattle.pc_sound.proofs.ModuleOrder.{BoundSoFar, bound_later, around_items, Between, proceeds_safe, Listed, ParametersBind, def_proceeds, constant_proceeds}
+use Rattle.pc_sound.proofs.Proceeding.{Proceeds, proceeds_bind, proceeds_comes}
+use Rattle.pc_sound.proofs.Binds.{get_at_end, constants_append, classes_append, functions_append, constant_named, function_named, class_named}
+use Rattle.pc_sound.proofs.ModuleOrder.{BoundSoFar, bound_later, around_items, Between, Listed, ParametersBind, def_proceeds, constant_proceeds}
 
 some_inj : {A : Type 0} {x y : A} → Some x ≡ Some y → x ≡ y
 some_inj e = grind arith
@@ -160,7 +156,14 @@ module _ (m : Module) (constants : List Tree) (listed : Place → Type 0) where
     class = λ word c r. let h = class_named m word c r in let b = h.behind in let at : c ≡ h.at = omega arith in w.class word c r (subst (λ i. nat_lt i n ≡ true) (sym at) (subst (λ l. nat_lt h.at l ≡ true) (sym count) (within (classes_in m.items) h.at h.class h.is)));
     classes = λ c t e. w.classes c t (subst (λ l. nat_lt c l ≡ true) (sym count) (within (classes_in m.items) c t e)) e;
     reserved = λ word b e. w.fresh word (w.free word (ap is_some e));
+    no_more = λ c e. equally_long made (classes_in m.items) c (w.count ∙ count) e;
   }
+    where
+      equally_long : {A B : Type 0} (xs : List A) (ys : List B) (c : ℕ) → length xs ≡ length ys → slice_get ys c ≡ None → slice_get xs c ≡ None
+      equally_long [] ys c long e = refl
+      equally_long (x ∷ xs) [] c long e = absurd (omega arith)
+      equally_long (x ∷ xs) (y ∷ ys) zero long e = absurd (grind (arith, e))
+      equally_long (x ∷ xs) (y ∷ ys) (suc c) long e = equally_long xs ys c (omega arith) e
 
   -- ---- `main`
 

@@ -440,7 +440,7 @@ value_types_keyed (more_entries a b rest) m h = (keyed_type b m.value h.1.0, val
 
 module _ (ctx : Context) (declared : List Tree) where
   -- no test of an instance in an expression has an E03 at its second argument
-  abbrev SecondTimely : Exprs → Type 0
+  abbrev pub SecondTimely : Exprs → Type 0
   SecondTimely no_exprs = Unit {0}
   SecondTimely (more_exprs e no_exprs) = Unit {0}
   SecondTimely (more_exprs e (more_exprs f rest)) = (env : Env) (want : Option Tree) (m : Marks f) → Lawful ctx declared env want f m → is_late (mark_of f m).codes ≡ false

@@ -72,3 +72,16 @@ pub mod Forms
 pub mod Classes
 pub mod FunctionsKeyed
 pub mod BodyCalls
+pub mod Knowing
+pub mod InitializerCalls
+pub mod AllForms
+pub mod LabelledBodies
+pub mod UniqueNames
+pub mod ReadyClasses
+pub mod MembersBind
+pub mod Established
+pub mod DistinctMembers
+pub mod KeyedInitializers
+pub mod ClassesAreReady
+pub mod Sounding
+pub mod EarlyNames

@@ -151,9 +151,13 @@ module _ (m : Module) (inherits : Inherits (bases_of m) (classes_of m)) (constan
 
   calls_later : (offers : List CallOffer) (g : Given) (c : Callee) → Stays (λ k. CallsSo offers g k c)
   calls_later offers g (calls_method v f) k k' x h = record {
-    old = h.old; named = h.named; among = h.among; new = h.new;
+    old = h.old;
+    named = h.named;
+    among = h.among;
+    new = h.new;
     is = record { def = h.is.def; at = h.is.at; made = made_later m x f h.is.def h.is.made; name = h.is.name; place = h.is.place; parameters = h.is.parameters; returns = h.is.returns };
-    fits = h.fits; receiver = later (bases_of m) x (tree.Class h.new.owner) v h.receiver;
+    fits = h.fits;
+    receiver = later (bases_of m) x (tree.Class h.new.owner) v h.receiver;
   }
   calls_later offers g (calls_builtin_method v b) k k' x h = record { signature = h.signature; among = h.among; calls = builtin_later (bases_of m) x v b h.signature h.calls }
   calls_later offers g (calls_value v) k k' x h = h
@@ -300,8 +304,13 @@ module _ (m : Module) (inherits : Inherits (bases_of m) (classes_of m)) (constan
             (override_call_safe m inherits listed names declared (World m constants) (λ k k' made globals grows w. world_later m constants k k' made globals grows w) parts env _
             (λ k k' x h. ((made_later m x f c.is.def h.0.0, later (bases_of m) x (tree.Class c.new.owner) v h.0.1), given_later values more k k' x h.1)) constants (λ k made globals w. w)
             v f c.new c.old c.is.def (labelled (owners.Method c.new.owner c.new.number) c.is.def c.is.at) (runs (owners.Method c.new.owner c.new.number) c.is.def (labelled (owners.Method c.new.owner c.new.number) c.is.def c.is.at)) c.is.made.name c.is.made.body c.is.place c.is.parameters c.is.returns c.fits values more
-            λ k h. (h.0.1, (subst (λ ps. DefaultsHave (bases_of m) k f.parameters ps) (sym c.is.parameters) h.0.0.parameters,
-            suits (bases_of m) k offers (method_signature c.old) args kws im km values more (suited_offer (method_signature c.old) c.among) (distinct c.named.0 c.named.1 c.old c.named.2) (one_offer (method_signature c.old) c.among) h.1.0 h.1.1)))
+            λ k h. (
+              h.0.1,
+              (
+                subst (λ ps. DefaultsHave (bases_of m) k f.parameters ps) (sym c.is.parameters) h.0.0.parameters,
+                suits (bases_of m) k offers (method_signature c.old) args kws im km values more (suited_offer (method_signature c.old) c.among) (distinct c.named.0 c.named.1 c.old c.named.2) (one_offer (method_signature c.old) c.among) h.1.0 h.1.1,
+              ),
+            ))
 
         -- a method of a list or a dict
         builtin_method_safe : (v : Value) (b : BuiltinMethod) (s : Signature) → IsOffer (called (given args kws) s) offers → (values : List Value) (more : List NamedValue) → IsSafe Here env (λ k. BuiltinCall (bases_of m) k v b s × Given_args k values more) (call_callee Step free parts (calls_builtin_method v b) values more) (λ k w. HasType (bases_of m) k here.type w)
@@ -348,6 +357,6 @@ module _ (m : Module) (inherits : Inherits (bases_of m) (classes_of m)) (constan
             (positional_seat (flat_map (method_offers ctx (given args kws) w.text) (members (type_of e om)))) (named_seat (flat_map (method_offers ctx (given args kws) w.text) (members (type_of e om)))) args im kws km here law klaw covered kcovered hcovered keyed kkeyed _
             λ c values more. record {
               run = λ k s s' events out knows st r.
-                (named_call_safe labelled runs distinct (flat_map (method_offers ctx (given args kws) w.text) (members (type_of e om))) args kws im km here is_mark
-                (all_quiet (flat_map (method_offers ctx (given args kws) w.text) (members (type_of e om))) knows.0.0.0.1.0 (ap (λ x. x.codes) (sym is_mark) ∙ knows.1)) c values more).run k s s' events out (knows.0.0.0.1, (knows.0.0.1, knows.0.1)) st r;
+                  (named_call_safe labelled runs distinct (flat_map (method_offers ctx (given args kws) w.text) (members (type_of e om))) args kws im km here is_mark
+                  (all_quiet (flat_map (method_offers ctx (given args kws) w.text) (members (type_of e om))) knows.0.0.0.1.0 (ap (λ x. x.codes) (sym is_mark) ∙ knows.1)) c values more).run k s s' events out (knows.0.0.0.1, (knows.0.0.1, knows.0.1)) st r;
             }

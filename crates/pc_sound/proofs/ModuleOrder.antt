@@ -248,7 +248,7 @@ module _ (m : Module) where
 
     module _ (before : Known) where
       -- a default is of the type that it flows into
-      default_made : (l : Option Literal) (t : Tree) (code : Option Code) → LawfulDefault (bases_of m) true l t code → Listed (DefaultFinds l code) → Proceeds listed before (make_default Step free l) (λ k v s. before k s × DefaultHas (bases_of m) k t (is_some l) v)
+      pub default_made : (l : Option Literal) (t : Tree) (code : Option Code) → LawfulDefault (bases_of m) true l t code → Listed (DefaultFinds l code) → Proceeds listed before (make_default Step free l) (λ k v s. before k s × DefaultHas (bases_of m) k t (is_some l) v)
       default_made None t code law clean = proceeds_comes listed before (Gives None) _ λ k s b. (b, tt)
       default_made (Some l) t code law clean =
           let below = atom_flow (bases_of m) (literal_type l) t code (literal_atom l) law (λ d e. (clean (finding (literal_place l) d) (code_found (literal_place l) code d e)).1) in

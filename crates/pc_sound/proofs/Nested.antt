@@ -10,7 +10,7 @@ use Rattle.pc_run.specs.Free.{Step, free}
 use Rattle.pc_run.specs.Evaluation.{eval_node, eval_over, exec_all, steps}
 use Rattle.pc_sound.specs.Judgment.{Around, Stands, Fits}
 use Rattle.pc_sound.proofs.Steps.{bind_safe, comes_safe, may_stop_safe, weaken}
-use Rattle.pc_sound.proofs.Leading.{leads_bind, leads_comes, leads_charge}
+use Rattle.pc_sound.proofs.Leading.{leads_comes}
 use Rattle.pc_sound.proofs.Expressions.{GoodEval}
 use Rattle.pc_sound.proofs.Flows.{Evaluates}
 use Rattle.pc_sound.proofs.Places.{over_evaluates, steps_evaluate}
@@ -41,7 +41,7 @@ module _ (m : Module) (bodies : Bodies) where
   -- each form of expression, store and iterable is safe over such parts
   pub record FormsGood : Type 1 where
     pub eval : (n : ℕ) → AllGood n → (b : bodies.Body) → GoodEval (bodies.around b) (bodies.ctx b) (eval_node Step free (steps Step free n))
-    pub decides : (n : ℕ) → AllGood n → (b : bodies.Body) → Decides (bodies.around b) (bodies.ctx b) (eval_node Step free (steps Step free n))
+    pub decides : (n : ℕ) → AllGood n → (b : bodies.Body) → Decides (bodies.around b) (bodies.ctx b) (eval_over Step free (steps Step free n))
     pub stores : (n : ℕ) → AllGood n → (b : bodies.Body) → GoodStores (bodies.around b) m (bodies.ctx b) (steps Step free n)
     pub iterables : (n : ℕ) → AllGood n → (b : bodies.Body) → GoodIterables (bodies.around b) (bodies.ctx b) (bodies.fits b) m (bodies.returned b) (steps Step free n)
 
@@ -62,12 +62,6 @@ module _ (m : Module) (bodies : Bodies) where
           λ u. weaken (bodies.around b) env _ (λ k. Unit {0}) _ _ _ (λ k h. tt) (λ k v h. h) ((forms.eval n good b).safe env want e marks law covered keyed);
     }
 
-    over_decides : (n : ℕ) → AllGood n → (b : bodies.Body) → Decides (bodies.around b) (bodies.ctx b) (eval_over Step free (steps Step free n))
-    over_decides n good b = record {
-      decides = λ env want e marks law covered keyed frame. leads_bind (bodies.around b) _ _ _ _ _ (leads_charge (bodies.around b) _)
-          λ u. (forms.decides n good b).decides env want e marks law covered keyed frame;
-    }
-
     -- what statements of one step more stand on
     parts_good : (n : ℕ) → AllGood n → (b : bodies.Body) → GoodParts (bodies.around b) (bodies.ctx b) (bodies.fits b) m (bodies.returned b) (steps Step free n)
     parts_good n good b = record {
@@ -84,9 +78,9 @@ module _ (m : Module) (bodies : Bodies) where
     one_more_good : (n : ℕ) → AllGood n → AllGood (suc n)
     one_more_good n good = record {
       eval = over_eval n good;
-      decides = over_decides n good;
+      decides = forms.decides n good;
       exec = λ b. suites_run (bodies.around b) (bodies.ctx b) (bodies.fits b) m (bodies.returned b) (steps Step free n) (parts_good n good b);
-      again = λ b. while_turn_runs (bodies.around b) (bodies.ctx b) (bodies.fits b) m (bodies.returned b) (eval_over Step free (steps Step free n)) (exec_all Step free (steps Step free n)) (steps Step free n).again (over_decides n good b) (suites_run (bodies.around b) (bodies.ctx b) (bodies.fits b) m (bodies.returned b) (steps Step free n) (parts_good n good b)) (good.again b);
+      again = λ b. while_turn_runs (bodies.around b) (bodies.ctx b) (bodies.fits b) m (bodies.returned b) (eval_over Step free (steps Step free n)) (exec_all Step free (steps Step free n)) (steps Step free n).again (forms.decides n good b) (suites_run (bodies.around b) (bodies.ctx b) (bodies.fits b) m (bodies.returned b) (steps Step free n) (parts_good n good b)) (good.again b);
       turns = λ b. for_turn_runs (bodies.around b) (bodies.ctx b) (bodies.fits b) m (bodies.returned b) (exec_all Step free (steps Step free n)) (steps Step free n).turns (suites_run (bodies.around b) (bodies.ctx b) (bodies.fits b) m (bodies.returned b) (steps Step free n) (parts_good n good b)) (good.turns b);
     }
 

@@ -6,7 +6,7 @@ use Rattle.pc_tree.specs.declared.code.Code.{Code}
 use Rattle.pc_tree.specs.declared.code.Code.TheVariants.{A2, A7, E03, E13, E14, E15, E20, E26, E27}
 use Rattle.pc_tree.specs.declared.tree.ComparisonOperator.{ComparisonOperator}
 use Rattle.pc_tree.specs.declared.tree.ComparisonOperator.TheVariants.{Equal, NotEqual, In, NotIn}
-use Rattle.pc_tree.specs.Tree.{Expr, Exprs, Entries, Keywords, name, number, text, truth, nothing, tuple, list, dict, negative, negation, binary, compare, is_none, is_not_none, conjunction, disjunction, attribute, index, call, no_exprs, more_exprs, no_entries, more_entries, no_keywords, more_keywords}
+use Rattle.pc_tree.specs.Tree.{Name, Expr, Exprs, Entries, Keywords, name, number, text, truth, nothing, tuple, list, dict, negative, negation, binary, compare, is_none, is_not_none, conjunction, disjunction, attribute, index, call, no_exprs, more_exprs, no_entries, more_entries, no_keywords, more_keywords}
 use Rattle.pc_scope.specs.declared.resolution.Builtin.{Builtin}
 use Rattle.pc_scope.specs.declared.resolution.Builtin.TheVariants as builtin
 use Rattle.pc_scope.specs.declared.resolution.Res.{Res}
@@ -365,3 +365,36 @@ module _ (ctx : Context) where
       keywords_timely : (es : Keywords) → KeywordsTimely ctx declared es
       keywords_timely no_keywords = tt
       keywords_timely (more_keywords n e rest) = (all_timely e, keywords_timely rest)
+
+-- ---- where some names are late
+
+module _ (ctx : Context) (declared : List Tree) where
+  so_late : {m n : Mark} → m ≡ n → OnTime n.codes → OnTime m.codes
+  so_late e h = ap (λ x. is_late x.codes) e ∙ h
+
+  -- a label has no E03 but where a name has it
+  pub own_timely : (e : Expr) → ((n : Name) → e ≡ name n → (env : Env) → OnTime (name_mark ctx env (ctx.resolve n.text)).codes) → (env : Env) (want : Option Tree) (m : Marks e) → Lawful ctx declared env want e m → is_late (mark_of e m).codes ≡ false
+  own_timely (name n) names env want m law = so_late law (names n refl env)
+  own_timely (number p d) names env want m law = so_late law refl
+  own_timely (text p d) names env want m law = so_late law refl
+  own_timely (truth p b) names env want m law = so_late law refl
+  own_timely (nothing p) names env want m law = so_late law refl
+  own_timely (tuple p es) names env want m law = so_late law.here (display_timely (TupleOf (trees (item_types es m.items))))
+  own_timely (list p es) names env want m law = so_late law.here (list_timely ctx.bases (list_item (members_of want)) (item_types es m.items))
+  own_timely (dict p es) names env want m law = dict_timely ctx.bases (dict_parts (members_of want)) _ _ m.here law.here
+  own_timely (negative p e) names env want m law = so_late law.here (operation_timely ctx.bases negative_member negative_timely (type_of e m.operand))
+  own_timely (negation p e) names env want m law = so_late law.here refl
+  own_timely (binary p o l r) names env want m law = so_late law.here (pairs_timely (takes_kind o) kind_type ctx.bases Any (type_of l m.left) (type_of r m.right))
+  own_timely (compare p o l r) names env want m law = so_late law.here (compare_timely ctx.bases o (type_of l m.left) (type_of r m.right))
+  own_timely (is_none p e) names env want m law = so_late law.here refl
+  own_timely (is_not_none p e) names env want m law = so_late law.here refl
+  own_timely (conjunction p l r) names env want m law = so_late law.here refl
+  own_timely (disjunction p l r) names env want m law = so_late law.here refl
+  own_timely (attribute p e n) names env want m law = so_late law.here (operation_timely ctx.bases (attribute_member ctx.classes n.text) (field_timely n.text) (type_of e m.object))
+    where
+      field_timely : (word : List ℕ) (t : Tree) → OnTime (attribute_member ctx.classes word t).found
+      field_timely word (Class c) = attribute_timely (field_of (class_at ctx.classes c).fields word) (method_of (class_at ctx.classes c).methods word)
+      field_timely word Any = refl
+      field_timely word _ = refl
+  own_timely (index p e i) names env want m law = so_late law.here (operation_timely ctx.bases (index_member ctx.bases (int_literal i)) (index_timely ctx.bases (int_literal i)) (type_of e m.object))
+  own_timely (call p c args kws) names env want m law = so_late law.here (whole_call_timely ctx env c args kws (callee_of ctx env (given args kws) c law.value).offers (callee_timely ctx env (given args kws) c law.value) (item_types args m.arguments))

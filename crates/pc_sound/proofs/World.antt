@@ -1,6 +1,6 @@
 -- What is known, while `main` runs, of the names that the module has bound and of the classes that it has made.
-use Rattle.std.proofs.Common.{◌≡◌, ℕ, List, [], ◌∷◌, ◌++◌, refl, sym, ap, ◌∙◌, subst, inl, inr, Contains}
-use Rattle.std.specs.Prelude.{◌⊎◌, Bool as Test, true, false, Option, Some, None, slice_get, bytes_eq}
+use Rattle.std.proofs.Common.{◌≡◌, ℕ, List, [], ◌∷◌, ◌++◌, Contains}
+use Rattle.std.specs.Prelude.{Bool as Test, true, false, Option, Some, None, slice_get}
 use Rattle.pc_source.specs.declared.place.Place.{Place}
 use Rattle.pc_tree.specs.declared.code.Finding.{Finding}
 use Rattle.pc_tree.specs.Code.{IsError}
@@ -17,7 +17,6 @@ use Rattle.pc_types.specs.Tree.{Tree}
 use Rattle.pc_types.specs.Tree as tree
 use Rattle.pc_types.specs.Below.{Bases, Below}
 use Rattle.pc_class.specs.Bases.{bases_of}
-use Rattle.pc_class.specs.Facts as facts
 use Rattle.pc_class.specs.Facts.{Parameter, Method, parameters_of, returned, classes_of, class_at}
 use Rattle.pc_expr.specs.Context.{Context}
 use Rattle.pc_expr.specs.Signatures.{body_context}
@@ -97,6 +96,7 @@ module _ (m : Module) where
       pub class : (word : List ℕ) (c : ℕ) → resolve_in_module m word ≡ res.Class c → global_of word globals ≡ Some (a_class c)
       pub classes : (c : ℕ) (t : ClassDef) → slice_get (classes_in m.items) c ≡ Some t → ClassIs k made c
       pub reserved : (word : List ℕ) (b : Builtin) → builtin_of word ≡ Some b → global_of word globals ≡ None
+      pub no_more : (c : ℕ) → slice_get (classes_in m.items) c ≡ None → slice_get made c ≡ None
 
   -- ---- under later heap typings
 
@@ -132,6 +132,7 @@ module _ (m : Module) where
     class = w.class;
     classes = λ c t e. class_later grows made c (w.classes c t e);
     reserved = w.reserved;
+    no_more = w.no_more;
   }
 
   module _ (constants : List Tree) (listed : Place → Type 0) where

@@ -8,6 +8,7 @@ ghost use Rattle.pc_flow.specs.Narrowing.{Tested, passing, failing};
 ghost use Rattle.pc_value.specs.Value.{Heap, Value, seen};
 ghost use Rattle.pc_value.specs.Containers.{append_outcome, store_outcome};
 ghost use Rattle.pc_sound.specs.Values.{HeapTyping, HasType, IsWell};
+ghost use Rattle.pc_sound.specs.Sound.{Sound};
 ghost use Rattle.pc_sound.specs.Kept.{ActsWell, CanFollowAll, Passes};
 
 /// The law that a value of a type is one of each type that the first is static to.
@@ -32,4 +33,10 @@ pub fn aliases_keep_heaps()
 /// The law that a value of either of two types is one of their join, whatever the two are.
 pub fn joins_keep_values()
     ensures { (bases : Bases) → AreSmaller bases → (k : HeapTyping) (s t u : Tree) → join bases s t ≡ Some u → (v : Value) → HasType bases k s v ⊎ HasType bases k t v → HasType bases k u v }
+{}
+
+/// The law that a run of a module whose findings are no errors, if it ends in a fault, has by then evaluated a listed
+/// dynamic place.
+pub fn soundness()
+    ensures { Sound }
 {}

@@ -4,5 +4,6 @@
 mod laws;
 
 pub use laws::{
-    aliases_keep_heaps, joins_keep_values, narrowing_keeps_values, values_flow_statically,
+    aliases_keep_heaps, joins_keep_values, narrowing_keeps_values, soundness,
+    values_flow_statically,
 };
