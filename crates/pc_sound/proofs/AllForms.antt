@@ -1,7 +1,6 @@
 -- All forms are safe in all bodies of a module, where names mean in runs what types take them to mean.
 use Rattle.std.proofs.Common.{◌≡◌, ℕ, List, [], ◌++◌, refl, ap, ◌∙◌}
-use Rattle.std.specs.Prelude.{true, codes, None, Some}
-use Rattle.pc_source.specs.declared.place.Place.{Place}
+use Rattle.std.specs.Prelude.{true, codes, Some}
 use Rattle.pc_tree.specs.Tree.{FuncDef, Module}
 use Rattle.pc_tree.specs.Stopping.{bound_by}
 use Rattle.pc_scope.specs.declared.resolution.Builtin.TheVariants as builtin
@@ -14,20 +13,18 @@ use Rattle.pc_scope.proofs.Unbound.{is_none_of}
 use Rattle.pc_types.specs.Tree.{Tree}
 use Rattle.pc_check.specs.Modules.{Labelling, constant_types}
 use Rattle.pc_run.specs.Free.{Step, free}
-use Rattle.pc_run.specs.Evaluation.{eval_node, eval_over, steps}
+use Rattle.pc_run.specs.Evaluation.{eval_node, steps}
 use Rattle.pc_sound.proofs.Expressions.{GoodEval}
-use Rattle.pc_sound.proofs.Conditions.{Decides, decides_over, steps_read}
+use Rattle.pc_sound.proofs.Conditions.{decides_over, steps_read}
 use Rattle.pc_sound.proofs.Places.{steps_evaluate}
 use Rattle.pc_sound.proofs.Indexing.{steps_read_numbers}
 use Rattle.pc_sound.proofs.Globals.{KnowsNames}
 use Rattle.pc_sound.proofs.InstanceTests.{RightTests}
 use Rattle.pc_sound.proofs.Simple.{GoodStores}
 use Rattle.pc_sound.proofs.FieldStores.{stores_good}
-use Rattle.pc_sound.proofs.ForLoops.{GoodIterables}
 use Rattle.pc_sound.proofs.Ranges.{iterables_good}
 use Rattle.pc_sound.proofs.Forms.{OtherCalls, forms_good}
 use Rattle.pc_sound.proofs.Nested.{FormsGood, AllGood}
-use Rattle.pc_sound.proofs.World.{Labelled}
 use Rattle.pc_sound.proofs.BodyCalls.{Facts, body_calls}
 use Rattle.pc_sound.proofs.InitializerCalls.{initializer_calls}
 use Rattle.pc_sound.proofs.Whole.{IsListedPlace, BodyOf, of_function, of_items, body_around, body_ctx, body_fits, body_returned, bodies}

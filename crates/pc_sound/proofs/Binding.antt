@@ -1,10 +1,9 @@
 -- Values that are bound to locals, and that are returned.
-use Rattle.std.proofs.Common.{◌≡◌, List, [], ◌∷◌, refl, sym, subst, inl, inr, arith, Contains}
+use Rattle.std.proofs.Common.{◌≡◌, List, [], ◌∷◌, refl, sym, subst, inl, inr, arith}
 use Rattle.std.specs.Prelude.{◌⊎◌, Bool as Test, true, false, Option, Some, None}
 use Rattle.pc_source.specs.declared.place.Place.{Place}
 use Rattle.pc_tree.specs.declared.code.Code.{Code}
-use Rattle.pc_tree.specs.declared.code.Code.TheVariants.{A1, E03, E12}
-use Rattle.pc_tree.specs.declared.code.Finding.{Finding}
+use Rattle.pc_tree.specs.declared.code.Code.TheVariants.{E03, E12}
 use Rattle.pc_tree.specs.Code.{finding, IsError}
 use Rattle.pc_tree.specs.Tree.{Expr}
 use Rattle.pc_scope.specs.Expressions.{place_of}
@@ -16,9 +15,8 @@ use Rattle.pc_types.proofs.Complete.{meets_from_assignable}
 use Rattle.pc_flow.specs.Environment.{Env, assigned_type}
 use Rattle.pc_expr.specs.Operations.{Mark}
 use Rattle.pc_expr.specs.Context.{Context, Flows, static, dynamic, wrong, FlowUnless, FlowAt, FlowsInto, is_late}
-use Rattle.pc_expr.specs.Labels.{Flowing, Marks, mark_of, type_of, Finds, IsFoundAt, IsFlowAt}
+use Rattle.pc_expr.specs.Labels.{Flowing, Marks, mark_of, type_of, Finds, IsFlowAt}
 use Rattle.pc_expr.specs.Lawful.{Lawful}
-use Rattle.pc_check.specs.Statements.{only_code}
 use Rattle.pc_value.specs.Value.{Value, Stop, Out, Gives, Stops}
 use Rattle.pc_run.specs.State.{State}
 use Rattle.pc_run.specs.Free.{Step}

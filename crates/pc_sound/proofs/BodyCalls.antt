@@ -1,43 +1,36 @@
 -- Calls in bodies, whatever is called.
-use Rattle.std.proofs.Common.{◌≡◌, ℕ, zero, suc, List, [], ◌∷◌, ◌++◌, map, refl, sym, ap, ◌∙◌, subst, inl, inr, arith}
-use Rattle.std.specs.Prelude.{◌⊎◌, Bool as Test, true, false, ◌&&◌, if◌then◌else◌, nat_lt, flat_map, Option, Some, None, slice_get}
+use Rattle.std.proofs.Common.{◌≡◌, ℕ, zero, suc, List, [], ◌∷◌, map, refl, sym, ap, ◌∙◌, subst, inl, inr, arith}
+use Rattle.std.specs.Prelude.{Bool as Test, true, false, ◌&&◌, if◌then◌else◌, nat_lt, Option, Some, None, slice_get}
 use Rattle.pc_source.specs.declared.place.Place.{Place}
-use Rattle.pc_tree.specs.declared.code.Code.{Code}
-use Rattle.pc_tree.specs.declared.code.Code.TheVariants.{E03, E14}
-use Rattle.pc_tree.specs.declared.code.Finding.{Finding}
+use Rattle.pc_tree.specs.declared.code.Code.TheVariants.{E03}
 use Rattle.pc_tree.specs.Tree.{Name, Expr, name, number, text, truth, nothing, tuple, list, dict, negative, negation, binary, compare, is_none, is_not_none, conjunction, disjunction, attribute, index, call, Exprs, Keywords, FuncDef, Module}
-use Rattle.pc_scope.specs.declared.resolution.Builtin.{Builtin}
-use Rattle.pc_scope.specs.declared.resolution.Builtin.TheVariants as builtin
 use Rattle.pc_scope.specs.declared.resolution.Owner.{Owner}
 use Rattle.pc_scope.specs.declared.resolution.Owner.TheVariants as owners
 use Rattle.pc_scope.specs.declared.resolution.Res.{Res}
 use Rattle.pc_scope.specs.declared.resolution.Res.TheVariants as res
 use Rattle.pc_scope.specs.Expressions.{place_of, is_instance_test}
 use Rattle.pc_scope.specs.Bindings.{functions_in, classes_in}
-use Rattle.pc_scope.specs.Resolution.{index_of, locals, function_of, local_of, or_else, resolve_in_module, resolve_among}
+use Rattle.pc_scope.specs.Resolution.{index_of, locals, function_of, local_of, or_else, resolve_in_module}
 use Rattle.pc_types.specs.Tree.{Tree}
 use Rattle.pc_types.specs.Tree as tree
-use Rattle.pc_types.specs.Below.{Bases, Below}
-use Rattle.pc_types.specs.Shape.{members}
+use Rattle.pc_types.specs.Below.{Below}
 use Rattle.pc_class.specs.Bases.{bases_of}
-use Rattle.pc_class.specs.Facts as facts
 use Rattle.pc_class.specs.Facts.{Method, parameters_of, returned, classes_of, class_at, method_of}
 use Rattle.pc_flow.specs.Environment.{Env}
-use Rattle.pc_expr.specs.Operations.{Mark, in_error}
-use Rattle.pc_expr.specs.Context.{Context, Signature, name_mark}
+use Rattle.pc_expr.specs.Operations.{in_error}
+use Rattle.pc_expr.specs.Context.{Context, name_mark}
 use Rattle.pc_expr.specs.Signatures.{signature_of, signatures_of}
-use Rattle.pc_expr.specs.Calls.{Given, given, CallOffer, called, function_offer, class_signature, builtin_offer, good_callee, value_callee, name_callee, value_offers, method_offers, method_callee, Callee, is_one, call_mark, positional_seat, named_seat}
-use Rattle.pc_expr.specs.Labels.{Marks, mark_of, type_of, with_mark, item_types, Finds, ItemsFind, IsFoundAt}
-use Rattle.pc_expr.specs.Lawful.{Lawful, LawfulItems, LawfulKeywords, callee_of, is_length, is_length_of_one, whole_call_mark}
-use Rattle.pc_value.specs.Value.{Value, Gives}
-use Rattle.pc_run.specs.State.{State, Function, Class, Globals, a_function}
+use Rattle.pc_expr.specs.Calls.{given, called, function_offer, class_signature, good_callee, value_callee, name_callee, value_offers, method_callee, Callee, is_one, call_mark, positional_seat, named_seat}
+use Rattle.pc_expr.specs.Labels.{Marks, mark_of, type_of, with_mark, item_types, Finds, ItemsFind}
+use Rattle.pc_expr.specs.Lawful.{Lawful, LawfulItems, LawfulKeywords, callee_of, is_length, is_length_of_one}
+use Rattle.pc_value.specs.Value.{Gives}
 use Rattle.pc_run.specs.Names.{meaning_of_global, is_reserved}
-use Rattle.pc_run.specs.Calls.{calls_value, callee_of_meaning}
+use Rattle.pc_run.specs.Calls.{calls_value}
 use Rattle.pc_run.specs.Steps.{Parts}
 use Rattle.pc_run.specs.Free.{Step, ◌>>=◌, comes, Emits, free}
 use Rattle.pc_run.specs.Evaluation.{ordinary, eval_call, eval_node, eval_all, eval_keywords, call_callee}
-use Rattle.pc_sound.specs.Values.{HeapTyping, HasType}
-use Rattle.pc_sound.specs.Judgment.{EndsWell, Around, Stands, IsSafe, Fits}
+use Rattle.pc_sound.specs.Values.{HasType}
+use Rattle.pc_sound.specs.Judgment.{Around, IsSafe, Fits}
 use Rattle.pc_sound.proofs.Keys.{Keyed}
 use Rattle.pc_sound.proofs.Expressions.{Covered, GoodEval}
 use Rattle.pc_sound.proofs.Flows.{Evaluates}
@@ -46,7 +39,7 @@ use Rattle.pc_sound.proofs.Globals.{KnowsNames, meaning_outside, means_a_class, 
 use Rattle.pc_sound.proofs.Forms.{NotReserved, OtherCalls}
 use Rattle.pc_sound.proofs.Dispatch.{IsIn, Dispatched}
 use Rattle.pc_sound.proofs.Statements.{GoodExec}
-use Rattle.pc_sound.proofs.World.{MadeOf, World, world_later, ClassIs, Labelled, around_of, context_of}
+use Rattle.pc_sound.proofs.World.{World, world_later, Labelled, around_of, context_of}
 use Rattle.pc_sound.proofs.Entering.{fits_of}
 use Rattle.pc_sound.proofs.Filling.{Distinct}
 use Rattle.pc_sound.proofs.Binds.{function_named, class_named}

@@ -1,9 +1,9 @@
 -- `if`, `elif`, `else`: whichever branch runs, the join of the ways holds.
-use Rattle.std.proofs.Common.{◌≡◌, ℕ, List, [], ◌∷◌, ◌++◌, refl, sym, ap, ◌∙◌, subst, inl, inr, arith, Contains}
-use Rattle.std.specs.Prelude.{◌⊎◌, true, false, Option, Some, None, option_to_list}
+use Rattle.std.proofs.Common.{◌≡◌, List, [], ◌∷◌, ◌++◌, refl, sym, ◌∙◌, subst, inl, inr, arith, Contains}
+use Rattle.std.specs.Prelude.{◌⊎◌, true, false, Option, Some, option_to_list}
 use Rattle.std.proofs.lemmas.List.Elements.{Contains-append_left, Contains-append_right, Contains-append_cases, Contains-push_cases}
 use Rattle.pc_source.specs.declared.place.Place.{Place}
-use Rattle.pc_tree.specs.Tree.{Name, Expr, conditional, Stmts, Branches, no_branches, more_branches, Module}
+use Rattle.pc_tree.specs.Tree.{conditional, Stmts, Branches, no_branches, more_branches, Module}
 use Rattle.pc_tree.specs.Stopping.{bound_by, bound_by_branches, loose_in, loose_in_branches}
 use Rattle.pc_scope.specs.Bindings.{texts}
 use Rattle.pc_types.specs.Tree.{Tree}
@@ -12,7 +12,6 @@ use Rattle.pc_flow.specs.Narrowing.{narrow}
 use Rattle.pc_expr.specs.Context.{Context}
 use Rattle.pc_check.specs.StatementLabels.{StmtMarks, SuiteMarks, BranchesMarks, breaks_in, breaks_in_suite, breaks_in_branches, ways_in}
 use Rattle.pc_check.specs.Statements.{Seen, LawfulStmt, LawfulSuite, LawfulBranches, StmtFinds, SuiteFinds, BranchesFind}
-use Rattle.pc_value.specs.Value.{Value}
 use Rattle.pc_run.specs.State.{State, Frame}
 use Rattle.pc_run.specs.Steps.{Parts, Flow, next, breaking, continuing, leaves}
 use Rattle.pc_run.specs.Free.{Step, free}
@@ -23,9 +22,9 @@ use Rattle.pc_sound.specs.Judgment.{Around, Stands, Fits, Leads, At, Ways, Reach
 use Rattle.pc_sound.proofs.Expressions.{Covered}
 use Rattle.pc_sound.proofs.KeyedStatements.{StmtKeyed, SuiteKeyed, BranchesKeyed}
 use Rattle.pc_sound.proofs.Conditions.{Decides}
-use Rattle.pc_sound.proofs.JoinedLocals.{SomeHolds, Joined, ways_hold}
+use Rattle.pc_sound.proofs.JoinedLocals.{SomeHolds, ways_hold}
 use Rattle.pc_sound.proofs.Leading.{leads_from, leads_to}
-use Rattle.pc_sound.proofs.Statements.{Runs, lasts_left, lasts_right, first_of_list, flow_wider, ways_out, GoodExec, GoodStmt}
+use Rattle.pc_sound.proofs.Statements.{Runs, lasts_left, lasts_right, flow_wider, ways_out, GoodExec, GoodStmt}
 use Rattle.pc_sound.proofs.Simple.{decided}
 
 -- a list holds its first element, or one of the others

@@ -1,35 +1,31 @@
 -- Calls whose callee is the name of a function or of a class, as whole nodes.
-use Rattle.std.proofs.Common.{◌≡◌, ℕ, zero, suc, List, [], ◌∷◌, ◌++◌, map, refl, sym, ap, ◌∙◌, subst, inl, inr, arith}
-use Rattle.std.specs.Prelude.{◌⊎◌, Bool as Test, true, false, if◌then◌else◌, nat_lt, flat_map, Option, Some, None, slice_get}
+use Rattle.std.proofs.Common.{◌≡◌, ℕ, List, [], ◌∷◌, ◌++◌, refl, sym, ap, ◌∙◌, subst, inl, arith}
+use Rattle.std.specs.Prelude.{Bool as Test, true, false, if◌then◌else◌, Some}
 use Rattle.pc_source.specs.declared.place.Place.{Place}
 use Rattle.pc_tree.specs.declared.code.Code.{Code}
 use Rattle.pc_tree.specs.declared.code.Code.TheVariants.{E14}
 use Rattle.pc_tree.specs.Tree.{Name, Expr, name, Exprs, Keywords, FuncDef, Module}
-use Rattle.pc_scope.specs.declared.resolution.Owner.{Owner}
 use Rattle.pc_scope.specs.declared.resolution.Owner.TheVariants as owners
-use Rattle.pc_scope.specs.declared.resolution.Res.TheVariants as res
 use Rattle.pc_scope.specs.Expressions.{place_of}
-use Rattle.pc_scope.specs.Bindings.{functions_in}
-use Rattle.pc_scope.specs.Resolution.{function_of}
 use Rattle.pc_types.specs.Tree.{Tree}
 use Rattle.pc_types.specs.Tree as tree
 use Rattle.pc_types.specs.Below.{Bases}
 use Rattle.pc_class.specs.Bases.{bases_of}
-use Rattle.pc_class.specs.Facts.{Parameter, parameters_of, returned, classes_of, class_at}
+use Rattle.pc_class.specs.Facts.{parameters_of, returned, classes_of, class_at}
 use Rattle.pc_flow.specs.Environment.{Env}
 use Rattle.pc_expr.specs.Operations.{Mark}
 use Rattle.pc_expr.specs.Context.{Context, Signature}
 use Rattle.pc_expr.specs.Signatures.{signature_of}
-use Rattle.pc_expr.specs.Calls.{Given, given, is_suited, Seat, CallOffer, called, fails_at_call, class_signature, call_codes, all_codes, call_mark, positional_seat, named_seat}
+use Rattle.pc_expr.specs.Calls.{Given, given, is_suited, Seat, called, fails_at_call, class_signature, all_codes, call_mark, positional_seat, named_seat}
 use Rattle.pc_expr.specs.Labels.{ItemsMarks, KeywordsMarks, ItemsFind, KeywordsFind, IsFoundAt}
 use Rattle.pc_expr.specs.Lawful.{LawfulItems, LawfulKeywords}
-use Rattle.pc_value.specs.Value.{Value, Out, Gives}
-use Rattle.pc_run.specs.State.{State, Function, Class, Globals, a_function}
-use Rattle.pc_run.specs.Names.{Meaning, means_class, means_function, meaning, meaning_of_global, global_of, is_reserved}
+use Rattle.pc_value.specs.Value.{Value}
+use Rattle.pc_run.specs.State.{State, Function, Class, Globals}
+use Rattle.pc_run.specs.Names.{means_class, means_function, meaning}
 use Rattle.pc_run.specs.Calls.{Callee, calls_value, calls_function, calls_class, calls_reserved, calls_method, calls_builtin_method, callee_of_meaning, NamedValue}
 use Rattle.pc_run.specs.Steps.{Parts}
 use Rattle.pc_run.specs.Free.{Step, ◌>>=◌, Emits, free}
-use Rattle.pc_run.specs.Evaluation.{eval_callee, eval_all, eval_keywords, call_callee, call_class, call_function}
+use Rattle.pc_run.specs.Evaluation.{eval_callee, eval_all, eval_keywords, call_callee, call_class}
 use Rattle.pc_sound.specs.Values.{HeapTyping, HasType, Extends}
 use Rattle.pc_sound.specs.Judgment.{EndsWell, Around, Stands, IsSafe, Fits}
 use Rattle.pc_sound.proofs.Steps.{Stays, bind_safe, looks_safe, emits_safe, may_stop_safe, weaken}
@@ -37,13 +33,13 @@ use Rattle.pc_sound.proofs.Keys.{ItemsKeyed, KeywordsKeyed}
 use Rattle.pc_sound.proofs.Expressions.{Covered, GoodEval}
 use Rattle.pc_sound.proofs.Flows.{Evaluates}
 use Rattle.pc_sound.proofs.Fields.{Inherits}
-use Rattle.pc_sound.proofs.Arguments.{ArgumentsHave, KeywordsHave, arguments_later, keywords_later}
+use Rattle.pc_sound.proofs.Arguments.{arguments_later, keywords_later}
 use Rattle.pc_sound.proofs.OrdinaryCalls.{equal_safe, impossible_safe, KnownCall, ordinary_safe}
 use Rattle.pc_sound.proofs.Statements.{GoodExec}
 use Rattle.pc_sound.proofs.World.{MadeOf, made_later, ClassIs, World, Labelled, around_of, context_of}
 use Rattle.pc_sound.proofs.Filling.{Distinct}
 use Rattle.pc_sound.proofs.Suiting.{Suits, suits, suited_bound}
-use Rattle.pc_sound.proofs.CallOffers.{IsOffer, all_quiet, suited_where_quiet, offered_called, suited_called, suited_gives, gives_call_type, offer_quiet}
+use Rattle.pc_sound.proofs.CallOffers.{all_quiet, suited_where_quiet, offered_called, suited_called, suited_gives, gives_call_type, offer_quiet}
 use Rattle.pc_sound.proofs.Calling.{Caller, class_call_safe, function_call_safe}
 
 callee_quiet : (g : Given) (s : Signature) → (called g s).at_callee ≡ []

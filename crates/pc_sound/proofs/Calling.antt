@@ -1,38 +1,35 @@
 -- Calls of functions, methods and classes, where the arguments suit them.
-use Rattle.std.proofs.Common.{◌≡◌, ℕ, zero, suc, List, [], ◌∷◌, ◌++◌, map, refl, sym, ap, ◌∙◌, subst, inl, inr, arith, Contains}
-use Rattle.std.specs.Prelude.{◌⊎◌, Bool as Test, true, false, codes, Option, Some, None, slice_get}
+use Rattle.std.proofs.Common.{◌≡◌, ℕ, List, [], ◌∷◌, ◌++◌, map, refl, sym, ap, subst, inl, inr, arith, Contains}
+use Rattle.std.specs.Prelude.{◌⊎◌, Option, Some, None}
 use Rattle.std.proofs.lemmas.List.Elements.{Contains-append_left}
 use Rattle.pc_source.specs.declared.place.Place.{Place}
-use Rattle.pc_tree.specs.Tree.{Param, FuncDef, ClassDef, Stmts, Module}
-use Rattle.pc_scope.specs.declared.resolution.Owner.{Owner}
+use Rattle.pc_tree.specs.Tree.{Param, FuncDef, Module}
 use Rattle.pc_scope.specs.declared.resolution.Owner.TheVariants as owners
-use Rattle.pc_scope.specs.Bindings.{texts, param_names, classes_in}
-use Rattle.pc_scope.specs.Resolution.{receiver, entry_texts}
+use Rattle.pc_scope.specs.Bindings.{texts, param_names}
+use Rattle.pc_scope.specs.Resolution.{receiver}
 use Rattle.pc_types.specs.Tree.{Tree}
 use Rattle.pc_types.specs.Tree as tree
 use Rattle.pc_types.specs.Below.{Bases}
 use Rattle.pc_class.specs.Bases.{bases_of}
 use Rattle.pc_class.specs.Facts.{Parameter, parameters_of, returned, classes_of, class_at}
 use Rattle.pc_flow.specs.Environment.{Env}
-use Rattle.pc_check.specs.Modules.{entries_of}
-use Rattle.pc_value.specs.Value.{Value, Slot, Stop, Out, Gives, Stops}
+use Rattle.pc_value.specs.Value.{Value, Stop, Out, Gives, Stops}
 use Rattle.pc_value.specs.Actions as action
-use Rattle.pc_run.specs.State as state
 use Rattle.pc_run.specs.State.{State, Frame, Local, Function, Class, Globals}
 use Rattle.pc_run.specs.Names.{frame_of}
 use Rattle.pc_run.specs.Calls.{NamedValue, bound_arguments, suited, slot_before, slots_of, class_at as made_at}
-use Rattle.pc_run.specs.Steps.{Parts, Flow, value_out}
+use Rattle.pc_run.specs.Steps.{Parts, Flow}
 use Rattle.pc_run.specs.Free.{Step, ◌>>=◌, Emits, enter, free}
 use Rattle.pc_run.specs.Evaluation.{call_function, call_method, call_class, value_of_flow, self_local, fields_of}
 use Rattle.pc_sound.specs.Values.{HeapTyping, HasType, Extends, SlotsHave, IsWell}
-use Rattle.pc_sound.specs.Judgment.{HasListed, EndsWell, Around, Stands, Keeps, IsSafe, Leads, Goes, FlowEnds}
+use Rattle.pc_sound.specs.Judgment.{HasListed, EndsWell, Around, Stands, Keeps, IsSafe, Leads, FlowEnds}
 use Rattle.pc_sound.proofs.ValuesFlow.{later, extends_refl}
 use Rattle.pc_sound.proofs.Steps.{Stays, bind_safe, comes_safe, looks_safe, ended}
-use Rattle.pc_sound.proofs.Leading.{Known, leads_bind, leads_from}
+use Rattle.pc_sound.proofs.Leading.{Known, leads_bind}
 use Rattle.pc_sound.proofs.Acting.{acting_safe}
 use Rattle.pc_sound.proofs.Fields.{Inherits, instance_keeps}
 use Rattle.pc_sound.proofs.Statements.{GoodExec}
-use Rattle.pc_sound.proofs.Entry.{ParameterHas, ParametersHave}
+use Rattle.pc_sound.proofs.Entry.{ParametersHave}
 use Rattle.pc_sound.proofs.World.{DefaultsHave, defaults_later, ClassIs, World, Labelled, around_of, context_of}
 use Rattle.pc_sound.proofs.Filling.{Filled}
 use Rattle.pc_sound.proofs.Suiting.{Suits, suited_bound}

@@ -1,10 +1,10 @@
 -- In a module without errors each class can be made as its facts say.
 use Rattle.std.proofs.Common.{◌≡◌, ℕ, suc, ◌+◌, List, [], ◌∷◌, refl, ap, ◌∙◌, arith}
-use Rattle.std.specs.Prelude.{codes, Option, Some, slice_get}
+use Rattle.std.specs.Prelude.{codes, Some, slice_get}
 use Rattle.pc_source.specs.declared.place.Place.{Place}
-use Rattle.pc_tree.specs.Tree.{FuncDef, Member, field_member, method_member, ClassDef, Module}
+use Rattle.pc_tree.specs.Tree.{FuncDef, Member, field_member, method_member, Module}
 use Rattle.pc_scope.specs.declared.resolution.Owner.TheVariants as owners
-use Rattle.pc_scope.specs.Bindings.{classes_in, methods_in}
+use Rattle.pc_scope.specs.Bindings.{methods_in}
 use Rattle.pc_scope.specs.Resolution.{function_of, method_at}
 use Rattle.pc_types.specs.Tree.{Tree}
 use Rattle.pc_class.specs.Facts as facts

@@ -1,5 +1,5 @@
 -- Methods at run time: the one that an object's own class has is entered, in place of the one that its type names.
-use Rattle.std.proofs.Common.{◌≡◌, ℕ, zero, suc, List, [], ◌∷◌, map, refl, sym, ap, ◌∙◌, subst, inl, inr, arith}
+use Rattle.std.proofs.Common.{◌≡◌, ℕ, List, [], ◌∷◌, map, refl, sym, ap, ◌∙◌, subst, inl, inr, arith}
 use Rattle.std.specs.Prelude.{◌⊎◌, Bool as Test, true, false, if◌then◌else◌, Option, Some, None, All, IsTrue, slice_get, bytes_eq}
 use Rattle.std.proofs.lemmas.List.Elements.{All-head, All-tail}
 use Rattle.std.proofs.lemmas.Slice.Eq.{bytes_eq-Decides}
@@ -7,16 +7,13 @@ use Rattle.pc_source.specs.declared.place.Place.{Place}
 use Rattle.pc_tree.specs.Tree.{FuncDef, ClassDef, Module}
 use Rattle.pc_scope.specs.declared.resolution.Owner.TheVariants as owners
 use Rattle.pc_scope.specs.Bindings.{classes_in}
-use Rattle.pc_scope.specs.Resolution.{function_of}
 use Rattle.pc_types.specs.Tree.{Tree}
 use Rattle.pc_types.specs.Tree as tree
-use Rattle.pc_types.specs.Below.{Bases, Below, Static, through}
+use Rattle.pc_types.specs.Below.{Below, Static}
 use Rattle.pc_class.specs.Bases.{bases_of}
-use Rattle.pc_class.specs.Facts as facts
 use Rattle.pc_class.specs.Facts.{Parameter, Method, parameters_of, returned, classes_of, class_at, class_in, method_of}
-use Rattle.pc_class.specs.Overrides.{has_shape_of, Flow, parameter_flows, override_flows, IsStatic}
+use Rattle.pc_class.specs.Overrides.{has_shape_of, Flow, parameter_flows, IsStatic}
 use Rattle.pc_flow.specs.Environment.{Env}
-use Rattle.pc_value.specs.Value as value
 use Rattle.pc_value.specs.Value.{Value, location, seen, class_seen}
 use Rattle.pc_value.specs.Texts.{same_text}
 use Rattle.pc_run.specs.State.{State, Function, Class, Globals}
@@ -34,7 +31,7 @@ use Rattle.pc_sound.proofs.Fields.{Inherits}
 use Rattle.pc_sound.proofs.Inheritance.{no_class_past}
 use Rattle.pc_sound.proofs.Dispatch.{IsIn, found_in, Dispatched}
 use Rattle.pc_sound.proofs.Statements.{GoodExec}
-use Rattle.pc_sound.proofs.World.{DefaultsHave, MadeOf, MethodIs, MethodsAre, ClassIs, World, Labelled, around_of, context_of}
+use Rattle.pc_sound.proofs.World.{DefaultsHave, MethodIs, MethodsAre, World, Labelled, around_of, context_of}
 use Rattle.pc_sound.proofs.Filling.{Filled}
 use Rattle.pc_sound.proofs.Suiting.{Suits, StaticInto, untyped, suits_into, suits_untyped, shape_untyped, static_untyped, defaults_untyped, suited_bound}
 use Rattle.pc_sound.proofs.Calling.{Caller, method_call_safe, listed_call_safe}

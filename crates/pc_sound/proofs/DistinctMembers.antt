@@ -1,16 +1,16 @@
 -- In a module without errors no two fields of a class, and no two parameters of a method, have one name.
-use Rattle.std.proofs.Common.{◌≡◌, ℕ, zero, suc, ◌<◌, List, [], ◌∷◌, ◌++◌, map, refl, sym, ap, ◌∙◌, subst, inl, inr, arith}
+use Rattle.std.proofs.Common.{◌≡◌, ℕ, zero, suc, ◌<◌, List, [], ◌∷◌, ◌++◌, refl, sym, ap, ◌∙◌, subst, inl, inr, arith}
 use Rattle.std.specs.Prelude.{◌⊎◌, Bool as Test, true, false, ◌&&◌, ◌||◌, not, is_some, if◌then◌else◌, Option, Some, None, slice_get, bytes_eq, codes}
 use Rattle.pc_tree.specs.Tree.{FuncDef, Member, field_member, method_member, ClassDef, Module}
 use Rattle.pc_scope.specs.declared.resolution.Owner.TheVariants as owners
 use Rattle.pc_scope.specs.Reserved.{is_reserved}
 use Rattle.pc_scope.specs.Bindings.{classes_in, methods_in}
-use Rattle.pc_scope.specs.Resolution.{is_among, receiver, method_at, function_of}
+use Rattle.pc_scope.specs.Resolution.{is_among, receiver, method_at}
 use Rattle.pc_types.specs.Annotations.{read_ann}
 use Rattle.pc_class.specs.Bases.{bases_of, base_named}
 use Rattle.pc_class.specs.Facts as facts
 use Rattle.pc_class.specs.Facts.{Parameter, Method, field_of, method_of, class_in, class_at, inherited, classes_of, parameters_of, binds_field, binds_method, own_fields, own_methods}
-use Rattle.pc_class.specs.Findings.{base_class, method_made}
+use Rattle.pc_class.specs.Findings.{method_made}
 use Rattle.pc_check.specs.Modules.{Labelling, IsLawful}
 use Rattle.pc_sound.specs.Sound.{HasNoError}
 use Rattle.pc_sound.proofs.Inheritance.{no_class_past, class_is, class_over, below_class}

@@ -1,43 +1,38 @@
 -- A function or method that is entered with arguments of its parameters' types gives a value of its return type.
 use Rattle.std.proofs.Common.{◌≡◌, ℕ, zero, suc, List, [], ◌∷◌, ◌++◌, map, refl, sym, ap, ◌∙◌, subst, inl, inr, arith, Contains}
-use Rattle.std.specs.Prelude.{◌⊎◌, Bool as Test, true, false, ◌||◌, if◌then◌else◌, length, replicate, Option, Some, None, bytes_eq}
-use Rattle.std.specs.List.{list_any}
+use Rattle.std.specs.Prelude.{◌⊎◌, Bool as Test, true, false, ◌||◌, if◌then◌else◌, length, Option, Some, None, bytes_eq}
 use Rattle.std.proofs.lemmas.Slice.Eq.{bytes_eq-Decides}
 use Rattle.pc_source.specs.declared.place.Place.{Place}
 use Rattle.pc_tree.specs.declared.code.Code.{Code}
 use Rattle.pc_tree.specs.declared.code.Code.TheVariants.{E21}
-use Rattle.pc_tree.specs.declared.code.Finding.{Finding}
 use Rattle.pc_tree.specs.Code.{finding, IsError}
 use Rattle.pc_tree.specs.Tree.{Name, FuncDef, Item, constant_item, class_item, def_item, Stmts, Module}
 use Rattle.pc_tree.specs.Stopping.{bound_by, loose_in}
 use Rattle.pc_scope.specs.declared.resolution.Owner.{Owner}
-use Rattle.pc_scope.specs.declared.resolution.Owner.TheVariants as owners
 use Rattle.pc_scope.specs.declared.resolution.Res.{Res}
 use Rattle.pc_scope.specs.declared.resolution.Res.TheVariants as res
 use Rattle.pc_scope.specs.declared.resolution.Builtin.{Builtin}
-use Rattle.pc_scope.specs.Reserved.{builtin_of, is_reserved}
-use Rattle.pc_scope.specs.Bindings.{texts, param_names}
-use Rattle.pc_scope.specs.Resolution.{index_of, is_among, first_of_each, receiver, entry_texts, locals, local_of as local_res, or_else, builtin_res, bound_first, resolve_in_module, resolve_among}
+use Rattle.pc_scope.specs.Reserved.{builtin_of}
+use Rattle.pc_scope.specs.Bindings.{texts}
+use Rattle.pc_scope.specs.Resolution.{index_of, is_among, entry_texts, locals, local_of as local_res, or_else, builtin_res, bound_first, resolve_in_module, resolve_among}
 use Rattle.pc_types.specs.Tree.{Tree, NoneType}
-use Rattle.pc_types.specs.Below.{Bases}
 use Rattle.pc_class.specs.Bases.{bases_of}
-use Rattle.pc_class.specs.Facts.{Parameter, parameters_of, returned, classes_of}
+use Rattle.pc_class.specs.Facts.{Parameter, returned, classes_of}
 use Rattle.pc_class.proofs.Earlier.{smaller}
 use Rattle.pc_flow.specs.Environment.{Env, current, none_assigned}
 use Rattle.pc_check.specs.StatementLabels.{breaks_in_suite}
 use Rattle.pc_expr.specs.Labels.{IsCodeAt}
 use Rattle.pc_check.specs.Modules.{entries_of, names_entered, entry_env, ReturnsWell, leaves as never_completes, may_complete, may_not}
-use Rattle.pc_value.specs.Value.{Value, none, Out, Gives, Stops}
-use Rattle.pc_run.specs.State.{State, Frame, Local, Function, Class, Globals}
-use Rattle.pc_run.specs.Names.{local_of, names_bound, unbound, frame_of}
+use Rattle.pc_value.specs.Value.{none, Out}
+use Rattle.pc_run.specs.State.{State, Frame, Local, Function}
+use Rattle.pc_run.specs.Names.{names_bound, unbound, frame_of}
 use Rattle.pc_run.specs.Steps.{Flow, next, breaking, continuing, leaves}
-use Rattle.pc_run.specs.Free.{Step, ◌>>=◌, comes, Enters, enter, free}
+use Rattle.pc_run.specs.Free.{Step, enter}
 use Rattle.pc_run.specs.Evaluation.{value_of_flow}
-use Rattle.pc_sound.specs.Values.{HeapTyping, HasType, Extends, IsWell}
-use Rattle.pc_sound.specs.Kept.{HasLocal, HasLocals}
-use Rattle.pc_sound.specs.Judgment.{HasListed, EndsWell, Around, HasNames, Stands, Keeps, IsSafe, Fits, Goes, Leads, At, Ways, FlowEnds, IsLocal, Lasts}
+use Rattle.pc_sound.specs.Values.{HeapTyping, HasType, IsWell}
+use Rattle.pc_sound.specs.Judgment.{HasListed, Around, Stands, Keeps, IsSafe, Fits, Goes, Leads, At, Ways, FlowEnds, IsLocal, Lasts}
 use Rattle.pc_sound.proofs.ValuesFlow.{of_static}
-use Rattle.pc_sound.proofs.Steps.{Stays, bind_safe, comes_safe, ended}
+use Rattle.pc_sound.proofs.Steps.{ended}
 use Rattle.pc_sound.proofs.Leading.{ends_as, leads_from, leads_to}
 use Rattle.pc_sound.proofs.Statements.{GoodExec, ways_out}
 use Rattle.pc_sound.proofs.Branches.{among_first}

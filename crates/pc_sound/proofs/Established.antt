@@ -1,6 +1,6 @@
 -- What a module without errors establishes of the premises of the law, and what of them is left.
 use Rattle.std.proofs.Common.{◌≡◌, ℕ, zero, suc, ◌+◌, List, [], ◌∷◌, ◌++◌, length, map, refl, sym, ap, ◌∙◌, subst, inl, inr, arith}
-use Rattle.std.specs.Prelude.{◌⊎◌, Bool as Test, true, false, nat_lt, Option, Some, None, slice_get}
+use Rattle.std.specs.Prelude.{true, nat_lt, Option, Some, None, slice_get}
 use Rattle.std.proofs.lemmas.Bool.Decides.{nat_tests}
 use Rattle.pc_source.specs.declared.place.Place.{Place}
 use Rattle.pc_tree.specs.declared.code.Code.{Code}
@@ -8,7 +8,7 @@ use Rattle.pc_tree.specs.declared.code.Code.TheVariants.{E11}
 use Rattle.pc_tree.specs.declared.code.Finding.{Finding}
 use Rattle.pc_tree.specs.Code.{finding, IsError}
 use Rattle.pc_tree.specs.Tree.{FuncDef, Member, field_member, method_member, ClassDef, Item, constant_item, class_item, def_item, Constant, Module}
-use Rattle.pc_tree.specs.Stopping.{name_of_item, name_of_param}
+use Rattle.pc_tree.specs.Stopping.{name_of_item}
 use Rattle.pc_scope.specs.declared.resolution.Owner.{Owner}
 use Rattle.pc_scope.specs.declared.resolution.Owner.TheVariants as owners
 use Rattle.pc_scope.specs.declared.resolution.Res.{Res}
@@ -16,14 +16,13 @@ use Rattle.pc_scope.specs.declared.resolution.Res.TheVariants as res
 use Rattle.pc_scope.specs.Bindings.{constants_in, classes_in, functions_in}
 use Rattle.pc_scope.specs.Resolution.{index_of, locals, function_of, local_of, or_else, resolve_in_module}
 use Rattle.pc_types.specs.Tree.{Tree}
-use Rattle.pc_types.specs.Below.{Bases}
 use Rattle.pc_class.specs.Bases.{bases_of}
-use Rattle.pc_class.specs.Facts.{Class, Method, parameters_of, classes_of, class_at, method_of}
+use Rattle.pc_class.specs.Facts.{Class, Method, classes_of, class_at, method_of}
 use Rattle.pc_class.specs.Findings.{base_class, OverrideRule}
 use Rattle.pc_class.specs.Overrides.{Judges, static, dynamic, wrong}
 use Rattle.pc_expr.specs.Labels.{IsCodeAt}
 use Rattle.pc_expr.specs.Signatures.{body_context}
-use Rattle.pc_check.specs.Modules.{binds_item, ItemMarks, ItemsMarks, MembersMarks, LawfulMembers, MembersFind, LawfulItems, ItemsFind, Before, before_next, nothing_before, constant_types, Labelling, IsLawful, IsFinding}
+use Rattle.pc_check.specs.Modules.{ItemsMarks, MembersMarks, LawfulMembers, MembersFind, LawfulItems, ItemsFind, Before, before_next, nothing_before, constant_types, Labelling, IsLawful, IsFinding}
 use Rattle.pc_run.specs.Free.{Step, free}
 use Rattle.pc_run.specs.Evaluation.{steps}
 use Rattle.pc_run.specs.Runs.{Run, End, IsFault}
@@ -32,22 +31,19 @@ use Rattle.pc_sound.proofs.Keys.{IsKeyed, Keyed}
 use Rattle.pc_sound.proofs.TimelyBodies.{NamesTimely}
 use Rattle.pc_sound.proofs.FunctionsKeyed.{function_keyed}
 use Rattle.pc_sound.proofs.Inheritance.{inherits}
-use Rattle.pc_sound.proofs.Dispatch.{IsAllowedOverride, IsJudged, AreJudged, Dispatched, dispatched, owner_above}
+use Rattle.pc_sound.proofs.Dispatch.{IsAllowedOverride, AreJudged, dispatched, owner_above}
 use Rattle.pc_sound.proofs.KnownTests.{right_tests}
 use Rattle.pc_sound.proofs.Knowing.{initializer_names, initializer_ancestors, body_names, body_ancestors}
 use Rattle.pc_sound.proofs.World.{Labelled}
-use Rattle.pc_sound.proofs.Entering.{fits_of}
 use Rattle.pc_sound.proofs.Filling.{Distinct}
 use Rattle.pc_sound.proofs.Binds.{get_at_end, functions_append, constant_named, class_named}
 use Rattle.pc_sound.proofs.Globals.{KnowsNames}
 use Rattle.pc_sound.proofs.InstanceTests.{RightTests}
-use Rattle.pc_sound.proofs.ModuleOrder.{ParametersBind}
-use Rattle.pc_sound.proofs.Items.{ItemReady, ItemsReady}
+use Rattle.pc_sound.proofs.Items.{ItemsReady}
 use Rattle.pc_sound.proofs.Classes.{ClassesReady, classes_good}
 use Rattle.pc_sound.proofs.BodyCalls.{Facts}
-use Rattle.pc_sound.proofs.InitializerCalls.{items_fit}
 use Rattle.pc_sound.proofs.Whole.{IsListedPlace, BodyOf, of_function, of_items, body_around, body_ctx, body_fits, Premises, sound_of}
-use Rattle.pc_sound.proofs.AllForms.{NamesMean, forms_of}
+use Rattle.pc_sound.proofs.AllForms.{forms_of}
 use Rattle.pc_sound.proofs.LabelledBodies.{last_types_are, last_classes_are, main_plain, labelled_of}
 use Rattle.pc_sound.proofs.UniqueNames.{AllBind, parameters_bind, parameters_distinct, items_bind, function_binds}
 

@@ -1,30 +1,23 @@
 -- Arguments that suit a signature fill its parameters, each with a value of its type.
-use Rattle.std.proofs.Common.{◌≡◌, ℕ, zero, suc, ◌<◌, ◌≤◌, List, [], ◌∷◌, ◌++◌, map, refl, sym, ap, ◌∙◌, subst, inl, inr, arith}
-use Rattle.std.specs.Prelude.{◌⊎◌, Bool as Test, true, false, ◌&&◌, ◌||◌, not, nat_le, if◌then◌else◌, flat_map, length, take, drop, find, Option, Some, None, bytes_eq, slice_get}
-use Rattle.std.specs.List.{list_all, list_any}
+use Rattle.std.proofs.Common.{◌≡◌, ℕ, zero, suc, List, [], ◌∷◌, map, refl, sym, ap, ◌∙◌, subst, inl, inr, arith}
+use Rattle.std.specs.Prelude.{◌⊎◌, Bool as Test, true, false, ◌&&◌, ◌||◌, not, if◌then◌else◌, length, take, drop, Option, Some, None, bytes_eq}
+use Rattle.std.specs.List.{list_all}
 use Rattle.std.specs.Option.{option_map}
 use Rattle.std.proofs.lemmas.Bool.Decides.{nat_tests}
 use Rattle.std.proofs.lemmas.Slice.Eq.{bytes_eq-Decides}
-use Rattle.pc_tree.specs.Tree.{Name, Exprs, no_exprs, more_exprs, Keywords, no_keywords, more_keywords}
+use Rattle.pc_tree.specs.Tree.{Name}
 use Rattle.pc_scope.specs.Bindings.{texts}
-use Rattle.pc_scope.specs.Expressions.{keyword_names}
 use Rattle.pc_scope.specs.Resolution.{is_among}
-use Rattle.pc_types.specs.Tree.{Tree}
 use Rattle.pc_types.specs.Below.{Bases}
 use Rattle.pc_class.specs.Facts.{Parameter, field_of}
-use Rattle.pc_expr.specs.Context.{Signature}
-use Rattle.pc_expr.specs.Calls.{Given, count_exprs, once_each, given, position_of, is_free, are_filled, parameter_names, has_none, is_suited, Seat, type_at}
-use Rattle.pc_expr.specs.Labels.{ItemsMarks, KeywordsMarks}
-use Rattle.pc_expr.specs.Lawful.{keyword_seat}
+use Rattle.pc_expr.specs.Calls.{once_each, position_of, is_free, are_filled, parameter_names}
 use Rattle.pc_value.specs.Value.{Value}
 use Rattle.pc_value.specs.Texts.{same_text}
 use Rattle.pc_run.specs.State as state
 use Rattle.pc_run.specs.State.{Local}
 use Rattle.pc_run.specs.Calls.{NamedValue, value_named, is_parameter, are_parameters, first_some, taken, and_others, filled, bound_arguments}
 use Rattle.pc_sound.specs.Values.{HeapTyping, HasType}
-use Rattle.pc_sound.proofs.Members.{HasEach, each_left, each_right}
-use Rattle.pc_sound.proofs.Arguments.{ArgumentsHave, KeywordsHave}
-use Rattle.pc_sound.proofs.Entry.{ParameterHas, ParametersHave}
+use Rattle.pc_sound.proofs.Entry.{ParametersHave}
 use Rattle.pc_sound.proofs.World.{DefaultHas, DefaultsHave}
 
 pub clash : {b : Test} → b ≡ true → b ≡ false → ⊥

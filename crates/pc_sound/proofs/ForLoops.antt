@@ -1,10 +1,10 @@
 -- `for` loops: each turn binds the target to an item of the type that the head's labels say.
-use Rattle.std.proofs.Common.{◌≡◌, ℕ, zero, suc, List, [], ◌∷◌, map, refl, sym, ap, ◌∙◌, subst, inl, inr, arith, Contains}
-use Rattle.std.specs.Prelude.{◌⊎◌, Bool as Test, true, false, Option, Some, None}
+use Rattle.std.proofs.Common.{◌≡◌, ℕ, suc, List, [], ◌∷◌, refl, sym, ap, ◌∙◌, subst, inl, inr, arith}
+use Rattle.std.specs.Prelude.{Option, Some, None}
 use Rattle.std.proofs.lemmas.List.Elements.{Contains-append_right}
 use Rattle.pc_source.specs.declared.place.Place.{Place}
 use Rattle.pc_tree.specs.declared.code.Code.{Code}
-use Rattle.pc_tree.specs.Code.{finding, IsError}
+use Rattle.pc_tree.specs.Code.{finding}
 use Rattle.pc_tree.specs.Tree.{Name, Expr, for_loop, Stmts, Module}
 use Rattle.pc_tree.specs.Stopping.{bound_by, loose_in}
 use Rattle.pc_scope.specs.declared.resolution.Res.TheVariants as res
@@ -13,21 +13,20 @@ use Rattle.pc_types.specs.Tree.{Tree}
 use Rattle.pc_types.specs.Below.{Bases}
 use Rattle.pc_flow.specs.Environment.{Env, declared_type, assign, assigned_type, loop_head}
 use Rattle.pc_expr.specs.Operations.{Mark, clean}
-use Rattle.pc_expr.specs.Context.{Context, Flows, static, dynamic, wrong, FlowAt, FlowsInto}
-use Rattle.pc_expr.specs.Labels.{Flowing, Marks, Finds, IsFoundAt, IsFlowAt}
+use Rattle.pc_expr.specs.Context.{Context, static, FlowAt, FlowsInto}
+use Rattle.pc_expr.specs.Labels.{Marks, Finds, IsFoundAt, IsFlowAt}
 use Rattle.pc_check.specs.StatementLabels.{StmtMarks, SuiteMarks, breaks_in_suite}
 use Rattle.pc_check.specs.Statements.{Seen, only_code, binds_number, LawfulIterable, LawfulTarget, LawfulStmt, LawfulSuite, StmtFinds, SuiteFinds}
 use Rattle.pc_value.specs.Value.{Value, Gives}
 use Rattle.pc_value.specs.Actions.{Iteration}
 use Rattle.pc_value.specs.Actions as action
-use Rattle.pc_run.specs.State.{State, Frame}
-use Rattle.pc_run.specs.Names.{with_local}
-use Rattle.pc_run.specs.Steps.{Parts, Flow, next, breaking, continuing, leaves, item_out}
-use Rattle.pc_run.specs.Free.{Step, ◌>>=◌, free}
-use Rattle.pc_run.specs.Evaluation.{exec_node, exec_body, after_turn, for_turn, with_item, eval_iterable, iterable_form}
-use Rattle.pc_sound.specs.Values.{HeapTyping, HasType, Extends}
+use Rattle.pc_run.specs.State.{Frame}
+use Rattle.pc_run.specs.Steps.{Parts, Flow, next, item_out}
+use Rattle.pc_run.specs.Free.{Step, free}
+use Rattle.pc_run.specs.Evaluation.{exec_node, for_turn, with_item, eval_iterable, iterable_form}
+use Rattle.pc_sound.specs.Values.{HeapTyping, HasType}
 use Rattle.pc_sound.specs.Kept.{HasLocals}
-use Rattle.pc_sound.specs.Judgment.{IsAllowed, Around, Stands, IsSafe, Fits, Leads, At, FlowEnds, Lasts}
+use Rattle.pc_sound.specs.Judgment.{IsAllowed, Around, IsSafe, Fits, Leads, At, FlowEnds, Lasts}
 use Rattle.pc_sound.proofs.ValuesFlow.{of_static}
 use Rattle.pc_sound.proofs.Expressions.{Covered}
 use Rattle.pc_sound.proofs.Flows.{Evaluates}
@@ -36,7 +35,7 @@ use Rattle.pc_sound.proofs.KeyedStatements.{StmtKeyed, SuiteKeyed}
 use Rattle.pc_sound.proofs.Loops.{into_head}
 use Rattle.pc_sound.proofs.Leading.{ends_as, leads_bind, leads_comes, leads_binds, leads_act, leads_from, leads_to, leads_each, leads_safe}
 use Rattle.pc_sound.proofs.Binding.{one_flow, evaluated_safe, assigned_has}
-use Rattle.pc_sound.proofs.Statements.{Runs, lasts_right, first_of_list, flow_wider, ways_out, GoodExec, GoodStmt}
+use Rattle.pc_sound.proofs.Statements.{Runs, first_of_list, flow_wider, ways_out, GoodExec, GoodStmt}
 use Rattle.pc_sound.proofs.Simple.{bound_local}
 use Rattle.pc_sound.proofs.Branches.{stands_with}
 use Rattle.pc_sound.proofs.Turns.{AlsoKept, also_lasts, kept_still, loop_ways, left_at_head, body_runs, turn_ends}

@@ -1,16 +1,14 @@
 -- Calls in initializers: of classes that are defined earlier, and of nothing else without an error.
-use Rattle.std.proofs.Common.{◌≡◌, ℕ, zero, suc, List, [], ◌∷◌, refl, sym, ap, ◌∙◌, subst, inl, inr, arith, Contains}
-use Rattle.std.specs.Prelude.{◌⊎◌, Bool as Test, true, false, ◌&&◌, if◌then◌else◌, nat_lt, Option, Some, None, slice_get}
+use Rattle.std.proofs.Common.{◌≡◌, ℕ, List, [], ◌∷◌, refl, sym, ap, ◌∙◌, subst, inl, inr, arith, Contains}
+use Rattle.std.specs.Prelude.{Bool as Test, true, false, ◌&&◌, if◌then◌else◌, nat_lt, Option, Some, None, slice_get}
 use Rattle.pc_source.specs.declared.place.Place.{Place}
 use Rattle.pc_tree.specs.declared.code.Code.TheVariants.{E03}
-use Rattle.pc_tree.specs.declared.code.Finding.{Finding}
-use Rattle.pc_tree.specs.Code.{finding, IsError}
+use Rattle.pc_tree.specs.Code.{finding}
 use Rattle.pc_tree.specs.Tree.{Name, Expr, name, number, text, truth, nothing, tuple, list, dict, negative, negation, binary, compare, is_none, is_not_none, conjunction, disjunction, attribute, index, call, Exprs, Keywords, FuncDef, Module}
 use Rattle.pc_scope.specs.declared.resolution.Res.{Res}
 use Rattle.pc_scope.specs.declared.resolution.Res.TheVariants as res
 use Rattle.pc_scope.specs.Expressions.{place_of, is_instance_test}
 use Rattle.pc_scope.specs.Bindings.{classes_in}
-use Rattle.pc_scope.specs.Resolution.{index_of, resolve_in_module}
 use Rattle.pc_types.specs.Tree.{Tree}
 use Rattle.pc_class.specs.Bases.{bases_of}
 use Rattle.pc_class.specs.Facts.{classes_of, class_at}
@@ -19,16 +17,14 @@ use Rattle.pc_flow.specs.Environment.{Env}
 use Rattle.pc_expr.specs.Operations.{Mark, in_error}
 use Rattle.pc_expr.specs.Context.{Context, name_mark}
 use Rattle.pc_expr.specs.Signatures.{initializer_context}
-use Rattle.pc_expr.specs.Calls.{Given, given, is_one, CallOffer, Callee, called, class_signature, good_callee, value_callee, name_callee, value_offers, call_mark, positional_seat, named_seat}
-use Rattle.pc_expr.specs.Labels.{Marks, mark_of, with_mark, item_types, Finds, ItemsFind, IsFoundAt}
+use Rattle.pc_expr.specs.Calls.{given, is_one, Callee, called, class_signature, good_callee, value_callee, name_callee, value_offers, call_mark, positional_seat, named_seat}
+use Rattle.pc_expr.specs.Labels.{Marks, mark_of, with_mark, item_types, Finds, ItemsFind}
 use Rattle.pc_expr.specs.Lawful.{Lawful, LawfulItems, LawfulKeywords, callee_of, is_length, is_length_of_one}
-use Rattle.pc_value.specs.Value.{Value}
-use Rattle.pc_run.specs.State.{State, Class, Globals}
 use Rattle.pc_run.specs.Steps.{Parts}
 use Rattle.pc_run.specs.Free.{Step, free}
 use Rattle.pc_run.specs.Evaluation.{ordinary, eval_call, eval_node}
-use Rattle.pc_sound.specs.Values.{HeapTyping, HasType}
-use Rattle.pc_sound.specs.Judgment.{Around, Stands, IsSafe, Fits}
+use Rattle.pc_sound.specs.Values.{HasType}
+use Rattle.pc_sound.specs.Judgment.{Around, IsSafe, Fits}
 use Rattle.pc_sound.proofs.Keys.{Keyed}
 use Rattle.pc_sound.proofs.Expressions.{Covered, GoodEval}
 use Rattle.pc_sound.proofs.Flows.{Evaluates, found_here}

@@ -1,14 +1,13 @@
 -- What a `for` goes over: each turn gives a value of the item type, or there is none, whatever the body did to the heap.
 use Rattle.std.proofs.Common.{◌≡◌, ℕ, zero, suc, List, [], ◌∷◌, map, refl, sym, ap, ◌∙◌, subst, inl, inr, arith}
-use Rattle.std.specs.Prelude.{◌⊎◌, ℤ, pos, Bool as Test, true, false, nat_eq, if◌then◌else◌, length, Option, Some, None, slice_get}
+use Rattle.std.specs.Prelude.{ℤ, pos, Bool as Test, true, false, nat_eq, if◌then◌else◌, length, Option, Some, None, slice_get}
 use Rattle.pc_types.specs.Tree.{Tree, Trees, Any, Object, Never, Int, Bool, Str, NoneType, Class, ListOf, DictOf, TupleOf, Union, end, more}
 use Rattle.pc_types.specs.Below.{Bases, AreSmaller}
 use Rattle.pc_types.specs.Shape.{members, listed}
 use Rattle.pc_class.specs.Facts as facts
 use Rattle.pc_flow.specs.Environment.{join_all}
 use Rattle.pc_expr.specs.Operations.{Mark, Offer, found_of, offers_mark, has_error, iterate_member}
-use Rattle.pc_value.specs.Value as value
-use Rattle.pc_value.specs.Value.{Value, Values, whole, boolean, string, tuple_of, location, none, no_values, more_values, list_of, Cell, list_cell, dict_cell, instance_cell, Entry, Heap, seen, seen_cell, Other}
+use Rattle.pc_value.specs.Value.{Value, Values, whole, string, tuple_of, location, no_values, more_values, list_of, Cell, list_cell, dict_cell, instance_cell, Entry, Heap, seen, seen_cell, Other}
 use Rattle.pc_value.specs.Actions.{Iteration, over_list, over_dict, over_text, over_tuple, over_range, gives, finished, stops}
 use Rattle.pc_value.specs.Iteration.{iterate_outcome, turn_outcome, turn_item, turn_character, list_turn, dict_turn}
 use Rattle.pc_value.specs.Numbers.{number_below}

@@ -1,13 +1,13 @@
 -- The labels of initializers, and the types of constants, have dicts with int or str as key, where no test of an instance in an initializer names too early.
-use Rattle.std.proofs.Common.{◌≡◌, ℕ, zero, suc, List, [], ◌∷◌, ◌++◌, refl, sym, ap, ◌∙◌, subst, inl, inr, arith}
-use Rattle.std.specs.Prelude.{◌⊎◌, Bool as Test, true, false, Option, Some, None, slice_get}
+use Rattle.std.proofs.Common.{◌≡◌, ℕ, List, [], ◌∷◌, ◌++◌, refl, sym, ap, subst, inl, inr, arith}
+use Rattle.std.specs.Prelude.{Bool as Test, true, false, Option, Some, None, slice_get}
 use Rattle.pc_tree.specs.Tree.{Ann, Item, constant_item, class_item, def_item, Module}
 use Rattle.pc_types.specs.Tree.{Tree}
 use Rattle.pc_class.specs.Bases.{bases_of}
 use Rattle.pc_expr.specs.Labels.{type_of}
 use Rattle.pc_expr.specs.Signatures.{initializer_context}
 use Rattle.pc_check.specs.Modules.{ItemsMarks, LawfulItems, Before, before_next, nothing_before, binds_item, annotated_types, first_of_types, constant_type, constant_types, Labelling, IsLawful}
-use Rattle.pc_sound.proofs.Keys.{IsKeyed, Keyed, keyed_type}
+use Rattle.pc_sound.proofs.Keys.{IsKeyed, keyed_type}
 use Rattle.pc_sound.proofs.KeyedTypes.{OptionKeyed}
 use Rattle.pc_sound.proofs.KeyedLabels.{Timely, labels_keyed}
 use Rattle.pc_sound.proofs.KeyedModules.{ann_keyed, initializer_keyed}

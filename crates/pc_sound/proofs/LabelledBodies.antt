@@ -1,6 +1,6 @@
 -- The functions and methods of a module have the lawful labels that the module's labelling gives them.
 use Rattle.std.proofs.Common.{◌≡◌, ℕ, zero, suc, ◌+◌, List, [], ◌∷◌, ◌++◌, length, map, refl, sym, ap, ◌∙◌, subst, inl, inr, arith, Contains}
-use Rattle.std.specs.Prelude.{◌⊎◌, Bool as Test, true, false, ◌||◌, not, if◌then◌else◌, Option, Some, None, is_some, slice_get, bytes_eq, codes}
+use Rattle.std.specs.Prelude.{Bool as Test, true, false, ◌||◌, not, if◌then◌else◌, Option, Some, None, is_some, slice_get, bytes_eq, codes}
 use Rattle.std.specs.List.{list_any}
 use Rattle.std.proofs.lemmas.List.Elements.{Contains-append_left, Contains-append_right}
 use Rattle.std.proofs.lemmas.Slice.Eq.{bytes_eq-Decides}
@@ -12,18 +12,17 @@ use Rattle.pc_tree.specs.Code.{finding, IsError}
 use Rattle.pc_tree.specs.Tree.{Name, Param, FuncDef, Member, field_member, method_member, ClassDef, Item, constant_item, class_item, def_item, Module}
 use Rattle.pc_tree.specs.Stopping as stopping
 use Rattle.pc_tree.specs.Stopping.{one_if, of_members, of_defs, name_of_param, bound_by, loose_in, loose_in_def, reserved_among, reserved_in_def, is_plain_def, stopping_places}
-use Rattle.pc_scope.specs.declared.resolution.Builtin.{Builtin}
 use Rattle.pc_scope.specs.declared.resolution.Owner.{Owner}
 use Rattle.pc_scope.specs.declared.resolution.Owner.TheVariants as owners
 use Rattle.pc_scope.specs.Reserved.{reserved, beside, builtin_of, is_reserved}
 use Rattle.pc_scope.specs.Bindings.{texts, param_names, classes_in, functions_in, methods_in}
-use Rattle.pc_scope.specs.Resolution.{is_among, receiver, entry_texts, method_at, function_of}
+use Rattle.pc_scope.specs.Resolution.{is_among, entry_texts, method_at, function_of}
 use Rattle.pc_scope.specs.Findings as scope
 use Rattle.pc_scope.specs.Findings.{IsScopeCode}
 use Rattle.pc_types.specs.Tree.{Tree}
 use Rattle.pc_class.specs.Facts.{Class}
 use Rattle.pc_class.specs.Findings.{base_class}
-use Rattle.pc_check.specs.Modules.{FunctionMarks, LawfulFunction, FunctionFinds, MembersMarks, LawfulMembers, MembersFind, ItemsMarks, LawfulItems, ItemsFind, Before, before_next, nothing_before, Labelling, IsLawful, HasLabelling, IsFinding, constant_types, item_constants}
+use Rattle.pc_check.specs.Modules.{FunctionMarks, LawfulFunction, FunctionFinds, MembersMarks, LawfulMembers, MembersFind, ItemsMarks, LawfulItems, ItemsFind, Before, before_next, nothing_before, Labelling, IsLawful, IsFinding, constant_types, item_constants}
 use Rattle.pc_sound.specs.Sound.{HasNoError}
 use Rattle.pc_sound.proofs.KeyedStatements.{SuiteKeyed}
 use Rattle.pc_sound.proofs.World.{Labelled}

@@ -1,23 +1,19 @@
 -- Steps that lead where they should, one after another; steps of expressions among them.
-use Rattle.std.proofs.Common.{◌≡◌, ℕ, List, [], ◌∷◌, ◌++◌, refl, sym, ap, ◌∙◌, subst, inl, inr}
+use Rattle.std.proofs.Common.{◌≡◌, ℕ, List, [], refl, sym, ap, ◌∙◌, subst, inl, inr}
 use Rattle.std.specs.Prelude.{◌⊎◌}
 use Rattle.pc_source.specs.declared.place.Place.{Place}
-use Rattle.pc_tree.specs.Tree.{Name}
-use Rattle.pc_scope.specs.declared.resolution.Res.TheVariants as res
-use Rattle.pc_types.specs.Tree.{Tree}
 use Rattle.pc_flow.specs.Environment.{Env}
-use Rattle.pc_expr.specs.Context.{Context}
 use Rattle.pc_value.specs.Value.{Value, Stop, Out, Gives, Stops, Raised, Other, Outside, Cut}
 use Rattle.pc_value.specs.Actions.{Action, Outcome, Free}
 use Rattle.pc_value.specs.Outcomes.{acted}
 use Rattle.pc_run.specs.State.{State, Frame}
 use Rattle.pc_run.specs.Names.{with_local}
-use Rattle.pc_run.specs.Free.{Step, ◌>>=◌, comes, may_end, may_stop, Comes, Looks, Changes, act}
+use Rattle.pc_run.specs.Free.{Step, ◌>>=◌, comes, may_end, may_stop, Looks, Changes, act}
 use Rattle.pc_run.specs.Evaluation.{binds_local}
 use Rattle.pc_sound.specs.Values.{HeapTyping, Extends, IsWell}
-use Rattle.pc_sound.specs.Judgment.{HasListed, EndsWell, Around, Stands, Keeps, IsSafe, Goes, Leads, At}
+use Rattle.pc_sound.specs.Judgment.{HasListed, EndsWell, Around, IsSafe, Goes, Leads, At}
 use Rattle.pc_sound.proofs.ValuesFlow.{extends_refl, extends_through}
-use Rattle.pc_sound.proofs.Steps.{listed_left, listed_right, stands_after, Stays}
+use Rattle.pc_sound.proofs.Steps.{listed_left, listed_right, stands_after}
 
 -- an end of the run is well whatever was promised of values
 pub stopped_as : {A B : Type 0} (P : A → Type 0) (Q : B → Type 0) (stop : Stop) → EndsWell P (Stops stop) → EndsWell Q (Stops stop)

@@ -1,9 +1,8 @@
 -- Calls of `e.m`: methods of classes, of lists and of dicts, and fields that are called, on each member of the object's type.
-use Rattle.std.proofs.Common.{◌≡◌, ℕ, zero, suc, List, [], ◌∷◌, ◌++◌, map, refl, sym, ap, ◌∙◌, subst, inl, inr, arith}
-use Rattle.std.specs.Prelude.{◌⊎◌, Bool as Test, true, false, if◌then◌else◌, flat_map, Option, Some, None, IsTrue, slice_get}
+use Rattle.std.proofs.Common.{◌≡◌, ℕ, List, [], ◌∷◌, ◌++◌, map, refl, sym, ap, ◌∙◌, subst, inl, inr, arith}
+use Rattle.std.specs.Prelude.{◌⊎◌, true, false, flat_map, Option, Some, None, IsTrue, slice_get}
 use Rattle.pc_source.specs.declared.place.Place.{Place}
 use Rattle.pc_tree.specs.declared.code.Code.{Code}
-use Rattle.pc_tree.specs.declared.code.Code.TheVariants.{A6, E14}
 use Rattle.pc_tree.specs.Tree.{Name, Expr, attribute, Exprs, Keywords, FuncDef, Module}
 use Rattle.pc_scope.specs.declared.resolution.Owner.{Owner}
 use Rattle.pc_scope.specs.declared.resolution.Owner.TheVariants as owners
@@ -12,27 +11,25 @@ use Rattle.pc_scope.specs.Resolution.{function_of}
 use Rattle.pc_types.specs.Tree.{Tree, Any, Object, Never, Int, Bool, Str, NoneType, Class as ClassType, ListOf, DictOf, TupleOf, Union}
 use Rattle.pc_types.specs.Tree as tree
 use Rattle.pc_types.specs.Below.{Bases, Below}
-use Rattle.pc_types.specs.Normal.{IsKey}
 use Rattle.pc_types.specs.Shape.{members}
 use Rattle.pc_class.specs.Bases.{bases_of}
-use Rattle.pc_class.specs.Facts as facts
-use Rattle.pc_class.specs.Facts.{Parameter, Method, parameters_of, returned, classes_of, class_at, method_of, field_of}
+use Rattle.pc_class.specs.Facts.{Parameter, Method, returned, classes_of, class_at, method_of, field_of}
 use Rattle.pc_class.specs.Overrides.{has_shape_of, IsStatic}
 use Rattle.pc_flow.specs.Environment.{Env}
 use Rattle.pc_expr.specs.Operations.{Mark, attribute_found, attribute_member}
 use Rattle.pc_expr.specs.Context.{Context, Signature}
-use Rattle.pc_expr.specs.Calls.{Given, given, is_suited, Seat, CallOffer, called, fails_at_call, value_offer, value_offers, method_signature, class_offers, list_offers, dict_offers, method_offers, call_codes, all_codes, call_mark, signatures, positional_seat, named_seat, type_at}
+use Rattle.pc_expr.specs.Calls.{Given, given, is_suited, CallOffer, called, value_offer, value_offers, method_signature, class_offers, list_offers, dict_offers, method_offers, all_codes, call_mark, signatures, positional_seat, named_seat, type_at}
 use Rattle.pc_expr.specs.Labels.{Marks, type_of, Finds, ItemsMarks, KeywordsMarks, ItemsFind, KeywordsFind, IsFoundAt}
 use Rattle.pc_expr.specs.Lawful.{Lawful, LawfulItems, LawfulKeywords}
 use Rattle.pc_value.specs.Value.{Value, location, seen, Out, Gives}
 use Rattle.pc_value.specs.Actions as action
 use Rattle.pc_value.specs.Attributes.{attribute_outcome}
-use Rattle.pc_run.specs.State.{State, Function, Class, Globals}
+use Rattle.pc_run.specs.State.{State, Function}
 use Rattle.pc_run.specs.Calls.{Callee, calls_value, calls_function, calls_class, calls_reserved, calls_method, calls_builtin_method, named_method, NamedValue, BuiltinMethod}
 use Rattle.pc_run.specs.Steps.{Parts, value_out}
 use Rattle.pc_run.specs.Free.{Step, ◌>>=◌, Emits, free}
 use Rattle.pc_run.specs.Evaluation.{eval_callee, callee_of_attribute, eval_all, eval_keywords, call_callee, call_method}
-use Rattle.pc_sound.specs.Values.{HeapTyping, HasType, Extends, IsWell}
+use Rattle.pc_sound.specs.Values.{HeapTyping, HasType, IsWell}
 use Rattle.pc_sound.specs.Judgment.{HasListed, EndsWell, Around, Stands, Keeps, IsSafe, Fits}
 use Rattle.pc_sound.proofs.ValuesFlow.{later}
 use Rattle.pc_sound.proofs.Steps.{Stays, bind_safe, comes_safe, looks_safe, emits_safe, may_stop_safe, act_safe, weaken}
@@ -40,20 +37,20 @@ use Rattle.pc_sound.proofs.Keys.{Keyed, IsKeyed, keyed_type, ItemsKeyed, Keyword
 use Rattle.pc_sound.proofs.Expressions.{Covered, GoodEval, allowed, part}
 use Rattle.pc_sound.proofs.Flows.{Evaluates}
 use Rattle.pc_sound.proofs.Narrowing.{HasSome, to_members}
-use Rattle.pc_sound.proofs.Members.{ends_more, HasEach, front_empty, rest_empty}
+use Rattle.pc_sound.proofs.Members.{ends_more, front_empty, rest_empty}
 use Rattle.pc_sound.proofs.Seen.{sees_instance}
-use Rattle.pc_sound.proofs.Fields.{Inherits, fields_below, HasField, has_field, attribute_ends}
+use Rattle.pc_sound.proofs.Fields.{Inherits, fields_below, has_field, attribute_ends}
 use Rattle.pc_sound.proofs.Arguments.{ArgumentsHave, KeywordsHave, arguments_later, keywords_later}
-use Rattle.pc_sound.proofs.OrdinaryCalls.{impossible_safe, KnownCall, ordinary_safe}
-use Rattle.pc_sound.proofs.BuiltInMethods.{BuiltinCall, builtin_later, NamedBuiltin, CalleeCodes, list_named, dict_named, suited_performs, performs_safe, Holds}
+use Rattle.pc_sound.proofs.OrdinaryCalls.{ordinary_safe}
+use Rattle.pc_sound.proofs.BuiltInMethods.{BuiltinCall, builtin_later, NamedBuiltin, CalleeCodes, list_named, dict_named, suited_performs, performs_safe}
 use Rattle.pc_sound.proofs.Dispatch.{IsIn, Dispatched}
 use Rattle.pc_sound.proofs.Statements.{GoodExec}
 use Rattle.pc_sound.proofs.World.{DefaultsHave, MadeOf, made_later, MethodIs, World, world_later, Labelled, around_of, context_of}
 use Rattle.pc_sound.proofs.Filling.{Distinct}
-use Rattle.pc_sound.proofs.Suiting.{Suits, suits, each_of_one, IsOneOf}
+use Rattle.pc_sound.proofs.Suiting.{suits, each_of_one, IsOneOf}
 use Rattle.pc_sound.proofs.CallOffers.{IsOffer, offer_left, offer_right, all_quiet, offer_quiet, suited_where_quiet, offered_called, suited_called, suited_gives, gives_call_type}
 use Rattle.pc_sound.proofs.Calling.{Caller}
-use Rattle.pc_sound.proofs.Dispatching.{FoundMethod, method_found, override_call_safe}
+use Rattle.pc_sound.proofs.Dispatching.{method_found, override_call_safe}
 
 full : {A : Type 0} {x : A} {xs : List A} → x ∷ xs ≡ [] → ⊥
 full e = grind (arith, e)

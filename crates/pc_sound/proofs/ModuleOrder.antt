@@ -1,29 +1,27 @@
 -- The order of a module: each item finds bound what it may name, and binds its own name; `main` finds all.
-use Rattle.std.proofs.Common.{◌≡◌, ℕ, zero, suc, ◌+◌, List, [], ◌∷◌, ◌++◌, length, map, refl, sym, ap, ◌∙◌, subst, inl, inr, arith}
-use Rattle.std.specs.Prelude.{◌⊎◌, Bool as Test, true, false, ◌||◌, not, is_some, nat_lt, if◌then◌else◌, Option, Some, None, slice_get, bytes_eq, chars}
+use Rattle.std.proofs.Common.{◌≡◌, ℕ, suc, List, [], ◌∷◌, ◌++◌, length, refl, sym, ap, ◌∙◌, subst, inl, inr, arith}
+use Rattle.std.specs.Prelude.{◌⊎◌, Bool as Test, true, false, ◌||◌, is_some, nat_lt, Option, Some, None, slice_get, bytes_eq, chars}
 use Rattle.std.proofs.lemmas.Bool.Decides.{nat_tests}
 use Rattle.std.proofs.lemmas.Slice.Eq.{bytes_eq-Decides}
 use Rattle.pc_source.specs.declared.place.Place.{Place}
 use Rattle.pc_tree.specs.declared.code.Code.{Code}
 use Rattle.pc_tree.specs.declared.code.Finding.{Finding}
 use Rattle.pc_tree.specs.Code.{finding, IsError}
-use Rattle.pc_tree.specs.Tree.{Name, Ann, Expr, Literal, number_literal, negative_literal, text_literal, truth_literal, none_literal, Param, Constant, ClassDef, FuncDef, Item, constant_item, class_item, def_item, Module}
-use Rattle.pc_scope.specs.declared.resolution.Builtin.{Builtin}
+use Rattle.pc_tree.specs.Tree.{Ann, Expr, Literal, number_literal, negative_literal, text_literal, truth_literal, none_literal, Param, Constant, ClassDef, FuncDef, constant_item, def_item, Module}
 use Rattle.pc_scope.specs.declared.resolution.Res.TheVariants as res
-use Rattle.pc_scope.specs.Reserved.{builtin_of, is_reserved}
-use Rattle.pc_scope.specs.Bindings.{constants_in, classes_in, functions_in}
+use Rattle.pc_scope.specs.Reserved.{is_reserved}
+use Rattle.pc_scope.specs.Bindings.{classes_in}
 use Rattle.pc_scope.specs.Resolution.{is_among, resolve_in_module}
 use Rattle.pc_scope.specs.Expressions.{place_of}
-use Rattle.pc_types.specs.Tree.{Tree, Int, Bool, Str, NoneType}
-use Rattle.pc_types.specs.Below.{Bases}
+use Rattle.pc_types.specs.Tree.{Tree}
 use Rattle.pc_types.specs.Annotations.{read_ann, read_option}
 use Rattle.pc_class.specs.Bases.{bases_of}
 use Rattle.pc_class.specs.Facts.{parameters_of, classes_of}
 use Rattle.pc_expr.specs.Labels.{Flowing, Marks, mark_of, type_of, Finds, IsFlowAt, IsCodeAt}
-use Rattle.pc_expr.specs.Context.{Flows, FlowsInto}
+use Rattle.pc_expr.specs.Context.{FlowsInto}
 use Rattle.pc_expr.specs.Lawful.{Lawful}
 use Rattle.pc_expr.specs.Signatures.{initializer_context, literal_type, literal_place, LawfulDefault, DefaultFinds, binds_parameter, ParamsMarks, LawfulParams, ParamsFind}
-use Rattle.pc_check.specs.Modules.{constant_type, annotated_types, first_of_types, binds_item, ItemMarks, LawfulItem, Before}
+use Rattle.pc_check.specs.Modules.{constant_type, annotated_types, first_of_types}
 use Rattle.pc_value.specs.Value as value
 use Rattle.pc_value.specs.Value.{Value, boolean, string, Out, Gives, Stops}
 use Rattle.pc_value.specs.Actions as action
@@ -34,19 +32,18 @@ use Rattle.pc_run.specs.State as state
 use Rattle.pc_run.specs.State.{State, Function, Class, Globals, a_value, a_function, a_class}
 use Rattle.pc_run.specs.Names.{global_of, local_of}
 use Rattle.pc_run.specs.Steps.{Parts, value_out}
-use Rattle.pc_run.specs.Free.{Step, ◌>>=◌, act, free}
+use Rattle.pc_run.specs.Free.{Step, act, free}
 use Rattle.pc_run.specs.Evaluation.{make_literal, make_default, make_parameters, make_function, binds_global, exec_item}
 use Rattle.pc_sound.specs.Values.{HeapTyping, HasType, Extends, IsWell}
 use Rattle.pc_sound.specs.Judgment.{HasListed, EndsWell, Around, Stands, IsSafe}
 use Rattle.pc_sound.proofs.ValuesFlow.{later, of_static}
-use Rattle.pc_sound.proofs.Steps.{weaken}
 use Rattle.pc_sound.proofs.Leading.{Known, Promised, ends_as}
 use Rattle.pc_sound.proofs.Expressions.{Covered, GoodEval}
 use Rattle.pc_sound.proofs.Flows.{Evaluates, flow_safe}
 use Rattle.pc_sound.proofs.Keys.{Keyed}
 use Rattle.pc_sound.proofs.Binding.{IsAtom, atom_flow, one_flow}
 use Rattle.pc_sound.proofs.World.{DefaultHas, DefaultsHave, MadeOf, made_later, ClassIs, class_later, ConstantIs, FunctionIs}
-use Rattle.pc_sound.proofs.Proceeding.{Arrives, Proceeds, proceeds_bind, proceeds_comes, proceeds_looks, proceeds_changes, proceeds_charge, proceeds_as}
+use Rattle.pc_sound.proofs.Proceeding.{Arrives, Proceeds, proceeds_bind, proceeds_comes, proceeds_changes, proceeds_charge}
 use Rattle.pc_sound.proofs.Binds.{bound_more, bound_new, bound_other, get_one_more}
 
 clash : {b : Test} → b ≡ true → b ≡ false → ⊥

@@ -1,19 +1,16 @@
 -- Nested steps, one more at a time: where each form of expression is safe over parts that are, so is each number of nested steps.
-use Rattle.std.proofs.Common.{◌≡◌, ℕ, zero, suc, refl}
-use Rattle.pc_tree.specs.Tree.{Expr, Module}
-use Rattle.pc_scope.specs.Expressions.{place_of}
+use Rattle.std.proofs.Common.{ℕ, zero, suc}
+use Rattle.pc_tree.specs.Tree.{Module}
 use Rattle.pc_types.specs.Tree.{Tree}
 use Rattle.pc_expr.specs.Context.{Context}
-use Rattle.pc_value.specs.Value.{Value, Gives, Stops, Cut}
-use Rattle.pc_run.specs.Steps.{Parts}
+use Rattle.pc_value.specs.Value.{Stops, Cut}
 use Rattle.pc_run.specs.Free.{Step, free}
 use Rattle.pc_run.specs.Evaluation.{eval_node, eval_over, exec_all, steps}
-use Rattle.pc_sound.specs.Judgment.{Around, Stands, Fits}
+use Rattle.pc_sound.specs.Judgment.{Around, Fits}
 use Rattle.pc_sound.proofs.Steps.{bind_safe, comes_safe, may_stop_safe, weaken}
 use Rattle.pc_sound.proofs.Leading.{leads_comes}
 use Rattle.pc_sound.proofs.Expressions.{GoodEval}
-use Rattle.pc_sound.proofs.Flows.{Evaluates}
-use Rattle.pc_sound.proofs.Places.{over_evaluates, steps_evaluate}
+use Rattle.pc_sound.proofs.Places.{steps_evaluate}
 use Rattle.pc_sound.proofs.Conditions.{Decides}
 use Rattle.pc_sound.proofs.Statements.{GoodExec}
 use Rattle.pc_sound.proofs.Simple.{GoodStores}

@@ -1,9 +1,9 @@
 -- Steps of a module: they bind names and make classes, one after another.
-use Rattle.std.proofs.Common.{◌≡◌, ℕ, List, [], ◌∷◌, ◌++◌, refl, sym, ap, ◌∙◌, subst, inl, inr, arith, Contains}
+use Rattle.std.proofs.Common.{◌≡◌, List, ◌++◌, sym, subst, inl, inr, Contains}
 use Rattle.std.specs.Prelude.{◌⊎◌}
 use Rattle.std.proofs.lemmas.List.Elements.{Contains-append_left, Contains-append_right}
 use Rattle.pc_source.specs.declared.place.Place.{Place}
-use Rattle.pc_value.specs.Value.{Stop, Out, Gives, Stops}
+use Rattle.pc_value.specs.Value.{Out, Gives, Stops}
 use Rattle.pc_run.specs.State.{State}
 use Rattle.pc_run.specs.Free.{Step, ◌>>=◌, comes, may_stop, Looks, Changes}
 use Rattle.pc_sound.specs.Values.{HeapTyping}

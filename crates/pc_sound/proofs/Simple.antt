@@ -1,9 +1,8 @@
 -- Simple statements: assignments, `return`, `assert`, expressions, and those that only say where to go on.
-use Rattle.std.proofs.Common.{◌≡◌, ℕ, List, [], ◌∷◌, refl, sym, ap, ◌∙◌, subst, inl, inr, arith, Contains}
+use Rattle.std.proofs.Common.{◌≡◌, ℕ, List, [], ◌∷◌, refl, sym, ap, ◌∙◌, subst, inl, inr, Contains}
 use Rattle.std.specs.Prelude.{◌⊎◌, Bool as Test, true, false, Option, Some, None}
 use Rattle.pc_source.specs.declared.place.Place.{Place}
 use Rattle.pc_tree.specs.declared.code.Code.{Code}
-use Rattle.pc_tree.specs.declared.code.Finding.{Finding}
 use Rattle.pc_tree.specs.Code.{finding, IsError}
 use Rattle.pc_tree.specs.Tree.{Name, Expr, Ann, Target, to_name, to_attribute, to_index, pass, breaks, continues, returns, asserts, annotated, assigns, evaluates, Module}
 use Rattle.pc_scope.specs.declared.resolution.Res.TheVariants as res
@@ -13,21 +12,20 @@ use Rattle.pc_types.specs.Below.{Static}
 use Rattle.pc_flow.specs.Environment.{Env, declared_type, assign, assigned_type}
 use Rattle.pc_flow.specs.Narrowing.{narrow}
 use Rattle.pc_expr.specs.Operations.{clean}
-use Rattle.pc_expr.specs.Context.{Context, FlowAt, FlowsInto}
+use Rattle.pc_expr.specs.Context.{Context, FlowsInto}
 use Rattle.pc_expr.specs.Labels.{Flowing, Marks, mark_of, type_of, Finds, IsFlowAt}
 use Rattle.pc_expr.specs.Lawful.{Lawful}
 use Rattle.pc_check.specs.StatementLabels.{OptionMarks, TargetMarks, StmtMarks}
-use Rattle.pc_check.specs.Statements.{Seen, only_code, is_first, annotation_at, LawfulBinding, LawfulStore, LawfulOption, LawfulStmt, OptionFinds, TargetFinds, StmtFinds}
-use Rattle.pc_value.specs.Value.{Value, none, Out, Gives, Stops, Other, is_true}
+use Rattle.pc_check.specs.Statements.{Seen, only_code, LawfulBinding, LawfulStore, LawfulOption, LawfulStmt, OptionFinds, TargetFinds, StmtFinds}
+use Rattle.pc_value.specs.Value.{Value, none, Gives, Stops, Other, is_true}
 use Rattle.pc_run.specs.State.{State, Frame}
 use Rattle.pc_run.specs.Names.{with_local}
 use Rattle.pc_run.specs.Steps.{Parts, Flow, next, breaking, continuing, leaves}
 use Rattle.pc_run.specs.Free.{Step, ◌>>=◌, comes, Changes, free}
 use Rattle.pc_run.specs.Evaluation.{exec_node, assign as assign_target, fail, condition, choose, binds_local}
 use Rattle.pc_sound.specs.Values.{HeapTyping, HasType, Extends}
-use Rattle.pc_sound.specs.Judgment.{Around, Stands, IsSafe, Fits, Tells, Leads, At, Reaches, FlowEnds, Lasts}
+use Rattle.pc_sound.specs.Judgment.{Around, Stands, IsSafe, Fits, Tells, Leads, At, FlowEnds, Lasts}
 use Rattle.pc_sound.proofs.ValuesFlow.{of_static}
-use Rattle.pc_sound.proofs.Steps.{weaken}
 use Rattle.pc_sound.proofs.Expressions.{Covered, GoodEval}
 use Rattle.pc_sound.proofs.Keys.{Keyed}
 use Rattle.pc_sound.proofs.KeyedStatements.{OptionKeyed, TargetKeyed, StmtKeyed}

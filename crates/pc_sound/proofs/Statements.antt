@@ -1,45 +1,27 @@
 -- Statements lead to their ways out, where their parts do.
-use Rattle.std.proofs.Common.{◌≡◌, ℕ, List, [], ◌∷◌, ◌++◌, refl, sym, ap, ◌∙◌, subst, inl, inr, arith, Contains}
+use Rattle.std.proofs.Common.{◌≡◌, List, [], ◌∷◌, ◌++◌, refl, sym, subst, inl, inr, arith, Contains}
 use Rattle.std.specs.Prelude.{◌⊎◌, Bool as Test, true, false, Option, Some, None}
 use Rattle.std.proofs.lemmas.List.Elements.{Contains-append_left, Contains-append_right}
 use Rattle.pc_source.specs.declared.place.Place.{Place}
-use Rattle.pc_tree.specs.declared.code.Finding.{Finding}
-use Rattle.pc_tree.specs.Code.{finding, IsError}
-use Rattle.pc_tree.specs.Tree.{Name, Expr, Ann, Target, to_name, to_attribute, to_index, Stmt, pass, breaks, continues, returns, asserts, annotated, assigns, evaluates, while_loop, for_loop, conditional, Stmts, no_stmts, more_stmts, Branches, no_branches, more_branches, Module}
-use Rattle.pc_tree.specs.Stopping.{bound_by_stmt, bound_by, bound_by_branches, loose_in_stmt, loose_in, loose_in_branches}
-use Rattle.pc_scope.specs.declared.resolution.Res.{Res}
-use Rattle.pc_scope.specs.declared.resolution.Res.TheVariants as res
+use Rattle.pc_tree.specs.Tree.{Name, Stmt, Stmts, no_stmts, more_stmts, Module}
+use Rattle.pc_tree.specs.Stopping.{bound_by_stmt, bound_by, loose_in_stmt, loose_in}
 use Rattle.pc_scope.specs.Bindings.{texts}
 use Rattle.pc_scope.specs.Reach.{completes}
-use Rattle.pc_scope.specs.Resolution.{index_of}
-use Rattle.pc_scope.specs.Expressions.{place_of}
-use Rattle.pc_types.specs.Tree.{Tree, NoneType}
-use Rattle.pc_types.specs.Below.{Static}
-use Rattle.pc_flow.specs.Environment.{Env, current, declared_type, assign, assigned_type}
-use Rattle.pc_flow.specs.Narrowing.{narrow}
-use Rattle.pc_expr.specs.Operations.{clean}
-use Rattle.pc_expr.specs.Context.{Context, FlowAt, FlowsInto}
-use Rattle.pc_expr.specs.Labels.{Flowing, Marks, mark_of, type_of, Finds, IsFlowAt}
-use Rattle.pc_expr.specs.Lawful.{Lawful}
-use Rattle.pc_check.specs.StatementLabels.{OptionMarks, TargetMarks, StmtMarks, SuiteMarks, Behind, BehindRule, behind_list, breaks_in, breaks_in_suite}
-use Rattle.pc_check.specs.Statements.{Seen, only_code, LawfulBinding, LawfulStore, LawfulAssignment, LawfulAnnotated, LawfulReturn, LawfulOption, Undeclared, LawfulStmt, LawfulSuite, OptionFinds, option_place, TargetFinds, StmtFinds, SuiteFinds}
-use Rattle.pc_value.specs.Value.{Value, none, Out, Gives, Stops, Other, is_true}
+use Rattle.pc_types.specs.Tree.{Tree}
+use Rattle.pc_flow.specs.Environment.{Env}
+use Rattle.pc_expr.specs.Context.{Context}
+use Rattle.pc_check.specs.StatementLabels.{StmtMarks, SuiteMarks, Behind, BehindRule, behind_list, breaks_in, breaks_in_suite}
+use Rattle.pc_check.specs.Statements.{Seen, Undeclared, LawfulStmt, LawfulSuite, StmtFinds, SuiteFinds}
+use Rattle.pc_value.specs.Value.{Gives}
 use Rattle.pc_run.specs.State.{State, Frame}
-use Rattle.pc_run.specs.Names.{with_local}
 use Rattle.pc_run.specs.Steps.{Parts, Flow, next, breaking, continuing, leaves}
-use Rattle.pc_run.specs.Free.{Step, ◌>>=◌, comes, free}
-use Rattle.pc_run.specs.Evaluation.{exec_node, exec_all, assign as assign_target, fail, condition, choose, then_follows, binds_local}
-use Rattle.pc_sound.specs.Values.{HeapTyping, HasType, Extends}
-use Rattle.pc_sound.specs.Kept.{HasLocals}
-use Rattle.pc_sound.specs.Judgment.{Around, HasNames, Stands, IsSafe, Fits, Tells, Leads, At, Ways, Reaches, IsSomewhere, FlowEnds, IsLocal, Lasts}
-use Rattle.pc_sound.proofs.ValuesFlow.{of_static}
-use Rattle.pc_sound.proofs.Steps.{weaken}
-use Rattle.pc_sound.proofs.Expressions.{Covered, GoodEval}
-use Rattle.pc_sound.proofs.Flows.{Evaluates, flow_safe}
-use Rattle.pc_sound.proofs.Leading.{leads_bind, leads_comes, leads_looks, leads_charge, leads_binds, leads_from, leads_to, leads_safe, Known, Promised}
+use Rattle.pc_run.specs.Free.{Step, free}
+use Rattle.pc_run.specs.Evaluation.{exec_node, exec_all, then_follows}
+use Rattle.pc_sound.specs.Values.{HeapTyping, HasType}
+use Rattle.pc_sound.specs.Judgment.{Around, Stands, Leads, At, Ways, FlowEnds, Lasts}
+use Rattle.pc_sound.proofs.Expressions.{Covered}
+use Rattle.pc_sound.proofs.Leading.{leads_bind, leads_comes, leads_charge, leads_from, leads_to}
 use Rattle.pc_sound.proofs.KeyedStatements.{StmtKeyed, SuiteKeyed}
-use Rattle.pc_sound.proofs.Frames.{names_kept, assigned_holds}
-use Rattle.pc_sound.proofs.Binding.{atom_flow, assigned_safe, one_flow}
 
 module _ (around : Around) (ctx : Context) where
   -- a step leads from an environment to the ways out, and what lasts when these names are bound lasts

@@ -1,6 +1,6 @@
 -- The arguments of a call that is labelled lawfully, where it suits what is called: they are bound, each to a value of its parameter's type.
-use Rattle.std.proofs.Common.{◌≡◌, ℕ, zero, suc, ◌≤◌, List, [], ◌∷◌, ◌++◌, map, length, refl, sym, ap, ◌∙◌, subst, inl, inr, arith}
-use Rattle.std.specs.Prelude.{◌⊎◌, Bool as Test, true, false, ◌&&◌, ◌||◌, not, nat_le, if◌then◌else◌, flat_map, take, drop, Option, Some, None, All, bytes_eq, slice_get}
+use Rattle.std.proofs.Common.{◌≡◌, ℕ, suc, ◌≤◌, List, [], ◌∷◌, map, length, refl, sym, ap, ◌∙◌, subst, inl, inr, arith}
+use Rattle.std.specs.Prelude.{◌⊎◌, Bool as Test, true, false, ◌&&◌, ◌||◌, not, nat_le, if◌then◌else◌, flat_map, take, drop, Option, Some, None, bytes_eq, slice_get}
 use Rattle.std.specs.List.{list_all}
 use Rattle.std.proofs.lemmas.Bool.Decides.{nat_tests}
 use Rattle.std.proofs.lemmas.Slice.Eq.{bytes_eq-Decides}
@@ -11,7 +11,7 @@ use Rattle.pc_scope.specs.Resolution.{is_among}
 use Rattle.pc_types.specs.Tree.{Tree, Any}
 use Rattle.pc_types.specs.Below.{Bases, Static, same}
 use Rattle.pc_class.specs.Facts.{Parameter, field_of}
-use Rattle.pc_class.specs.Overrides.{has_shape_of, Flow, parameter_flows}
+use Rattle.pc_class.specs.Overrides.{has_shape_of}
 use Rattle.pc_expr.specs.Context.{Signature}
 use Rattle.pc_expr.specs.Calls.{count_exprs, once_each, given, position_of, is_free, are_filled, parameter_names, has_none, is_suited, Seat, nowhere, type_at, CallOffer, signatures, positional_seat, named_seat}
 use Rattle.pc_expr.specs.Labels.{ItemsMarks, KeywordsMarks}
@@ -20,7 +20,7 @@ use Rattle.pc_value.specs.Texts.{same_text}
 use Rattle.pc_run.specs.State as state
 use Rattle.pc_run.specs.State.{Local}
 use Rattle.pc_run.specs.Calls.{NamedValue, value_named, bound_arguments}
-use Rattle.pc_sound.specs.Values.{HeapTyping, HasType}
+use Rattle.pc_sound.specs.Values.{HeapTyping}
 use Rattle.pc_sound.proofs.ValuesFlow.{of_static}
 use Rattle.pc_sound.proofs.Members.{HasEach, each_left, each_right}
 use Rattle.pc_sound.proofs.Arguments.{ArgumentsHave, KeywordsHave}

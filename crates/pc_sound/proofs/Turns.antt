@@ -1,8 +1,7 @@
 -- Loops, turn by turn: each turn begins at the head, and the loop is left at the head or at a `break`.
-use Rattle.std.proofs.Common.{◌≡◌, ℕ, List, [], ◌∷◌, ◌++◌, refl, sym, ap, ◌∙◌, subst, inl, inr, arith, Contains}
-use Rattle.std.specs.Prelude.{◌⊎◌, Bool as Test, true, false, ◌||◌, nat_eq, Option, Some, None}
+use Rattle.std.proofs.Common.{◌≡◌, ℕ, List, [], ◌∷◌, refl, sym, ap, ◌∙◌, subst, inl, inr, arith, Contains}
+use Rattle.std.specs.Prelude.{Bool as Test, true, false, ◌||◌, nat_eq, Option, Some, None}
 use Rattle.std.specs.List.{list_any}
-use Rattle.std.proofs.lemmas.Bool.Decides.{eqb_tells}
 use Rattle.pc_source.specs.declared.place.Place.{Place}
 use Rattle.pc_tree.specs.Tree.{Name, Expr, while_loop, Stmts, no_stmts, more_stmts, Module}
 use Rattle.pc_tree.specs.Stopping.{bound_by, loose_in}
@@ -15,27 +14,27 @@ use Rattle.pc_flow.specs.Narrowing.{narrow}
 use Rattle.pc_expr.specs.Context.{Context}
 use Rattle.pc_expr.specs.Labels.{Marks, Finds}
 use Rattle.pc_expr.specs.Lawful.{Lawful}
-use Rattle.pc_check.specs.StatementLabels.{StmtMarks, SuiteMarks, breaks_in_suite}
-use Rattle.pc_check.specs.Statements.{Seen, is_number, binds_number, LawfulStmt, LawfulSuite, StmtFinds, SuiteFinds}
+use Rattle.pc_check.specs.StatementLabels.{SuiteMarks, breaks_in_suite}
+use Rattle.pc_check.specs.Statements.{Seen, is_number, binds_number, LawfulSuite, SuiteFinds}
 use Rattle.pc_value.specs.Value.{Value, Gives}
 use Rattle.pc_value.specs.Texts.{same_text}
 use Rattle.pc_run.specs.State.{State, Frame}
 use Rattle.pc_run.specs.Names.{local_of, with_local}
 use Rattle.pc_run.specs.Steps.{Parts, Flow, next, breaking, continuing, leaves}
-use Rattle.pc_run.specs.Free.{Step, ◌>>=◌, free}
+use Rattle.pc_run.specs.Free.{Step, free}
 use Rattle.pc_run.specs.Evaluation.{exec_node, exec_body, after_turn, while_turn}
 use Rattle.pc_sound.specs.Values.{HeapTyping, HasType, Extends}
 use Rattle.pc_sound.specs.Kept.{HasLocals}
-use Rattle.pc_sound.specs.Judgment.{Around, HasNames, Stands, Fits, Leads, At, Ways, Reaches, FlowEnds, Lasts}
+use Rattle.pc_sound.specs.Judgment.{Around, Stands, Fits, Leads, At, Ways, Reaches, FlowEnds, Lasts}
 use Rattle.pc_sound.proofs.ValuesFlow.{later, extends_refl, extends_through}
 use Rattle.pc_sound.proofs.Expressions.{Covered}
 use Rattle.pc_sound.proofs.Keys.{Keyed}
-use Rattle.pc_sound.proofs.KeyedStatements.{StmtKeyed, SuiteKeyed}
+use Rattle.pc_sound.proofs.KeyedStatements.{SuiteKeyed}
 use Rattle.pc_sound.proofs.Conditions.{Decides}
 use Rattle.pc_sound.proofs.JoinedLocals.{onto_hold}
 use Rattle.pc_sound.proofs.Loops.{into_head, IsKept, again_at_head}
 use Rattle.pc_sound.proofs.Frames.{local_bound, local_kept, same_is, differs_not}
-use Rattle.pc_sound.proofs.Leading.{leads_bind, leads_comes, leads_charge, leads_from, leads_to, leads_each, Promised}
+use Rattle.pc_sound.proofs.Leading.{leads_bind, leads_comes, leads_charge, leads_from, leads_to, leads_each}
 use Rattle.pc_sound.proofs.Statements.{Runs, flow_wider, ways_out, GoodExec, GoodStmt}
 use Rattle.pc_sound.proofs.Simple.{decided}
 use Rattle.pc_sound.proofs.Branches.{among_first, some_holds, stands_with}

@@ -1,21 +1,19 @@
 -- In a module without errors each item, and each parameter of a function, binds its name: it is not reserved, and no earlier one's.
-use Rattle.std.proofs.Common.{◌≡◌, ℕ, zero, suc, List, [], ◌∷◌, ◌++◌, map, refl, sym, ap, ◌∙◌, subst, inl, inr, arith, Contains}
-use Rattle.std.specs.Prelude.{◌⊎◌, Bool as Test, true, false, ◌&&◌, ◌||◌, not, if◌then◌else◌, Option, Some, None, slice_get, bytes_eq, codes}
-use Rattle.std.specs.List.{list_any}
+use Rattle.std.proofs.Common.{◌≡◌, ℕ, List, [], ◌∷◌, ◌++◌, map, refl, sym, ap, ◌∙◌, subst, arith, Contains}
+use Rattle.std.specs.Prelude.{Bool as Test, true, false, ◌&&◌, ◌||◌, not, Option, Some, None, slice_get, bytes_eq, codes}
 use Rattle.std.proofs.lemmas.List.Elements.{Contains-append_left, Contains-append_right}
 use Rattle.std.proofs.lemmas.Slice.Eq.{bytes_eq-Decides}
 use Rattle.pc_source.specs.declared.place.Place.{Place}
 use Rattle.pc_tree.specs.declared.code.Code.TheVariants.{E01, E29}
-use Rattle.pc_tree.specs.Tree.{Name, Param, FuncDef, ClassDef, Item, constant_item, class_item, def_item, Module}
+use Rattle.pc_tree.specs.Tree.{Name, Param, FuncDef, ClassDef, Module}
 use Rattle.pc_tree.specs.Stopping as stopping
 use Rattle.pc_tree.specs.Stopping.{one_if, of_defs, name_of_item, name_of_param, bound_by, bound_again, params_again, reserved_among, reserved_in_def, reserved_in_classes, given_in_constants, given_in_def}
 use Rattle.pc_scope.specs.declared.resolution.Owner.{Owner}
 use Rattle.pc_scope.specs.declared.resolution.Owner.TheVariants as owners
 use Rattle.pc_scope.specs.Reserved.{is_reserved}
-use Rattle.pc_scope.specs.Bindings.{functions_in, classes_in, methods_in}
+use Rattle.pc_scope.specs.Bindings.{classes_in}
 use Rattle.pc_scope.specs.Resolution.{is_among, receiver, method_at, function_of}
 use Rattle.pc_class.specs.Facts.{parameters_of}
-use Rattle.pc_expr.specs.Signatures.{binds_parameter}
 use Rattle.pc_check.specs.Modules.{Labelling, IsLawful, binds_item}
 use Rattle.pc_sound.specs.Sound.{HasNoError}
 use Rattle.pc_sound.proofs.Filling.{Distinct}

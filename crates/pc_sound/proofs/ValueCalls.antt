@@ -1,10 +1,8 @@
 -- Calls of values: a code stands at each, so where none is found no value comes to be called. And what an ordinary call's labels say.
 use Rattle.std.proofs.Common.{◌≡◌, ℕ, List, [], ◌∷◌, ◌++◌, map, refl, sym, ap, ◌∙◌, subst, inl, inr, arith}
-use Rattle.std.specs.Prelude.{◌⊎◌, Bool as Test, true, false, ◌&&◌, if◌then◌else◌, codes, Option, Some, None, bytes_eq}
+use Rattle.std.specs.Prelude.{◌⊎◌, Bool as Test, true, false, ◌&&◌, if◌then◌else◌, codes, None, bytes_eq}
 use Rattle.std.proofs.lemmas.Slice.Eq.{bytes_eq-Decides}
 use Rattle.pc_source.specs.declared.place.Place.{Place}
-use Rattle.pc_tree.specs.declared.code.Code.{Code}
-use Rattle.pc_tree.specs.declared.code.Finding.{Finding}
 use Rattle.pc_tree.specs.Tree.{Name, Expr, name, number, text, truth, nothing, tuple, list, dict, negative, negation, binary, compare, is_none, is_not_none, conjunction, disjunction, attribute, index, call, Exprs, no_exprs, more_exprs, Keywords, no_keywords, more_keywords}
 use Rattle.pc_scope.specs.Expressions.{place_of, is_instance_test}
 use Rattle.pc_types.specs.Tree.{Tree, Any, Object, Never, Int, Bool, Str, NoneType, Class, ListOf, DictOf, TupleOf, Union}
@@ -12,28 +10,28 @@ use Rattle.pc_types.specs.Shape.{members}
 use Rattle.pc_flow.specs.Environment.{Env}
 use Rattle.pc_expr.specs.Operations.{Mark}
 use Rattle.pc_expr.specs.Context.{Context, name_mark}
-use Rattle.pc_expr.specs.Calls.{Given, given, CallOffer, value_offer, value_offers, all_codes, call_codes, call_mark, length_mark, test_mark, positional_seat, named_seat}
+use Rattle.pc_expr.specs.Calls.{given, CallOffer, value_offer, value_offers, call_mark, length_mark, test_mark, positional_seat, named_seat}
 use Rattle.pc_expr.specs.Labels.{Marks, ItemsMarks, KeywordsMarks, mark_of, type_of, with_mark, Finds, ItemsFind, ArgumentsFind, KeywordsFind, IsFoundAt}
 use Rattle.pc_expr.specs.Lawful.{Lawful, LawfulItems, LawfulKeywords, is_length_of_one, whole_call_mark}
-use Rattle.pc_value.specs.Value.{Value, Stop, Raised, Other, Outside, Cut, Out, Gives, Stops}
+use Rattle.pc_value.specs.Value.{Stop, Out, Gives, Stops}
 use Rattle.pc_value.specs.Texts.{same_text}
 use Rattle.pc_run.specs.State.{State}
 use Rattle.pc_run.specs.Names.{Meaning, means_value, means_unbound, means_function, means_class, means_reserved, means_nothing, meaning}
-use Rattle.pc_run.specs.Calls.{Callee, calls_value, callee_of_meaning, value_of_meaning, NamedValue}
+use Rattle.pc_run.specs.Calls.{Callee, calls_value, callee_of_meaning, value_of_meaning}
 use Rattle.pc_run.specs.Steps.{Parts}
 use Rattle.pc_run.specs.Free.{Step, ◌>>=◌, comes, Emits, Looks, free}
 use Rattle.pc_run.specs.Evaluation.{call_form, instance_test, ordinary, eval_callee, eval_all, eval_keywords, call_callee}
 use Rattle.pc_sound.specs.Values.{HeapTyping, HasType}
 use Rattle.pc_sound.specs.Judgment.{HasListed, EndsWell, Around, Stands, Keeps, IsSafe, Fits}
-use Rattle.pc_sound.proofs.Steps.{Stays, bind_safe, comes_safe, looks_safe, may_stop_safe, weaken}
+use Rattle.pc_sound.proofs.Steps.{bind_safe, comes_safe, may_stop_safe, weaken}
 use Rattle.pc_sound.proofs.Keys.{Keyed, ItemsKeyed, KeywordsKeyed}
 use Rattle.pc_sound.proofs.Expressions.{Covered, GoodEval, part}
 use Rattle.pc_sound.proofs.Flows.{Evaluates}
-use Rattle.pc_sound.proofs.Arguments.{ArgumentsHave, KeywordsHave, found_in_arguments}
-use Rattle.pc_sound.proofs.OrdinaryCalls.{impossible_safe, KnownCall, ordinary_safe}
+use Rattle.pc_sound.proofs.Arguments.{found_in_arguments}
+use Rattle.pc_sound.proofs.OrdinaryCalls.{impossible_safe, ordinary_safe}
 use Rattle.pc_sound.proofs.BuiltInMethods.{CalleeCodes}
 use Rattle.pc_sound.proofs.Globals.{KnowsNames, name_safe}
-use Rattle.pc_sound.proofs.CallOffers.{IsOffer, all_quiet, offer_quiet}
+use Rattle.pc_sound.proofs.CallOffers.{all_quiet, offer_quiet}
 use Rattle.pc_sound.proofs.MethodNodes.{Fails, values_fail}
 
 -- ---- labels of calls

@@ -1,33 +1,29 @@
 -- The whole: where each form is safe in each body, a run of a module that ends in a fault has evaluated a listed dynamic place.
-use Rattle.std.proofs.Common.{◌≡◌, ℕ, zero, suc, List, [], ◌∷◌, ◌++◌, length, refl, sym, ap, ◌∙◌, subst, inl, inr, arith, Contains}
-use Rattle.std.specs.Prelude.{◌⊎◌, Bool as Test, true, false, nat_lt, codes, Option, Some, None, slice_get}
+use Rattle.std.proofs.Common.{◌≡◌, ℕ, List, [], length, refl, sym, subst, inl, inr, arith, Contains}
+use Rattle.std.specs.Prelude.{true, nat_lt, codes, Some, None}
 use Rattle.std.proofs.lemmas.Bool.Decides.{nat_tests}
 use Rattle.pc_source.specs.declared.place.Place.{Place}
 use Rattle.pc_tree.specs.declared.code.Finding.{Finding}
 use Rattle.pc_tree.specs.Code.{IsError}
-use Rattle.pc_tree.specs.Tree.{Expr, FuncDef, Item, Module}
+use Rattle.pc_tree.specs.Tree.{FuncDef, Module}
 use Rattle.pc_tree.specs.Stopping.{is_plain_def}
 use Rattle.pc_scope.specs.declared.resolution.Owner.{Owner}
 use Rattle.pc_scope.specs.declared.resolution.Owner.TheVariants as owners
-use Rattle.pc_scope.specs.declared.resolution.Res.TheVariants as res
 use Rattle.pc_scope.specs.Bindings.{classes_in, functions_in}
-use Rattle.pc_scope.specs.Resolution.{index_of, function_of, resolve_in_module}
-use Rattle.pc_scope.specs.Expressions.{place_of}
+use Rattle.pc_scope.specs.Resolution.{function_of}
 use Rattle.pc_types.specs.Tree.{Tree, NoneType}
 use Rattle.pc_class.specs.Bases.{bases_of}
 use Rattle.pc_class.specs.Facts.{returned, classes_of}
 use Rattle.pc_class.proofs.Earlier.{smaller}
 use Rattle.pc_expr.specs.Context.{Context}
 use Rattle.pc_expr.specs.Signatures.{initializer_context}
-use Rattle.pc_check.specs.Modules.{Labelling, IsLawful, HasLabelling, IsFinding, constant_types, Before, nothing_before, ItemsFind}
-use Rattle.pc_value.specs.Value.{Value, Stop, Raised, Other, Outside, Cut, Out, Gives, Stops}
-use Rattle.pc_run.specs.State.{State, nothing_bound}
-use Rattle.pc_run.specs.Steps.{Parts}
+use Rattle.pc_check.specs.Modules.{Labelling, IsLawful, IsFinding, constant_types, Before, nothing_before, ItemsFind}
+use Rattle.pc_value.specs.Value.{Value, Raised, Other, Outside, Cut, Out, Gives, Stops}
+use Rattle.pc_run.specs.State.{nothing_bound}
 use Rattle.pc_run.specs.Free.{Step, free}
-use Rattle.pc_run.specs.Evaluation.{steps, exec_module, exec_items, enter_main}
-use Rattle.pc_run.specs.Runs.{Run, Ran, End, done, stopped, end_of, IsFault}
-use Rattle.pc_sound.specs.Values.{HeapTyping}
-use Rattle.pc_sound.specs.Judgment.{HasListed, EndsWell, Around, Fits}
+use Rattle.pc_run.specs.Evaluation.{steps, exec_module, enter_main}
+use Rattle.pc_run.specs.Runs.{Run, End, end_of, IsFault}
+use Rattle.pc_sound.specs.Judgment.{EndsWell, Around, Fits}
 use Rattle.pc_sound.specs.Sound.{HasNoError, HasEvaluated}
 use Rattle.pc_sound.proofs.Fields.{Inherits}
 use Rattle.pc_sound.proofs.Nested.{Bodies, FormsGood, AllGood, all_good}
@@ -35,7 +31,7 @@ use Rattle.pc_sound.proofs.Places.{steps_evaluate}
 use Rattle.pc_sound.proofs.Stopped.{never_stopped}
 use Rattle.pc_sound.proofs.World.{Labelled, around_of, context_of}
 use Rattle.pc_sound.proofs.Entering.{fits_of, module_local}
-use Rattle.pc_sound.proofs.Proceeding.{Arrives, Proceeds, proceeds_bind, proceeds_as}
+use Rattle.pc_sound.proofs.Proceeding.{Proceeds, proceeds_bind, proceeds_as}
 use Rattle.pc_sound.proofs.ModuleOrder.{around_items, Between, Listed, proceeds_safe}
 use Rattle.pc_sound.proofs.Items.{ItemsReady, last_of, GoodClasses, items_proceed, MainIs, main_is, main_safe}
 
