@@ -3,13 +3,11 @@ use Rattle.std.proofs.Common.{◌≡◌, List, [], ◌∷◌, ◌++◌, refl, sy
 use Rattle.std.specs.Prelude.{◌⊎◌, Option, Some, None}
 use Rattle.std.proofs.lemmas.List.Elements.{Contains-append_cases, Contains-append_left, Contains-append_right}
 use Rattle.pc_source.specs.declared.place.Place.{Place}
-use Rattle.pc_top.specs.declared.fragment.BinaryOperator.{BinaryOperator}
-use Rattle.pc_top.specs.declared.fragment.BinaryOperator.TheVariants.{Add, Sub}
 use Rattle.pc_tree.specs.declared.code.Code.{Code}
 use Rattle.pc_tree.specs.declared.code.Code.TheVariants.{E30}
 use Rattle.pc_tree.specs.declared.code.Finding.{Finding}
 use Rattle.pc_tree.specs.Code.{finding}
-use Rattle.pc_top.specs.Fragment.{Expr, int, str, binary, Stmt, pass, returns, returns_value, evaluates, Module}
+use Rattle.pc_top.specs.Fragment.{Operator, Add, Sub, Expr, int, str, binary, Stmt, pass, returns, returns_value, evaluates, Module}
 use Rattle.pc_top.specs.declared.typing.Ty.{Ty}
 use Rattle.pc_top.specs.declared.typing.Ty.TheVariants.{Any, Int, Str}
 use Rattle.pc_top.specs.Typing.{HasRow, ints, texts, IsDynamic, Operates, row, dynamic, Mark, Marks, ty, IsLawful, IsFoundAt, Finds, StmtMarks, IsLawfulStmt, StmtFinds, reached, unreached, AllMarks, AreLawful, SomeFinds, first_of, IsUnreachable, IsFinding, HasOneLabelling}
@@ -19,28 +17,28 @@ use Rattle.pc_top.proofs.Members.{contains_here, contains_cases, contains_none}
 
 -- ---- one rule for an operator
 
-no_row_mixed : {op : BinaryOperator} (u : Ty) → HasRow op Int Str u → ⊥
+no_row_mixed : {op : Operator} (u : Ty) → HasRow op Int Str u → ⊥
 no_row_mixed u h = elim h [ ]
 
-no_row_mixed' : {op : BinaryOperator} (u : Ty) → HasRow op Str Int u → ⊥
+no_row_mixed' : {op : Operator} (u : Ty) → HasRow op Str Int u → ⊥
 no_row_mixed' u h = elim h [ ]
 
 no_row_sub : (u : Ty) → HasRow Sub Str Str u → ⊥
 no_row_sub u h = elim h [ ]
 
-not_dynamic : {op : BinaryOperator} → IsDynamic op Int Str → ⊥
+not_dynamic : {op : Operator} → IsDynamic op Int Str → ⊥
 not_dynamic h = elim h [ ]
 
-not_dynamic' : {op : BinaryOperator} → IsDynamic op Str Int → ⊥
+not_dynamic' : {op : Operator} → IsDynamic op Str Int → ⊥
 not_dynamic' h = elim h [ ]
 
 not_dynamic_sub : IsDynamic Sub Str Str → ⊥
 not_dynamic_sub h = elim h [ ]
 
-no_row_any_left : {op : BinaryOperator} {t : Ty} (u : Ty) → HasRow op Any t u → ⊥
+no_row_any_left : {op : Operator} {t : Ty} (u : Ty) → HasRow op Any t u → ⊥
 no_row_any_left u h = elim h [ ]
 
-no_row_any_right : {op : BinaryOperator} {s : Ty} (u : Ty) → HasRow op s Any u → ⊥
+no_row_any_right : {op : Operator} {s : Ty} (u : Ty) → HasRow op s Any u → ⊥
 no_row_any_right u h = elim h [ ]
 
 row_beside_str : {s u : Ty} → HasRow Sub s Str u → ⊥
@@ -56,7 +54,7 @@ str_any : IsDynamic Sub Str Any → ⊥
 str_any (T.IsDynamic.right h) = row_behind_str h
 
 -- what is computed obeys the operator's rule
-operates : (op : BinaryOperator) (s t : Ty) → Operates op s t (type_of op s t) (code_of op s t)
+operates : (op : Operator) (s t : Ty) → Operates op s t (type_of op s t) (code_of op s t)
 operates op Int Int = row ints
 operates op Int Any = dynamic (T.IsDynamic.right ints)
 operates op Any Int = dynamic (T.IsDynamic.left ints)
@@ -75,15 +73,15 @@ record Same (u v : Ty) (c d : Option Code) : Type 0 where
   ty_same : u ≡ v
   code_same : c ≡ d
 
-one_row : {op : BinaryOperator} {s t u v : Ty} → HasRow op s t u → HasRow op s t v → u ≡ v
+one_row : {op : Operator} {s t u v : Ty} → HasRow op s t u → HasRow op s t v → u ≡ v
 one_row T.ints T.ints = refl
 one_row T.texts T.texts = refl
 
-row_not_dynamic : {op : BinaryOperator} {s t u : Ty} → HasRow op s t u → IsDynamic op s t → ⊥
+row_not_dynamic : {op : Operator} {s t u : Ty} → HasRow op s t u → IsDynamic op s t → ⊥
 row_not_dynamic T.ints d = elim d [ ]
 row_not_dynamic T.texts d = elim d [ ]
 
-one_rule : {op : BinaryOperator} {s t u v : Ty} {c d : Option Code} → Operates op s t u c → Operates op s t v d → Same u v c d
+one_rule : {op : Operator} {s t u v : Ty} {c d : Option Code} → Operates op s t u c → Operates op s t v d → Same u v c d
 one_rule (T.Operates.row a) (T.Operates.row b) = record { ty_same = one_row a b; code_same = refl }
 one_rule (T.Operates.row a) (T.Operates.dynamic b) = absurd (row_not_dynamic a b)
 one_rule (T.Operates.row a) (T.Operates.wrong n m) = absurd (n _ a)

@@ -1,12 +1,10 @@
-pub mod AsciiText
+pub mod BytesLaws
 pub mod CodeOrder
+pub mod Composed
+pub mod Judging
 pub mod Labels
-pub mod LineLoop
-pub mod Literal
 pub mod Main
 pub mod Members
-pub mod OperatorLoop
 pub mod Order
-pub mod ReadAgain
-pub mod ReadSpelled
+pub mod Parts
 pub mod Soundness

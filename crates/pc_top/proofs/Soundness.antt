@@ -3,12 +3,10 @@ use Rattle.std.proofs.Common.{◌≡◌, ℕ, zero, suc, List, [], ◌∷◌, �
 use Rattle.std.specs.Prelude.{◌⊎◌, Option, Some, None}
 use Rattle.std.proofs.lemmas.List.Elements.{Contains-append_left, Contains-append_right}
 use Rattle.pc_source.specs.declared.place.Place.{Place}
-use Rattle.pc_top.specs.declared.fragment.BinaryOperator.{BinaryOperator}
-use Rattle.pc_top.specs.declared.fragment.BinaryOperator.TheVariants.{Add, Sub}
 use Rattle.pc_tree.specs.declared.code.Code.{Code}
 use Rattle.pc_tree.specs.declared.code.Finding.{Finding}
 use Rattle.pc_tree.specs.Code.{IsError, finding}
-use Rattle.pc_top.specs.Fragment.{Expr, int, str, binary, Stmt, pass, returns, returns_value, evaluates}
+use Rattle.pc_top.specs.Fragment.{Operator, Add, Sub, Expr, int, str, binary, Stmt, pass, returns, returns_value, evaluates}
 use Rattle.pc_top.specs.declared.typing.Ty.{Ty}
 use Rattle.pc_top.specs.declared.typing.Ty.TheVariants.{Any, Int, Str}
 use Rattle.pc_top.specs.Typing.{HasRow, ints, texts, Operates, Marks, ty, IsLawful, IsFoundAt, Finds, reached, AllMarks, AreLawful, SomeFinds}
@@ -95,13 +93,13 @@ module _ (listed : Finding → Type 0) where
     run = λ events out h. inl (let here = allows (finding p code) refl in record { place = finding p code; is = here.0; dynamic = here.1; event = rw h.event (contains_here p [] p refl) });
   }
 
-  row_here : {op : BinaryOperator} {s t u : Ty} {c : Option Code} → Operates op s t u c → c ≡ None → HasRow op s t u
+  row_here : {op : Operator} {s t u : Ty} {c : Option Code} → Operates op s t u c → c ≡ None → HasRow op s t u
   row_here (T.Operates.row h) e = h
   row_here (T.Operates.dynamic h) e = cc
   row_here (T.Operates.wrong n m) e = cc
 
   -- where an operator has a row, its action gives a value of the row's type
-  action_ends : (op : BinaryOperator) (s t u : Ty) → HasRow op s t u → (v w : Value) → HasType v s → HasType w t → Ends (λ x. HasType x u) (action op v w)
+  action_ends : (op : Operator) (s t u : Ty) → HasRow op s t u → (v w : Value) → HasType v s → HasType w t → Ends (λ x. HasType x u) (action op v w)
   action_ends Add s t u T.ints (whole x) (whole y) hv hw = tt
   action_ends Sub s t u T.ints (whole x) (whole y) hv hw = tt
   action_ends op s t u T.ints (whole x) (text b) hv hw = absurd hw

@@ -1,19 +1,17 @@
 -- A module's labelling and findings, computed.
 use Rattle.std.specs.Prelude.{List, [], ◌∷◌, ◌++◌, Bool, true, false, Option, Some, None, if◌then◌else◌}
 use Rattle.pc_source.specs.declared.place.Place.{Place}
-use Rattle.pc_top.specs.declared.fragment.BinaryOperator.{BinaryOperator}
-use Rattle.pc_top.specs.declared.fragment.BinaryOperator.TheVariants.{Add, Sub}
 use Rattle.pc_tree.specs.declared.code.Code.{Code}
 use Rattle.pc_tree.specs.declared.code.Code.TheVariants.{A2, E13, E30}
 use Rattle.pc_tree.specs.declared.code.Finding.{Finding}
 use Rattle.pc_tree.specs.Code.{finding}
-use Rattle.pc_top.specs.Fragment.{Expr, int, str, binary, Stmt, pass, returns, returns_value, evaluates}
+use Rattle.pc_top.specs.Fragment.{Operator, Add, Sub, Expr, int, str, binary, Stmt, pass, returns, returns_value, evaluates}
 use Rattle.pc_top.specs.declared.typing.Ty.{Ty}
 use Rattle.pc_top.specs.declared.typing.Ty.TheVariants.{Any, Int, Str}
 use Rattle.pc_top.specs.Typing.{Marks, ty, first_of}
 
 -- what is found at an operator between operands of these types
-abbrev pub code_of : BinaryOperator → Ty → Ty → Option Code
+abbrev pub code_of : Operator → Ty → Ty → Option Code
 code_of op Int Int = None
 code_of op Int Any = Some A2
 code_of op Any Int = Some A2
@@ -28,7 +26,7 @@ code_of Sub Str Any = Some E13
 code_of Sub Any Str = Some E13
 
 -- the type that it gives
-abbrev pub type_of : BinaryOperator → Ty → Ty → Ty
+abbrev pub type_of : Operator → Ty → Ty → Ty
 type_of op Int Int = Int
 type_of op Int Any = Any
 type_of op Any Int = Any

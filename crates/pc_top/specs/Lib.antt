@@ -1,9 +1,8 @@
+pub mod Bytes
 pub mod Checking
 pub mod Fragment
 pub mod Headline
-pub mod Reading
+pub mod Part
 pub mod Report
-pub mod Rest
 pub mod Running
-pub mod Spelling
 pub mod Typing

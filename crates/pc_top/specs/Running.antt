@@ -3,9 +3,7 @@
 -- events and ends, own rules of the profile.
 use Rattle.std.specs.Prelude.{◌≡◌, ◌⊎◌, ℕ, zero, suc, ◌+◌, ◌*◌, ◌-◌, List, [], ◌∷◌, ◌++◌, ℤ, pos, ◌+ℤ◌, ◌-ℤ◌}
 use Rattle.pc_source.specs.declared.place.Place.{Place}
-use Rattle.pc_top.specs.declared.fragment.BinaryOperator.{BinaryOperator}
-use Rattle.pc_top.specs.declared.fragment.BinaryOperator.TheVariants.{Add, Sub}
-use Rattle.pc_top.specs.Fragment.{Expr, int, str, binary, Stmt, pass, returns, returns_value, evaluates, Module}
+use Rattle.pc_top.specs.Fragment.{Operator, Add, Sub, Expr, int, str, binary, Stmt, pass, returns, returns_value, evaluates, Module}
 
 -- whole numbers without bound, texts, and None
 pub data Value : Type 0 where
@@ -83,7 +81,7 @@ number_behind n [] = n
 number_behind n (d ∷ ds) = number_behind (10 * n + (d - 48)) ds
 
 -- what an operator makes of two values: int and int, and for `+` str and str; else TypeError
-abbrev pub action : BinaryOperator → Value → Value → Out Value
+abbrev pub action : Operator → Value → Value → Out Value
 action Add (whole x) (whole y) = Gives (whole (x +ℤ y))
 action Add (text s) (text t) = Gives (text (s ++ t))
 action Sub (whole x) (whole y) = Gives (whole (x -ℤ y))

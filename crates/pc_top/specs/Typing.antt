@@ -2,29 +2,27 @@
 -- Reference 6.7 "Binary arithmetic operations"; the findings are own rules of the profile.
 use Rattle.std.specs.Prelude.{◌≡◌, ◌⊎◌, List, [], ◌∷◌, Option, Some, None}
 use Rattle.pc_source.specs.declared.place.Place.{Place}
-use Rattle.pc_top.specs.declared.fragment.BinaryOperator.{BinaryOperator}
-use Rattle.pc_top.specs.declared.fragment.BinaryOperator.TheVariants.{Add}
 use Rattle.pc_tree.specs.declared.code.Code.{Code}
 use Rattle.pc_tree.specs.declared.code.Code.TheVariants.{A2, E13, E30}
 use Rattle.pc_tree.specs.declared.code.Finding.{Finding}
 use Rattle.pc_tree.specs.Code.{finding}
-use Rattle.pc_top.specs.Fragment.{Expr, int, str, binary, Stmt, pass, returns, returns_value, evaluates, Module}
+use Rattle.pc_top.specs.Fragment.{Operator, Add, Expr, int, str, binary, Stmt, pass, returns, returns_value, evaluates, Module}
 use Rattle.pc_top.specs.declared.typing.Ty.{Ty}
 use Rattle.pc_top.specs.declared.typing.Ty.TheVariants.{Any, Int, Str}
 
 -- the operands that an operator takes, and what it gives: int and int give int, and `+` of str and str gives str
-pub data HasRow : BinaryOperator → Ty → Ty → Ty → Type 0 where
-  ints : {op : BinaryOperator} → HasRow op Int Int Int
+pub data HasRow : Operator → Ty → Ty → Ty → Type 0 where
+  ints : {op : Operator} → HasRow op Int Int Int
   texts : HasRow Add Str Str Str
 
 -- an operand is Any, and the other one is too or has a row on its side
-pub data IsDynamic : BinaryOperator → Ty → Ty → Type 0 where
-  both : {op : BinaryOperator} → IsDynamic op Any Any
-  left : {op : BinaryOperator} {s t u : Ty} → HasRow op s t u → IsDynamic op Any t
-  right : {op : BinaryOperator} {s t u : Ty} → HasRow op s t u → IsDynamic op s Any
+pub data IsDynamic : Operator → Ty → Ty → Type 0 where
+  both : {op : Operator} → IsDynamic op Any Any
+  left : {op : Operator} {s t u : Ty} → HasRow op s t u → IsDynamic op Any t
+  right : {op : Operator} {s t u : Ty} → HasRow op s t u → IsDynamic op s Any
 
 -- the type that an operator gives to operands of these types, and what is found at it
-pub data Operates (op : BinaryOperator) (s t : Ty) : Ty → Option Code → Type 0 where
+pub data Operates (op : Operator) (s t : Ty) : Ty → Option Code → Type 0 where
   row : {u : Ty} → HasRow op s t u → Operates op s t u None
   dynamic : IsDynamic op s t → Operates op s t Any (Some A2)
   wrong : ((u : Ty) → ¬ (HasRow op s t u)) → ¬ (IsDynamic op s t) → Operates op s t Any (Some E13)

@@ -1,17 +1,18 @@
-ghost use Rattle.std.specs.Prelude.{◌≡◌, ◌++◌, IfOk};
-ghost use Rattle.pc_top.specs.Fragment.{expr_of, stmt_of, module_of};
-ghost use Rattle.pc_top.specs.Checking.{type_of, code_of, type_in, found_in, found_in_stmt, is_return, findings_in};
+ghost use Rattle.std.specs.Prelude.{◌≡◌, ◌++◌, List, Some, IfOk};
+ghost use Rattle.pc_tree.specs.Tree as tree;
+ghost use Rattle.pc_top.specs.Fragment as part;
+ghost use Rattle.pc_top.specs.Part.{part_operator, part_expr, part_stmt, part_body};
+ghost use Rattle.pc_top.specs.Checking.{type_of, code_of, type_in, found_in, found_in_stmt, is_return, unreachable_at, findings_in};
 
-use crate::fragment::{BinaryOperator, Expr, Module, Stmt, StmtKind};
 use crate::typing::Ty;
 use pc_source::OutOfMemory;
-use pc_tree::{Code, Finding, Findings};
+use pc_tree::{BinaryOperator, Code, Expr, Finding, Findings, Stmt, StmtKind};
 use std::alloc::Global;
 
 /// The type that an operator gives, and what is found at it.
 fn judge(operator: BinaryOperator, left: Ty, right: Ty) -> (Ty, Option<Code>)
-    ensures ty { result.0 ≡ type_of operator left right }
-    ensures code { result.1 ≡ code_of operator left right }
+    ensures ty { (op : part.Operator) → part_operator operator ≡ Some op → result.0 ≡ type_of op left right }
+    ensures code { (op : part.Operator) → part_operator operator ≡ Some op → result.1 ≡ code_of op left right }
 {
     match (operator, left, right) {
         (_, Ty::Int, Ty::Int) => (Ty::Int, None),
@@ -28,10 +29,10 @@ fn judge(operator: BinaryOperator, left: Ty, right: Ty) -> (Ty, Option<Code>)
     }
 }
 
-/// The type of an expression. Its findings go behind those before them.
+/// The type of an expression of the part. Its findings go behind those before them.
 fn expression(found: &mut Findings, expr: &Expr) -> Result<Ty, OutOfMemory>
-    ensures ty { IfOk result (λ t. t ≡ type_in (expr_of expr.now)) }
-    ensures found { IfOk result (λ _. found.new.items ≡ found.old.items ++ found_in (expr_of expr.now)) }
+    ensures ty { (e : part.Expr) → part_expr (tree.expr_of expr.now) ≡ Some e → IfOk result (λ t. t ≡ type_in e) }
+    ensures found { (e : part.Expr) → part_expr (tree.expr_of expr.now) ≡ Some e → IfOk result (λ _. found.new.items ≡ found.old.items ++ found_in e) }
 {
     match expr {
         Expr::Int(_, _) => Ok(Ty::Int),
@@ -48,16 +49,16 @@ fn expression(found: &mut Findings, expr: &Expr) -> Result<Ty, OutOfMemory>
             }
             Ok(ty)
         }
+        _ => Ok(Ty::Any),
     }
 }
 
-/// The findings of a statement that is reached, and whether it returns.
+/// The findings of a statement of the part that is reached, and whether it returns.
 fn statement(found: &mut Findings, stmt: &Stmt) -> Result<bool, OutOfMemory>
-    ensures returns { IfOk result (λ b. b ≡ is_return (stmt_of stmt.now)) }
-    ensures found { IfOk result (λ _. found.new.items ≡ found.old.items ++ found_in_stmt (stmt_of stmt.now)) }
+    ensures returns { (s : part.Stmt) → part_stmt (tree.stmt_of stmt.now) ≡ Some s → IfOk result (λ b. b ≡ is_return s) }
+    ensures found { (s : part.Stmt) → part_stmt (tree.stmt_of stmt.now) ≡ Some s → IfOk result (λ _. found.new.items ≡ found.old.items ++ found_in_stmt s) }
 {
     match &stmt.kind {
-        StmtKind::Pass => Ok(false),
         StmtKind::Return(None) => Ok(true),
         StmtKind::Return(Some(value)) => {
             expression(found, value)?;
@@ -67,23 +68,32 @@ fn statement(found: &mut Findings, stmt: &Stmt) -> Result<bool, OutOfMemory>
             expression(found, value)?;
             Ok(false)
         }
+        _ => Ok(false),
     }
 }
 
-/// The findings of a module.
-pub fn findings(alloc: Global, program: &Module) -> Result<Findings, OutOfMemory>
-    ensures { IfOk result (λ v. v.items ≡ findings_in (module_of program.now).body) }
+/// What is found of the statements behind one that returns: the first of them is not reached.
+fn unreached(found: &mut Findings, rest: &[Stmt]) -> Result<(), OutOfMemory>
+    ensures { (ss : List part.Stmt) → part_body (tree.stmts_of_list rest.now) ≡ Some ss → IfOk result (λ _. found.new.items ≡ found.old.items ++ unreachable_at ss) }
+{
+    if let Some(next) = rest.first() {
+        found.push(Finding {
+            place: next.first,
+            code: Code::E30,
+        })?;
+    }
+    Ok(())
+}
+
+/// The findings of a body of the part.
+pub(crate) fn findings(alloc: Global, body: &[Stmt]) -> Result<Findings, OutOfMemory>
+    ensures { (ss : List part.Stmt) → part_body (tree.stmts_of_list body.now) ≡ Some ss → IfOk result (λ v. v.items ≡ findings_in ss) }
 {
     let mut found = Vec::new(alloc);
-    let mut body = program.main.body.as_slice();
-    while let [stmt, rest @ ..] = body {
+    let mut body = body;
+    while let Some((stmt, rest)) = body.split_first() {
         if statement(&mut found, stmt)? {
-            if let [next, ..] = rest {
-                found.push(Finding {
-                    place: next.first,
-                    code: Code::E30,
-                })?;
-            }
+            unreached(&mut found, rest)?;
             return Ok(found);
         }
         body = rest;

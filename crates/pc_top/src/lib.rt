@@ -3,18 +3,18 @@
 
 mod checking;
 mod fault;
-mod fragment;
 mod laws;
-mod reading;
+mod part;
 mod report;
-mod rest;
 mod top;
 mod typing;
 
 pub use fault::CheckFault;
-pub use laws::one_labelling;
+pub use laws::{module_or_refusal, one_labelling, one_module_of_bytes};
 pub use report::{Report, Row};
-pub use top::check;
+pub use top::{check, read_module};
 
+#[cfg(test)]
+mod module_tests;
 #[cfg(test)]
 mod tests;

@@ -53,6 +53,10 @@ fn reports(rt: HostRuntime) -> Result<(), Fail> {
             "    \"\" + \"main()\"\n    0\nmain()\n",
             "errors 0, dynamic 0\n",
         ),
+        (
+            "  # one line\n\n  (1 +\n1_0) - ('a')\n\n\nmain ( )  # the end\n",
+            "5:3 E13 operator\nerrors 1, dynamic 0\n",
+        ),
     ] {
         let report = report_of(&rt, body)?;
         let text = report.to_text(rt.alloc())?;
@@ -62,39 +66,61 @@ fn reports(rt: HostRuntime) -> Result<(), Fail> {
 }
 
 #[test]
-fn refuses_the_byte_that_nothing_continues(rt: HostRuntime) -> Result<(), Fail> {
-    for (body, byte) in [
-        ("", 47),
-        ("main()", 47),
-        ("   pass\nmain()", 50),
-        ("    pass\n", 56),
-        ("    pass\nmain()\n\n", 63),
-        ("    pass\nmain() ", 62),
-        ("    pass\n    main()", 60),
-        ("    pas", 54),
-        ("    01\nmain()", 52),
-        ("    1_0\nmain()", 52),
-        ("    1 +  2\nmain()", 55),
-        ("    1 * 2\nmain()", 53),
-        ("    1+2\nmain()", 52),
-        ("    \"a\nmain()", 53),
-        ("    \"\\n\"\nmain()", 52),
-        ("    return  1\nmain()", 58),
-        ("    pass\r\nmain()", 55),
+fn refuses_where_nothing_continues_or_the_part_ends(rt: HostRuntime) -> Result<(), Fail> {
+    use RefusalCode::{F1, G1, L2, L3};
+    for (body, code, byte) in [
+        ("main()", G1, 47),
+        ("    pass\n", G1, 56),
+        ("    pass\nmain() 1", G1, 63),
+        ("    pass\n    main()", G1, 66),
+        ("    pas\nmain()", F1, 51),
+        ("    01\nmain()", L3, 51),
+        ("    1 * 2\nmain()", F1, 51),
+        ("    1 + (2 // 3)\nmain()", F1, 56),
+        ("    (1 + 2) + x\nmain()", F1, 61),
+        ("    -1\nmain()", F1, 51),
+        ("    x = 1\nmain()", F1, 51),
+        ("    return [1]\nmain()", F1, 58),
+        ("    return 1 + True\nmain()", F1, 62),
+        ("    pass\n    if 1:\n        pass\nmain()", F1, 60),
+        ("    \"a\nmain()", L2, 51),
+        ("    pass\ndef f():\n    pass\nmain()", F1, 56),
+        ("    pass\nx = 1\nmain()", F1, 56),
     ] {
         let input = format!(in rt.alloc(); "{HEADER}{body}")?;
         assert_eq!(rt;
             refusal_of(&rt, input.as_bytes()),
-            Some((RefusalCode::F1, byte)),
+            Some((code, byte)),
             "at {body}"
         );
     }
-    assert_eq!(rt; refusal_of(&rt, b""), Some((RefusalCode::F1, 0)));
-    assert_eq!(rt;
-        refusal_of(&rt, b"from __future__ import annotations"),
-        Some((RefusalCode::F1, 34))
-    );
-    assert_eq!(rt; refusal_of(&rt, b"x = 1\n"), Some((RefusalCode::F1, 0)));
+    for (input, code, byte) in [
+        ("", G1, 0),
+        ("from __future__ import annotations", G1, 34),
+        ("x = 1\n", G1, 0),
+        ("from __future__ import annotations\nmain()\n", F1, 35),
+        (
+            "from __future__ import annotations\ndef f():\n    pass\nmain()\n",
+            F1,
+            35,
+        ),
+        (
+            "from __future__ import annotations\ndef main(x):\n    pass\nmain()\n",
+            F1,
+            44,
+        ),
+        (
+            "from __future__ import annotations\ndef main() -> int:\n    pass\nmain()\n",
+            F1,
+            49,
+        ),
+    ] {
+        assert_eq!(rt;
+            refusal_of(&rt, input.as_bytes()),
+            Some((code, byte)),
+            "at {input}"
+        );
+    }
     Ok(())
 }
 
@@ -122,7 +148,7 @@ fn refuses_bytes_that_are_no_text(rt: HostRuntime) -> Result<(), Fail> {
     );
     assert_eq!(rt;
         refusal_of(&rt, b"# coding: utf-8\n"),
-        Some((RefusalCode::F1, 0))
+        Some((RefusalCode::G1, 16))
     );
     Ok(())
 }
@@ -150,7 +176,7 @@ fn keeps_the_limits(rt: HostRuntime) -> Result<(), Fail> {
     )?;
     assert_eq!(rt;
         refusal_of(&rt, too_many_operators.as_bytes()),
-        Some((RefusalCode::F1, 308))
+        Some((RefusalCode::G2, 51))
     );
     let most_digits = format!(in rt.alloc();
         "{HEADER}    {}\nmain()",
@@ -163,7 +189,7 @@ fn keeps_the_limits(rt: HostRuntime) -> Result<(), Fail> {
     )?;
     assert_eq!(rt;
         refusal_of(&rt, too_many_digits.as_bytes()),
-        Some((RefusalCode::F1, 1051))
+        Some((RefusalCode::L8, 51))
     );
     Ok(())
 }

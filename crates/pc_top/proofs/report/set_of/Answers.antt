@@ -2,7 +2,6 @@ use Rattle.std.proofs.Common.{◌≡◌, ◌+◌, ◌++◌, ◌∷◌, [], get_o
 use Rattle.std.proofs.lemmas.List.{take_more, take_all}
 use Rattle.std.proofs.lemmas.List.Elements.{Contains-push_cases, Contains-append_left, Contains-append_right}
 use Rattle.pc_tree.specs.declared.code.Code.TheVariants.{A1}
-use Rattle.pc_top.specs.Spelling.{span}
 use Rattle.pc_tree.specs.Code.{finding}
 use Rattle.pc_top.proofs.Members.{insert_to, insert_from, contains_here}
 use Rattle.pc_top.proofs.Order.{finding_cmp, equal_is_same}
@@ -13,7 +12,7 @@ loop-finding-preserved c =
     let xs = c.args.findings.now in
     let i = c.loop-finding.finding-index in
     λ f.
-    let none = finding (span 0 0) A1 in
+    let none = finding (record { start = 0; end = 0 }) A1 in
     let x = get_or xs i none in
     let keys : c.insert.new.self.keys ≡ Rattle.std.specs.BTreeSet.insert_key finding_cmp c.loop-finding.set.keys x = c.in_ok-insert.ensures.keys in
     let more : take (i + 1) xs ≡ take i xs ++ x ∷ [] = take_more xs i none (omega arith) in

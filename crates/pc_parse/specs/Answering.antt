@@ -1,0 +1,27 @@
+-- What is answered for tokens that come one at a time: the module that they spell, a fault that came among them, or their refusal.
+use Rattle.std.specs.Prelude.{ℕ, List, [], ◌∷◌, ◌++◌, map, Option, Result, Ok, Err}
+use Rattle.pc_source.specs.declared.fault.Fault.{Fault}
+use Rattle.pc_source.specs.declared.fault.Refusal.{Refusal}
+use Rattle.pc_source.specs.Stream.{Comes}
+use Rattle.pc_token.specs.declared.token.Token.{Token}
+use Rattle.pc_tree.specs.Tree.{Module}
+use Rattle.pc_tree.specs.Faults.{IsModule, IsRefusal}
+use Rattle.pc_parse.specs.Reading.{lexeme}
+
+module _ {X I : Type 0} (text : X → List ℕ) (steps : I → Option (Result (Token X) Fault) → I → Type 0) where
+  -- all tokens came, and they spell the module
+  pub record IsRead (it : I) (m : Module) : Type 0 where
+    pub tokens : List (Token X)
+    pub came : Comes steps it (map Ok tokens)
+    pub is : IsModule (map (lexeme text) tokens) m
+
+  -- all tokens came, and they are refused
+  pub record IsRefusedByTokens (it : I) (r : Refusal) : Type 0 where
+    pub tokens : List (Token X)
+    pub came : Comes steps it (map Ok tokens)
+    pub is : IsRefusal (map (lexeme text) tokens) r
+
+  -- some tokens came, and then this fault
+  pub record IsFaulty (it : I) (e : Fault) : Type 0 where
+    pub tokens : List (Token X)
+    pub came : Comes steps it (map Ok tokens ++ Err e ∷ [])

@@ -1,0 +1,208 @@
+//! Annotations, by descent: recursion at brackets alone.
+ghost use Rattle.std.specs.Prelude.{◌≡◌, ◌≤◌, MatchResult, IfOk, false};
+ghost use Rattle.pc_source.specs.declared.fault.Fault.TheVariants as fault;
+ghost use Rattle.pc_token.specs.declared.token.TokenKind.TheVariants as kind;
+ghost use Rattle.pc_token.specs.declared.token.Operator.TheVariants as sign;
+ghost use Rattle.pc_tree.specs.Tree.{Ann as AnnTree, Anns, no_anns, applied as applied_tree, union as union_tree, name_of};
+ghost use Rattle.pc_tree.specs.Machine.Finishing.{add_ann};
+ghost use Rattle.pc_tree.specs.Machine.States.{argument_due, empty_opened};
+ghost use Rattle.pc_token.specs.Lexeme.{Lexeme};
+ghost use Rattle.std.specs.Prelude.{List};
+ghost use Rattle.pc_parse.specs.Reading.{IsReady, IsAhead};
+ghost use Rattle.pc_parse.specs.Whole.{ReadsAnn};
+ghost use Rattle.pc_parse.specs.Annotating.{KeepsAnn, KeepsAnns, MakesAnn, ReadsUnion, ReadsPart, ReadsApplied};
+
+use crate::operand::{above, deeper};
+use crate::parser::Parser;
+use crate::reader::Reader;
+use pc_source::{Fault, Place};
+use pc_token::{Keyword, Operator, Token, TokenKind};
+use pc_tree::{Ann, Name};
+use std::alloc::Global;
+use std::convert::AsStr;
+
+/// An annotation that was read, at its place. `None` stands for one that is deeper than 64.
+#[derive(Drop)]
+pub(crate) struct Annotation {
+    pub ann: Ann,
+    pub place: Place,
+    /// How deep it is, and 65 where it is deeper than 64.
+    pub depth: u8,
+}
+
+/// Annotations, and the depth of a node over them, 65 where it is deeper than 64.
+#[derive(Drop)]
+struct Annotations {
+    anns: Vec<Ann>,
+    depth: u8,
+}
+
+impl Annotations {
+    fn new(alloc: Global) -> Annotations
+        ensures { KeepsAnns result no_anns }
+    {
+        Annotations {
+            anns: Vec::new(alloc),
+            depth: 0,
+        }
+    }
+
+    /// Adds an annotation at the end.
+    fn push(&mut self, annotation: Annotation) -> Result<(), Fault>
+        requires { annotation.depth ≤ 65 }
+        ensures { MatchResult result (λ _. (rest : Anns) (a : AnnTree) (ts : List Lexeme) → KeepsAnns self.old rest → KeepsAnn annotation a ts → KeepsAnns self.new (add_ann rest a)) (λ e. e ≡ fault.OutOfMemory) }
+    {
+        self.depth = deeper(self.depth, above(annotation.depth));
+        self.anns.push(annotation.ann)?;
+        Ok(())
+    }
+}
+
+/// A name with these arguments.
+fn applied(head: Name, arguments: Annotations, place: Place) -> Annotation
+    ensures { (anns : Anns) → KeepsAnns arguments anns → MakesAnn result (λ q. applied_tree q (name_of head) anns) place.start place.end }
+{
+    let depth = arguments.depth;
+    if depth > 64 {
+        return Annotation {
+            ann: Ann::NoneValue(place),
+            place,
+            depth,
+        };
+    }
+    Annotation {
+        ann: Ann::Apply(place, head, arguments.anns),
+        place,
+        depth,
+    }
+}
+
+/// The union of these parts.
+fn united(parts: Annotations, place: Place) -> Annotation
+    ensures { (anns : Anns) → KeepsAnns parts anns → MakesAnn result (λ q. union_tree q anns) place.start place.end }
+{
+    let depth = parts.depth;
+    if depth > 64 {
+        return Annotation {
+            ann: Ann::NoneValue(place),
+            place,
+            depth,
+        };
+    }
+    Annotation {
+        ann: Ann::Union(place, parts.anns),
+        place,
+        depth,
+    }
+}
+
+/// An annotation that has no parts.
+fn single(ann: Ann, place: Place) -> Annotation
+    ensures { result ≡ record { ann = ann; place = place; depth = 0 } }
+{
+    Annotation {
+        ann,
+        place,
+        depth: 0,
+    }
+}
+
+impl<X: AsStr + Drop, I: Iterator<Item = Result<Token<X>, Fault>> + Drop> Reader<X, I> {
+    /// An annotation: a part, or parts with `|` between them.
+    #[cycle(annotations)]
+    pub(crate) fn union(&mut self, alloc: Global) -> Result<Annotation, Fault>
+        requires { IsReady I.can_next I.remaining self.old }
+        ensures reads { ReadsUnion X.text I.next_gives I.can_next I.remaining self.old self.new result }
+        ensures over { IfOk result (λ _. IsAhead (kind.Operator sign.Bar) self.new.ahead ≡ false) }
+    {
+        let first = self.part(alloc)?;
+        if !self.sees(TokenKind::Operator(Operator::Bar)) {
+            return Ok(first);
+        }
+        let start = first.place.start;
+        let mut parts = Annotations::new(alloc);
+        parts.push(first)?;
+        self.take()?;
+        loop {
+            let part = self.part(alloc)?;
+            let end = part.place.end;
+            parts.push(part)?;
+            if !self.sees(TokenKind::Operator(Operator::Bar)) {
+                return Ok(united(parts, Place { start, end }));
+            }
+            self.take()?;
+        }
+    }
+
+    /// A name, `None`, or a name with brackets behind it.
+    #[cycle(annotations)]
+    fn part(&mut self, alloc: Global) -> Result<Annotation, Fault>
+        requires { IsReady I.can_next I.remaining self.old }
+        ensures { ReadsPart X.text I.next_gives I.can_next I.remaining self.old self.new result }
+    {
+        if self.sees(TokenKind::Keyword(Keyword::None)) {
+            let none = self.take()?;
+            return Ok(single(Ann::NoneValue(none.place), none.place));
+        }
+        let name = self.name(alloc)?;
+        if !self.sees(TokenKind::Operator(Operator::LeftBracket)) {
+            let place = name.place;
+            return Ok(single(Ann::Name(name), place));
+        }
+        self.take()?;
+        self.arguments(alloc, name)
+    }
+
+    /// What stands behind a name and `[`: arguments or `()`, and the closing bracket.
+    #[cycle(annotations)]
+    fn arguments(&mut self, alloc: Global, head: Name) -> Result<Annotation, Fault>
+        requires { IsReady I.can_next I.remaining self.old }
+        ensures { ReadsApplied X.text I.next_gives I.can_next I.remaining (λ n ts parts before s. argument_due n ts parts before s) self.old self.new head result }
+    {
+        let start = head.place.start;
+        if self.sees(TokenKind::Operator(Operator::LeftParenthesis)) {
+            self.take()?;
+            return self.no_arguments(head);
+        }
+        let mut arguments = Annotations::new(alloc);
+        loop {
+            let argument = self.union(alloc)?;
+            arguments.push(argument)?;
+            if !self.sees(TokenKind::Operator(Operator::Comma)) {
+                let close = self.expect(TokenKind::Operator(Operator::RightBracket))?;
+                let place = Place {
+                    start,
+                    end: close.place.end,
+                };
+                return Ok(applied(head, arguments, place));
+            }
+            self.take()?;
+        }
+    }
+
+    /// `)]` behind a name and `[(`.
+    fn no_arguments(&mut self, head: Name) -> Result<Annotation, Fault>
+        requires { IsReady I.can_next I.remaining self.old }
+        ensures { ReadsApplied X.text I.next_gives I.can_next I.remaining (λ n ts parts before s. empty_opened n ts parts before s) self.old self.new head result }
+    {
+        self.expect(TokenKind::Operator(Operator::RightParenthesis))?;
+        let close = self.expect(TokenKind::Operator(Operator::RightBracket))?;
+        let place = Place {
+            start: head.place.start,
+            end: close.place.end,
+        };
+        Ok(single(Ann::ApplyEmpty(place, head), place))
+    }
+}
+
+impl<X: AsStr + Drop, I: Iterator<Item = Result<Token<X>, Fault>> + Drop> Parser<X, I> {
+    /// A whole annotation.
+    pub(crate) fn annotation(&mut self, alloc: Global) -> Result<Ann, Fault>
+        requires { IsReady I.can_next I.remaining self.old.reader }
+        ensures { ReadsAnn X.text I.next_gives I.can_next I.remaining self.old self.new result }
+    {
+        let annotation = self.reader.union(alloc)?;
+        self.note(annotation.place.start, annotation.depth);
+        Ok(annotation.ann)
+    }
+}

@@ -1,0 +1,114 @@
+//! Dataclasses and their members.
+ghost use Rattle.std.specs.Prelude.{◌≡◌};
+ghost use Rattle.pc_parse.specs.Reading.{IsReady};
+ghost use Rattle.pc_parse.specs.Classes.{ReadsBase, ReadsField, ReadsMember, ReadsMembers, ReadsClass};
+
+use crate::parser::Parser;
+use crate::reader::Reader;
+use pc_source::Fault;
+use pc_token::{Keyword, Operator, Token, TokenKind};
+use pc_tree::{ClassDef, Field, Member, Name};
+use std::alloc::Global;
+use std::convert::AsStr;
+
+impl<X: AsStr + Drop, I: Iterator<Item = Result<Token<X>, Fault>> + Drop> Reader<X, I> {
+    /// The base of a class, if it names one, and all that stands before the first member.
+    fn base(&mut self, alloc: Global) -> Result<Option<Name>, Fault>
+        requires { IsReady I.can_next I.remaining self.old }
+        ensures { ReadsBase X.text I.next_gives I.can_next I.remaining self.old self.new result }
+    {
+        if !self.sees(TokenKind::Operator(Operator::LeftParenthesis)) {
+            self.fixed(&[
+                TokenKind::Operator(Operator::Colon),
+                TokenKind::Newline,
+                TokenKind::Indent,
+            ])?;
+            return Ok(None);
+        }
+        self.take()?;
+        let base = self.name(alloc)?;
+        self.fixed(&[
+            TokenKind::Operator(Operator::RightParenthesis),
+            TokenKind::Operator(Operator::Colon),
+            TokenKind::Newline,
+            TokenKind::Indent,
+        ])?;
+        Ok(Some(base))
+    }
+}
+
+impl<X: AsStr + Drop, I: Iterator<Item = Result<Token<X>, Fault>> + Drop> Parser<X, I> {
+    /// A field and the end of its line.
+    fn field(&mut self, alloc: Global) -> Result<Field, Fault>
+        requires { IsReady I.can_next I.remaining self.old.reader }
+        ensures { ReadsField X.text I.next_gives I.can_next I.remaining self.old self.new result }
+    {
+        let name = self.reader.name(alloc)?;
+        self.reader.expect(TokenKind::Operator(Operator::Colon))?;
+        let annotation = self.annotation(alloc)?;
+        let default = self.reader.default(alloc)?;
+        self.reader.expect(TokenKind::Newline)?;
+        Ok(Field {
+            name,
+            annotation,
+            default,
+        })
+    }
+
+    /// A field or a method.
+    fn member(&mut self, alloc: Global) -> Result<Member, Fault>
+        requires { IsReady I.can_next I.remaining self.old.reader }
+        ensures { ReadsMember X.text I.next_gives I.can_next I.remaining self.old self.new result }
+    {
+        if self.reader.sees(TokenKind::Keyword(Keyword::Def)) {
+            self.reader.take()?;
+            let method = self.function(alloc, true)?;
+            return Ok(Member::Method(method));
+        }
+        let field = self.field(alloc)?;
+        Ok(Member::Field(field))
+    }
+
+    /// The members of a class, or `pass`, and the end of the suite.
+    fn members(&mut self, alloc: Global) -> Result<Vec<Member>, Fault>
+        requires { IsReady I.can_next I.remaining self.old.reader }
+        ensures { ReadsMembers X.text I.next_gives I.can_next I.remaining self.old self.new result }
+    {
+        let mut members = Vec::new(alloc);
+        if self.reader.sees(TokenKind::Keyword(Keyword::Pass)) {
+            self.reader.fixed(&[
+                TokenKind::Keyword(Keyword::Pass),
+                TokenKind::Newline,
+                TokenKind::Dedent,
+            ])?;
+            return Ok(members);
+        }
+        loop {
+            let member = self.member(alloc)?;
+            members.push(member)?;
+            if self.reader.sees(TokenKind::Dedent) {
+                self.reader.take()?;
+                return Ok(members);
+            }
+        }
+    }
+
+    /// A class from behind its `@`.
+    pub(crate) fn class(&mut self, alloc: Global) -> Result<ClassDef, Fault>
+        requires { IsReady I.can_next I.remaining self.old.reader }
+        ensures { ReadsClass X.text I.next_gives I.can_next I.remaining self.old self.new result }
+    {
+        let word = self.reader.expect_name("dataclass")?;
+        self.reader
+            .fixed(&[TokenKind::Newline, TokenKind::Keyword(Keyword::Class)])?;
+        let name = self.reader.name(alloc)?;
+        let base = self.reader.base(alloc)?;
+        let members = self.members(alloc)?;
+        Ok(ClassDef {
+            decorator: word.place,
+            name,
+            base,
+            members,
+        })
+    }
+}

@@ -1,0 +1,59 @@
+//! Functions and methods.
+ghost use Rattle.std.specs.Prelude.{◌≡◌};
+ghost use Rattle.pc_parse.specs.Reading.{IsReady};
+ghost use Rattle.pc_parse.specs.Signatures.{ReadsMethodParams, ReadsSignature, ReadsFunction};
+
+use crate::parser::Parser;
+use pc_source::Fault;
+use pc_token::{Operator, Token, TokenKind};
+use pc_tree::{FuncDef, Param};
+use std::alloc::Global;
+use std::convert::AsStr;
+
+impl<X: AsStr + Drop, I: Iterator<Item = Result<Token<X>, Fault>> + Drop> Parser<X, I> {
+    /// `self`, the parameters behind it, and the closing parenthesis.
+    fn parameters_of_method(&mut self, alloc: Global) -> Result<Vec<Param>, Fault>
+        requires { IsReady I.can_next I.remaining self.old.reader }
+        ensures { ReadsMethodParams X.text I.next_gives I.can_next I.remaining self.old self.new result }
+    {
+        self.reader.expect_name("self")?;
+        if self.reader.sees(TokenKind::Operator(Operator::Comma)) {
+            self.reader.take()?;
+            return self.parameters(alloc);
+        }
+        self.reader
+            .expect(TokenKind::Operator(Operator::RightParenthesis))?;
+        Ok(Vec::new(alloc))
+    }
+
+    /// The parentheses of a function, or of a method, and the parameters in them.
+    fn signature(&mut self, alloc: Global, method: bool) -> Result<Vec<Param>, Fault>
+        requires { IsReady I.can_next I.remaining self.old.reader }
+        ensures { ReadsSignature X.text I.next_gives I.can_next I.remaining method self.old self.new result }
+    {
+        self.reader
+            .expect(TokenKind::Operator(Operator::LeftParenthesis))?;
+        if method {
+            return self.parameters_of_method(alloc);
+        }
+        self.parameters(alloc)
+    }
+
+    /// A function, or a method, from behind its `def`.
+    pub(crate) fn function(&mut self, alloc: Global, method: bool) -> Result<FuncDef, Fault>
+        requires { IsReady I.can_next I.remaining self.old.reader }
+        ensures { ReadsFunction X.text I.next_gives I.can_next I.remaining method self.old self.new result }
+    {
+        let name = self.reader.name(alloc)?;
+        let params = self.signature(alloc, method)?;
+        let returns = self.annotation_behind(alloc, Operator::Arrow)?;
+        self.reader.expect(TokenKind::Operator(Operator::Colon))?;
+        let body = self.suite(alloc)?;
+        Ok(FuncDef {
+            name,
+            params,
+            returns,
+            body,
+        })
+    }
+}

@@ -1,0 +1,33 @@
+//! The parser: the module that tokens spell, read one token at a time.
+#![tactic(auto)]
+
+mod annotation;
+mod class;
+mod expression;
+mod fixed;
+mod function;
+mod headers;
+mod items;
+mod link;
+mod listed;
+mod literal;
+mod name;
+mod operand;
+mod operators;
+mod parameter;
+mod parser;
+mod piece;
+mod reader;
+mod statement;
+mod stream;
+mod suite;
+
+pub use listed::parse;
+pub use stream::parse_from;
+
+#[cfg(test)]
+mod module_tests;
+#[cfg(test)]
+mod suite_tests;
+#[cfg(test)]
+mod tests;

@@ -1,0 +1,69 @@
+//! The module that the tokens of a list spell.
+ghost use Rattle.std.specs.Prelude.{◌≡◌, map, MatchResult, IfOk, IfErr};
+ghost use Rattle.std.specs.Iterator.{at_most};
+ghost use Rattle.pc_source.specs.declared.fault.Fault.TheVariants as fault;
+ghost use Rattle.pc_source.specs.Answers.{OnRefusal};
+ghost use Rattle.pc_token.specs.Lexeme.{lexeme_of};
+ghost use Rattle.pc_tree.specs.Tree.{Module as ModuleTree, module_of};
+ghost use Rattle.pc_tree.specs.Faults.{IsModule, IsRefusal};
+
+use crate::stream::parse_from;
+use pc_source::Fault;
+use pc_token::Tok;
+use pc_tree::Module;
+use std::alloc::Global;
+
+/// The tokens of a list that are left, copied one at a time.
+#[derive(Drop)]
+struct Listed<'t, 'a> {
+    tokens: &'t [Tok<'a>],
+    at: usize,
+}
+
+/// The same token.
+fn copied<'a>(token: &Tok<'a>) -> Result<Tok<'a>, Fault>
+    ensures { MatchResult result (λ t. lexeme_of t ≡ lexeme_of token.now) (λ e. e ≡ fault.OutOfMemory) }
+{
+    let token = token.clone()?;
+    Ok(token)
+}
+
+impl<'t, 'a> Iterator for Listed<'t, 'a> {
+    type Item = Result<Tok<'a>, Fault>;
+
+    ghost use Rattle.std.specs.Prelude.{◌-◌, length};
+    ghost use Rattle.pc_parse.specs.Copying.{gives_token};
+
+    ghost next_gives = { gives_token };
+
+    ghost remaining = { λ s. at_most (length s.tokens.now - s.at) };
+
+    fn size_hint(&self) -> (usize, Option<usize>) {
+        (0, None)
+    }
+
+    fn next(&mut self) -> Option<Result<Tok<'a>, Fault>> {
+        if self.at >= self.tokens.len() {
+            return None;
+        }
+        let token = copied(&self.tokens[self.at]);
+        self.at += 1;
+        Some(token)
+    }
+}
+
+/// The module that tokens spell. Python Language Reference 3.12, 10 "Full Grammar specification", in
+/// the part of the profile.
+///
+/// # Errors
+///
+/// `G1` at the first token after which no module can follow, or at the end of the last token where
+/// they end too early; else `G2` at the first byte of the first whole expression or annotation that
+/// is deeper than 64. `OutOfMemory` where the tree has no room.
+pub fn parse(alloc: Global, tokens: &[Tok<'_>]) -> Result<Module, Fault>
+    ensures found { IfOk result (λ m. IsModule (map lexeme_of tokens.now) (module_of m)) }
+    ensures only { (m : ModuleTree) → IsModule (map lexeme_of tokens.now) m → MatchResult result (λ v. module_of v ≡ m) (λ e. e ≡ fault.OutOfMemory) }
+    ensures refused { IfErr result (OnRefusal (IsRefusal (map lexeme_of tokens.now))) }
+{
+    parse_from(alloc, Listed { tokens, at: 0 })
+}

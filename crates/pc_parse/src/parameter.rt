@@ -1,0 +1,70 @@
+//! Parameters: names with their annotations and defaults.
+ghost use Rattle.std.specs.Prelude.{◌≡◌};
+ghost use Rattle.pc_parse.specs.Reading.{IsReady};
+ghost use Rattle.pc_parse.specs.Signatures.{ReadsOpened, ReadsParam, ReadsParams};
+
+use crate::parser::Parser;
+use pc_source::Fault;
+use pc_token::{Operator, Token, TokenKind};
+use pc_tree::{Ann, Param};
+use std::alloc::Global;
+use std::convert::AsStr;
+
+impl<X: AsStr + Drop, I: Iterator<Item = Result<Token<X>, Fault>> + Drop> Parser<X, I> {
+    /// An annotation behind this sign, if the sign is ahead.
+    pub(crate) fn annotation_behind(
+        &mut self,
+        alloc: Global,
+        opener: Operator,
+    ) -> Result<Option<Ann>, Fault>
+        requires { IsReady I.can_next I.remaining self.old.reader }
+        ensures { ReadsOpened X.text I.next_gives I.can_next I.remaining opener self.old self.new result }
+    {
+        if !self.reader.sees(TokenKind::Operator(opener)) {
+            return Ok(None);
+        }
+        self.reader.take()?;
+        let annotation = self.annotation(alloc)?;
+        Ok(Some(annotation))
+    }
+
+    /// A parameter: a name, and its annotation and its default if it has them.
+    fn parameter(&mut self, alloc: Global) -> Result<Param, Fault>
+        requires { IsReady I.can_next I.remaining self.old.reader }
+        ensures { ReadsParam X.text I.next_gives I.can_next I.remaining self.old self.new result }
+    {
+        let name = self.reader.name(alloc)?;
+        let annotation = self.annotation_behind(alloc, Operator::Colon)?;
+        let default = self.reader.default(alloc)?;
+        Ok(Param {
+            name,
+            annotation,
+            default,
+        })
+    }
+
+    /// Parameters, and the closing parenthesis.
+    pub(crate) fn parameters(&mut self, alloc: Global) -> Result<Vec<Param>, Fault>
+        requires { IsReady I.can_next I.remaining self.old.reader }
+        ensures { ReadsParams X.text I.next_gives I.can_next I.remaining self.old self.new result }
+    {
+        let mut params = Vec::new(alloc);
+        loop {
+            if self
+                .reader
+                .sees(TokenKind::Operator(Operator::RightParenthesis))
+            {
+                self.reader.take()?;
+                return Ok(params);
+            }
+            let param = self.parameter(alloc)?;
+            params.push(param)?;
+            if !self.reader.sees(TokenKind::Operator(Operator::Comma)) {
+                self.reader
+                    .expect(TokenKind::Operator(Operator::RightParenthesis))?;
+                return Ok(params);
+            }
+            self.reader.take()?;
+        }
+    }
+}

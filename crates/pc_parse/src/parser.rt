@@ -1,0 +1,49 @@
+//! Whole expressions, and where the first one begins that is too deep.
+ghost use Rattle.std.specs.Prelude.{◌≡◌, ◌∷◌, [], None};
+ghost use Rattle.pc_parse.specs.Reading.{IsReady};
+ghost use Rattle.pc_parse.specs.Whole.{noted, ReadsWhole};
+
+use crate::operand::Operand;
+use crate::reader::Reader;
+use pc_source::Fault;
+use pc_token::Token;
+use std::alloc::Global;
+use std::convert::AsStr;
+
+/// A reader, and the byte where the first whole expression or annotation begins that is deeper than
+/// 64, if one was read. Own rule of the profile.
+#[derive(Drop)]
+pub(crate) struct Parser<X: Drop, I: Drop> {
+    pub reader: Reader<X, I>,
+    pub deep: Option<usize>,
+}
+
+impl<X: AsStr + Drop, I: Iterator<Item = Result<Token<X>, Fault>> + Drop> Parser<X, I> {
+    /// A parser that has read nothing.
+    pub(crate) fn new(reader: Reader<X, I>) -> Self
+        ensures { result ≡ record { reader = reader; deep = None } }
+    {
+        Parser { reader, deep: None }
+    }
+
+    /// Notes a whole expression or annotation of this depth, 65 where it is deeper than 64, that
+    /// begins at the byte `first`.
+    pub(crate) fn note(&mut self, first: usize, depth: u8)
+        ensures reader { self.new.reader ≡ self.old.reader }
+        ensures deep { self.new.deep ≡ noted self.old.deep (record { start = first; depth = depth } ∷ []) }
+    {
+        if depth > 64 && self.deep.is_none() {
+            self.deep = Some(first);
+        }
+    }
+
+    /// A whole expression.
+    pub(crate) fn expression(&mut self, alloc: Global) -> Result<Operand, Fault>
+        requires { IsReady I.can_next I.remaining self.old.reader }
+        ensures { ReadsWhole X.text I.next_gives I.can_next I.remaining self.old self.new result }
+    {
+        let operand = self.reader.operators(alloc, 0)?;
+        self.note(operand.first, operand.depth);
+        Ok(operand)
+    }
+}

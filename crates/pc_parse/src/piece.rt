@@ -1,0 +1,113 @@
+//! The items of a module, its last line, and the whole.
+ghost use Rattle.std.specs.Prelude.{◌≡◌, ◌&&◌, codes, bytes_eq};
+ghost use Rattle.pc_token.specs.declared.token.TokenKind.TheVariants as kind;
+ghost use Rattle.pc_token.specs.declared.token.Operator.TheVariants as sign;
+ghost use Rattle.pc_tree.specs.Tree.{name_of};
+ghost use Rattle.pc_parse.specs.Reading.{IsReady, IsAhead};
+ghost use Rattle.pc_parse.specs.Modules.{ReadsConstant, ReadsPiece, ReadsModule};
+
+use crate::parser::Parser;
+use crate::reader::Reader;
+use pc_source::{Fault, Place};
+use pc_token::{Keyword, Operator, Token, TokenKind};
+use pc_tree::{Constant, Item, ItemKind, Module, Name};
+use std::alloc::Global;
+use std::convert::AsStr;
+
+/// An item of the module, or the place of `main` in its last line.
+#[derive(Drop)]
+enum Piece {
+    Item(Item),
+    Last(Place),
+}
+
+impl<X: AsStr + Drop, I: Iterator<Item = Result<Token<X>, Fault>> + Drop> Reader<X, I> {
+    /// Whether the last line of the module goes on behind this name.
+    fn begins_last_line(&self, name: &Name) -> bool
+        ensures { result ≡ (IsAhead (kind.Operator sign.LeftParenthesis) self.now.ahead && bytes_eq (name_of name.now).text (codes "main")) }
+    {
+        self.sees(TokenKind::Operator(Operator::LeftParenthesis)) && name.text.as_str() == "main"
+    }
+}
+
+impl<X: AsStr + Drop, I: Iterator<Item = Result<Token<X>, Fault>> + Drop> Parser<X, I> {
+    /// A constant from behind its name, and the end of its line.
+    fn constant(&mut self, alloc: Global, name: Name) -> Result<Constant, Fault>
+        requires { IsReady I.can_next I.remaining self.old.reader }
+        ensures { ReadsConstant X.text I.next_gives I.can_next I.remaining self.old self.new (name_of name) result }
+    {
+        let annotation = self.annotation_behind(alloc, Operator::Colon)?;
+        self.reader.expect(TokenKind::Operator(Operator::Equal))?;
+        let value = self.expression(alloc)?;
+        self.reader.expect(TokenKind::Newline)?;
+        Ok(Constant {
+            name,
+            annotation,
+            value: value.expr,
+        })
+    }
+
+    /// An item of the module, or its last line.
+    fn piece(&mut self, alloc: Global) -> Result<Piece, Fault>
+        requires { IsReady I.can_next I.remaining self.old.reader }
+        ensures { ReadsPiece X.text I.next_gives I.can_next I.remaining self.old self.new result }
+    {
+        if self.reader.sees(TokenKind::Operator(Operator::At)) {
+            let at = self.reader.take()?;
+            let class = self.class(alloc)?;
+            return Ok(Piece::Item(Item {
+                first: at.place,
+                kind: ItemKind::Class(class),
+            }));
+        }
+        if self.reader.sees(TokenKind::Keyword(Keyword::Def)) {
+            let def = self.reader.take()?;
+            let function = self.function(alloc, false)?;
+            return Ok(Piece::Item(Item {
+                first: def.place,
+                kind: ItemKind::Def(function),
+            }));
+        }
+        let name = self.reader.name(alloc)?;
+        let first = name.place;
+        if self.reader.begins_last_line(&name) {
+            self.reader.fixed(&[
+                TokenKind::Operator(Operator::LeftParenthesis),
+                TokenKind::Operator(Operator::RightParenthesis),
+                TokenKind::Newline,
+                TokenKind::End,
+            ])?;
+            return Ok(Piece::Last(first));
+        }
+        let constant = self.constant(alloc, name)?;
+        Ok(Piece::Item(Item {
+            first,
+            kind: ItemKind::Constant(constant),
+        }))
+    }
+
+    /// A whole module.
+    pub(crate) fn module(&mut self, alloc: Global) -> Result<Module, Fault>
+        requires { IsReady I.can_next I.remaining self.old.reader }
+        ensures { ReadsModule X.text I.next_gives I.can_next I.remaining self.old self.new result }
+    {
+        let headers = self.reader.headers()?;
+        let mut items = Vec::new(alloc);
+        loop {
+            match self.piece(alloc)? {
+                Piece::Item(item) => items.push(item)?,
+                Piece::Last(main) => {
+                    if self.reader.kind().is_some() {
+                        return Err(self.reader.misfit());
+                    }
+                    return Ok(Module {
+                        imports_dataclass: headers.dataclass,
+                        imports_any: headers.any,
+                        items,
+                        main,
+                    });
+                }
+            }
+        }
+    }
+}

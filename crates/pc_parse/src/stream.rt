@@ -1,0 +1,45 @@
+//! The module that tokens spell.
+ghost use Rattle.std.specs.Prelude.{◌⊎◌, IfOk, IfErr};
+ghost use Rattle.std.specs.Iterator.{IsFinite};
+ghost use Rattle.pc_source.specs.declared.fault.Fault.TheVariants as fault;
+ghost use Rattle.pc_source.specs.Answers.{OnRefusal};
+ghost use Rattle.pc_tree.specs.Tree.{module_of};
+ghost use Rattle.pc_parse.specs.Answering.{IsRead, IsRefusedByTokens, IsFaulty};
+
+use crate::parser::Parser;
+use crate::reader::Reader;
+use pc_source::{Fault, Refusal, RefusalCode};
+use pc_token::Token;
+use pc_tree::Module;
+use std::alloc::Global;
+use std::convert::AsStr;
+
+/// The module that tokens spell which come one at a time, over any iterator of tokens that ends.
+/// Python Language Reference 3.12, 10 "Full Grammar specification", in the part of the profile.
+///
+/// # Errors
+///
+/// A fault that came among the tokens. Else `G1` at the first token after which no module can
+/// follow, or at the end of the last token where they end too early; else `G2` at the first byte of
+/// the first whole expression or annotation that is deeper than 64. `OutOfMemory` where the tree has
+/// no room.
+pub fn parse_from<X: AsStr + Drop, I: Iterator<Item = Result<Token<X>, Fault>> + Drop>(
+    alloc: Global,
+    tokens: I,
+) -> Result<Module, Fault>
+    requires can { I.can_next tokens }
+    requires ends { IsFinite (I.remaining tokens) }
+    ensures read { IfOk result (λ m. IsRead X.text I.next_gives tokens (module_of m)) }
+    ensures refused { IfErr result (OnRefusal (λ r. IsRefusedByTokens X.text I.next_gives tokens r ⊎ IsFaulty X.text I.next_gives tokens (fault.Refused r))) }
+{
+    let reader = Reader::new(tokens)?;
+    let mut parser = Parser::new(reader);
+    let module = parser.module(alloc)?;
+    match parser.deep {
+        Some(byte) => Err(Fault::Refused(Refusal {
+            code: RefusalCode::G2,
+            byte,
+        })),
+        None => Ok(module),
+    }
+}

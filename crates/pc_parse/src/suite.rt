@@ -1,0 +1,133 @@
+//! Suites, and the statements that have them.
+ghost use Rattle.std.specs.Prelude.{◌≡◌};
+ghost use Rattle.pc_tree.specs.Machine.Kinds.{leads_while, leads_for, leads_if};
+ghost use Rattle.pc_parse.specs.Reading.{IsReady};
+ghost use Rattle.pc_parse.specs.Suites.{MayStand, HasLead, ReadsSuite, ReadsStmt, ReadsHeaded, ReadsElse};
+
+use crate::parser::Parser;
+use crate::statement::Lead;
+use pc_source::Fault;
+use pc_token::{Keyword, Operator, Token, TokenKind};
+use pc_tree::{Branch, Expr, Stmt, StmtKind};
+use std::alloc::Global;
+use std::convert::AsStr;
+
+impl<X: AsStr + Drop, I: Iterator<Item = Result<Token<X>, Fault>> + Drop> Parser<X, I> {
+    /// The statements of a suite, from behind its `:` up to and with its end.
+    /// Language Reference 8 "Compound statements".
+    #[cycle(statements)]
+    pub(crate) fn suite(&mut self, alloc: Global) -> Result<Vec<Stmt>, Fault>
+        requires { IsReady I.can_next I.remaining self.old.reader }
+        ensures { ReadsSuite X.text I.next_gives I.can_next I.remaining self.old self.new result }
+    {
+        self.reader.expect(TokenKind::Newline)?;
+        self.reader.expect(TokenKind::Indent)?;
+        let mut stmts = Vec::new(alloc);
+        loop {
+            let stmt = self.statement(alloc)?;
+            stmts.push(stmt)?;
+            if self.reader.sees(TokenKind::Dedent) {
+                self.reader.take()?;
+                return Ok(stmts);
+            }
+        }
+    }
+
+    /// A statement.
+    #[cycle(statements)]
+    fn statement(&mut self, alloc: Global) -> Result<Stmt, Fault>
+        requires { IsReady I.can_next I.remaining self.old.reader }
+        ensures { ReadsStmt X.text I.next_gives I.can_next I.remaining (λ done. MayStand done self.old) self.old self.new result }
+    {
+        match self.lead() {
+            Lead::Pass => self.word(StmtKind::Pass),
+            Lead::Break => self.word(StmtKind::Break),
+            Lead::Continue => self.word(StmtKind::Continue),
+            Lead::Return => self.returned(alloc),
+            Lead::Assert => self.asserted(alloc),
+            Lead::While => self.while_loop(alloc),
+            Lead::For => self.for_loop(alloc),
+            Lead::If => self.conditional(alloc),
+            Lead::Dedent => Err(self.reader.misfit()),
+            Lead::Other => self.line(alloc),
+        }
+    }
+
+    /// `while`, a condition and its suite.
+    #[cycle(statements)]
+    fn while_loop(&mut self, alloc: Global) -> Result<Stmt, Fault>
+        requires { IsReady I.can_next I.remaining self.old.reader }
+        ensures { ReadsStmt X.text I.next_gives I.can_next I.remaining (λ _. HasLead leads_while self.old) self.old self.new result }
+    {
+        let first = self.reader.take()?;
+        let (condition, body) = self.headed(alloc)?;
+        Ok(Stmt {
+            first: first.place,
+            kind: StmtKind::While(condition, body),
+        })
+    }
+
+    /// `for`, a name, what it goes over, and its suite.
+    #[cycle(statements)]
+    fn for_loop(&mut self, alloc: Global) -> Result<Stmt, Fault>
+        requires { IsReady I.can_next I.remaining self.old.reader }
+        ensures { ReadsStmt X.text I.next_gives I.can_next I.remaining (λ _. HasLead leads_for self.old) self.old self.new result }
+    {
+        let first = self.reader.take()?;
+        let target = self.reader.name(alloc)?;
+        self.reader.expect(TokenKind::Keyword(Keyword::In))?;
+        let (iterable, body) = self.headed(alloc)?;
+        Ok(Stmt {
+            first: first.place,
+            kind: StmtKind::For(target, iterable, body),
+        })
+    }
+
+    /// `if`, each `elif`, and `else`, with their suites.
+    #[cycle(statements)]
+    fn conditional(&mut self, alloc: Global) -> Result<Stmt, Fault>
+        requires { IsReady I.can_next I.remaining self.old.reader }
+        ensures { ReadsStmt X.text I.next_gives I.can_next I.remaining (λ _. HasLead leads_if self.old) self.old self.new result }
+    {
+        let first = self.reader.take()?;
+        let mut branches = Vec::new(alloc);
+        loop {
+            let (condition, body) = self.headed(alloc)?;
+            branches.push(Branch { condition, body })?;
+            if !self.reader.sees(TokenKind::Keyword(Keyword::Elif)) {
+                let otherwise = self.otherwise(alloc)?;
+                return Ok(Stmt {
+                    first: first.place,
+                    kind: StmtKind::If(branches, otherwise),
+                });
+            }
+            self.reader.take()?;
+        }
+    }
+
+    /// An expression, and the suite behind it.
+    #[cycle(statements)]
+    fn headed(&mut self, alloc: Global) -> Result<(Expr, Vec<Stmt>), Fault>
+        requires { IsReady I.can_next I.remaining self.old.reader }
+        ensures { ReadsHeaded X.text I.next_gives I.can_next I.remaining self.old self.new result }
+    {
+        let head = self.expression(alloc)?;
+        self.reader.expect(TokenKind::Operator(Operator::Colon))?;
+        let body = self.suite(alloc)?;
+        Ok((head.expr, body))
+    }
+
+    /// The suite of `else`, or no statements where there is none.
+    #[cycle(statements)]
+    fn otherwise(&mut self, alloc: Global) -> Result<Vec<Stmt>, Fault>
+        requires { IsReady I.can_next I.remaining self.old.reader }
+        ensures { ReadsElse X.text I.next_gives I.can_next I.remaining self.old self.new result }
+    {
+        if !self.reader.sees(TokenKind::Keyword(Keyword::Else)) {
+            return Ok(Vec::new(alloc));
+        }
+        self.reader.take()?;
+        self.reader.expect(TokenKind::Operator(Operator::Colon))?;
+        self.suite(alloc)
+    }
+}
