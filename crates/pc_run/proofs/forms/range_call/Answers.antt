@@ -1,8 +1,8 @@
 use Rattle.std.proofs.Common.{◌≡◌}
 use Rattle.pc_tree.specs.Tree.{name_of, expr_of}
-use Rattle.pc_run.specs.Evaluation.{iterable_form, range_call}
-use Rattle.pc_run.specs.Machine.{exprs_of_list, keywords_of_list}
-use Rattle.pc_run.proofs.Trees.{range_here}
+use Rattle.pc_machine.specs.Evaluation.{iterable_form, range_call}
+use Rattle.pc_tree.specs.Lists.{exprs_of_list, keywords_of_list}
+use Rattle.pc_run.proofs.CallForms.{range_here}
 use Rattle.pc_run.proofs.forms.range_call.Goals as goal
 
 pub returns-then-is_same : goal.returns-then-is_same

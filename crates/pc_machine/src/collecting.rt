@@ -1,0 +1,53 @@
+ghost use Rattle.std.specs.Prelude.{◌≡◌, ◌<◌, ◌+◌, ◌-◌, ◌++◌, ◌∷◌, [], map, OnOk, IfOk, string_bytes};
+ghost use Rattle.pc_value.specs.Meaning.{value_of, entry_of};
+ghost use Rattle.pc_run.specs.Machine.{named_of};
+
+use crate::state::NamedValue;
+use pc_source::OutOfMemory;
+use pc_value::Value;
+use std::alloc::Global as Allocator;
+
+/// One more value.
+pub fn keep(values: &mut Vec<Value>, value: Value) -> Result<(), OutOfMemory>
+    ensures { OnOk result (values.new.items ≡ values.old.items ++ value ∷ []) }
+{
+    match values.push(value) {
+        Ok(()) => Ok(()),
+        Err(_) => Err(OutOfMemory),
+    }
+}
+
+/// One more entry.
+pub fn keep_entry(
+    entries: &mut Vec<pc_value::Entry>,
+    key: Value,
+    value: Value,
+) -> Result<(), OutOfMemory>
+    ensures { OnOk result (map entry_of entries.new.items ≡ map entry_of entries.old.items ++ record { key = value_of key; value = value_of value } ∷ []) }
+{
+    match entries.push(pc_value::Entry { key, value }) {
+        Ok(()) => Ok(()),
+        Err(_) => Err(OutOfMemory),
+    }
+}
+
+/// One more argument by name.
+pub fn keep_named<'m>(
+    named: &mut Vec<NamedValue<'m>>,
+    name: &'m str,
+    value: Value,
+) -> Result<(), OutOfMemory>
+    ensures { OnOk result (map named_of named.new.items ≡ map named_of named.old.items ++ record { name = name.now; value = value_of value } ∷ []) }
+{
+    match named.push(NamedValue { name, value }) {
+        Ok(()) => Ok(()),
+        Err(_) => Err(OutOfMemory),
+    }
+}
+
+/// A text of its own.
+pub fn text_of(alloc: Allocator, text: &str) -> Result<String, OutOfMemory>
+    ensures { IfOk result (λ s. string_bytes s ≡ text.now) }
+{
+    Ok(String::from_str(alloc, text)?)
+}
