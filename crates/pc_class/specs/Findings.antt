@@ -28,7 +28,7 @@ pub record HasNoBase (m : Module) (class : ClassDef) (c : ℕ) (f : Finding) : T
   pub none : base_named m c (Some named) ≡ None
   pub is : f ≡ finding named.place E07
 
--- the texts of members, and those before a member
+-- the texts of the names of members
 abbrev pub member_texts : List Member → List (List ℕ)
 member_texts members = map (λ x. (name_of_member x).text) members
 

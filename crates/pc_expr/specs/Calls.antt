@@ -166,7 +166,7 @@ is_callable_builtin builtin.IsInstance = true
 is_callable_builtin builtin.Range = true
 is_callable_builtin _ = false
 
--- a name as a callee: its label, and what a call of it comes to
+-- a callee: its label, and what a call of it comes to
 pub record Callee : Type 0 where
   pub mark : Mark
   pub offers : List CallOffer
@@ -195,8 +195,9 @@ method_callee ctx g word t =
 
 -- ---- the call as a whole
 
+-- what is found at the call: what each member gives; where something is found at the callee `e.m`, nothing further
 abbrev pub call_codes : List CallOffer → List Code
-call_codes offers = flat_map (λ o. o.at_call) offers
+call_codes offers = if has_none (flat_map (λ o. o.at_callee) offers) then flat_map (λ o. o.at_call) offers else []
 
 abbrev pub all_codes : List CallOffer → List Code
 all_codes offers = flat_map (λ o. o.at_callee ++ o.at_call) offers

@@ -112,11 +112,6 @@ compare_types _ t = []
 
 -- ---- calls
 
--- the type of the object of a callee `e.m`
-abbrev pub object_type : (e : Expr) → Marks e → Tree
-object_type (attribute p e field) m = type_of e m.object
-object_type e m = type_of e m
-
 -- a callee: a name, a method of an object, or a value; in an initializer a callee that is no name is E03
 abbrev pub callee_of : Context → Env → Given → (e : Expr) → Marks e → Callee
 callee_of ctx env g (name n) m = name_callee ctx env g (ctx.resolve n.text)
@@ -138,12 +133,13 @@ whole_call_mark ctx env callee arguments keywords offers types =
     then test_mark ctx env arguments
     else (if is_length_of_one (given arguments keywords) ctx.resolve callee then length_mark ctx.bases types else call_mark ctx.bases offers)
 
--- the code at the second argument of a test of an instance
+-- whether an initializer names the second argument too early
 abbrev pub late_second : (es : Exprs) → ItemsMarks es → Test
 late_second no_exprs m = false
 late_second (more_exprs e no_exprs) m = false
 late_second (more_exprs e (more_exprs f rest)) m = is_late (mark_of f m.rest.first).codes
 
+-- the code at the second argument of a test of an instance
 abbrev pub whole_second_code : Context → Expr → (arguments : Exprs) → Keywords → ItemsMarks arguments → Option Code
 whole_second_code ctx callee arguments keywords m =
     if is_instance_test callee arguments keywords then second_code (test_of_argument ctx.resolve (second_argument arguments)) (late_second arguments m) else None

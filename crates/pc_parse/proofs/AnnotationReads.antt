@@ -18,16 +18,16 @@ use Rattle.pc_tree.specs.Machine.Finishing.{add_ann, finish_ann}
 use Rattle.pc_parse.specs.declared.parser.Parser.{Parser}
 use Rattle.pc_parse.specs.Whole.{noted, GivesAnn}
 use Rattle.pc_parse.proofs.Depths.{note_of, shallow}
-use Rattle.pc_parse.proofs.Steps.{not_seen}
+use Rattle.pc_reader.proofs.Steps.{not_seen}
 use Rattle.pc_parse.specs.declared.annotation.Annotation.{Annotation}
 use Rattle.pc_parse.specs.declared.annotation.Annotations.{Annotations}
-use Rattle.pc_parse.specs.declared.reader.Reader.{Reader}
-use Rattle.pc_parse.specs.Operands.{Starts}
-use Rattle.pc_parse.specs.Reading.{Blames, IsAhead, lexeme, Came, IsReady, left_in, Takes, NeedsKind}
-use Rattle.pc_parse.specs.Descent.{GivesName}
+use Rattle.pc_reader.specs.declared.reader.Reader.{Reader}
+use Rattle.pc_reader.specs.Operands.{Starts}
+use Rattle.pc_reader.specs.Reading.{Blames, IsAhead, lexeme, Came, IsReady, left_in, Takes, NeedsKind}
+use Rattle.pc_reader.specs.Descent.{GivesName}
 use Rattle.pc_parse.specs.Annotating.{KeepsAnn, KeepsAnns, MakesAnn, GivesUnion, GivesPart, ReadsPart, GivesApplied, ReadsApplied, PartsSoFar, ArgumentsSoFar}
-use Rattle.pc_parse.proofs.Building.{starts_more, ends_more, ends_one}
-use Rattle.pc_parse.proofs.Streams.{blame}
+use Rattle.pc_reader.proofs.Building.{starts_more, ends_more, ends_one}
+use Rattle.pc_reader.proofs.Streams.{blame}
 use Rattle.pc_parse.proofs.Annotated.{names, nothing}
 use Rattle.pc_parse.proofs.AnnotationSteps.{to_none, to_name, to_bracket, to_parenthesis, to_bar, to_comma, to_close, alone, filled, united, closes, no_part}
 

@@ -14,9 +14,9 @@ use Rattle.pc_tree.specs.Machine.Kinds.{same_kind}
 use Rattle.pc_tree.specs.Machine.States.{AnnStack, ann_inside, State, part_due, part_named, part_read, argument_due, empty_opened, empty_closed, stuck, on}
 use Rattle.pc_tree.specs.Machine.Finishing.{add_ann}
 use Rattle.pc_tree.specs.Machine.Annotations.{whole_ann, ann_end, part_read_turn, part_turn}
-use Rattle.pc_parse.specs.declared.reader.Reader.{Reader}
-use Rattle.pc_parse.specs.Reading.{IsAhead, lexeme, Onward, Takes, NeedsKind}
-use Rattle.pc_parse.proofs.Steps.{step_to, alike, needs, not_seen}
+use Rattle.pc_reader.specs.declared.reader.Reader.{Reader}
+use Rattle.pc_reader.specs.Reading.{IsAhead, lexeme, Onward, Takes, NeedsKind}
+use Rattle.pc_reader.proofs.Steps.{step_to, alike, needs, not_seen}
 
 -- where no choice is taken
 pub on_none : (x y z : Bool) (p q r : State) → x ≡ false → y ≡ false → z ≡ false → on x p (on y q (on z r stuck)) ≡ stuck

@@ -19,10 +19,10 @@ use Rattle.pc_tree.specs.Machine.Lines.{start}
 use Rattle.pc_tree.proofs.Sound.{reads_spells}
 use Rattle.pc_tree.proofs.Front.{misfit, ends_early}
 use Rattle.pc_parse.specs.declared.parser.Parser.{Parser}
-use Rattle.pc_parse.specs.Reading.{Blames, settled, lexeme, run_items, Comes, Came}
+use Rattle.pc_reader.specs.Reading.{Blames, settled, lexeme, run_items, Comes, Came}
 use Rattle.pc_parse.specs.Modules.{GivesModule}
 use Rattle.pc_parse.specs.Answering.{IsRead, IsRefusedByTokens, IsFaulty}
-use Rattle.pc_parse.proofs.Streams.{run_token, run_fault, run_end}
+use Rattle.pc_reader.proofs.Streams.{run_token, run_fault, run_end}
 
 run_more : (r : Reading) (t : Lexeme) (ts : List Lexeme) → run r (t ∷ ts) ≡ run (step r t) ts
 unfolding run

@@ -11,7 +11,7 @@ use Rattle.pc_source.specs.Answers.{OnRefusal}
 use Rattle.pc_token.specs.Lexeme.{form_of}
 use Rattle.pc_tree.specs.declared.tree.Module.{Module as RustModule}
 use Rattle.pc_tree.specs.Tree.{Module, module_of}
-use Rattle.pc_parse.specs.Reading.{lexeme}
+use Rattle.pc_reader.specs.Reading.{lexeme}
 use Rattle.pc_parse.specs.Answering.{IsRead, IsRefusedByTokens, IsFaulty}
 use Rattle.pc_tree.specs.Depth.{too_deep_at}
 use Rattle.pc_tree.specs.Grammar.Modules.{SpellsModule}

@@ -7,8 +7,8 @@ use Rattle.pc_tree.specs.Tree.{Expr, Stmt, Stmts, no_stmts, more_stmts, Branches
 use Rattle.pc_tree.specs.Depth.{Whole, depth_limit, whole_expr, wholes_of_stmt, wholes_of_stmts, wholes_of_branches, first_too_deep}
 use Rattle.pc_tree.specs.Machine.Finishing.{add_stmt, add_branch}
 use Rattle.pc_tree.specs.Machine.States.{Part}
-use Rattle.pc_parse.specs.declared.operand.Operand.{Operand}
-use Rattle.pc_parse.specs.Operands.{Keeps}
+use Rattle.pc_reader.specs.declared.operand.Operand.{Operand}
+use Rattle.pc_reader.specs.Operands.{Keeps}
 use Rattle.pc_parse.specs.Whole.{sooner, noted}
 
 lt_tells : (a b : ℕ) → ((nat_lt a b ≡ true) × (a < b)) ⊎ ((nat_lt a b ≡ false) × (b ≤ a))

@@ -14,8 +14,8 @@ use Rattle.pc_tree.specs.Tree.{Name, Expr, Ann, Stmt, annotated, assigns, while_
 use Rattle.pc_tree.specs.Depth.{Whole, whole_expr, whole_ann, wholes_of_stmt, wholes_of_stmts, wholes_of_branches}
 use Rattle.pc_tree.specs.Machine.States.{Part}
 use Rattle.pc_tree.specs.Machine.Finishing.{add_stmt, add_branch, if_plain, target_of_tree}
-use Rattle.pc_parse.specs.declared.operand.Operand.{Operand}
-use Rattle.pc_parse.specs.Operands.{Keeps}
+use Rattle.pc_reader.specs.declared.operand.Operand.{Operand}
+use Rattle.pc_reader.specs.Operands.{Keeps}
 use Rattle.pc_parse.specs.Whole.{noted, Kept}
 use Rattle.pc_parse.specs.Suites.{branches_in}
 use Rattle.pc_parse.proofs.Depths.{noted_more, none_before, kept_tree, wholes_add, wholes_branch}

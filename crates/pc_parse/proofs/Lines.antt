@@ -17,17 +17,17 @@ use Rattle.pc_tree.specs.Machine.Kinds.{Follow, same_kind, follow_of, lead_of, l
 use Rattle.pc_tree.specs.Machine.States.{Block, Site, else_body, whole, State, stmts, after_branch, operand, have}
 use Rattle.pc_tree.specs.Machine.Expressions.{rank}
 use Rattle.pc_tree.specs.Machine.Finishing.{add_stmt, suite_of, nested_in}
-use Rattle.pc_parse.specs.declared.operand.Operand.{Operand}
+use Rattle.pc_reader.specs.declared.operand.Operand.{Operand}
 use Rattle.pc_parse.specs.declared.parser.Parser.{Parser}
-use Rattle.pc_parse.specs.declared.reader.Reader.{Reader}
-use Rattle.pc_parse.specs.Descent.{Gives, NextIs, Over, Undotted}
-use Rattle.pc_parse.specs.Reading.{kind_ahead, IsAhead, Onward, IsReady, lexeme, left_in}
+use Rattle.pc_reader.specs.declared.reader.Reader.{Reader}
+use Rattle.pc_reader.specs.Descent.{Gives, NextIs, Over, Undotted}
+use Rattle.pc_reader.specs.Reading.{kind_ahead, IsAhead, Onward, IsReady, lexeme, left_in}
 use Rattle.pc_parse.specs.Whole.{place_ahead, noted, Kept, GivesWhole}
 use Rattle.pc_parse.specs.Suites.{LineEnds, ReadsLineEnd, ReadsFrom, ReadsSuite, ReadsElse}
 use Rattle.pc_parse.proofs.Depths.{note_of}
 use Rattle.pc_parse.proofs.Statements.{whole_turn, out_dedent}
-use Rattle.pc_parse.proofs.Steps.{not_seen}
-use Rattle.pc_parse.proofs.Streams.{blame}
+use Rattle.pc_reader.proofs.Steps.{not_seen}
+use Rattle.pc_reader.proofs.Streams.{blame}
 
 next : {X : Type 0} (P : Follow → Type 0) (a : Option (Token X)) (t : Token X) → NextIs P a → a ≡ Some t → P (follow_of t.kind)
 next P a t h e = subst (λ z. NextIs P z) e h

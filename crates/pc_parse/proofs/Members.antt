@@ -26,21 +26,21 @@ use Rattle.pc_tree.specs.Machine.Kinds.{same_kind, a_kind}
 use Rattle.pc_tree.specs.Machine.States.{after_headers, Top, ClassStart, of_class, AnnContext, of_field, LiteralContext, default_of_field, ann_whole, State, fixed, items, decorator_due, class_due, class_named, base_due, members, def_due, literal_due, part_due, Turn, stuck, go, on}
 use Rattle.pc_tree.specs.Machine.Finishing.{field, finish_ann, after_class}
 use Rattle.pc_tree.specs.Machine.Lines.{due, members_end}
-use Rattle.pc_parse.specs.declared.reader.Reader.{Reader}
+use Rattle.pc_reader.specs.declared.reader.Reader.{Reader}
 use Rattle.pc_parse.specs.declared.parser.Parser.{Parser}
-use Rattle.pc_parse.specs.Reading.{Blames, IsAhead, lexeme, Came, Onward, left_in, Takes, NeedsKind}
-use Rattle.pc_parse.specs.Descent.{GivesName}
-use Rattle.pc_parse.specs.Standing.{Stands, Reached}
-use Rattle.pc_parse.specs.Defaults.{opens_literal, or_literal, GivesDefault}
+use Rattle.pc_reader.specs.Reading.{Blames, IsAhead, lexeme, Came, Onward, left_in, Takes, NeedsKind}
+use Rattle.pc_reader.specs.Descent.{GivesName}
+use Rattle.pc_reader.specs.Standing.{Stands, Reached}
+use Rattle.pc_reader.specs.Defaults.{opens_literal, or_literal, GivesDefault}
 use Rattle.pc_parse.specs.Whole.{noted, Kept, GivesAnn}
 use Rattle.pc_parse.specs.Signatures.{GivesFunction}
-use Rattle.pc_parse.specs.Words.{GivesFixed, TakesForm, NeedsForm}
+use Rattle.pc_reader.specs.Words.{GivesFixed, TakesForm, NeedsForm}
 use Rattle.pc_parse.specs.Classes.{with_base, GoOn, GivesBase, GivesField, GivesMember, GivesMembers, MembersSoFar, GivesClass}
 use Rattle.pc_parse.proofs.Parameters.{kept_more, kept_none}
-use Rattle.pc_parse.proofs.Steps.{step_to, alike, needs, not_seen, kind_seen}
-use Rattle.pc_parse.proofs.Streams.{blame}
-use Rattle.pc_parse.proofs.Stands.{awaits, passes, takes, reached_so, reached_after, reaches_to}
-use Rattle.pc_parse.proofs.Words.{kind_due, kind_read}
+use Rattle.pc_reader.proofs.Steps.{step_to, alike, needs, not_seen, kind_seen}
+use Rattle.pc_reader.proofs.Streams.{blame}
+use Rattle.pc_reader.proofs.Stands.{awaits, passes, takes, reached_so, reached_after, reaches_to}
+use Rattle.pc_reader.proofs.Words.{kind_due, kind_read}
 
 members_split : (ms : List Member) (m : Member) → wholes_of_members (ms ++ (m ∷ [])) ≡ wholes_of_members ms ++ wholes_of_members (m ∷ [])
 members_split [] m = refl

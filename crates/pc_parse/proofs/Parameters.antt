@@ -20,18 +20,18 @@ use Rattle.pc_tree.specs.Grammar.{name_at}
 use Rattle.pc_tree.specs.Machine.{Reading, at, turn, stop, short}
 use Rattle.pc_tree.specs.Machine.States.{DefStart, AnnContext, of_param, LiteralContext, default_of_param, ann_whole, State, part_due, param_due, param_named, params_read, Turn, stuck}
 use Rattle.pc_tree.specs.Machine.Finishing.{param, param_end, param_more}
-use Rattle.pc_parse.specs.declared.reader.Reader.{Reader}
+use Rattle.pc_reader.specs.declared.reader.Reader.{Reader}
 use Rattle.pc_parse.specs.declared.parser.Parser.{Parser}
-use Rattle.pc_parse.specs.Reading.{Blames, IsAhead, lexeme, Came, Onward, IsReady, left_in, Takes, NeedsKind}
-use Rattle.pc_parse.specs.Descent.{GivesName}
-use Rattle.pc_parse.specs.Standing.{Stands, Reached}
-use Rattle.pc_parse.specs.Defaults.{or_literal, GivesDefault}
+use Rattle.pc_reader.specs.Reading.{Blames, IsAhead, lexeme, Came, Onward, IsReady, left_in, Takes, NeedsKind}
+use Rattle.pc_reader.specs.Descent.{GivesName}
+use Rattle.pc_reader.specs.Standing.{Stands, Reached}
+use Rattle.pc_reader.specs.Defaults.{or_literal, GivesDefault}
 use Rattle.pc_parse.specs.Whole.{noted, Kept, GivesAnn}
 use Rattle.pc_parse.specs.Signatures.{opens_ann, or_ann, GivesOpened, GivesParam, GivesParams, ParamsSoFar}
 use Rattle.pc_parse.proofs.Depths.{noted_more, none_before, noted_nothing}
-use Rattle.pc_parse.proofs.Steps.{step_to, not_seen}
-use Rattle.pc_parse.proofs.Streams.{blame}
-use Rattle.pc_parse.proofs.Stands.{stands_at, stands_so, awaits, passes, takes, stays, reached_so, reached_on, reached_after, goes_to, reaches_to}
+use Rattle.pc_reader.proofs.Steps.{step_to, not_seen}
+use Rattle.pc_reader.proofs.Streams.{blame}
+use Rattle.pc_reader.proofs.Stands.{stands_at, stands_so, awaits, passes, takes, stays, reached_so, reached_on, reached_after, goes_to, reaches_to}
 
 -- ---- lists that are kept
 
@@ -129,7 +129,7 @@ module _ {X I : Type 0} {text : X → List ℕ} {steps : I → Option (Result (T
           x.leads (param_named d ps N) (of_param d ps N) (param_more d ps N None) (subst (λ z. Stands text z (param_named d ps N) (opens_ann sign.Colon (of_param d ps N) (param_more d ps N None))) (sym same) (stands d ps)) in
           reached_so (param_more d ps N x.annotation) (subst (λ z. Reached text steps z b.reader (param_named d ps N) (or_ann (of_param d ps N) (param_more d ps N None) x.annotation)) same r) (λ t h. ann_more d ps N x.annotation t.kind)
 
-      pub its_default_fails : {e : Fault} → Blames e (λ o. (st : State) (c : LiteralContext) (other : TokenKind → Turn) → Stands text b.reader st (Rattle.pc_parse.specs.Defaults.opens_literal c other) → Came text steps b.reader (at st) o)
+      pub its_default_fails : {e : Fault} → Blames e (λ o. (st : State) (c : LiteralContext) (other : TokenKind → Turn) → Stands text b.reader st (Rattle.pc_reader.specs.Defaults.opens_literal c other) → Came text steps b.reader (at st) o)
           → Blames e (λ o. (d : DefStart) (ps : List Param) → IsAhead (kind.Operator sign.RightParenthesis) a.reader.ahead ≡ false → Came text steps a.reader (at (param_due d ps)) o)
       its_default_fails w = blame (λ o u. λ d ps p. let N = name_at (lexeme text n.token) in let r = behind d ps in
           named d ps o (r.leads o (u r.behind (default_of_param d ps N x.annotation) (param_end d ps (param N x.annotation None)) r.stands))) w

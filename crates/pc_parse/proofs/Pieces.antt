@@ -26,23 +26,23 @@ use Rattle.pc_tree.specs.Machine.Kinds.{same_kind, a_kind}
 use Rattle.pc_tree.specs.Machine.States.{after_headers, Top, of_module, AnnContext, of_constant, Context, in_constant, whole, ann_whole, part_due, State, fixed, items, importing, item_named, decorator_due, def_due, operand, have, ended, Turn, stuck, go, on}
 use Rattle.pc_tree.specs.Machine.Finishing.{add_item, at_line_end}
 use Rattle.pc_tree.specs.Machine.Lines.{due, module_of as module_over}
-use Rattle.pc_parse.specs.declared.operand.Operand.{Operand}
-use Rattle.pc_parse.specs.declared.reader.Reader.{Reader}
+use Rattle.pc_reader.specs.declared.operand.Operand.{Operand}
+use Rattle.pc_reader.specs.declared.reader.Reader.{Reader}
 use Rattle.pc_parse.specs.declared.parser.Parser.{Parser}
 use Rattle.pc_parse.specs.declared.headers.Headers.{Headers}
-use Rattle.pc_parse.specs.Reading.{Blames, IsAhead, lexeme, Came, Onward, left_in, Takes, NeedsKind}
-use Rattle.pc_parse.specs.Descent.{GivesName}
-use Rattle.pc_parse.specs.Standing.{Stands, Reached}
-use Rattle.pc_parse.specs.Words.{GivesFixed}
+use Rattle.pc_reader.specs.Reading.{Blames, IsAhead, lexeme, Came, Onward, left_in, Takes, NeedsKind}
+use Rattle.pc_reader.specs.Descent.{GivesName}
+use Rattle.pc_reader.specs.Standing.{Stands, Reached}
+use Rattle.pc_reader.specs.Words.{GivesFixed}
 use Rattle.pc_parse.specs.Whole.{noted, GivesWhole, ending_of}
 use Rattle.pc_parse.specs.Signatures.{opens_ann, or_ann, is_method, GivesOpened, GivesFunction}
 use Rattle.pc_parse.specs.Classes.{GivesClass}
 use Rattle.pc_parse.specs.Modules.{IsNoLastLine, top_of, GivesConstant, GivesItem, GivesLast, ItemsSoFar}
 use Rattle.pc_parse.proofs.Depths.{noted_more, none_before, kept_tree}
 use Rattle.pc_parse.proofs.Parameters.{kept_more}
-use Rattle.pc_parse.proofs.Steps.{step_to, alike, not_seen, kind_seen}
-use Rattle.pc_parse.proofs.Streams.{blame}
-use Rattle.pc_parse.proofs.Stands.{awaits, passes, takes, reached_so, reaches_to}
+use Rattle.pc_reader.proofs.Steps.{step_to, alike, not_seen, kind_seen}
+use Rattle.pc_reader.proofs.Streams.{blame}
+use Rattle.pc_reader.proofs.Stands.{awaits, passes, takes, reached_so, reaches_to}
 
 -- where `=` begins the value of a constant
 abbrev begins_value : Name → Option Ann → Top → TokenKind → Turn

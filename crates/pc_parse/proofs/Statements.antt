@@ -11,9 +11,9 @@ use Rattle.pc_tree.specs.Machine.States.{Part, Block, Site, assigned, annotated_
 use Rattle.pc_tree.specs.Machine.Expressions.{left_of_link, have_turn}
 use Rattle.pc_tree.specs.Machine.Finishing.{add_stmt, after_stmt, after_suite, at_line_end, at_colon, finish_condition, finish_line, finish}
 use Rattle.pc_tree.specs.Machine.Lines.{end_suite}
-use Rattle.pc_parse.specs.Descent.{Over, Undotted}
+use Rattle.pc_reader.specs.Descent.{Over, Undotted}
 use Rattle.pc_parse.specs.Whole.{ending_in, ending_of}
-use Rattle.pc_parse.proofs.Frames.{loose}
+use Rattle.pc_reader.proofs.Frames.{loose}
 
 -- ---- behind a whole expression
 

@@ -19,11 +19,11 @@ use Rattle.pc_tree.specs.Machine.Kinds.{a_kind}
 use Rattle.pc_tree.specs.Machine.Lines.{start, module_of as module_over}
 use Rattle.pc_tree.specs.Machine.States.{State, fixed, ended, stuck}
 use Rattle.pc_parse.specs.declared.headers.Headers.{Headers}
-use Rattle.pc_parse.specs.declared.reader.Reader.{Reader}
+use Rattle.pc_reader.specs.declared.reader.Reader.{Reader}
 use Rattle.pc_parse.specs.declared.parser.Parser.{Parser}
-use Rattle.pc_parse.specs.Reading.{Blames, kind_ahead, lexeme, Came, Rejects}
+use Rattle.pc_reader.specs.Reading.{Blames, kind_ahead, lexeme, Came, Rejects}
 use Rattle.pc_parse.specs.Modules.{top_of, GivesLast, GivesModule, ItemsSoFar}
-use Rattle.pc_parse.proofs.Streams.{blame, at_end, same_step}
+use Rattle.pc_reader.proofs.Streams.{blame, at_end, same_step}
 
 -- a state that waits for another token than one of this kind
 another : TokenKind → State

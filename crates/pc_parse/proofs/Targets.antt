@@ -4,8 +4,8 @@ use Rattle.pc_tree.specs.Tree.{Name, Expr, name, attribute, index, Target, to_na
 use Rattle.pc_tree.specs.Depth.{whole_expr, whole_target}
 use Rattle.pc_tree.specs.Machine.States.{Part}
 use Rattle.pc_tree.specs.Machine.Finishing.{if_plain, name_of_tree, target_of_tree}
-use Rattle.pc_parse.specs.declared.operand.Operand.{Operand}
-use Rattle.pc_parse.specs.Operands.{a_name, another, form_of, Keeps}
+use Rattle.pc_reader.specs.declared.operand.Operand.{Operand}
+use Rattle.pc_reader.specs.Operands.{a_name, another, form_of, Keeps}
 
 -- ---- targets
 

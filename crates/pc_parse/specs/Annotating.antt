@@ -14,9 +14,9 @@ use Rattle.pc_tree.specs.Machine.{at}
 use Rattle.pc_tree.specs.Machine.States.{AnnStack, ann_inside, State, part_due, part_read, argument_due}
 use Rattle.pc_parse.specs.declared.annotation.Annotation.{Annotation}
 use Rattle.pc_parse.specs.declared.annotation.Annotations.{Annotations}
-use Rattle.pc_parse.specs.declared.reader.Reader.{Reader}
-use Rattle.pc_parse.specs.Operands.{Starts, Ends}
-use Rattle.pc_parse.specs.Reading.{Blames, Came, Onward, IsReady, left_in}
+use Rattle.pc_reader.specs.declared.reader.Reader.{Reader}
+use Rattle.pc_reader.specs.Operands.{Starts, Ends}
+use Rattle.pc_reader.specs.Reading.{Blames, Came, Onward, IsReady, left_in}
 
 -- all of an annotation that these tokens spell, but for a tree that is too deep, of which that it is too deep
 pub record KeepsAnn (o : Annotation) (a : Ann) (ts : List Lexeme) : Type 0 where

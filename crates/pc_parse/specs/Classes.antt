@@ -17,9 +17,9 @@ use Rattle.pc_tree.specs.Machine.{at}
 use Rattle.pc_tree.specs.Machine.States.{after_headers, Top, ClassStart, items, decorator_due, class_named, members, stuck}
 use Rattle.pc_tree.specs.Machine.Finishing.{after_class, add_item}
 use Rattle.pc_tree.specs.Machine.Lines.{members_end}
-use Rattle.pc_parse.specs.declared.reader.Reader.{Reader}
+use Rattle.pc_reader.specs.declared.reader.Reader.{Reader}
 use Rattle.pc_parse.specs.declared.parser.Parser.{Parser}
-use Rattle.pc_parse.specs.Reading.{Blames, IsAhead, Came, Onward, IsReady, left_in}
+use Rattle.pc_reader.specs.Reading.{Blames, IsAhead, Came, Onward, IsReady, left_in}
 use Rattle.pc_parse.specs.Whole.{Kept}
 
 -- a class of this name and base

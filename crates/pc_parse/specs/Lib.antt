@@ -1,17 +1,8 @@
 pub mod Annotating
 pub mod Answering
-pub mod Bracketed
 pub mod Classes
 pub mod Copying
-pub mod Defaults
-pub mod Descent
-pub mod Links
-pub mod Looping
 pub mod Modules
-pub mod Operands
-pub mod Reading
 pub mod Signatures
-pub mod Standing
 pub mod Suites
 pub mod Whole
-pub mod Words

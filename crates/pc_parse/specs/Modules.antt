@@ -21,9 +21,9 @@ use Rattle.pc_tree.specs.Machine.Lines.{start, module_of as module_over}
 use Rattle.pc_parse.specs.declared.headers.Headers.{Headers}
 use Rattle.pc_parse.specs.declared.piece.Piece.{Piece}
 use Rattle.pc_parse.specs.declared.piece.Piece.TheVariants as piece
-use Rattle.pc_parse.specs.declared.reader.Reader.{Reader}
+use Rattle.pc_reader.specs.declared.reader.Reader.{Reader}
 use Rattle.pc_parse.specs.declared.parser.Parser.{Parser}
-use Rattle.pc_parse.specs.Reading.{Blames, Came, Onward, IsReady, left_in}
+use Rattle.pc_reader.specs.Reading.{Blames, Came, Onward, IsReady, left_in}
 use Rattle.pc_parse.specs.Whole.{Kept}
 
 -- `M import N` and the end of the line

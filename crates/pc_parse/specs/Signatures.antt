@@ -20,8 +20,8 @@ use Rattle.pc_tree.specs.Machine.States.{Owner, of_module, of_class, DefStart, A
 use Rattle.pc_tree.specs.Machine.Finishing.{finish_ann, param_end, after_def}
 use Rattle.pc_tree.specs.Machine.Lines.{params_of}
 use Rattle.pc_parse.specs.declared.parser.Parser.{Parser}
-use Rattle.pc_parse.specs.Reading.{Blames, IsAhead, Came, Onward, IsReady, left_in}
-use Rattle.pc_parse.specs.Standing.{Stands, Reached}
+use Rattle.pc_reader.specs.Reading.{Blames, IsAhead, Came, Onward, IsReady, left_in}
+use Rattle.pc_reader.specs.Standing.{Stands, Reached}
 use Rattle.pc_parse.specs.Whole.{Kept}
 
 -- this sign begins an annotation, and any other token goes on so

@@ -22,7 +22,7 @@ use Rattle.pc_tree.specs.Machine.Lines.{line_ends, lead_turn}
 use Rattle.pc_parse.specs.declared.parser.Parser.{Parser}
 use Rattle.pc_parse.specs.declared.statement.Lead.{Lead}
 use Rattle.pc_parse.specs.declared.statement.Lead.TheVariants as rust
-use Rattle.pc_parse.specs.Reading.{Blames, Came, Onward, IsReady, IsAhead, lexeme, left_in}
+use Rattle.pc_reader.specs.Reading.{Blames, Came, Onward, IsReady, IsAhead, lexeme, left_in}
 use Rattle.pc_parse.specs.Whole.{Kept, noted}
 
 -- what may begin a statement, as the token machine names it

@@ -2,7 +2,6 @@
 use Rattle.std.specs.Prelude.{ℕ, ◌≡◌, ◌<◌, List, [], ◌∷◌, Option, Some, None, Result, MatchResult}
 use Rattle.std.specs.Iterator.{Count}
 use Rattle.pc_source.specs.declared.fault.Fault.{Fault}
-use Rattle.pc_source.specs.declared.place.Place.{Place}
 use Rattle.pc_token.specs.declared.token.Token.{Token}
 use Rattle.pc_token.specs.declared.token.TokenKind.{TokenKind}
 use Rattle.pc_tree.specs.declared.tree.Ann.{Ann as RustAnn}
@@ -13,15 +12,10 @@ use Rattle.pc_tree.specs.Machine.{at, turn, stop_at, short}
 use Rattle.pc_tree.specs.Machine.Kinds.{Follow, ends, follow_of, Ending, no_ending}
 use Rattle.pc_tree.specs.Machine.States.{Part, Context, AnnContext, whole, ann_whole, State, part_due, operand, have}
 use Rattle.pc_tree.specs.Machine.Finishing.{finish, finish_ann}
-use Rattle.pc_parse.specs.declared.operand.Operand.{Operand}
+use Rattle.pc_reader.specs.declared.operand.Operand.{Operand}
 use Rattle.pc_parse.specs.declared.parser.Parser.{Parser}
-use Rattle.pc_parse.specs.Operands.{Keeps}
-use Rattle.pc_parse.specs.Reading.{Blames, Came, Onward, IsReady, lexeme, left_in}
-
--- the place of the token ahead
-abbrev pub place_ahead : {X : Type 0} → Option (Token X) → Option Place
-place_ahead None = None
-place_ahead (Some t) = Some t.place
+use Rattle.pc_reader.specs.Operands.{Keeps}
+use Rattle.pc_reader.specs.Reading.{Blames, Came, Onward, IsReady, lexeme, left_in}
 
 -- ---- the first that is too deep
 

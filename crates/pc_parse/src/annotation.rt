@@ -8,13 +8,12 @@ ghost use Rattle.pc_tree.specs.Machine.Finishing.{add_ann};
 ghost use Rattle.pc_tree.specs.Machine.States.{argument_due, empty_opened};
 ghost use Rattle.pc_token.specs.Lexeme.{Lexeme};
 ghost use Rattle.std.specs.Prelude.{List};
-ghost use Rattle.pc_parse.specs.Reading.{IsReady, IsAhead};
+ghost use Rattle.pc_reader.specs.Reading.{IsReady, IsAhead};
 ghost use Rattle.pc_parse.specs.Whole.{ReadsAnn};
 ghost use Rattle.pc_parse.specs.Annotating.{KeepsAnn, KeepsAnns, MakesAnn, ReadsUnion, ReadsPart, ReadsApplied};
 
-use crate::operand::{above, deeper};
 use crate::parser::Parser;
-use crate::reader::Reader;
+use pc_reader::{Reader, above, deeper};
 use pc_source::{Fault, Place};
 use pc_token::{Keyword, Operator, Token, TokenKind};
 use pc_tree::{Ann, Name};
@@ -107,92 +106,103 @@ fn single(ann: Ann, place: Place) -> Annotation
     }
 }
 
-impl<X: AsStr + Drop, I: Iterator<Item = Result<Token<X>, Fault>> + Drop> Reader<X, I> {
-    /// An annotation: a part, or parts with `|` between them.
-    #[cycle(annotations)]
-    pub(crate) fn union(&mut self, alloc: Global) -> Result<Annotation, Fault>
-        requires { IsReady I.can_next I.remaining self.old }
-        ensures reads { ReadsUnion X.text I.next_gives I.can_next I.remaining self.old self.new result }
-        ensures over { IfOk result (λ _. IsAhead (kind.Operator sign.Bar) self.new.ahead ≡ false) }
-    {
-        let first = self.part(alloc)?;
-        if !self.sees(TokenKind::Operator(Operator::Bar)) {
-            return Ok(first);
-        }
-        let start = first.place.start;
-        let mut parts = Annotations::new(alloc);
-        parts.push(first)?;
-        self.take()?;
-        loop {
-            let part = self.part(alloc)?;
-            let end = part.place.end;
-            parts.push(part)?;
-            if !self.sees(TokenKind::Operator(Operator::Bar)) {
-                return Ok(united(parts, Place { start, end }));
-            }
-            self.take()?;
-        }
+/// An annotation: a part, or parts with `|` between them.
+#[cycle(annotations)]
+fn union<X: AsStr + Drop, I: Iterator<Item = Result<Token<X>, Fault>> + Drop>(
+    reader: &mut Reader<X, I>,
+    alloc: Global,
+) -> Result<Annotation, Fault>
+    requires { IsReady I.can_next I.remaining reader.old }
+    ensures reads { ReadsUnion X.text I.next_gives I.can_next I.remaining reader.old reader.new result }
+    ensures over { IfOk result (λ _. IsAhead (kind.Operator sign.Bar) reader.new.ahead ≡ false) }
+{
+    let first = part(reader, alloc)?;
+    if !reader.sees(TokenKind::Operator(Operator::Bar)) {
+        return Ok(first);
     }
+    let start = first.place.start;
+    let mut parts = Annotations::new(alloc);
+    parts.push(first)?;
+    reader.take()?;
+    loop {
+        let part = part(reader, alloc)?;
+        let end = part.place.end;
+        parts.push(part)?;
+        if !reader.sees(TokenKind::Operator(Operator::Bar)) {
+            return Ok(united(parts, Place { start, end }));
+        }
+        reader.take()?;
+    }
+}
 
-    /// A name, `None`, or a name with brackets behind it.
-    #[cycle(annotations)]
-    fn part(&mut self, alloc: Global) -> Result<Annotation, Fault>
-        requires { IsReady I.can_next I.remaining self.old }
-        ensures { ReadsPart X.text I.next_gives I.can_next I.remaining self.old self.new result }
-    {
-        if self.sees(TokenKind::Keyword(Keyword::None)) {
-            let none = self.take()?;
-            return Ok(single(Ann::NoneValue(none.place), none.place));
-        }
-        let name = self.name(alloc)?;
-        if !self.sees(TokenKind::Operator(Operator::LeftBracket)) {
-            let place = name.place;
-            return Ok(single(Ann::Name(name), place));
-        }
-        self.take()?;
-        self.arguments(alloc, name)
+/// A name, `None`, or a name with brackets behind it.
+#[cycle(annotations)]
+fn part<X: AsStr + Drop, I: Iterator<Item = Result<Token<X>, Fault>> + Drop>(
+    reader: &mut Reader<X, I>,
+    alloc: Global,
+) -> Result<Annotation, Fault>
+    requires { IsReady I.can_next I.remaining reader.old }
+    ensures { ReadsPart X.text I.next_gives I.can_next I.remaining reader.old reader.new result }
+{
+    if reader.sees(TokenKind::Keyword(Keyword::None)) {
+        let none = reader.take()?;
+        return Ok(single(Ann::NoneValue(none.place), none.place));
     }
+    let name = reader.name(alloc)?;
+    if !reader.sees(TokenKind::Operator(Operator::LeftBracket)) {
+        let place = name.place;
+        return Ok(single(Ann::Name(name), place));
+    }
+    reader.take()?;
+    arguments(reader, alloc, name)
+}
 
-    /// What stands behind a name and `[`: arguments or `()`, and the closing bracket.
-    #[cycle(annotations)]
-    fn arguments(&mut self, alloc: Global, head: Name) -> Result<Annotation, Fault>
-        requires { IsReady I.can_next I.remaining self.old }
-        ensures { ReadsApplied X.text I.next_gives I.can_next I.remaining (λ n ts parts before s. argument_due n ts parts before s) self.old self.new head result }
-    {
-        let start = head.place.start;
-        if self.sees(TokenKind::Operator(Operator::LeftParenthesis)) {
-            self.take()?;
-            return self.no_arguments(head);
-        }
-        let mut arguments = Annotations::new(alloc);
-        loop {
-            let argument = self.union(alloc)?;
-            arguments.push(argument)?;
-            if !self.sees(TokenKind::Operator(Operator::Comma)) {
-                let close = self.expect(TokenKind::Operator(Operator::RightBracket))?;
-                let place = Place {
-                    start,
-                    end: close.place.end,
-                };
-                return Ok(applied(head, arguments, place));
-            }
-            self.take()?;
-        }
+/// What stands behind a name and `[`: arguments or `()`, and the closing bracket.
+#[cycle(annotations)]
+fn arguments<X: AsStr + Drop, I: Iterator<Item = Result<Token<X>, Fault>> + Drop>(
+    reader: &mut Reader<X, I>,
+    alloc: Global,
+    head: Name,
+) -> Result<Annotation, Fault>
+    requires { IsReady I.can_next I.remaining reader.old }
+    ensures { ReadsApplied X.text I.next_gives I.can_next I.remaining (λ n ts parts before s. argument_due n ts parts before s) reader.old reader.new head result }
+{
+    let start = head.place.start;
+    if reader.sees(TokenKind::Operator(Operator::LeftParenthesis)) {
+        reader.take()?;
+        return no_arguments(reader, head);
     }
+    let mut arguments = Annotations::new(alloc);
+    loop {
+        let argument = union(reader, alloc)?;
+        arguments.push(argument)?;
+        if !reader.sees(TokenKind::Operator(Operator::Comma)) {
+            let close = reader.expect(TokenKind::Operator(Operator::RightBracket))?;
+            let place = Place {
+                start,
+                end: close.place.end,
+            };
+            return Ok(applied(head, arguments, place));
+        }
+        reader.take()?;
+    }
+}
 
-    /// `)]` behind a name and `[(`.
-    fn no_arguments(&mut self, head: Name) -> Result<Annotation, Fault>
-        requires { IsReady I.can_next I.remaining self.old }
-        ensures { ReadsApplied X.text I.next_gives I.can_next I.remaining (λ n ts parts before s. empty_opened n ts parts before s) self.old self.new head result }
-    {
-        self.expect(TokenKind::Operator(Operator::RightParenthesis))?;
-        let close = self.expect(TokenKind::Operator(Operator::RightBracket))?;
-        let place = Place {
-            start: head.place.start,
-            end: close.place.end,
-        };
-        Ok(single(Ann::ApplyEmpty(place, head), place))
-    }
+/// `)]` behind a name and `[(`.
+fn no_arguments<X: AsStr + Drop, I: Iterator<Item = Result<Token<X>, Fault>> + Drop>(
+    reader: &mut Reader<X, I>,
+    head: Name,
+) -> Result<Annotation, Fault>
+    requires { IsReady I.can_next I.remaining reader.old }
+    ensures { ReadsApplied X.text I.next_gives I.can_next I.remaining (λ n ts parts before s. empty_opened n ts parts before s) reader.old reader.new head result }
+{
+    reader.expect(TokenKind::Operator(Operator::RightParenthesis))?;
+    let close = reader.expect(TokenKind::Operator(Operator::RightBracket))?;
+    let place = Place {
+        start: head.place.start,
+        end: close.place.end,
+    };
+    Ok(single(Ann::ApplyEmpty(place, head), place))
 }
 
 impl<X: AsStr + Drop, I: Iterator<Item = Result<Token<X>, Fault>> + Drop> Parser<X, I> {
@@ -201,7 +211,7 @@ impl<X: AsStr + Drop, I: Iterator<Item = Result<Token<X>, Fault>> + Drop> Parser
         requires { IsReady I.can_next I.remaining self.old.reader }
         ensures { ReadsAnn X.text I.next_gives I.can_next I.remaining self.old self.new result }
     {
-        let annotation = self.reader.union(alloc)?;
+        let annotation = union(&mut self.reader, alloc)?;
         self.note(annotation.place.start, annotation.depth);
         Ok(annotation.ann)
     }

@@ -1,40 +1,41 @@
 //! Dataclasses and their members.
 ghost use Rattle.std.specs.Prelude.{◌≡◌};
-ghost use Rattle.pc_parse.specs.Reading.{IsReady};
+ghost use Rattle.pc_reader.specs.Reading.{IsReady};
 ghost use Rattle.pc_parse.specs.Classes.{ReadsBase, ReadsField, ReadsMember, ReadsMembers, ReadsClass};
 
 use crate::parser::Parser;
-use crate::reader::Reader;
+use pc_reader::Reader;
 use pc_source::Fault;
 use pc_token::{Keyword, Operator, Token, TokenKind};
 use pc_tree::{ClassDef, Field, Member, Name};
 use std::alloc::Global;
 use std::convert::AsStr;
 
-impl<X: AsStr + Drop, I: Iterator<Item = Result<Token<X>, Fault>> + Drop> Reader<X, I> {
-    /// The base of a class, if it names one, and all that stands before the first member.
-    fn base(&mut self, alloc: Global) -> Result<Option<Name>, Fault>
-        requires { IsReady I.can_next I.remaining self.old }
-        ensures { ReadsBase X.text I.next_gives I.can_next I.remaining self.old self.new result }
-    {
-        if !self.sees(TokenKind::Operator(Operator::LeftParenthesis)) {
-            self.fixed(&[
-                TokenKind::Operator(Operator::Colon),
-                TokenKind::Newline,
-                TokenKind::Indent,
-            ])?;
-            return Ok(None);
-        }
-        self.take()?;
-        let base = self.name(alloc)?;
-        self.fixed(&[
-            TokenKind::Operator(Operator::RightParenthesis),
+/// The base of a class, if it names one, and all that stands before the first member.
+fn base<X: AsStr + Drop, I: Iterator<Item = Result<Token<X>, Fault>> + Drop>(
+    reader: &mut Reader<X, I>,
+    alloc: Global,
+) -> Result<Option<Name>, Fault>
+    requires { IsReady I.can_next I.remaining reader.old }
+    ensures { ReadsBase X.text I.next_gives I.can_next I.remaining reader.old reader.new result }
+{
+    if !reader.sees(TokenKind::Operator(Operator::LeftParenthesis)) {
+        reader.fixed(&[
             TokenKind::Operator(Operator::Colon),
             TokenKind::Newline,
             TokenKind::Indent,
         ])?;
-        Ok(Some(base))
+        return Ok(None);
     }
+    reader.take()?;
+    let base = reader.name(alloc)?;
+    reader.fixed(&[
+        TokenKind::Operator(Operator::RightParenthesis),
+        TokenKind::Operator(Operator::Colon),
+        TokenKind::Newline,
+        TokenKind::Indent,
+    ])?;
+    Ok(Some(base))
 }
 
 impl<X: AsStr + Drop, I: Iterator<Item = Result<Token<X>, Fault>> + Drop> Parser<X, I> {
@@ -102,7 +103,7 @@ impl<X: AsStr + Drop, I: Iterator<Item = Result<Token<X>, Fault>> + Drop> Parser
         self.reader
             .fixed(&[TokenKind::Newline, TokenKind::Keyword(Keyword::Class)])?;
         let name = self.reader.name(alloc)?;
-        let base = self.reader.base(alloc)?;
+        let base = base(&mut self.reader, alloc)?;
         let members = self.members(alloc)?;
         Ok(ClassDef {
             decorator: word.place,

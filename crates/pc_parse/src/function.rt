@@ -1,6 +1,6 @@
 //! Functions and methods.
 ghost use Rattle.std.specs.Prelude.{◌≡◌};
-ghost use Rattle.pc_parse.specs.Reading.{IsReady};
+ghost use Rattle.pc_reader.specs.Reading.{IsReady};
 ghost use Rattle.pc_parse.specs.Signatures.{ReadsMethodParams, ReadsSignature, ReadsFunction};
 
 use crate::parser::Parser;

@@ -1,10 +1,10 @@
 //! The headers of a module.
 ghost use Rattle.std.specs.Prelude.{◌≡◌};
-ghost use Rattle.pc_parse.specs.Reading.{IsReady};
-ghost use Rattle.pc_parse.specs.Words.{ReadsFixed};
+ghost use Rattle.pc_reader.specs.Reading.{IsReady};
+ghost use Rattle.pc_reader.specs.Words.{ReadsFixed};
 ghost use Rattle.pc_parse.specs.Modules.{import_words, ReadsHeaders};
 
-use crate::reader::Reader;
+use pc_reader::Reader;
 use pc_source::Fault;
 use pc_token::{Keyword, Token, TokenKind};
 use std::convert::AsStr;
@@ -16,52 +16,56 @@ pub(crate) struct Headers {
     pub any: bool,
 }
 
-impl<X: AsStr + Drop, I: Iterator<Item = Result<Token<X>, Fault>> + Drop> Reader<X, I> {
-    /// The rest of a header: what it imports from where, and the end of the line.
-    fn imports(&mut self, source: &str, imported: &str) -> Result<(), Fault>
-        requires { IsReady I.can_next I.remaining self.old }
-        ensures { ReadsFixed X.text I.next_gives I.can_next I.remaining (import_words source.now imported.now) self.old self.new result }
-    {
-        self.expect_name(source)?;
-        self.expect(TokenKind::Keyword(Keyword::Import))?;
-        self.expect_name(imported)?;
-        self.expect(TokenKind::Newline)?;
-        Ok(())
-    }
+/// The rest of a header: what it imports from where, and the end of the line.
+fn imports<X: AsStr + Drop, I: Iterator<Item = Result<Token<X>, Fault>> + Drop>(
+    reader: &mut Reader<X, I>,
+    source: &str,
+    imported: &str,
+) -> Result<(), Fault>
+    requires { IsReady I.can_next I.remaining reader.old }
+    ensures { ReadsFixed X.text I.next_gives I.can_next I.remaining (import_words source.now imported.now) reader.old reader.new result }
+{
+    reader.expect_name(source)?;
+    reader.expect(TokenKind::Keyword(Keyword::Import))?;
+    reader.expect_name(imported)?;
+    reader.expect(TokenKind::Newline)?;
+    Ok(())
+}
 
-    /// The headers.
-    pub(crate) fn headers(&mut self) -> Result<Headers, Fault>
-        requires { IsReady I.can_next I.remaining self.old }
-        ensures { ReadsHeaders X.text I.next_gives I.can_next I.remaining self.old self.new result }
-    {
-        self.expect(TokenKind::Keyword(Keyword::From))?;
-        self.imports("__future__", "annotations")?;
-        if !self.sees(TokenKind::Keyword(Keyword::From)) {
-            return Ok(Headers {
-                dataclass: false,
-                any: false,
-            });
-        }
-        self.take()?;
-        if !self.sees_name("dataclasses") {
-            self.imports("typing", "Any")?;
-            return Ok(Headers {
-                dataclass: false,
-                any: true,
-            });
-        }
-        self.imports("dataclasses", "dataclass")?;
-        if !self.sees(TokenKind::Keyword(Keyword::From)) {
-            return Ok(Headers {
-                dataclass: true,
-                any: false,
-            });
-        }
-        self.take()?;
-        self.imports("typing", "Any")?;
-        Ok(Headers {
-            dataclass: true,
-            any: true,
-        })
+/// The headers.
+pub(crate) fn headers<X: AsStr + Drop, I: Iterator<Item = Result<Token<X>, Fault>> + Drop>(
+    reader: &mut Reader<X, I>,
+) -> Result<Headers, Fault>
+    requires { IsReady I.can_next I.remaining reader.old }
+    ensures { ReadsHeaders X.text I.next_gives I.can_next I.remaining reader.old reader.new result }
+{
+    reader.expect(TokenKind::Keyword(Keyword::From))?;
+    imports(reader, "__future__", "annotations")?;
+    if !reader.sees(TokenKind::Keyword(Keyword::From)) {
+        return Ok(Headers {
+            dataclass: false,
+            any: false,
+        });
     }
+    reader.take()?;
+    if !reader.sees_name("dataclasses") {
+        imports(reader, "typing", "Any")?;
+        return Ok(Headers {
+            dataclass: false,
+            any: true,
+        });
+    }
+    imports(reader, "dataclasses", "dataclass")?;
+    if !reader.sees(TokenKind::Keyword(Keyword::From)) {
+        return Ok(Headers {
+            dataclass: true,
+            any: false,
+        });
+    }
+    reader.take()?;
+    imports(reader, "typing", "Any")?;
+    Ok(Headers {
+        dataclass: true,
+        any: true,
+    })
 }

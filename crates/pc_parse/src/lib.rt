@@ -3,21 +3,12 @@
 
 mod annotation;
 mod class;
-mod expression;
-mod fixed;
 mod function;
 mod headers;
-mod items;
-mod link;
 mod listed;
-mod literal;
-mod name;
-mod operand;
-mod operators;
 mod parameter;
 mod parser;
 mod piece;
-mod reader;
 mod statement;
 mod stream;
 mod suite;
@@ -29,5 +20,3 @@ pub use stream::parse_from;
 mod module_tests;
 #[cfg(test)]
 mod suite_tests;
-#[cfg(test)]
-mod tests;

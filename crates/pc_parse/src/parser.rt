@@ -1,10 +1,9 @@
 //! Whole expressions, and where the first one begins that is too deep.
 ghost use Rattle.std.specs.Prelude.{◌≡◌, ◌∷◌, [], None};
-ghost use Rattle.pc_parse.specs.Reading.{IsReady};
+ghost use Rattle.pc_reader.specs.Reading.{IsReady};
 ghost use Rattle.pc_parse.specs.Whole.{noted, ReadsWhole};
 
-use crate::operand::Operand;
-use crate::reader::Reader;
+use pc_reader::{Operand, Reader};
 use pc_source::Fault;
 use pc_token::Token;
 use std::alloc::Global;

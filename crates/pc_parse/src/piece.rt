@@ -3,11 +3,12 @@ ghost use Rattle.std.specs.Prelude.{◌≡◌, ◌&&◌, codes, bytes_eq};
 ghost use Rattle.pc_token.specs.declared.token.TokenKind.TheVariants as kind;
 ghost use Rattle.pc_token.specs.declared.token.Operator.TheVariants as sign;
 ghost use Rattle.pc_tree.specs.Tree.{name_of};
-ghost use Rattle.pc_parse.specs.Reading.{IsReady, IsAhead};
+ghost use Rattle.pc_reader.specs.Reading.{IsReady, IsAhead};
 ghost use Rattle.pc_parse.specs.Modules.{ReadsConstant, ReadsPiece, ReadsModule};
 
+use crate::headers::headers;
 use crate::parser::Parser;
-use crate::reader::Reader;
+use pc_reader::Reader;
 use pc_source::{Fault, Place};
 use pc_token::{Keyword, Operator, Token, TokenKind};
 use pc_tree::{Constant, Item, ItemKind, Module, Name};
@@ -21,13 +22,14 @@ enum Piece {
     Last(Place),
 }
 
-impl<X: AsStr + Drop, I: Iterator<Item = Result<Token<X>, Fault>> + Drop> Reader<X, I> {
-    /// Whether the last line of the module goes on behind this name.
-    fn begins_last_line(&self, name: &Name) -> bool
-        ensures { result ≡ (IsAhead (kind.Operator sign.LeftParenthesis) self.now.ahead && bytes_eq (name_of name.now).text (codes "main")) }
-    {
-        self.sees(TokenKind::Operator(Operator::LeftParenthesis)) && name.text.as_str() == "main"
-    }
+/// Whether the last line of the module goes on behind this name.
+fn begins_last_line<X: AsStr + Drop, I: Iterator<Item = Result<Token<X>, Fault>> + Drop>(
+    reader: &Reader<X, I>,
+    name: &Name,
+) -> bool
+    ensures { result ≡ (IsAhead (kind.Operator sign.LeftParenthesis) reader.now.ahead && bytes_eq (name_of name.now).text (codes "main")) }
+{
+    reader.sees(TokenKind::Operator(Operator::LeftParenthesis)) && name.text.as_str() == "main"
 }
 
 impl<X: AsStr + Drop, I: Iterator<Item = Result<Token<X>, Fault>> + Drop> Parser<X, I> {
@@ -70,7 +72,7 @@ impl<X: AsStr + Drop, I: Iterator<Item = Result<Token<X>, Fault>> + Drop> Parser
         }
         let name = self.reader.name(alloc)?;
         let first = name.place;
-        if self.reader.begins_last_line(&name) {
+        if begins_last_line(&self.reader, &name) {
             self.reader.fixed(&[
                 TokenKind::Operator(Operator::LeftParenthesis),
                 TokenKind::Operator(Operator::RightParenthesis),
@@ -91,7 +93,7 @@ impl<X: AsStr + Drop, I: Iterator<Item = Result<Token<X>, Fault>> + Drop> Parser
         requires { IsReady I.can_next I.remaining self.old.reader }
         ensures { ReadsModule X.text I.next_gives I.can_next I.remaining self.old self.new result }
     {
-        let headers = self.reader.headers()?;
+        let headers = headers(&mut self.reader)?;
         let mut items = Vec::new(alloc);
         loop {
             match self.piece(alloc)? {

@@ -3,11 +3,11 @@ ghost use Rattle.std.specs.Prelude.{◌≡◌, MatchOption, Some, None};
 ghost use Rattle.pc_tree.specs.Tree.{expr_of, target_of};
 ghost use Rattle.pc_tree.specs.Machine.Finishing.{if_plain, target_of_tree};
 ghost use Rattle.pc_tree.specs.Machine.Kinds.{lead_of as lead_of_kind, leads_return, leads_assert, leads_other};
-ghost use Rattle.pc_parse.specs.Reading.{IsReady};
+ghost use Rattle.pc_reader.specs.Reading.{IsReady};
 ghost use Rattle.pc_parse.specs.Suites.{lead_view, HasLead, HasWord, HasNoWhole, ReadsStmt, ReadsLineEnd, ReadsLocal};
 
-use crate::operand::{Operand, plain_name};
 use crate::parser::Parser;
+use pc_reader::{Operand, plain_name};
 use pc_source::{Fault, Place};
 use pc_token::{Keyword, Operator, Token, TokenKind};
 use pc_tree::{Expr, Name, Stmt, StmtKind, Target};

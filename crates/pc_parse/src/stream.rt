@@ -7,7 +7,7 @@ ghost use Rattle.pc_tree.specs.Tree.{module_of};
 ghost use Rattle.pc_parse.specs.Answering.{IsRead, IsRefusedByTokens, IsFaulty};
 
 use crate::parser::Parser;
-use crate::reader::Reader;
+use pc_reader::Reader;
 use pc_source::{Fault, Refusal, RefusalCode};
 use pc_token::Token;
 use pc_tree::Module;

@@ -1,5 +1,5 @@
 use crate::parser::Parser;
-use crate::reader::Reader;
+use pc_reader::Reader;
 use pc_source::{Fault, Refusal, RefusalCode, read_source};
 use pc_token::{Tok, Token, TokenKind, tokens};
 use std::alloc::Global;

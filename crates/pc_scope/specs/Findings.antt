@@ -39,7 +39,7 @@ pub data IsUnknown (m : Module) (f : Finding) : Type 0 where
   in_body : (b : Body) (e : Expr) → Contains (bodies m) b → Contains (exprs_in_all true b.function.body) e → IsUnknownIn m b.owner e f → IsUnknown m f
   decorator : (c : ClassDef) → m.imports_dataclass ≡ false → Contains (classes_in m.items) c → f ≡ finding c.decorator E02 → IsUnknown m f
 
--- what an initializer may not name behind so many constants and classes: a function, a later constant, a later class
+-- what an initializer may not name behind so many constants and classes: a function, and a constant or class that is not one of them
 abbrev pub IsLate : (constants classes : ℕ) → Res → Type 0
 IsLate k c (res.Func i) = Unit {0}
 IsLate k c (res.Const i) = k ≤ i

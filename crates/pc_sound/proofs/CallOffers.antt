@@ -7,7 +7,7 @@ use Rattle.pc_types.specs.Below.{Bases, AreSmaller}
 use Rattle.pc_flow.specs.Environment.{join_all}
 use Rattle.pc_expr.specs.Operations.{has_error}
 use Rattle.pc_expr.specs.Context.{Signature}
-use Rattle.pc_expr.specs.Calls.{Given, is_suited, CallOffer, called, fails_at_call, call_codes, all_codes, call_mark, signatures}
+use Rattle.pc_expr.specs.Calls.{Given, has_none, is_suited, CallOffer, called, fails_at_call, call_codes, all_codes, call_mark, signatures}
 use Rattle.pc_value.specs.Value.{Value}
 use Rattle.pc_sound.specs.Values.{HeapTyping, HasType}
 use Rattle.pc_sound.proofs.Narrowing.{HasSome}
@@ -31,13 +31,17 @@ offer_right o (x ∷ xs) ys h = inr (offer_right o xs ys h)
 both_empty : {A : Type 0} (xs ys : List A) → xs ≡ [] → ys ≡ [] → xs ++ ys ≡ []
 both_empty xs ys e f = λ i. e i ++ f i
 
+-- nothing is found at all where nothing is found at the callee and at the call of each member
+each_quiet : (offers : List CallOffer) → flat_map (λ o. o.at_callee) offers ≡ [] → flat_map (λ o. o.at_call) offers ≡ [] → all_codes offers ≡ []
+each_quiet [] e f = refl
+each_quiet (o ∷ os) e f =
+    both_empty (o.at_callee ++ o.at_call) (all_codes os)
+    (both_empty o.at_callee o.at_call (front_empty o.at_callee (flat_map (λ o. o.at_callee) os) e) (front_empty o.at_call (flat_map (λ o. o.at_call) os) f))
+    (each_quiet os (rest_empty o.at_callee (flat_map (λ o. o.at_callee) os) e) (rest_empty o.at_call (flat_map (λ o. o.at_call) os) f))
+
 -- nothing is found at all where nothing is found at the callee and at the call
 pub all_quiet : (offers : List CallOffer) → flat_map (λ o. o.at_callee) offers ≡ [] → call_codes offers ≡ [] → all_codes offers ≡ []
-all_quiet [] e f = refl
-all_quiet (o ∷ os) e f =
-    both_empty (o.at_callee ++ o.at_call) (all_codes os)
-    (both_empty o.at_callee o.at_call (front_empty o.at_callee (flat_map (λ o. o.at_callee) os) e) (front_empty o.at_call (call_codes os) f))
-    (all_quiet os (rest_empty o.at_callee (flat_map (λ o. o.at_callee) os) e) (rest_empty o.at_call (call_codes os) f))
+all_quiet offers e f = each_quiet offers e (ap (λ codes. if has_none codes then flat_map (λ o. o.at_call) offers else []) (sym e) ∙ f)
 
 -- nothing is found on one of the offers
 pub offer_quiet : (o : CallOffer) (offers : List CallOffer) → IsOffer o offers → all_codes offers ≡ [] → (o.at_callee ≡ []) × (o.at_call ≡ [])

@@ -152,9 +152,16 @@ abbrev AllCalls : List CallOffer → Type 0
 AllCalls [] = Unit {0}
 AllCalls (o ∷ os) = OnTime o.at_call × AllCalls os
 
+each_timely : (os : List CallOffer) → AllCalls os → OnTime (flat_map (λ o. o.at_call) os)
+each_timely [] h = refl
+each_timely (o ∷ os) h = append_timely o.at_call (flat_map (λ p. p.at_call) os) h.0 (each_timely os h.1)
+
 calls_timely : (os : List CallOffer) → AllCalls os → OnTime (call_codes os)
-calls_timely [] h = refl
-calls_timely (o ∷ os) h = append_timely o.at_call (call_codes os) h.0 (calls_timely os h.1)
+calls_timely os h = go (has_none (flat_map (λ o. o.at_callee) os))
+  where
+    go : (quiet : Test) → OnTime (if quiet then flat_map (λ o. o.at_call) os else [])
+    go true = each_timely os h
+    go false = refl
 
 calls_append : (os ps : List CallOffer) → AllCalls os → AllCalls ps → AllCalls (os ++ ps)
 calls_append [] ps h k = k

@@ -2,9 +2,10 @@ pub mod BytesLaws
 pub mod CodeOrder
 pub mod Composed
 pub mod Judging
-pub mod Labels
 pub mod Main
 pub mod Members
 pub mod Order
 pub mod Parts
-pub mod Soundness
+pub mod Whole
+pub mod WholeFindings
+pub mod WholeLabels

@@ -6,47 +6,34 @@ use Rattle.pc_source.specs.declared.fault.Fault.{Fault}
 use Rattle.pc_source.specs.declared.fault.Fault.TheVariants as fault
 use Rattle.pc_source.specs.Answers.{OnRefusal}
 use Rattle.pc_tree.specs.declared.code.Finding.{Finding}
-use Rattle.pc_tree.specs.Tree as tree
-use Rattle.pc_top.specs.Fragment.{Stmt, Module}
+use Rattle.pc_tree.specs.Tree.{Module}
+use Rattle.pc_check.specs.Modules.{IsFinding}
+use Rattle.pc_machine.specs.Runs.{Run, End, IsFault}
+use Rattle.pc_sound.proofs.Sounding.{sound}
+use Rattle.pc_top.specs.Fragment as part
 use Rattle.pc_top.specs.Part.{part_of, GoesBeyond}
 use Rattle.pc_top.specs.Bytes.{IsModuleOf, IsRefusalOf}
 use Rattle.pc_top.specs.declared.report.Row.{Row}
-use Rattle.pc_top.specs.Typing.{IsFinding, reached, SomeFinds}
 use Rattle.pc_top.specs.Checking.{findings_in}
-use Rattle.pc_top.specs.Running.{Run, End, IsFault, eval}
 use Rattle.pc_top.specs.Report.{Lists, findings_of}
 use Rattle.pc_top.specs.Headline.{HasNoError, HasEvaluated, Headline, IsRefused, OnCheckFault, checked}
 use Rattle.pc_top.proofs.BytesLaws.{one_module}
-use Rattle.pc_top.proofs.Labels.{all_marks, lawful_all, finding_from_computed, computed_from_finding}
-use Rattle.pc_top.proofs.Soundness.{exec_safe, eval_safe, no_fault}
+use Rattle.pc_top.proofs.WholeFindings.{exactly, labelled}
 
-module _ (bytes : List ℕ) (program : Module) where
-  sound_here : (rows : List Row) → Lists bytes (IsFinding program) rows → HasNoError rows → (events : List Place) (end : End) → Run program events end → IsFault end → HasEvaluated rows events
+module _ (bytes : List ℕ) (whole : Module) (program : part.Module) (typed : part_of whole ≡ Some program) where
+  sound_here : (rows : List Row) → Lists bytes (IsFinding whole) rows → HasNoError rows → (events : List Place) (end : End) → Run whole events end → IsFault end → HasEvaluated rows events
   sound_here rows lists clean events end run fault =
-      let ss : List Stmt = program.body in
-      let listed : Finding → Type 0 = λ f. Contains (findings_of rows) f in
-      let found : (f : Finding) → SomeFinds (reached ss) (all_marks (reached ss)) f → Contains (findings_of rows) f = λ f h. (lists.exact f).1 (record { marks = all_marks (reached ss); lawful = lawful_all (reached ss); found = inl h }) in
-      elim ((exec_safe listed (eval run.steps) (eval_safe listed run.steps) ss (all_marks (reached ss)) (lawful_all (reached ss)) (λ f h. (found f h, clean f (found f h)))).run events run.out run.runs) [
-        | inl e ↦ record { place = e.place; listed = e.is; dynamic = e.dynamic; event = e.event }
-        | inr good ↦ absurd (no_fault listed run.out end run.is good fault)
-      ]
+      let e = sound whole (labelled whole program typed) (λ f found. clean f ((lists.exact f).1 found)) events end run fault in
+      record { place = e.place; listed = (lists.exact e.place).1 e.found; dynamic = e.dynamic; event = e.event }
 
-  pub headline_from : (whole : tree.Module) → IsModuleOf bytes whole → part_of whole ≡ Some program → (found : List Finding) (rows : List Row) → found ≡ findings_in program.body → Lists bytes (Contains found) rows → Headline bytes rows
-  headline_from whole spelled typed found rows is lists =
-      let exact : (f : Finding) → Contains (findings_of rows) f ↔ IsFinding program f = λ f. (
-        (λ h. finding_from_computed program f (subst (λ l. Contains l f) is ((lists.exact f).0 h))),
-        (λ h. (lists.exact f).1 (subst (λ l. Contains l f) (sym is) (computed_from_finding program f h))),
+  pub headline_from : IsModuleOf bytes whole → (found : List Finding) (rows : List Row) → found ≡ findings_in program.body → Lists bytes (Contains found) rows → Headline bytes rows
+  headline_from spelled found rows is lists =
+      let exact : (f : Finding) → Contains (findings_of rows) f ↔ IsFinding whole f = λ f. (
+        (λ h. (exactly whole program typed f).1 (subst (λ l. Contains l f) is ((lists.exact f).0 h))),
+        (λ h. (lists.exact f).1 (subst (λ l. Contains l f) (sym is) ((exactly whole program typed f).0 h))),
       ) in
-      let listed : Lists bytes (IsFinding program) rows = record { sorted = lists.sorted; exact = exact; placed = lists.placed } in
-      record {
-        whole = whole;
-        spelled = spelled;
-        only = λ other h. one_module bytes other whole h spelled;
-        program = program;
-        typed = typed;
-        listed = listed;
-        sound = sound_here rows listed;
-      }
+      let listed : Lists bytes (IsFinding whole) rows = record { sorted = lists.sorted; exact = exact; placed = lists.placed } in
+      record { whole = whole; spelled = spelled; only = λ other h. one_module bytes other whole h spelled; listed = listed; sound = sound_here rows listed }
 
 -- a refusal of the bytes
 pub refused_bytes : (bytes : List ℕ) (f : Fault) → OnRefusal (IsRefusalOf bytes) f → OnCheckFault (IsRefused bytes) (checked f)
@@ -54,6 +41,6 @@ refused_bytes bytes (fault.Refused r) h = inl h
 refused_bytes bytes fault.OutOfMemory h = tt
 
 -- a module that goes beyond the part
-pub beyond : (bytes : List ℕ) (whole : tree.Module) (f : Fault) → IsModuleOf bytes whole → OnRefusal (GoesBeyond whole) f → OnCheckFault (IsRefused bytes) (checked f)
+pub beyond : (bytes : List ℕ) (whole : Module) (f : Fault) → IsModuleOf bytes whole → OnRefusal (GoesBeyond whole) f → OnCheckFault (IsRefused bytes) (checked f)
 beyond bytes whole (fault.Refused r) spelled h = inr (record { whole = whole; spelled = spelled; beyond = h })
 beyond bytes whole fault.OutOfMemory spelled h = tt

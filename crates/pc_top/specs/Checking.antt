@@ -1,14 +1,13 @@
--- A module's labelling and findings, computed.
+-- The types of the part's expressions and the findings of its modules, computed.
 use Rattle.std.specs.Prelude.{List, [], ◌∷◌, ◌++◌, Bool, true, false, Option, Some, None, if◌then◌else◌}
 use Rattle.pc_source.specs.declared.place.Place.{Place}
 use Rattle.pc_tree.specs.declared.code.Code.{Code}
 use Rattle.pc_tree.specs.declared.code.Code.TheVariants.{A2, E13, E30}
 use Rattle.pc_tree.specs.declared.code.Finding.{Finding}
 use Rattle.pc_tree.specs.Code.{finding}
-use Rattle.pc_top.specs.Fragment.{Operator, Add, Sub, Expr, int, str, binary, Stmt, pass, returns, returns_value, evaluates}
+use Rattle.pc_top.specs.Fragment.{Operator, Add, Sub, Expr, int, str, binary, Stmt, pass, returns, returns_value, evaluates, first_of}
 use Rattle.pc_top.specs.declared.typing.Ty.{Ty}
 use Rattle.pc_top.specs.declared.typing.Ty.TheVariants.{Any, Int, Str}
-use Rattle.pc_top.specs.Typing.{Marks, ty, first_of}
 
 -- what is found at an operator between operands of these types
 abbrev pub code_of : Operator → Ty → Ty → Option Code
@@ -38,19 +37,11 @@ type_of Sub Str Str = Any
 type_of op Str Any = Any
 type_of op Any Str = Any
 
--- the labels of an expression
-abbrev pub marks_of : (e : Expr) → Marks e
-marks_of (int p digits) = Int
-marks_of (str p characters) = Str
-marks_of (binary p op l r) = (
-  record { ty = type_of op (ty l (marks_of l)) (ty r (marks_of r)); code = code_of op (ty l (marks_of l)) (ty r (marks_of r)) },
-  marks_of l,
-  marks_of r,
-)
-
--- its type
+-- the type of an expression
 abbrev pub type_in : Expr → Ty
-type_in e = ty e (marks_of e)
+type_in (int p digits) = Int
+type_in (str p characters) = Str
+type_in (binary p op l r) = type_of op (type_in l) (type_in r)
 
 abbrev pub found_at : Place → Option Code → List Finding
 found_at p None = []

@@ -24,8 +24,9 @@ pub data Stmt : Type 0 where
 pub record Module : Type 0 where
   pub body : List Stmt
 
--- the place of an expression
-abbrev pub place_of : Expr → Place
-place_of (int p digits) = p
-place_of (str p characters) = p
-place_of (binary p op l r) = p
+-- the place of a statement's first token
+abbrev pub first_of : Stmt → Place
+first_of (pass p) = p
+first_of (returns p) = p
+first_of (returns_value p e) = p
+first_of (evaluates p e) = p

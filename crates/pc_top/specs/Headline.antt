@@ -1,5 +1,5 @@
 -- The main theorem's statement: what a report says of the bytes, and what a refusal does.
-use Rattle.std.specs.Prelude.{◌≡◌, ◌⊎◌, ℕ, List, Some, Contains}
+use Rattle.std.specs.Prelude.{◌≡◌, ◌⊎◌, ℕ, List, Contains}
 use Rattle.pc_source.specs.declared.place.Place.{Place}
 use Rattle.pc_source.specs.declared.fault.Fault.{Fault}
 use Rattle.pc_source.specs.declared.fault.Fault.TheVariants as fault
@@ -7,14 +7,13 @@ use Rattle.pc_source.specs.declared.fault.Refusal.{Refusal}
 use Rattle.pc_tree.specs.declared.code.Finding.{Finding}
 use Rattle.pc_tree.specs.Code.{IsError}
 use Rattle.pc_tree.specs.Tree.{Module}
+use Rattle.pc_check.specs.Modules.{IsFinding}
+use Rattle.pc_machine.specs.Runs.{Run, End, IsFault}
 use Rattle.pc_top.specs.Bytes.{IsModuleOf, IsRefusalOf}
-use Rattle.pc_top.specs.Fragment as fragment
-use Rattle.pc_top.specs.Part.{part_of, GoesBeyond}
+use Rattle.pc_top.specs.Part.{GoesBeyond}
 use Rattle.pc_top.specs.declared.report.Row.{Row}
 use Rattle.pc_top.specs.declared.fault.CheckFault.{CheckFault}
 use Rattle.pc_top.specs.declared.fault.CheckFault.TheVariants as check_fault
-use Rattle.pc_top.specs.Typing.{IsFinding}
-use Rattle.pc_top.specs.Running.{Run, End, IsFault}
 use Rattle.pc_top.specs.Report.{Lists, findings_of}
 
 -- no row has the code of an error
@@ -34,10 +33,8 @@ pub record Headline (bytes : List ℕ) (rows : List Row) : Type 0 where
   pub whole : Module
   pub spelled : IsModuleOf bytes whole
   pub only : (other : Module) → IsModuleOf bytes other → other ≡ whole
-  pub program : fragment.Module
-  pub typed : part_of whole ≡ Some program
-  pub listed : Lists bytes (IsFinding program) rows
-  pub sound : HasNoError rows → (events : List Place) (end : End) → Run program events end → IsFault end → HasEvaluated rows events
+  pub listed : Lists bytes (IsFinding whole) rows
+  pub sound : HasNoError rows → (events : List Place) (end : End) → Run whole events end → IsFault end → HasEvaluated rows events
 
 -- the bytes spell a module that goes beyond the part that is typed so far, first at the byte
 pub record IsBeyond (bytes : List ℕ) (refusal : Refusal) : Type 0 where

@@ -4,5 +4,3 @@ pub mod Fragment
 pub mod Headline
 pub mod Part
 pub mod Report
-pub mod Running
-pub mod Typing

@@ -10,7 +10,7 @@ mod top;
 mod typing;
 
 pub use fault::CheckFault;
-pub use laws::{module_or_refusal, one_labelling, one_module_of_bytes};
+pub use laws::{module_or_refusal, one_module_of_bytes};
 pub use report::{Report, Row};
 pub use top::{check, read_module};
 

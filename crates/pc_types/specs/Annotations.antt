@@ -63,7 +63,7 @@ abbrev pub empty_type : Res → Option Tree
 empty_type (res.Builtin builtin.Tuple) = Some (TupleOf end)
 empty_type _ = None
 
--- what may stand in a union: neither Any nor object, and no union
+-- what may stand in a union: neither Any nor object nor Never, and no union
 abbrev pub is_member : Tree → Test
 is_member Any = false
 is_member Object = false

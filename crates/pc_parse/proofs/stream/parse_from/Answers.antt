@@ -3,8 +3,8 @@ use Rattle.std.proofs.lemmas.Result.{err_from_is_err_and}
 use Rattle.pc_tree.specs.Machine.{at}
 use Rattle.pc_tree.specs.Machine.Lines.{start}
 use Rattle.pc_parse.specs.declared.parser.Parser.{Parser}
-use Rattle.pc_parse.specs.Reading.{Came}
-use Rattle.pc_parse.proofs.Streams.{blame}
+use Rattle.pc_reader.specs.Reading.{Came}
+use Rattle.pc_reader.proofs.Streams.{blame}
 use Rattle.pc_parse.proofs.Bridging.{blamed, shallow_module, deep_module}
 use Rattle.pc_parse.proofs.stream.parse_from.Goals as goal
 

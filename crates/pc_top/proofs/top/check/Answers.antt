@@ -21,6 +21,6 @@ returns-in_err-body-clause-refused c =
 pub returns-clause-headline : goal.returns-clause-headline
 returns-clause-headline c =
     let lists : Lists c.args.bytes.now (Contains c.in_ok-found.found.items) c.in_ok-report.report = subst (λ (l : List ℕ). Lists l (Contains c.in_ok-found.found.items) c.in_ok-report.report) c.in_ok-source.ensures.text (subst (λ (l : List Finding). Lists c.in_ok-source.source (Contains l) c.in_ok-report.report) c.deref.ensures.value c.in_ok-report.ensures) in
-    headline_from c.args.bytes.now c.in_ok-body.ensures.part (module_of c.in_ok-module.module)
-    (subst (λ (l : List ℕ). IsModuleOf l (module_of c.in_ok-module.module)) c.in_ok-source.ensures.text c.in_ok-module.ensures.read) c.in_ok-body.ensures.is
+    headline_from c.args.bytes.now (module_of c.in_ok-module.module) c.in_ok-body.ensures.part c.in_ok-body.ensures.is
+    (subst (λ (l : List ℕ). IsModuleOf l (module_of c.in_ok-module.module)) c.in_ok-source.ensures.text c.in_ok-module.ensures.read)
     c.in_ok-found.found.items c.in_ok-report.report (c.in_ok-found.ensures c.in_ok-body.ensures.part.body c.in_ok-body.ensures.body_is) lists

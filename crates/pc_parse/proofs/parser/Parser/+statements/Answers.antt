@@ -11,11 +11,11 @@ use Rattle.pc_tree.specs.Machine.Kinds.{same_kind}
 use Rattle.pc_tree.specs.Machine.States.{whole, in_statement, looping, iterating, branching, while_body, for_body, branch_body, else_body, fixed, stmts, target_due, after_branch, operand, have, stuck, go}
 use Rattle.pc_tree.specs.Machine.Finishing.{add_stmt, add_branch, after_stmt, after_suite, suite_of, nested_in}
 use Rattle.pc_tree.specs.Machine.Lines.{lead_turn}
-use Rattle.pc_parse.specs.Reading.{lexeme}
+use Rattle.pc_reader.specs.Reading.{lexeme}
 use Rattle.pc_parse.specs.Whole.{ending_of}
 use Rattle.pc_parse.specs.Suites.{lead_view, site_at, branches_in}
-use Rattle.pc_parse.proofs.Streams.{blame}
-use Rattle.pc_parse.proofs.Steps.{step_to, alike, needs, meets, kind_seen, not_seen}
+use Rattle.pc_reader.proofs.Streams.{blame}
+use Rattle.pc_reader.proofs.Steps.{step_to, alike, needs, meets, kind_seen, not_seen}
 use Rattle.pc_parse.proofs.Statements.{colon_turn, suite_ends, suite_stuck, on_unseen, on_go}
 use Rattle.pc_parse.proofs.Lines.{refit, seen_kind, no_statements, else_read}
 use Rattle.pc_parse.proofs.Depths.{noted_nothing, kept_tree}

@@ -1,7 +1,7 @@
 use Rattle.std.proofs.Common.{refl, sym, ◌∙◌}
 use Rattle.std.proofs.lemmas.Result.{err_from_is_err_and}
 use Rattle.pc_token.specs.declared.token.TokenKind.TheVariants as kind
-use Rattle.pc_parse.proofs.Steps.{kind_seen}
+use Rattle.pc_reader.proofs.Steps.{kind_seen}
 use Rattle.pc_parse.proofs.Parameters.{opener_fails, annotation_fails, annotation_read}
 use Rattle.pc_parse.proofs.parser.Parser.annotation_behind.Goals as goal
 

@@ -9,8 +9,8 @@ use Rattle.pc_tree.specs.Machine.Finishing.{after_stmt, finish}
 use Rattle.pc_tree.specs.Machine.Lines.{lead_turn}
 use Rattle.pc_parse.specs.Whole.{ending_of}
 use Rattle.pc_parse.specs.Suites.{site_at}
-use Rattle.pc_parse.proofs.Streams.{blame}
-use Rattle.pc_parse.proofs.Steps.{step_to, kind_seen, not_seen}
+use Rattle.pc_reader.proofs.Streams.{blame}
+use Rattle.pc_reader.proofs.Steps.{step_to, kind_seen, not_seen}
 use Rattle.pc_parse.proofs.Statements.{line_end_turn, condition_turn}
 use Rattle.pc_parse.proofs.Lines.{line_ended}
 use Rattle.pc_parse.proofs.Keeping.{keep_one, keep_two}

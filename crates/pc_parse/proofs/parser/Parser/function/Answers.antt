@@ -1,7 +1,7 @@
 use Rattle.std.proofs.Common.{refl}
 use Rattle.std.proofs.lemmas.Result.{err_from_is_err_and}
-use Rattle.pc_parse.proofs.Steps.{needs}
-use Rattle.pc_parse.proofs.Streams.{blame}
+use Rattle.pc_reader.proofs.Steps.{needs}
+use Rattle.pc_reader.proofs.Streams.{blame}
 use Rattle.pc_tree.specs.Grammar.{name_at}
 use Rattle.pc_tree.specs.Machine.States.{def_due}
 use Rattle.pc_tree.specs.Machine.Lines.{params_of}

@@ -9,11 +9,11 @@ use Rattle.pc_tree.specs.Machine.{at}
 use Rattle.pc_tree.specs.Machine.States.{whole, ann_whole, in_line, in_statement, of_local, assigned, stmts, part_due, operand, have}
 use Rattle.pc_tree.specs.Machine.Finishing.{after_stmt, finish, begin_value, begin_annotation, line_site}
 use Rattle.pc_tree.specs.Machine.Lines.{lead_turn}
-use Rattle.pc_parse.specs.Reading.{lexeme, Came}
+use Rattle.pc_reader.specs.Reading.{lexeme, Came}
 use Rattle.pc_parse.specs.Whole.{ending_of, noted}
 use Rattle.pc_parse.specs.Suites.{site_at}
-use Rattle.pc_parse.proofs.Streams.{blame}
-use Rattle.pc_parse.proofs.Steps.{step_to, alike, kind_seen, not_seen}
+use Rattle.pc_reader.proofs.Streams.{blame}
+use Rattle.pc_reader.proofs.Steps.{step_to, alike, kind_seen, not_seen}
 use Rattle.pc_parse.proofs.Statements.{line_end_turn, line_turn}
 use Rattle.pc_parse.proofs.Lines.{line_ended, line_continued, no_place, first_is}
 use Rattle.pc_parse.proofs.Depths.{noted_nothing}

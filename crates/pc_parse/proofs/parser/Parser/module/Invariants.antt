@@ -1,4 +1,4 @@
-use Rattle.pc_parse.specs.Reading.{IsReady, left_in}
+use Rattle.pc_reader.specs.Reading.{IsReady, left_in}
 use Rattle.pc_parse.specs.Modules.{ItemsSoFar}
 use Rattle.pc_parse.proofs.parser.Parser.module.Given as goal
 

@@ -2,7 +2,7 @@ use Rattle.std.proofs.Common.{◌≡◌, [], refl, arith, sym, ◌∙◌, rules}
 use Rattle.std.proofs.lemmas.Result.{err_from_is_err_and}
 use Rattle.pc_token.specs.declared.token.TokenKind.TheVariants as kind
 use Rattle.pc_token.specs.declared.token.Operator.TheVariants as sign
-use Rattle.pc_parse.proofs.Steps.{kind_seen}
+use Rattle.pc_reader.proofs.Steps.{kind_seen}
 use Rattle.pc_parse.proofs.Parameters.{no_params, take_fails, params_end, parameter_fails, comma_fails, close_fails, more_params, last_param}
 use Rattle.pc_parse.proofs.parser.Parser.parameters.Goals as goal
 

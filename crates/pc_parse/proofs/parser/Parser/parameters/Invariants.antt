@@ -1,5 +1,5 @@
 use Rattle.std.proofs.Common.{◌≤◌}
-use Rattle.pc_parse.specs.Reading.{IsReady, left_in}
+use Rattle.pc_reader.specs.Reading.{IsReady, left_in}
 use Rattle.pc_parse.specs.Signatures.{ParamsSoFar}
 use Rattle.pc_parse.proofs.parser.Parser.parameters.Given as goal
 

@@ -2,13 +2,13 @@ use Rattle.std.proofs.Common.{[], refl, sym, ◌∙◌}
 use Rattle.std.proofs.lemmas.Result.{err_from_is_err_and}
 use Rattle.pc_token.specs.declared.token.TokenKind.TheVariants as kind
 use Rattle.pc_token.specs.declared.token.Operator.TheVariants as sign
-use Rattle.pc_parse.proofs.Steps.{kind_seen}
-use Rattle.pc_parse.proofs.Streams.{blame}
+use Rattle.pc_reader.proofs.Steps.{kind_seen}
+use Rattle.pc_reader.proofs.Streams.{blame}
 use Rattle.std.specs.Prelude.{codes}
 use Rattle.pc_tree.specs.Machine.{at}
 use Rattle.pc_tree.specs.Machine.States.{fixed, self_read}
 use Rattle.pc_tree.specs.Machine.Kinds.{a_form}
-use Rattle.pc_parse.proofs.Words.{form_due, form_read}
+use Rattle.pc_reader.proofs.Words.{form_due, form_read}
 use Rattle.pc_parse.proofs.Functions.{after_self, self_alone, self_unclosed}
 use Rattle.pc_parse.proofs.parser.Parser.parameters_of_method.Goals as goal
 

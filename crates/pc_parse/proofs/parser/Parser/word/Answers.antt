@@ -7,8 +7,8 @@ use Rattle.pc_tree.specs.Machine.Finishing.{add_stmt}
 use Rattle.pc_tree.specs.Machine.Lines.{line_ends}
 use Rattle.pc_parse.specs.Whole.{noted}
 use Rattle.pc_parse.specs.Suites.{site_at}
-use Rattle.pc_parse.proofs.Streams.{blame}
-use Rattle.pc_parse.proofs.Steps.{step_to}
+use Rattle.pc_reader.proofs.Streams.{blame}
+use Rattle.pc_reader.proofs.Steps.{step_to}
 use Rattle.pc_parse.proofs.Lines.{line_ended}
 use Rattle.pc_parse.proofs.Depths.{noted_nothing}
 use Rattle.pc_parse.proofs.parser.Parser.word.Goals as goal

@@ -1,0 +1,108 @@
+-- What the functions of the reader promise.
+use Rattle.std.specs.Prelude.{ℕ, ◌≡◌, ◌+◌, ◌<◌, Bool, false, List, [], ◌∷◌, Option, Some, None, Result, Ok, Err}
+use Rattle.std.specs.Iterator.{Count, size, IsFinite}
+use Rattle.pc_source.specs.declared.fault.Fault.{Fault}
+use Rattle.pc_source.specs.declared.fault.Fault.TheVariants as fault
+use Rattle.pc_source.specs.declared.fault.Refusal.{Refusal}
+use Rattle.pc_source.specs.declared.fault.RefusalCode.TheVariants as code
+use Rattle.pc_source.specs.declared.place.Place.{Place}
+use Rattle.pc_source.specs.Stream as stream
+use Rattle.pc_token.specs.declared.token.Token.{Token}
+use Rattle.pc_token.specs.declared.token.TokenKind.{TokenKind}
+use Rattle.pc_token.specs.Lexeme.{Lexeme, form_of}
+use Rattle.pc_tree.specs.Tree.{Module}
+use Rattle.pc_tree.specs.Machine.{Reading, Outcome, reads, refuses, short, step, stop, stop_at, turn}
+use Rattle.pc_tree.specs.Machine.Kinds.{same_kind}
+use Rattle.pc_tree.specs.Machine.States.{State, stuck}
+use Rattle.pc_reader.specs.declared.reader.Reader.{Reader}
+
+-- the answer for an outcome of tokens that end at this byte
+abbrev pub settled : ℕ → Outcome → Result Module Fault
+settled end (reads m) = Ok m
+settled end (refuses byte) = Err (fault.Refused (record { code = code.G1; byte = byte }))
+settled end short = Err (fault.Refused (record { code = code.G1; byte = end }))
+
+-- the answer for a token after which no module can follow
+abbrev pub misfit_at : ℕ → Result Module Fault
+misfit_at byte = Err (fault.Refused (record { code = code.G1; byte = byte }))
+
+-- what is said of the answer where a call ends in a fault, unless memory is wanting
+pub record Blames (e : Fault) (P : Result Module Fault → Type 0) : Type 0 where
+  pub said : (r : Refusal) → e ≡ fault.Refused r → P (Err e)
+
+-- whether the token ahead is of this kind
+abbrev pub IsAhead : {X : Type 0} → TokenKind → Option (Token X) → Bool
+IsAhead kind None = false
+IsAhead kind (Some t) = same_kind t.kind kind
+
+abbrev pub kind_ahead : {X : Type 0} → Option (Token X) → Option TokenKind
+kind_ahead None = None
+kind_ahead (Some t) = Some t.kind
+
+-- the place of the token ahead
+abbrev pub place_ahead : {X : Type 0} → Option (Token X) → Option Place
+place_ahead None = None
+place_ahead (Some t) = Some t.place
+
+module _ {X : Type 0} (text : X → List ℕ) where
+  abbrev pub lexeme : Token X → Lexeme
+  lexeme t = record { kind = t.kind; place = t.place; text = text t.text; form = form_of (text t.text) t.form }
+
+  -- over items, the last of the tokens before which ended at this byte: a fault among them decides
+  unfoldable pub run_items : ℕ → Reading → List (Result (Token X) Fault) → Result Module Fault
+  run_items end r [] = settled end (stop r)
+  run_items end r (Ok t ∷ rest) = run_items t.place.end (step r (lexeme t)) rest
+  run_items end r (Err e ∷ rest) = Err e
+
+module _ {X I : Type 0} (text : X → List ℕ) (steps : I → Option (Result (Token X) Fault) → I → Type 0) where
+  -- the items that come from an iterator lead from a reading to this answer
+  abbrev pub Comes : I → ℕ → Reading → Result Module Fault → Type 0
+  Comes it end r o = (xs : List (Result (Token X) Fault)) × stream.Comes steps it xs × (run_items text end r xs ≡ o)
+
+  abbrev pub came : Option (Token X) → I → ℕ → Reading → Result Module Fault → Type 0
+  came None it end r o = run_items text end r [] ≡ o
+  came (Some t) it end r o = (xs : List (Result (Token X) Fault)) × stream.Comes steps it xs × (run_items text end r (Ok t ∷ xs) ≡ o)
+
+  -- the same with the token ahead before them; with none ahead they have ended
+  abbrev pub Came : Reader X I → Reading → Result Module Fault → Type 0
+  Came a r o = came a.ahead a.tokens a.end r o
+
+  -- what comes of the second reading at b comes of the first at a
+  abbrev pub Onward : Reader X I → Reader X I → Reading → Reading → Type 0
+  Onward a b r r' = (o : Result Module Fault) → Came b r' o → Came a r o
+
+module _ {X I : Type 0} (can : I → Type 0) (left : I → Count) where
+  abbrev pub ready : Option (Token X) → I → Type 0
+  ready None it = Unit {0}
+  ready (Some t) it = can it × IsFinite (left it)
+
+  -- while a token is ahead the iterator may be asked, and it ends
+  abbrev pub IsReady : Reader X I → Type 0
+  IsReady a = ready a.ahead a.tokens
+
+module _ {X I : Type 0} (left : I → Count) where
+  abbrev pub left_behind : Option (Token X) → I → ℕ
+  left_behind None it = 0
+  left_behind (Some t) it = size (left it) + 1
+
+  -- at most how many tokens are left
+  abbrev pub left_in : Reader X I → ℕ
+  left_in a = left_behind a.ahead a.tokens
+
+-- no token that goes on from a state is ahead
+pub record Rejects {X I : Type 0} (text : X → List ℕ) (st : State) (a : Reader X I) : Type 0 where
+  pub unfinished : stop_at st ≡ short
+  pub stuck_at : (t : Token X) → a.ahead ≡ Some t → turn st (lexeme text t) t.kind ≡ stuck
+
+-- a token of another kind does not go on from a state
+pub record NeedsKind {X I : Type 0} (text : X → List ℕ) (kind : TokenKind) (st : State) (a : Reader X I) : Type 0 where
+  pub unfinished : stop_at st ≡ short
+  pub stuck_at : (t : Token X) → a.ahead ≡ Some t → same_kind t.kind kind ≡ false → turn st (lexeme text t) t.kind ≡ stuck
+
+module _ {X I : Type 0} (text : X → List ℕ) (steps : I → Option (Result (Token X) Fault) → I → Type 0) (can : I → Type 0) (left : I → Count) where
+  -- the token ahead was taken
+  pub record Takes (a b : Reader X I) (t : Token X) : Type 0 where
+    pub here : a.ahead ≡ Some t
+    pub ready : IsReady can left b
+    pub later : left_in left b < left_in left a
+    pub leads : (r : Reading) → Onward text steps a b r (step r (lexeme text t))

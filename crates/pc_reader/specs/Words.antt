@@ -1,0 +1,45 @@
+-- What the functions promise that read tokens of which the grammar says exactly which one must stand.
+use Rattle.std.specs.Prelude.{ℕ, ◌≡◌, ◌≤◌, Bool, true, false, List, [], ◌∷◌, Option, Some, None, Result, MatchResult}
+use Rattle.std.specs.Iterator.{Count}
+use Rattle.pc_source.specs.declared.fault.Fault.{Fault}
+use Rattle.pc_token.specs.declared.token.Token.{Token}
+use Rattle.pc_token.specs.declared.token.TokenKind.{TokenKind}
+use Rattle.pc_tree.specs.Machine.{at, turn, stop_at, short}
+use Rattle.pc_tree.specs.Machine.Kinds.{Fixed, a_kind, a_form, is_fixed}
+use Rattle.pc_tree.specs.Machine.Lines.{due}
+use Rattle.pc_tree.specs.Machine.States.{State, stuck}
+use Rattle.pc_reader.specs.declared.reader.Reader.{Reader}
+use Rattle.pc_reader.specs.Reading.{Blames, Came, Onward, IsReady, lexeme, left_in, Takes}
+
+-- whether a name of this form is ahead
+abbrev pub IsFormAhead : {X : Type 0} → (X → List ℕ) → List ℕ → Option (Token X) → Bool
+IsFormAhead text form None = false
+IsFormAhead text form (Some t) = is_fixed (a_form form) (lexeme text t) t.kind
+
+-- a name of another form, or no name, does not go on from a state
+pub record NeedsForm {X I : Type 0} (text : X → List ℕ) (form : List ℕ) (st : State) (a : Reader X I) : Type 0 where
+  pub unfinished : stop_at st ≡ short
+  pub stuck_at : (t : Token X) → a.ahead ≡ Some t → is_fixed (a_form form) (lexeme text t) t.kind ≡ false → turn st (lexeme text t) t.kind ≡ stuck
+
+-- tokens of these kinds, one after the other
+abbrev pub kinds_of : List TokenKind → List Fixed
+kinds_of [] = []
+kinds_of (k ∷ ks) = a_kind k ∷ kinds_of ks
+
+module _ {X I : Type 0} (text : X → List ℕ) (steps : I → Option (Result (Token X) Fault) → I → Type 0) (can : I → Type 0) (left : I → Count) where
+  -- a name of this form was taken
+  pub record TakesForm (form : List ℕ) (a b : Reader X I) (t : Token X) : Type 0 where
+    pub takes : Takes text steps can left a b t
+    pub is : is_fixed (a_form form) (lexeme text t) t.kind ≡ true
+
+  abbrev pub ReadsForm : List ℕ → Reader X I → Reader X I → Result (Token X) Fault → Type 0
+  ReadsForm form a b r = MatchResult r (λ t. TakesForm form a b t) (λ e. Blames e (λ o. (st : State) → NeedsForm text form st a → Came text steps a (at st) o))
+
+  -- these words were read
+  pub record GivesFixed (ws : List Fixed) (a b : Reader X I) : Type 0 where
+    pub ready : IsReady can left b
+    pub later : left_in left b ≤ left_in left a
+    pub leads : (next : State) → Onward text steps a b (at (due ws next)) (at next)
+
+  abbrev pub ReadsFixed : {U : Type 0} → List Fixed → Reader X I → Reader X I → Result U Fault → Type 0
+  ReadsFixed ws a b r = MatchResult r (λ _. GivesFixed ws a b) (λ e. Blames e (λ o. (next : State) → Came text steps a (at (due ws next)) o))

@@ -1,0 +1,317 @@
+//! Expressions, by descent: chains of operators by how tightly they bind, and recursion at brackets alone.
+ghost use Rattle.std.specs.Prelude.{◌≡◌, ◌≤◌, ◌++◌, ◌∷◌, [], MatchResult, IfOk, true};
+ghost use Rattle.pc_source.specs.declared.fault.Fault.TheVariants as fault;
+ghost use Rattle.pc_token.specs.declared.token.TokenKind.TheVariants as kind;
+ghost use Rattle.pc_token.specs.declared.token.Operator.TheVariants as sign;
+ghost use Rattle.pc_tree.specs.Tree.{no_exprs};
+ghost use Rattle.pc_tree.specs.Machine.Kinds.{start_of};
+ghost use Rattle.pc_tree.specs.Machine.Expressions.{rank};
+ghost use Rattle.pc_tree.specs.Machine.States.{item_due, in_call};
+ghost use Rattle.pc_reader.specs.Reading.{IsReady, IsAhead, lexeme};
+ghost use Rattle.pc_reader.specs.Descent.{NextIs, Over, Undotted, IsPrimary, IsSingle, IsValue, is_value_start, value_ahead, ReadsOperand, ReadsItems, ReadsKeywords, ReadsOn};
+
+use crate::items::{Arguments, Entries, Items, Keywords, Listed, called, dict, list, tuple};
+use crate::name::{characters, digits, named};
+use crate::operand::{Operand, Prefix, grouped, indexed, join, node, plain_name, wrap};
+use crate::operators::wrap_all;
+use crate::reader::Reader;
+use pc_source::Fault;
+use pc_token::{Keyword, Operator, Token, TokenKind};
+use pc_tree::{Expr, Name};
+use std::alloc::Global;
+use std::convert::AsStr;
+
+impl<X: AsStr + Drop, I: Iterator<Item = Result<Token<X>, Fault>> + Drop> Reader<X, I> {
+    /// A name, a number, a string, or a word that is a value.
+    fn single(&mut self, alloc: Global) -> Result<Operand, Fault>
+        requires { IsReady I.can_next I.remaining self.old }
+        ensures reads { ReadsOperand X.text I.next_gives I.can_next I.remaining (λ s. IsSingle self.old s) 7 self.old self.new result }
+        ensures level { IfOk result (λ o. o.level ≡ 7) }
+    {
+        if !self.sees_value() {
+            return Err(self.misfit());
+        }
+        let token = self.take()?;
+        value(alloc, token)
+    }
+
+    /// Whether a token is ahead that is a value by itself.
+    fn sees_value(&self) -> bool
+        ensures { result ≡ value_ahead self.now.ahead }
+    {
+        match self.kind() {
+            Some(kind) => is_value(kind),
+            None => false,
+        }
+    }
+}
+
+/// Whether a token of this kind is a value by itself.
+fn is_value(kind: TokenKind) -> bool
+    ensures { result ≡ is_value_start (start_of kind) }
+{
+    match kind {
+        TokenKind::Name | TokenKind::Int | TokenKind::Str => true,
+        TokenKind::Keyword(Keyword::True | Keyword::False | Keyword::None) => true,
+        _ => false,
+    }
+}
+
+/// The value that a token is.
+fn value<X: AsStr + Drop>(alloc: Global, token: Token<X>) -> Result<Operand, Fault>
+    ensures { MatchResult result (λ o. (o.level ≡ 7) × (is_value_start (start_of token.kind) ≡ true → IsValue (lexeme X.text token) o)) (λ e. e ≡ fault.OutOfMemory) }
+{
+    let place = token.place;
+    match token.kind {
+        TokenKind::Int => {
+            let text = digits(alloc, token.text.as_str())?;
+            Ok(node(Expr::Int(place, text), place, 7, 0))
+        }
+        TokenKind::Str => {
+            let text = characters(alloc, token.text.as_str())?;
+            Ok(node(Expr::Str(place, text), place, 7, 0))
+        }
+        TokenKind::Keyword(Keyword::True) => Ok(node(Expr::True(place), place, 7, 0)),
+        TokenKind::Keyword(Keyword::False) => Ok(node(Expr::False(place), place, 7, 0)),
+        TokenKind::Keyword(Keyword::None) => Ok(node(Expr::NoneValue(place), place, 7, 0)),
+        _ => {
+            let name = named(alloc, token)?;
+            Ok(node(Expr::Name(name), place, 7, 0))
+        }
+    }
+}
+
+impl<X: AsStr + Drop, I: Iterator<Item = Result<Token<X>, Fault>> + Drop> Reader<X, I> {
+    /// Operands with operators between them, and none that binds less tightly than the level.
+    #[cycle(expressions)]
+    pub fn operators(&mut self, alloc: Global, level: u8) -> Result<Operand, Fault>
+        requires ready { IsReady I.can_next I.remaining self.old }
+        requires level { level ≤ 6 }
+        ensures reads { ReadsOperand X.text I.next_gives I.can_next I.remaining (λ s. rank s ≡ level) level self.old self.new result }
+        ensures over { IfOk result (λ o. NextIs (Over level o.level) self.new.ahead) }
+        ensures undotted { IfOk result (λ o. NextIs (Undotted o.level) self.new.ahead) }
+    {
+        let mut left = self.prefixed(alloc, level)?;
+        while let Some(link) = self.link(left.level, level) {
+            if let Some(infix) = self.infix(link)? {
+                let right = self.operators(alloc, infix.right())?;
+                left = join(alloc, infix, left, right)?;
+            } else {
+                left = self.none_behind(alloc, left)?;
+            }
+        }
+        Ok(left)
+    }
+
+    /// An operand with the signs before it.
+    #[cycle(expressions)]
+    fn prefixed(&mut self, alloc: Global, level: u8) -> Result<Operand, Fault>
+        requires ready { IsReady I.can_next I.remaining self.old }
+        requires level { level ≤ 6 }
+        ensures reads { ReadsOperand X.text I.next_gives I.can_next I.remaining (λ s. rank s ≡ level) level self.old self.new result }
+        ensures undotted { IfOk result (λ o. NextIs (Undotted o.level) self.new.ahead) }
+    {
+        if level <= 2 && self.sees(TokenKind::Keyword(Keyword::Not)) {
+            let first = self.take()?;
+            let signs = self.signs(alloc, Prefix::Not)?;
+            let operand = self.operators(alloc, 2)?;
+            let inner = wrap_all(alloc, Prefix::Not, signs, operand)?;
+            return wrap(alloc, Prefix::Not, first.place.start, inner);
+        }
+        let signs = self.signs(alloc, Prefix::Minus)?;
+        let operand = self.postfix(alloc)?;
+        wrap_all(alloc, Prefix::Minus, signs, operand)
+    }
+
+    /// An operand, and the names behind dots, the indices and the calls that go on with it.
+    #[cycle(expressions)]
+    fn postfix(&mut self, alloc: Global) -> Result<Operand, Fault>
+        requires { IsReady I.can_next I.remaining self.old }
+        ensures reads { ReadsOperand X.text I.next_gives I.can_next I.remaining (λ s. IsPrimary self.old s) 7 self.old self.new result }
+        ensures level { IfOk result (λ o. o.level ≡ 7) }
+        ensures undotted { IfOk result (λ o. NextIs (Undotted 7) self.new.ahead) }
+    {
+        let mut operand = self.atom(alloc)?;
+        loop {
+            if self.sees(TokenKind::Operator(Operator::Dot)) {
+                self.take()?;
+                operand = self.member(alloc, operand)?;
+            } else if self.sees(TokenKind::Operator(Operator::LeftBracket)) {
+                self.take()?;
+                let key = self.operators(alloc, 0)?;
+                let close = self.expect(TokenKind::Operator(Operator::RightBracket))?;
+                operand = indexed(alloc, operand, key, close.place.end)?;
+            } else if self.sees(TokenKind::Operator(Operator::LeftParenthesis)) {
+                self.take()?;
+                operand = self.call(alloc, operand)?;
+            } else {
+                return Ok(operand);
+            }
+        }
+    }
+
+    /// What stands in brackets, or a single token.
+    #[cycle(expressions)]
+    fn atom(&mut self, alloc: Global) -> Result<Operand, Fault>
+        requires { IsReady I.can_next I.remaining self.old }
+        ensures reads { ReadsOperand X.text I.next_gives I.can_next I.remaining (λ s. IsPrimary self.old s) 7 self.old self.new result }
+        ensures level { IfOk result (λ o. o.level ≡ 7) }
+    {
+        if self.sees(TokenKind::Operator(Operator::LeftParenthesis)) {
+            return self.group(alloc);
+        }
+        if self.sees(TokenKind::Operator(Operator::LeftBracket)) {
+            let open = self.take()?;
+            let Listed { items, end } = self.items(
+                alloc,
+                Items::new(alloc),
+                Operator::RightBracket,
+            )?;
+            return Ok(list(alloc, items, open.place.start, end));
+        }
+        if self.sees(TokenKind::Operator(Operator::LeftBrace)) {
+            return self.dict(alloc);
+        }
+        self.single(alloc)
+    }
+
+    /// An expression in parentheses, or a tuple.
+    #[cycle(expressions)]
+    fn group(&mut self, alloc: Global) -> Result<Operand, Fault>
+        requires { IsReady I.can_next I.remaining self.old }
+        ensures reads { ReadsOperand X.text I.next_gives I.can_next I.remaining (λ s. IsAhead (kind.Operator sign.LeftParenthesis) self.old.ahead ≡ true) 7 self.old self.new result }
+        ensures level { IfOk result (λ o. o.level ≡ 7) }
+    {
+        let open = self.take()?;
+        if self.sees(TokenKind::Operator(Operator::RightParenthesis)) {
+            let close = self.take()?;
+            return Ok(tuple(alloc, Items::new(alloc), open.place.start, close.place.end));
+        }
+        let first = self.operators(alloc, 0)?;
+        if self.sees(TokenKind::Operator(Operator::RightParenthesis)) {
+            let close = self.take()?;
+            return Ok(grouped(first, open.place.start, close.place.end));
+        }
+        self.expect(TokenKind::Operator(Operator::Comma))?;
+        let mut some = Items::new(alloc);
+        some.push(first)?;
+        let Listed { items, end } = self.items(alloc, some, Operator::RightParenthesis)?;
+        Ok(tuple(alloc, items, open.place.start, end))
+    }
+
+    /// Items up to the closing bracket, which is taken too.
+    #[cycle(expressions)]
+    fn items(&mut self, alloc: Global, some: Items, close: Operator) -> Result<Listed, Fault>
+        requires { IsReady I.can_next I.remaining self.old }
+        ensures { ReadsItems X.text I.next_gives I.can_next I.remaining close self.old self.new some result }
+    {
+        let mut items = some;
+        loop {
+            if self.sees(TokenKind::Operator(close)) {
+                let last = self.take()?;
+                return Ok(Listed {
+                    items,
+                    end: last.place.end,
+                });
+            }
+            let item = self.operators(alloc, 0)?;
+            items.push(item)?;
+            if !self.sees(TokenKind::Operator(Operator::Comma)) {
+                let last = self.expect(TokenKind::Operator(close))?;
+                return Ok(Listed {
+                    items,
+                    end: last.place.end,
+                });
+            }
+            self.take()?;
+        }
+    }
+
+    /// A dict display.
+    #[cycle(expressions)]
+    fn dict(&mut self, alloc: Global) -> Result<Operand, Fault>
+        requires { IsReady I.can_next I.remaining self.old }
+        ensures reads { ReadsOperand X.text I.next_gives I.can_next I.remaining (λ s. IsAhead (kind.Operator sign.LeftBrace) self.old.ahead ≡ true) 7 self.old self.new result }
+        ensures level { IfOk result (λ o. o.level ≡ 7) }
+    {
+        let open = self.take()?;
+        let mut entries = Entries::new(alloc);
+        loop {
+            if self.sees(TokenKind::Operator(Operator::RightBrace)) {
+                let close = self.take()?;
+                return Ok(dict(alloc, entries, open.place.start, close.place.end));
+            }
+            let key = self.operators(alloc, 0)?;
+            self.expect(TokenKind::Operator(Operator::Colon))?;
+            let value = self.operators(alloc, 0)?;
+            entries.push(key, value)?;
+            if !self.sees(TokenKind::Operator(Operator::Comma)) {
+                let close = self.expect(TokenKind::Operator(Operator::RightBrace))?;
+                return Ok(dict(alloc, entries, open.place.start, close.place.end));
+            }
+            self.take()?;
+        }
+    }
+
+    /// The arguments of a call, from behind its opening parenthesis: those by position, then those by name.
+    #[cycle(expressions)]
+    fn call(&mut self, alloc: Global, callee: Operand) -> Result<Operand, Fault>
+        requires ready { IsReady I.can_next I.remaining self.old }
+        requires depth { callee.depth ≤ 65 }
+        ensures { ReadsOn X.text I.next_gives I.can_next I.remaining (λ t p s. item_due (in_call p.tree) no_exprs (p.tokens ++ (t ∷ [])) s) 7 self.old self.new callee result }
+    {
+        let mut items = Items::new(alloc);
+        loop {
+            if self.sees(TokenKind::Operator(Operator::RightParenthesis)) {
+                let close = self.take()?;
+                return called(alloc, callee, items, Keywords::new(alloc), close.place.end);
+            }
+            let item = self.operators(alloc, 0)?;
+            if self.sees(TokenKind::Operator(Operator::Equal)) {
+                let Some(name) = plain_name(item) else {
+                    return Err(self.misfit());
+                };
+                self.take()?;
+                let Arguments { keywords, end } = self.keywords(alloc, name)?;
+                return called(alloc, callee, items, keywords, end);
+            }
+            items.push(item)?;
+            if !self.sees(TokenKind::Operator(Operator::Comma)) {
+                let close = self.expect(TokenKind::Operator(Operator::RightParenthesis))?;
+                return called(alloc, callee, items, Keywords::new(alloc), close.place.end);
+            }
+            self.take()?;
+        }
+    }
+
+    /// Arguments by name, from behind the `=` of the first, and the closing parenthesis.
+    #[cycle(expressions)]
+    fn keywords(&mut self, alloc: Global, first: Name) -> Result<Arguments, Fault>
+        requires { IsReady I.can_next I.remaining self.old }
+        ensures { ReadsKeywords X.text I.next_gives I.can_next I.remaining self.old self.new first result }
+    {
+        let mut keywords = Keywords::new(alloc);
+        let mut name = first;
+        loop {
+            let value = self.operators(alloc, 0)?;
+            keywords.push(name, value)?;
+            if !self.sees(TokenKind::Operator(Operator::Comma)) {
+                let close = self.expect(TokenKind::Operator(Operator::RightParenthesis))?;
+                return Ok(Arguments {
+                    keywords,
+                    end: close.place.end,
+                });
+            }
+            self.take()?;
+            if self.sees(TokenKind::Operator(Operator::RightParenthesis)) {
+                let close = self.take()?;
+                return Ok(Arguments {
+                    keywords,
+                    end: close.place.end,
+                });
+            }
+            name = self.name(alloc)?;
+            self.expect(TokenKind::Operator(Operator::Equal))?;
+        }
+    }
+}

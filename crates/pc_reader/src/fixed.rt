@@ -1,0 +1,34 @@
+//! Tokens of which the grammar says exactly which one must stand.
+ghost use Rattle.std.specs.Prelude.{◌≡◌};
+ghost use Rattle.pc_reader.specs.Reading.{IsReady};
+ghost use Rattle.pc_reader.specs.Words.{kinds_of, ReadsForm, ReadsFixed};
+
+use crate::reader::Reader;
+use pc_source::Fault;
+use pc_token::{Token, TokenKind};
+use std::convert::AsStr;
+
+impl<X: AsStr + Drop, I: Iterator<Item = Result<Token<X>, Fault>> + Drop> Reader<X, I> {
+    /// Takes a name of this form, or names what stands in its place.
+    pub fn expect_name(&mut self, form: &str) -> Result<Token<X>, Fault>
+        requires { IsReady I.can_next I.remaining self.old }
+        ensures { ReadsForm X.text I.next_gives I.can_next I.remaining form.now self.old self.new result }
+    {
+        if self.sees_name(form) {
+            self.take()
+        } else {
+            Err(self.misfit())
+        }
+    }
+
+    /// Takes tokens of these kinds, one after the other.
+    pub fn fixed(&mut self, kinds: &[TokenKind]) -> Result<(), Fault>
+        requires { IsReady I.can_next I.remaining self.old }
+        ensures { ReadsFixed X.text I.next_gives I.can_next I.remaining (kinds_of kinds.now) self.old self.new result }
+    {
+        for kind in kinds {
+            self.expect(*kind)?;
+        }
+        Ok(())
+    }
+}

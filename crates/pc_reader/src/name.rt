@@ -1,0 +1,115 @@
+//! Single tokens: names, and the values of literals.
+ghost use Rattle.std.specs.Prelude.{◌≡◌, MatchResult, string_bytes};
+ghost use Rattle.pc_source.specs.declared.fault.Fault.TheVariants as fault;
+ghost use Rattle.pc_tree.specs.Grammar.{digits_of, characters_of, escaped, name_at, unclosed, unopened};
+ghost use Rattle.pc_tree.specs.Tree.{name_of};
+ghost use Rattle.pc_reader.specs.Reading.{IsReady, lexeme};
+ghost use Rattle.pc_reader.specs.Descent.{ReadsName};
+
+use crate::reader::Reader;
+use pc_source::Fault;
+use pc_token::{Token, TokenKind};
+use pc_tree::Name;
+use std::alloc::Global;
+use std::convert::AsStr;
+
+/// The name that a token spells.
+pub(crate) fn named<X: AsStr + Drop>(alloc: Global, token: Token<X>) -> Result<Name, Fault>
+    ensures { MatchResult result (λ n. name_of n ≡ name_at (lexeme X.text token)) (λ e. e ≡ fault.OutOfMemory) }
+{
+    let Token {
+        kind: _,
+        place,
+        text,
+        form,
+    } = token;
+    match form {
+        Some(form) => Ok(Name { place, text: form }),
+        None => {
+            let text = String::from_str(alloc, text.as_str())?;
+            Ok(Name { place, text })
+        }
+    }
+}
+
+/// The digits of a number: its text without underscores.
+pub(crate) fn digits(alloc: Global, text: &str) -> Result<String, Fault>
+    ensures { MatchResult result (λ d. string_bytes d ≡ digits_of text.now) (λ e. e ≡ fault.OutOfMemory) }
+{
+    let mut digits = String::new(alloc);
+    for character in text.chars() {
+        if character != '_' {
+            digits.push(character)?;
+        }
+    }
+    Ok(digits)
+}
+
+/// The characters of a string: its text without the quotes, with each escape replaced by what it stands for.
+pub(crate) fn characters(alloc: Global, text: &str) -> Result<String, Fault>
+    ensures { MatchResult result (λ d. string_bytes d ≡ characters_of text.now) (λ e. e ≡ fault.OutOfMemory) }
+{
+    let mut characters = String::new(alloc);
+    let mut escaped = false;
+    let inner = without_last_quote(without_first_quote(text));
+    for character in inner.chars() {
+        if escaped {
+            characters.push(unescaped(character))?;
+            escaped = false;
+        } else if character == '\\' {
+            escaped = true;
+        } else {
+            characters.push(character)?;
+        }
+    }
+    Ok(characters)
+}
+
+/// A text without the quote that it begins with.
+fn without_first_quote(text: &str) -> &str
+    ensures { result.now ≡ unopened text.now }
+{
+    if let Some(rest) = text.strip_prefix('\'') {
+        return rest;
+    }
+    if let Some(rest) = text.strip_prefix('"') {
+        return rest;
+    }
+    text
+}
+
+/// A text without the quote that it ends with.
+fn without_last_quote(text: &str) -> &str
+    ensures { result.now ≡ unclosed text.now }
+{
+    if let Some(front) = text.strip_suffix('\'') {
+        return front;
+    }
+    if let Some(front) = text.strip_suffix('"') {
+        return front;
+    }
+    text
+}
+
+/// What a backslash and this character stand for.
+fn unescaped(character: char) -> char
+    ensures { result ≡ escaped character }
+{
+    match character {
+        'n' => '\n',
+        't' => '\t',
+        'r' => '\r',
+        _ => character,
+    }
+}
+
+impl<X: AsStr + Drop, I: Iterator<Item = Result<Token<X>, Fault>> + Drop> Reader<X, I> {
+    /// A name.
+    pub fn name(&mut self, alloc: Global) -> Result<Name, Fault>
+        requires { IsReady I.can_next I.remaining self.old }
+        ensures { ReadsName X.text I.next_gives I.can_next I.remaining self.old self.new result }
+    {
+        let token = self.expect(TokenKind::Name)?;
+        named(alloc, token)
+    }
+}

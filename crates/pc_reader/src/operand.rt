@@ -1,0 +1,250 @@
+//! Parts of expressions, whose depth is counted as they are built.
+ghost use Rattle.std.specs.Prelude.{◌≡◌, ◌+◌, ◌≤◌, ℕ, Bool, List, MatchResult, MatchOption, min, max, Some, None, false};
+ghost use Rattle.pc_source.specs.declared.fault.Fault.TheVariants as fault;
+ghost use Rattle.pc_tree.specs.Tree.{attribute, index as index_tree, expr_of, name_of};
+ghost use Rattle.pc_tree.specs.Machine.Expressions.{infix_tree, prefix_tree, prefix_level, own_of};
+ghost use Rattle.pc_tree.specs.Machine.Finishing.{if_plain, name_of_tree};
+ghost use Rattle.pc_tree.specs.Machine.States.{Part};
+ghost use Rattle.pc_reader.specs.Operands.{Keeps, Builds, node_of, infix_of, prefix_of, none_tree};
+
+use pc_source::{Fault, Place};
+use pc_tree::{BinaryOperator, ComparisonOperator, Expr, Name};
+use std::alloc::Global;
+use std::cmp::min;
+
+/// An expression that was read, with the bytes from its first to its last token, parentheses around
+/// it included. How tightly it binds goes from 0, `or`, to 7, a name or what has brackets.
+/// One that is deeper than 64 has `None` in the place of its parts.
+#[derive(Drop)]
+pub struct Operand {
+    /// The expression.
+    pub expr: Expr,
+    /// The byte where its first token begins.
+    pub start: usize,
+    /// The byte where its last token ends.
+    pub end: usize,
+    /// Where the expression itself begins.
+    pub first: usize,
+    /// Whether no parentheses stand around it.
+    pub plain: bool,
+    /// How tightly it binds.
+    pub level: u8,
+    /// How deep it is, and 65 where it is deeper than 64.
+    pub depth: u8,
+}
+
+/// An operator between two operands.
+#[derive(Clone, Copy)]
+pub(crate) enum Infix {
+    Arithmetic(BinaryOperator),
+    Comparison(ComparisonOperator),
+    And,
+    Or,
+}
+
+impl Infix {
+    /// How tightly the node binds that the operator makes.
+    pub(crate) fn level(self) -> u8
+        ensures { result ≡ own_of (infix_of self) }
+    {
+        match self {
+            Infix::Arithmetic(BinaryOperator::Add | BinaryOperator::Sub) => 4,
+            Infix::Arithmetic(_) => 5,
+            Infix::Comparison(_) => 3,
+            Infix::And => 1,
+            Infix::Or => 0,
+        }
+    }
+
+    fn node(self, place: Place, left: Box<Expr>, right: Box<Expr>) -> Expr
+        ensures { expr_of result ≡ infix_tree (infix_of self) (expr_of left.value) (expr_of right.value) place }
+    {
+        match self {
+            Infix::Arithmetic(operator) => Expr::Binary(place, operator, left, right),
+            Infix::Comparison(operator) => Expr::Compare(place, operator, left, right),
+            Infix::And => Expr::And(place, left, right),
+            Infix::Or => Expr::Or(place, left, right),
+        }
+    }
+}
+
+/// A sign before an operand.
+#[derive(Clone, Copy)]
+pub(crate) enum Prefix {
+    Minus,
+    Not,
+}
+
+/// The greater of two depths.
+pub fn deeper(depth: u8, other: u8) -> u8
+    ensures { result ≡ max depth other }
+{
+    if depth < other { other } else { depth }
+}
+
+/// The depth over a part of this depth.
+pub fn above(depth: u8) -> u8
+    requires { depth ≤ 65 }
+    ensures { result ≡ min 65 (depth + 1) }
+{
+    min(65, depth + 1)
+}
+
+/// A part of a node of this depth: `None` where that is too deep.
+pub(crate) fn kept(depth: u8, part: Expr, place: Place) -> Expr
+    ensures { depth ≤ 64 → result ≡ part }
+{
+    if depth > 64 {
+        return Expr::NoneValue(place);
+    }
+    part
+}
+
+/// An expression without parentheses around it.
+pub(crate) fn node(expr: Expr, place: Place, level: u8, depth: u8) -> Operand
+    ensures { result ≡ node_of expr place level depth }
+{
+    Operand {
+        expr,
+        start: place.start,
+        end: place.end,
+        first: place.start,
+        plain: true,
+        level,
+        depth,
+    }
+}
+
+/// Two operands as one.
+pub(crate) fn join(
+    alloc: Global,
+    operator: Infix,
+    left: Operand,
+    right: Operand,
+) -> Result<Operand, Fault>
+    requires left { left.depth ≤ 65 }
+    requires right { right.depth ≤ 65 }
+    ensures { MatchResult result (λ o. (o.level ≡ own_of (infix_of operator)) × ((l r : Part) → Keeps left l → Keeps right r → Builds o (infix_tree (infix_of operator) l.tree r.tree) left.start right.end)) (λ e. e ≡ fault.OutOfMemory) }
+{
+    let place = Place {
+        start: left.start,
+        end: right.end,
+    };
+    let depth = above(deeper(left.depth, right.depth));
+    let first = Box::new(alloc, kept(depth, left.expr, place))?;
+    let second = Box::new(alloc, kept(depth, right.expr, place))?;
+    let expr = operator.node(place, first, second);
+    Ok(node(expr, place, operator.level(), depth))
+}
+
+/// A sign before an operand.
+pub(crate) fn wrap(
+    alloc: Global,
+    prefix: Prefix,
+    start: usize,
+    operand: Operand,
+) -> Result<Operand, Fault>
+    requires { operand.depth ≤ 65 }
+    ensures { MatchResult result (λ o. (o.level ≡ prefix_level (prefix_of prefix)) × ((p : Part) → Keeps operand p → Builds o (prefix_tree (prefix_of prefix) p.tree) start operand.end) × (o.depth ≤ 65)) (λ e. e ≡ fault.OutOfMemory) }
+{
+    let place = Place {
+        start,
+        end: operand.end,
+    };
+    let depth = above(operand.depth);
+    let inner = Box::new(alloc, kept(depth, operand.expr, place))?;
+    match prefix {
+        Prefix::Minus => Ok(node(Expr::Negative(place, inner), place, 6, depth)),
+        Prefix::Not => Ok(node(Expr::Not(place, inner), place, 2, depth)),
+    }
+}
+
+/// `e is None`, or `e is not None`.
+pub(crate) fn none_test(
+    alloc: Global,
+    operand: Operand,
+    negated: bool,
+    end: usize,
+) -> Result<Operand, Fault>
+    requires { operand.depth ≤ 65 }
+    ensures { MatchResult result (λ o. (o.level ≡ 3) × ((p : Part) → Keeps operand p → Builds o (none_tree negated p.tree) operand.start end)) (λ e. e ≡ fault.OutOfMemory) }
+{
+    let place = Place {
+        start: operand.start,
+        end,
+    };
+    let depth = above(operand.depth);
+    let inner = Box::new(alloc, kept(depth, operand.expr, place))?;
+    if negated {
+        return Ok(node(Expr::IsNotNone(place, inner), place, 3, depth));
+    }
+    Ok(node(Expr::IsNone(place, inner), place, 3, depth))
+}
+
+/// An operand and the name after a dot.
+pub(crate) fn member(
+    alloc: Global,
+    operand: Operand,
+    name: Name,
+    end: usize,
+) -> Result<Operand, Fault>
+    requires { operand.depth ≤ 65 }
+    ensures { MatchResult result (λ o. (o.level ≡ 7) × ((p : Part) → Keeps operand p → Builds o (λ q. attribute q p.tree (name_of name)) operand.start end)) (λ e. e ≡ fault.OutOfMemory) }
+{
+    let place = Place {
+        start: operand.start,
+        end,
+    };
+    let depth = above(operand.depth);
+    let inner = Box::new(alloc, kept(depth, operand.expr, place))?;
+    Ok(node(Expr::Attribute(place, inner, name), place, 7, depth))
+}
+
+/// An operand and what stands in the brackets behind it.
+pub(crate) fn indexed(
+    alloc: Global,
+    operand: Operand,
+    key: Operand,
+    end: usize,
+) -> Result<Operand, Fault>
+    requires operand { operand.depth ≤ 65 }
+    requires key { key.depth ≤ 65 }
+    ensures { MatchResult result (λ o. (o.level ≡ 7) × ((p k : Part) → Keeps operand p → Keeps key k → Builds o (λ q. index_tree q p.tree k.tree) operand.start end)) (λ e. e ≡ fault.OutOfMemory) }
+{
+    let place = Place {
+        start: operand.start,
+        end,
+    };
+    let depth = above(deeper(operand.depth, key.depth));
+    let object = Box::new(alloc, kept(depth, operand.expr, place))?;
+    let inner = Box::new(alloc, kept(depth, key.expr, place))?;
+    Ok(node(Expr::Index(place, object, inner), place, 7, depth))
+}
+
+/// An operand with parentheses around it.
+pub(crate) fn grouped(operand: Operand, start: usize, end: usize) -> Operand
+    ensures { result ≡ record operand { start = start; end = end; plain = false; level = 7 } }
+{
+    Operand {
+        expr: operand.expr,
+        start,
+        end,
+        first: operand.first,
+        plain: false,
+        level: 7,
+        depth: operand.depth,
+    }
+}
+
+/// The name that an operand is, if it is one and stands in no parentheses.
+pub fn plain_name(operand: Operand) -> Option<Name>
+    ensures { MatchOption result (if_plain operand.plain (name_of_tree (expr_of operand.expr)) ≡ None) (λ n. if_plain operand.plain (name_of_tree (expr_of operand.expr)) ≡ Some (name_of n)) }
+{
+    if !operand.plain {
+        return None;
+    }
+    match operand.expr {
+        Expr::Name(name) => Some(name),
+        _ => None,
+    }
+}

@@ -1,0 +1,122 @@
+//! Operators between operands, signs before them, and what stands behind them, by single tokens.
+ghost use Rattle.std.specs.Prelude.{◌≡◌, List, [], ◌∷◌, ◌≤◌, MatchResult, MatchOption, IfOk, false};
+ghost use Rattle.pc_source.specs.declared.fault.Fault.TheVariants as fault;
+ghost use Rattle.pc_token.specs.Lexeme.{Lexeme};
+ghost use Rattle.pc_tree.specs.Machine.States.{Part, identified, dotted};
+ghost use Rattle.pc_reader.specs.Operands.{Keeps, prefix_of, starts_of, applied_all};
+ghost use Rattle.pc_reader.specs.Reading.{IsReady, IsAhead};
+ghost use Rattle.pc_reader.specs.Links.{link_view};
+ghost use Rattle.pc_reader.specs.Descent.{NextIs, Over, HasLink, ReadsInfix, ReadsOn, ReadsSigns, sign_kind, wrapped_level};
+
+use crate::link::{Link, link_of};
+use crate::operand::{Infix, Operand, Prefix, member, none_test, wrap};
+use crate::reader::Reader;
+use pc_source::Fault;
+use pc_token::{Keyword, Operator, Token, TokenKind};
+use pc_tree::ComparisonOperator;
+use std::alloc::Global;
+use std::convert::AsStr;
+
+impl Prefix {
+    /// The kind of its token.
+    fn kind(self) -> TokenKind
+        ensures { result ≡ sign_kind (prefix_of self) }
+    {
+        match self {
+            Prefix::Minus => TokenKind::Operator(Operator::Minus),
+            Prefix::Not => TokenKind::Keyword(Keyword::Not),
+        }
+    }
+}
+
+/// Signs before an operand, of which the last stands nearest to it.
+pub(crate) fn wrap_all(
+    alloc: Global,
+    prefix: Prefix,
+    signs: Vec<usize>,
+    operand: Operand,
+) -> Result<Operand, Fault>
+    requires { operand.depth ≤ 65 }
+    ensures { MatchResult result (λ o. (ts : List Lexeme) (p : Part) → starts_of ts ≡ signs.items → Keeps operand p → Keeps o (applied_all (prefix_of prefix) ts p) × (o.level ≡ wrapped_level (prefix_of prefix) ts operand.level)) (λ e. e ≡ fault.OutOfMemory) }
+{
+    let mut signs = signs;
+    let mut operand = operand;
+    while let Some(start) = signs.pop() {
+        operand = wrap(alloc, prefix, start, operand)?;
+    }
+    Ok(operand)
+}
+
+impl<X: AsStr + Drop, I: Iterator<Item = Result<Token<X>, Fault>> + Drop> Reader<X, I> {
+    /// The operator ahead, if it goes on with an operand that binds as tightly as `left` where one
+    /// that binds as tightly as `level` is due.
+    pub(crate) fn link(&self, left: u8, level: u8) -> Option<Link>
+        ensures { MatchOption result (NextIs (Over level left) self.now.ahead) (λ l. HasLink level left (link_view l) self.now.ahead) }
+    {
+        let kind = self.kind()?;
+        let link = link_of(kind)?;
+        if link.level() < level || left < link.left() {
+            return None;
+        }
+        Some(link)
+    }
+
+    /// The tokens of an operator between two operands; of `is`, which has no operand behind it, that alone.
+    pub(crate) fn infix(&mut self, link: Link) -> Result<Option<Infix>, Fault>
+        requires { IsReady I.can_next I.remaining self.old }
+        ensures { ReadsInfix X.text I.next_gives I.can_next I.remaining (link_view link) self.old self.new result }
+    {
+        self.take()?;
+        match link {
+            Link::Infix(infix) => Ok(Some(infix)),
+            Link::Not => {
+                self.expect(TokenKind::Keyword(Keyword::In))?;
+                Ok(Some(Infix::Comparison(ComparisonOperator::NotIn)))
+            }
+            Link::Is => Ok(None),
+        }
+    }
+
+    /// `None` or `not None`, behind an operand and `is`.
+    pub(crate) fn none_behind(&mut self, alloc: Global, operand: Operand) -> Result<Operand, Fault>
+        requires ready { IsReady I.can_next I.remaining self.old }
+        requires depth { operand.depth ≤ 65 }
+        ensures { ReadsOn X.text I.next_gives I.can_next I.remaining (λ t p s. identified p (t ∷ []) s) 3 self.old self.new operand result }
+    {
+        if self.sees(TokenKind::Keyword(Keyword::Not)) {
+            self.take()?;
+            let none = self.expect(TokenKind::Keyword(Keyword::None))?;
+            return none_test(alloc, operand, true, none.place.end);
+        }
+        let none = self.expect(TokenKind::Keyword(Keyword::None))?;
+        none_test(alloc, operand, false, none.place.end)
+    }
+
+    /// Signs of one kind, by the bytes where they begin.
+    pub(crate) fn signs(&mut self, alloc: Global, prefix: Prefix) -> Result<Vec<usize>, Fault>
+        requires { IsReady I.can_next I.remaining self.old }
+        ensures reads { ReadsSigns X.text I.next_gives I.can_next I.remaining (prefix_of prefix) self.old self.new result }
+        ensures over { IfOk result (λ _. IsAhead (sign_kind (prefix_of prefix)) self.new.ahead ≡ false) }
+    {
+        let kind = prefix.kind();
+        let mut signs = Vec::new(alloc);
+        while self.sees(kind) {
+            let sign = self.take()?;
+            signs.push(sign.place.start)?;
+        }
+        Ok(signs)
+    }
+}
+
+impl<X: AsStr + Drop, I: Iterator<Item = Result<Token<X>, Fault>> + Drop> Reader<X, I> {
+    /// The name behind an operand and a dot.
+    pub(crate) fn member(&mut self, alloc: Global, operand: Operand) -> Result<Operand, Fault>
+        requires ready { IsReady I.can_next I.remaining self.old }
+        requires depth { operand.depth ≤ 65 }
+        ensures { ReadsOn X.text I.next_gives I.can_next I.remaining (λ t p s. dotted p (t ∷ []) s) 7 self.old self.new operand result }
+    {
+        let name = self.name(alloc)?;
+        let end = name.place.end;
+        member(alloc, operand, name, end)
+    }
+}

@@ -1,0 +1,197 @@
+//! Tokens with the next one taken off already.
+ghost use Rattle.std.specs.Prelude.{◌≡◌, ◌<◌, List, ℕ, MatchResult, IfOk, None};
+ghost use Rattle.std.specs.Iterator.{IsFinite};
+ghost use Rattle.pc_tree.specs.Machine.Kinds.{kind_number, same_kind};
+ghost use Rattle.pc_tree.specs.Machine.States.{State};
+ghost use Rattle.pc_tree.specs.Machine.{Reading, at, lost, stop, short};
+ghost use Rattle.pc_token.specs.Lexeme.{form_of};
+ghost use Rattle.pc_reader.specs.Words.{IsFormAhead};
+ghost use Rattle.pc_reader.specs.Reading.{Blames, Came, IsAhead, kind_ahead, place_ahead, IsReady, Rejects, Comes, Takes, NeedsKind, misfit_at};
+
+use pc_source::{Fault, Place, Refusal, RefusalCode};
+use pc_token::{Token, TokenKind};
+use std::convert::AsStr;
+use std::mem;
+
+/// The kinds in an order, so that two of them can be compared.
+fn index(kind: TokenKind) -> u8
+    ensures { result ≡ kind_number kind }
+{
+    match kind {
+        TokenKind::Keyword(keyword) => keyword as u8,
+        TokenKind::Operator(operator) => 100 + operator as u8,
+        TokenKind::Name => 200,
+        TokenKind::Int => 201,
+        TokenKind::Str => 202,
+        TokenKind::Newline => 203,
+        TokenKind::Indent => 204,
+        TokenKind::Dedent => 205,
+        TokenKind::End => 206,
+    }
+}
+
+/// Whether two kinds are the same.
+fn is_same(kind: TokenKind, other: TokenKind) -> bool
+    ensures { result ≡ same_kind kind other }
+{
+    index(kind) == index(other)
+}
+
+/// Tokens, the one that comes next, and the byte where the last one that came ends.
+#[derive(Drop)]
+pub struct Reader<X: Drop, I: Drop> {
+    /// The tokens behind the one ahead.
+    pub tokens: I,
+    /// The token that comes next, if one is left.
+    pub ahead: Option<Token<X>>,
+    /// The byte where the last token ends that was taken, 0 where none was.
+    pub end: usize,
+}
+
+impl<X: AsStr + Drop, I: Iterator<Item = Result<Token<X>, Fault>> + Drop> Reader<X, I> {
+    /// A reader of the whole stream, or the fault that it begins with.
+    pub fn new(tokens: I) -> Result<Self, Fault>
+        requires can { I.can_next tokens }
+        requires ends { IsFinite (I.remaining tokens) }
+        ensures ready { MatchResult result (λ r. IsReady I.can_next I.remaining r) (λ _. Unit {0}) }
+        ensures leads { MatchResult result
+            (λ r. (st : Reading) (o : _) → Came X.text I.next_gives r st o → Comes X.text I.next_gives tokens 0 st o)
+            (λ e. Blames e (λ o. (st : Reading) → Comes X.text I.next_gives tokens 0 st o)) }
+    {
+        let mut tokens = tokens;
+        match tokens.next() {
+            Some(Ok(first)) => Ok(Reader {
+                tokens,
+                ahead: Some(first),
+                end: 0,
+            }),
+            Some(Err(fault)) => Err(fault),
+            None => Ok(Reader {
+                tokens,
+                ahead: None,
+                end: 0,
+            }),
+        }
+    }
+
+    /// The kind of the token ahead.
+    pub fn kind(&self) -> Option<TokenKind>
+        ensures { result ≡ kind_ahead self.now.ahead }
+    {
+        match &self.ahead {
+            Some(first) => Some(first.kind),
+            None => None,
+        }
+    }
+
+    /// Whether the token ahead is of this kind.
+    pub fn sees(&self, kind: TokenKind) -> bool
+        ensures { result ≡ IsAhead kind self.now.ahead }
+    {
+        match &self.ahead {
+            Some(first) => is_same(first.kind, kind),
+            None => false,
+        }
+    }
+
+    /// Takes the token ahead. Where there is none, the text ends too early.
+    pub fn take(&mut self) -> Result<Token<X>, Fault>
+        requires { IsReady I.can_next I.remaining self.old }
+        ensures { MatchResult result (λ t. Takes X.text I.next_gives I.can_next I.remaining self.old self.new t)
+            (λ e. Blames e (λ o. (r : Reading) → (self.old.ahead ≡ None → stop r ≡ short) → Came X.text I.next_gives self.old r o)) }
+    {
+        let Some(first) = self.ahead.take() else {
+            return Err(Fault::Refused(Refusal {
+                code: RefusalCode::G1,
+                byte: self.end,
+            }));
+        };
+        self.end = first.place.end;
+        match self.tokens.next() {
+            Some(Ok(next)) => {
+                self.ahead = Some(next);
+                Ok(first)
+            }
+            Some(Err(fault)) => Err(fault),
+            None => Ok(first),
+        }
+    }
+
+    /// Reads what is left, for a fault in it.
+    fn drain(&mut self) -> Result<(), Fault>
+        requires { IsReady I.can_next I.remaining self.old }
+        ensures { MatchResult result
+            (λ _. (byte : ℕ) → Came X.text I.next_gives self.old (lost byte) (misfit_at byte))
+            (λ e. Blames e (λ o. (byte : ℕ) → Came X.text I.next_gives self.old (lost byte) o)) }
+    {
+        while let Some(_next) = &self.ahead {
+            self.take()?;
+        }
+        Ok(())
+    }
+
+    /// The fault at the token ahead, with which nothing goes on, or a later one of the stream itself.
+    pub fn misfit(&mut self) -> Fault
+        requires { IsReady I.can_next I.remaining self.old }
+        ensures { Blames result (λ o. (st : State) → Rejects X.text st self.old → Came X.text I.next_gives self.old (at st) o) }
+    {
+        let byte = match &self.ahead {
+            Some(first) => first.place.start,
+            None => self.end,
+        };
+        match self.drain() {
+            Ok(()) => Fault::Refused(Refusal {
+                code: RefusalCode::G1,
+                byte,
+            }),
+            Err(fault) => fault,
+        }
+    }
+
+    /// Takes the token ahead, which is of this kind, or names what stands there instead.
+    pub fn expect(&mut self, kind: TokenKind) -> Result<Token<X>, Fault>
+        requires { IsReady I.can_next I.remaining self.old }
+        ensures taken { MatchResult result (λ t. Takes X.text I.next_gives I.can_next I.remaining self.old self.new t) (λ e. Blames e (λ o. (st : State) → NeedsKind X.text kind st self.old → Came X.text I.next_gives self.old (at st) o)) }
+        ensures kind { IfOk result (λ t. t.kind ≡ kind) }
+    {
+        if self.sees(kind) {
+            self.take()
+        } else {
+            Err(self.misfit())
+        }
+    }
+}
+
+/// What a token is compared by: the normal form of a name, the text of any other token.
+fn form<'t, X: AsStr + Drop>(token: &'t Token<X>) -> &'t str
+    ensures { result.now ≡ form_of (X.text token.now.text) token.now.form }
+{
+    match &token.form {
+        Some(form) => form.as_str(),
+        None => token.text.as_str(),
+    }
+}
+
+impl<X: AsStr + Drop, I: Iterator<Item = Result<Token<X>, Fault>> + Drop> Reader<X, I> {
+    /// Whether a name of this form is ahead.
+    pub fn sees_name(&self, name: &str) -> bool
+        ensures { result ≡ IsFormAhead X.text name.now self.now.ahead }
+    {
+        match &self.ahead {
+            Some(first) => is_same(first.kind, TokenKind::Name) && form(first) == name,
+            None => false,
+        }
+    }
+}
+
+impl<X: AsStr + Drop, I: Iterator<Item = Result<Token<X>, Fault>> + Drop> Reader<X, I> {
+    /// The place of the token ahead.
+    pub fn place(&self) -> Option<Place>
+        ensures { result ≡ place_ahead self.now.ahead }
+    {
+        match &self.ahead {
+            Some(first) => Some(first.place),
+            None => None,
+        }
+    }
+}
