@@ -64,14 +64,14 @@ charge_fits = record { at = λ w. go w.fuel w }
     go (suc fuel) w = let h = quiet (Gives tt) w in record { new = h.new; events = h.events; runs = inl h.runs }
 
 pub emit_fits : (place : Place) → Fits (P.emit place) (F.Emits place)
-emit_fits place = record { at = λ w. record { new = place ∷ []; events = refl; runs = record { is = refl; event = refl; same = refl } } }
+emit_fits place = record { at = λ w. record { new = place ∷ []; events = refl; runs = record { goes_on = tt; event = refl; same = refl } } }
 
-pub look_fits : {A : Type 0} (f : State → Out A) → Fits (P.look f) (F.Looks f)
+pub look_fits : {A : Type 0} (f : State → Out A) → Fits (P.look f) (F.look f)
 look_fits {A} f = record { at = λ w. go w (f w.state) refl }
   where
-    go : (w : Progress) (o : Out A) → o ≡ f w.state → RanTo (F.Looks f) w (P.comes o w)
-    go w (Gives a) e = record { new = []; events = no_more w.events; runs = record { is = e; quiet = refl; same = refl } }
-    go w (Stops stop) e = record { new = []; events = no_more w.events; runs = record { is = e; quiet = refl; same = refl } }
+    go : (w : Progress) (o : Out A) → o ≡ f w.state → RanTo (F.look f) w (P.comes o w)
+    go w (Gives a) e = record { new = []; events = no_more w.events; runs = inl (record { is = e; quiet = refl; same = refl }) }
+    go w (Stops stop) e = record { new = []; events = no_more w.events; runs = inl (record { is = e; quiet = refl; same = refl }) }
 
 pub change_fits : (f : State → State) → Fits (P.change f) (F.Changes f)
 change_fits f = record { at = λ w. record { new = []; events = no_more w.events; runs = record { is = refl; quiet = refl; after = refl } } }

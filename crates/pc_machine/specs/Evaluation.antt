@@ -77,19 +77,17 @@ abbrev pub base_of : Option Name → State → Out (Option ℕ)
 base_of None s = Gives None
 base_of (Some n) s = base_of_meaning (meaning n.text s)
 
--- a field without default after one with default is TypeError
-abbrev pub all_without : List Parameter → Bool
-all_without [] = true
-all_without (p ∷ rest) = if is_some p.default then false else all_without rest
-
+-- each of these fields has a default
 abbrev pub all_with : List Parameter → Bool
 all_with [] = true
 all_with (p ∷ rest) = if is_some p.default then all_with rest else false
 
+-- those with a default stand behind the others
 abbrev pub defaults_last : List Parameter → Bool
 defaults_last [] = true
 defaults_last (p ∷ rest) = if is_some p.default then all_with rest else defaults_last rest
 
+-- a field without default after one with default is TypeError
 abbrev pub in_order : List Parameter → Out (Unit {0})
 in_order fields = if defaults_last fields then Gives tt else Stops (Raised TypeError)
 

@@ -49,8 +49,16 @@ may_end s events out s' = Comes (Stops Other) s events out s' ⊎ Comes (Stops C
 abbrev pub may_stop : Step (Unit {0})
 may_stop s events out s' = Comes (Gives tt) s events out s' ⊎ may_end s events out s'
 
+-- it goes on, or ends in another exception, or is cut off
+abbrev pub GoesOn : Out (Unit {0}) → Type 0
+GoesOn (Gives u) = Unit {0}
+GoesOn (Stops Other) = Unit {0}
+GoesOn (Stops Cut) = Unit {0}
+GoesOn (Stops stop) = ⊥
+
+-- a place is evaluated, and then the run may end
 pub record Emits (place : Place) (s : State) (events : List Place) (out : Out (Unit {0})) (s' : State) : Type 0 where
-  pub is : out ≡ Gives tt
+  pub goes_on : GoesOn out
   pub event : events ≡ place ∷ []
   pub same : s' ≡ s
 
@@ -77,6 +85,9 @@ pub record Enters {A : Type 0} (frame : Frame) (body : Step A) (s : State) (even
   pub runs : body (record s { frame = frame }) events out left
   pub after : s' ≡ record left { frame = s.frame }
 
+abbrev pub look : {A : Type 0} → (State → Out A) → Step A
+look f s events out s' = Looks f s events out s' ⊎ may_end s events out s'
+
 abbrev pub act : {A : Type 0} → (Outcome → Out A) → Action → Step A
 act want a s events out s' = Acts want a s events out s' ⊎ may_end s events out s'
 
@@ -90,7 +101,7 @@ free = record {
   stop = λ stop. comes (Stops stop);
   charge = may_stop;
   emit = λ place. Emits place;
-  look = λ f. Looks f;
+  look = λ f. look f;
   change = λ f. Changes f;
   act = λ want a. act want a;
   enter = λ frame body. enter frame body;

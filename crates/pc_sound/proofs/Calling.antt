@@ -24,7 +24,7 @@ use Rattle.pc_machine.specs.Evaluation.{call_function, call_method, call_class, 
 use Rattle.pc_sound.specs.Values.{HeapTyping, HasType, Extends, SlotsHave, IsWell}
 use Rattle.pc_sound.specs.Judgment.{HasListed, EndsWell, Around, Stands, Keeps, IsSafe, Leads, FlowEnds}
 use Rattle.pc_sound.proofs.ValuesFlow.{later, extends_refl}
-use Rattle.pc_sound.proofs.Steps.{Stays, bind_safe, comes_safe, looks_safe, ended}
+use Rattle.pc_sound.proofs.Steps.{Stays, bind_safe, comes_safe, looks_safe, ended, goes_well}
 use Rattle.pc_sound.proofs.Leading.{Known, leads_bind}
 use Rattle.pc_sound.proofs.Acting.{acting_safe}
 use Rattle.pc_sound.proofs.Fields.{Inherits, instance_keeps}
@@ -72,7 +72,7 @@ leads_emits around before p = record {
     well = subst (λ x. IsWell around.bases around.classes k x.heap) (sym r.same) well;
     same_globals = ap (λ x. x.globals) r.same;
     same_classes = ap (λ x. x.classes) r.same;
-    ends = subst (EndsWell (λ u. before k s')) (sym r.is) (subst (λ x. before k x) (sym r.same) b);
+    ends = goes_well (λ u. before k s') out r.goes_on (subst (λ x. before k x) (sym r.same) b);
   });
 }
 
@@ -85,7 +85,7 @@ enter_listed around env known frame p body P here = record { run = go }
   where
     first : (s s' : State) (events : List Place) (out : Out Flow) → (Emits p >>= λ u. body) s events out s' → Contains events p
     first s s' events out (inl w) = subst (λ l. Contains l p) (sym w.both) (Contains-append_left w.early w.late p (subst (λ l. Contains l p) (sym w.before.event) (0, omega arith, refl)))
-    first s s' events out (inr w) = absurd (not_stopped w.before.is)
+    first s s' events out (inr w) = subst (λ l. Contains l p) (sym w.before.event) (0, omega arith, refl)
 
     go : (k : HeapTyping) (s s' : State) (events : List Place) (out : Out Flow) → known k → Stands around env k s → enter frame (Emits p >>= λ u. body) s events out s' → HasListed around.listed events ⊎ Keeps around P k s out s'
     go k s s' events out knows st (inl e) = inl (record { place = p; is = here; event = first (record s { frame = frame }) e.left events out e.runs })

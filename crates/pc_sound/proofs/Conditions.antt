@@ -30,7 +30,7 @@ use Rattle.pc_tree.specs.Stopping.{is_reserved}
 use Rattle.pc_machine.specs.Calls.{value_of_meaning, Test, tests_int, tests_str, tests_bool, tests_class, test_of, passes}
 use Rattle.pc_machine.specs.Steps.{Parts, value_out}
 use Rattle.pc_machine.specs.Evaluation.{eval_node, eval_over, eval_call, instance_test, ordinary, call_form, steps, choose, is_nothing}
-use Rattle.pc_machine.specs.Free.{Step, WentOn, ◌>>=◌, comes, may_stop, Emits, Looks, free}
+use Rattle.pc_machine.specs.Free.{Step, WentOn, ◌>>=◌, comes, may_stop, Emits, Looks, look, free}
 use Rattle.pc_sound.specs.Values.{HeapTyping, HasType, IsWell}
 use Rattle.pc_sound.specs.Kept.{HasLocals, Passes, IsTestedType, CanFollow, CanFollowAll}
 use Rattle.pc_sound.specs.Judgment.{HasListed, IsAllowed, Around, Stands, Keeps, IsSafe, Fits, Tells, Leads}
@@ -68,6 +68,10 @@ went_on m f s s' events b r = elim r [ inl w ↦ w | inr w ↦ absurd (no_stop w
 pub charged : (s s' : State) (events : List Place) (u : Unit {0}) → may_stop s events (Gives u) s' → s' ≡ s
 charged s s' events u r = elim r [ inl g ↦ g.same | inr e ↦ elim e [ inl x ↦ absurd (no_stop x.is) | inr x ↦ absurd (no_stop x.is) ] ]
 
+-- what the state said, where it came to a value
+looked : {A : Type 0} (f : State → Out A) (s s' : State) (events : List Place) (a : A) → look f s events (Gives a) s' → Looks f s events (Gives a) s'
+looked f s s' events a r = elim r [ inl l ↦ l | inr e ↦ elim e [ inl x ↦ absurd (no_stop x.is) | inr x ↦ absurd (no_stop x.is) ] ]
+
 -- nested steps read names
 pub steps_read : (n : ℕ) → Reads (steps Step free n).eval
 steps_read zero = record { read = λ n s s' events v r. absurd (no_stop r.is) }
@@ -79,7 +83,8 @@ steps_read (suc i) = record { read = go }
         let b = went_on _ _ a.middle s' a.late v a.after in
         let first = charged s a.middle a.early a.value a.before in
         let same : b.middle ≡ s = b.before.same ∙ first in
-        (ap (λ x. value_of_meaning (meaning n.text x)) (sym same) ∙ sym b.after.is, b.after.same ∙ same)
+        let last = looked (λ x. value_of_meaning (meaning n.text x)) b.middle s' b.late v b.after in
+        (ap (λ x. value_of_meaning (meaning n.text x)) (sym same) ∙ sym last.is, last.same ∙ same)
 
 -- the truth of a truth value
 truth_is : (heap : Heap) (b : Truth) → is_true heap (boolean b) ≡ b
@@ -341,7 +346,7 @@ module _ (around : Around) (ctx : Context) (fits : Fits around ctx) (parts : Par
       is : v ≡ boolean (passes s operand test)
 
     abbrev Looking : Expr → Value → Step Value
-    Looking t w = Looks (test_of t) >>= λ test. Looks (λ s. Gives (boolean (passes s w test)))
+    Looking t w = look (test_of t) >>= λ test. look (λ s. Gives (boolean (passes s w test)))
 
     tried_last : (e t : Expr) (w v : Value) (test : Test) (s m s' : State) → IsReadAs e w s → test_of t s ≡ Gives test → m ≡ s → Gives v ≡ Gives (boolean (passes m w test)) → s' ≡ m → Tried e t v s'
     tried_last e t w v test s m s' came tested early is late = record {
@@ -353,7 +358,11 @@ module _ (around : Around) (ctx : Context) (fits : Fits around ctx) (parts : Par
     }
 
     tried_look : (e t : Expr) (w v : Value) (s s' : State) (events : List Place) → IsReadAs e w s → Looking t w s events (Gives v) s' → Tried e t v s'
-    tried_look e t w v s s' events came r = let a = went_on _ _ s s' events v r in tried_last e t w v a.value s a.middle s' came (sym a.before.is) a.before.same a.after.is a.after.same
+    tried_look e t w v s s' events came r =
+        let a = went_on _ _ s s' events v r in
+        let tests = looked _ s a.middle a.early a.value a.before in
+        let last = looked _ a.middle s' a.late v a.after in
+        tried_last e t w v a.value s a.middle s' came (sym tests.is) tests.same last.is last.same
 
     tried_place : (p : Place) (e t : Expr) (w v : Value) (s s' : State) (events : List Place) → IsReadAs e w s → (Emits p >>= λ u. Looking t w) s events (Gives v) s' → Tried e t v s'
     tried_place p e t w v s s' events came r = let a = went_on _ _ s s' events v r in tried_look e t w v a.middle s' a.late (subst (λ x. IsReadAs e w x) (sym a.before.same) came) a.after

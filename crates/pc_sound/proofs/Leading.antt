@@ -8,7 +8,7 @@ use Rattle.pc_value.specs.Actions.{Action, Outcome, Free}
 use Rattle.pc_value.specs.Outcomes.{acted}
 use Rattle.pc_machine.specs.State.{State, Frame}
 use Rattle.pc_machine.specs.Names.{with_local}
-use Rattle.pc_machine.specs.Free.{Step, ◌>>=◌, comes, may_end, may_stop, Looks, Changes, act}
+use Rattle.pc_machine.specs.Free.{Step, ◌>>=◌, comes, may_end, may_stop, look, Changes, act}
 use Rattle.pc_machine.specs.Evaluation.{binds_local}
 use Rattle.pc_sound.specs.Values.{HeapTyping, Extends, IsWell}
 use Rattle.pc_sound.specs.Judgment.{HasListed, EndsWell, Around, IsSafe, Goes, Leads, At}
@@ -88,13 +88,18 @@ module _ (around : Around) where
   pub leads_comes : {A : Type 0} (before : Known) (out : Out A) (after : Promised A) → ((k : HeapTyping) (s : State) → before k s → EndsWell (λ a. after k a s) out) → Leads around before (comes out) after
   leads_comes before out after h = record { run = λ k s s' events o well b r. inr (goes_still after k s s' o well r.same (subst (EndsWell (λ a. after k a s)) (sym r.is) (h k s b))) }
 
-  -- what the state says
-  pub leads_looks : {A : Type 0} (before : Known) (f : State → Out A) (after : Promised A) → ((k : HeapTyping) (s : State) → before k s → EndsWell (λ a. after k a s) (f s)) → Leads around before (Looks f) after
-  leads_looks before f after h = record { run = λ k s s' events o well b r. inr (goes_still after k s s' o well r.same (subst (EndsWell (λ a. after k a s)) (sym r.is) (h k s b))) }
-
   goes_ended : {A : Type 0} (after : Promised A) (k : HeapTyping) (s s' : State) (events : List Place) (out : Out A) → IsWell around.bases around.classes k s.heap → may_end s events out s' → Goes around after k s out s'
   goes_ended after k s s' events out well (inl r) = goes_still after k s s' out well r.same (subst (EndsWell (λ a. after k a s)) (sym r.is) tt)
   goes_ended after k s s' events out well (inr r) = goes_still after k s s' out well r.same (subst (EndsWell (λ a. after k a s)) (sym r.is) tt)
+
+  -- what the state says
+  pub leads_looks : {A : Type 0} (before : Known) (f : State → Out A) (after : Promised A) → ((k : HeapTyping) (s : State) → before k s → EndsWell (λ a. after k a s) (f s)) → Leads around before (look f) after
+  leads_looks before f after h = record {
+    run = λ k s s' events o well b r. inr (elim r [
+      | inl l ↦ goes_still after k s s' o well l.same (subst (EndsWell (λ a. after k a s)) (sym l.is) (h k s b))
+      | inr e ↦ goes_ended after k s s' events o well e
+    ]);
+  }
 
   -- a charge
   pub leads_charge : (before : Known) → Leads around before may_stop (λ k u s. before k s)

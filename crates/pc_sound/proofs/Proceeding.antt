@@ -5,7 +5,7 @@ use Rattle.std.proofs.lemmas.List.Elements.{Contains-append_left, Contains-appen
 use Rattle.pc_source.specs.declared.place.Place.{Place}
 use Rattle.pc_value.specs.Value.{Out, Gives, Stops}
 use Rattle.pc_machine.specs.State.{State}
-use Rattle.pc_machine.specs.Free.{Step, ◌>>=◌, comes, may_stop, Looks, Changes}
+use Rattle.pc_machine.specs.Free.{Step, ◌>>=◌, comes, may_stop, look, Changes}
 use Rattle.pc_sound.specs.Values.{HeapTyping}
 use Rattle.pc_sound.specs.Judgment.{HasListed, EndsWell}
 use Rattle.pc_sound.proofs.Leading.{Known, Promised, ends_as, stopped_as}
@@ -46,8 +46,16 @@ module _ (listed : Place → Type 0) where
   pub proceeds_comes : {A : Type 0} (before : Known) (out : Out A) (after : Promised A) → ((k : HeapTyping) (s : State) → before k s → EndsWell (λ a. after k a s) out) → Proceeds listed before (comes out) after
   proceeds_comes before out after h = record { run = λ k s s' events o b r. inr (record { typing = k; ends = subst (EndsWell (λ a. after k a s')) (sym r.is) (subst (λ x. EndsWell (λ a. after k a x) out) (sym r.same) (h k s b)) }) }
 
-  pub proceeds_looks : {A : Type 0} (before : Known) (f : State → Out A) (after : Promised A) → ((k : HeapTyping) (s : State) → before k s → EndsWell (λ a. after k a s) (f s)) → Proceeds listed before (Looks f) after
-  proceeds_looks before f after h = record { run = λ k s s' events o b r. inr (record { typing = k; ends = subst (EndsWell (λ a. after k a s')) (sym r.is) (subst (λ x. EndsWell (λ a. after k a x) (f s)) (sym r.same) (h k s b)) }) }
+  pub proceeds_looks : {A : Type 0} (before : Known) (f : State → Out A) (after : Promised A) → ((k : HeapTyping) (s : State) → before k s → EndsWell (λ a. after k a s) (f s)) → Proceeds listed before (look f) after
+  proceeds_looks before f after h = record {
+    run = λ k s s' events o b r. inr (record {
+      typing = k;
+      ends = elim r [
+        | inl l ↦ subst (EndsWell (λ a. after k a s')) (sym l.is) (subst (λ x. EndsWell (λ a. after k a x) (f s)) (sym l.same) (h k s b))
+        | inr e ↦ elim e [ inl x ↦ subst (EndsWell (λ a. after k a s')) (sym x.is) tt | inr x ↦ subst (EndsWell (λ a. after k a s')) (sym x.is) tt ]
+      ];
+    });
+  }
 
   pub proceeds_changes : (before : Known) (f : State → State) (after : Promised (Unit {0})) → ((k : HeapTyping) (s : State) → before k s → after k tt (f s)) → Proceeds listed before (Changes f) after
   proceeds_changes before f after h = record { run = λ k s s' events o b r. inr (record { typing = k; ends = subst (EndsWell (λ a. after k a s')) (sym r.is) (subst (λ x. after k tt x) (sym r.after) (h k s b)) }) }

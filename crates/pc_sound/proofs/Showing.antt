@@ -8,11 +8,11 @@ use Rattle.pc_value.specs.Value.{Out, Gives, Stops}
 use Rattle.pc_value.specs.Actions.{Action, Outcome, Free}
 use Rattle.pc_value.specs.Outcomes.{acted}
 use Rattle.pc_machine.specs.State.{State, Frame}
-use Rattle.pc_machine.specs.Free.{Step, ◌>>=◌, comes, may_end, may_stop, Emits, Looks, act}
+use Rattle.pc_machine.specs.Free.{Step, ◌>>=◌, comes, may_end, may_stop, Emits, look, act}
 use Rattle.pc_sound.specs.Values.{HeapTyping, IsWell}
 use Rattle.pc_sound.specs.Judgment.{HasListed, IsAllowed, EndsWell, Around, Stands, Keeps, IsSafe, Leads}
 use Rattle.pc_sound.proofs.ValuesFlow.{extends_refl, extends_through}
-use Rattle.pc_sound.proofs.Steps.{listed_left, listed_right, stands_after}
+use Rattle.pc_sound.proofs.Steps.{listed_left, listed_right, stands_after, goes_well}
 use Rattle.pc_sound.proofs.Leading.{Known, Promised, stopped_as, ends_as}
 
 -- from a state as it is known each run of a step evaluates a listed place, or keeps all, and tells this of its value and of the state after it
@@ -65,13 +65,18 @@ module _ (around : Around) where
   pub shows_comes : {A : Type 0} (before : Known) (out : Out A) (after : Promised A) → ((k : HeapTyping) (s : State) → before k s → EndsWell (λ a. after k a s) out) → Shows around before (comes out) after
   shows_comes before out after h = record { run = λ k s s' events o well b r. inr (kept_still (λ k a. after k a s') k s s' o well r.same (subst (EndsWell (λ a. after k a s')) (sym r.is) (subst (λ x. EndsWell (λ a. after k a x) out) (sym r.same) (h k s b)))) }
 
-  -- what the state says
-  pub shows_looks : {A : Type 0} (before : Known) (f : State → Out A) (after : Promised A) → ((k : HeapTyping) (s : State) → before k s → EndsWell (λ a. after k a s) (f s)) → Shows around before (Looks f) after
-  shows_looks before f after h = record { run = λ k s s' events o well b r. inr (kept_still (λ k a. after k a s') k s s' o well r.same (subst (EndsWell (λ a. after k a s')) (sym r.is) (subst (λ x. EndsWell (λ a. after k a x) (f s)) (sym r.same) (h k s b)))) }
-
   kept_ended : {A : Type 0} (P : HeapTyping → A → Type 0) (k : HeapTyping) (s s' : State) (events : List Place) (out : Out A) → IsWell around.bases around.classes k s.heap → may_end s events out s' → Keeps around P k s out s'
   kept_ended P k s s' events out well (inl r) = kept_still P k s s' out well r.same (subst (EndsWell (P k)) (sym r.is) tt)
   kept_ended P k s s' events out well (inr r) = kept_still P k s s' out well r.same (subst (EndsWell (P k)) (sym r.is) tt)
+
+  -- what the state says
+  pub shows_looks : {A : Type 0} (before : Known) (f : State → Out A) (after : Promised A) → ((k : HeapTyping) (s : State) → before k s → EndsWell (λ a. after k a s) (f s)) → Shows around before (look f) after
+  shows_looks before f after h = record {
+    run = λ k s s' events o well b r. inr (elim r [
+      | inl l ↦ kept_still (λ k a. after k a s') k s s' o well l.same (subst (EndsWell (λ a. after k a s')) (sym l.is) (subst (λ x. EndsWell (λ a. after k a x) (f s)) (sym l.same) (h k s b)))
+      | inr e ↦ kept_ended (λ k a. after k a s') k s s' events o well e
+    ]);
+  }
 
   -- a charge
   pub shows_charge : (before : Known) → Shows around before may_stop (λ k u s. before k s)
@@ -84,7 +89,7 @@ module _ (around : Around) where
 
   -- where a place is evaluated, a listed place was, or no code stands there
   pub shows_emits : (before : Known) (p : Place) (codes : List Code) → IsAllowed around.listed p codes → Shows around before (Emits p) (λ k u s. before k s × (codes ≡ []))
-  shows_emits before p [] allowed = record { run = λ k s s' events o well b r. inr (kept_still (λ k u. before k s' × ([] ≡ [])) k s s' o well r.same (subst (EndsWell (λ u. before k s' × ([] ≡ []))) (sym r.is) (subst (λ x. before k x) (sym r.same) b, refl))) }
+  shows_emits before p [] allowed = record { run = λ k s s' events o well b r. inr (kept_still (λ k u. before k s' × ([] ≡ [])) k s s' o well r.same (goes_well (λ u. before k s' × ([] ≡ [])) o r.goes_on (subst (λ x. before k x) (sym r.same) b, refl))) }
   shows_emits before p (c ∷ cs) allowed = record { run = λ k s s' events o well b r. inl (record { place = p; is = allowed; event = subst (λ l. Contains l p) (sym r.event) (0, omega arith, refl) }) }
 
   -- an action that leaves the heap as it is

@@ -11,7 +11,7 @@ use Rattle.pc_value.specs.Value.{Stop, Out, Gives, Stops, Raised, Other, Outside
 use Rattle.pc_value.specs.Actions.{Action, Outcome, Free}
 use Rattle.pc_value.specs.Outcomes.{acted}
 use Rattle.pc_machine.specs.State.{State, Frame}
-use Rattle.pc_machine.specs.Free.{Step, ◌>>=◌, comes, may_end, may_stop, Emits, Looks, act}
+use Rattle.pc_machine.specs.Free.{Step, ◌>>=◌, comes, may_end, may_stop, Emits, GoesOn, look, act}
 use Rattle.pc_sound.specs.Values.{HeapTyping, Extends, IsWell}
 use Rattle.pc_sound.specs.Kept.{HasLocals}
 use Rattle.pc_sound.specs.Judgment.{HasListed, IsAllowed, EndsWell, Around, HasNames, Stands, Keeps, IsSafe}
@@ -26,6 +26,14 @@ locals_later {bases} {k} {k'} {names} {declared} {env} {frame} {frame'} x e h = 
 -- what stays known when the heap typing grows
 abbrev pub Stays : (HeapTyping → Type 0) → Type 0
 Stays known = (k k' : HeapTyping) → Extends k k' → known k → known k'
+
+-- where a step goes on, what holds then is promised of how it ends
+pub goes_well : (P : Unit {0} → Type 0) (out : Out (Unit {0})) → GoesOn out → P tt → EndsWell P out
+goes_well P (Gives u) g h = h
+goes_well P (Stops (Raised e)) g h = g
+goes_well P (Stops Outside) g h = g
+goes_well P (Stops Other) g h = tt
+goes_well P (Stops Cut) g h = tt
 
 module _ (around : Around) (env : Env) where
   pub listed_left : (es fs gs : List Place) → gs ≡ es ++ fs → HasListed around.listed es → HasListed around.listed gs
@@ -98,13 +106,18 @@ module _ (around : Around) (env : Env) where
   pub comes_safe : {A : Type 0} (known : HeapTyping → Type 0) (out : Out A) (P : HeapTyping → A → Type 0) → ((k : HeapTyping) → known k → EndsWell (P k) out) → IsSafe around env known (comes out) P
   comes_safe known out P h = record { run = λ k s s' events o knows st r. inr (still P k s s' o r.same st (subst (EndsWell (P k)) (sym r.is) (h k knows))) }
 
-  -- what the state says
-  pub looks_safe : {A : Type 0} (known : HeapTyping → Type 0) (f : State → Out A) (P : HeapTyping → A → Type 0) → ((k : HeapTyping) (s : State) → known k → Stands around env k s → EndsWell (P k) (f s)) → IsSafe around env known (Looks f) P
-  looks_safe known f P h = record { run = λ k s s' events o knows st r. inr (still P k s s' o r.same st (subst (EndsWell (P k)) (sym r.is) (h k s knows st))) }
-
   pub ended : {A : Type 0} (P : HeapTyping → A → Type 0) (k : HeapTyping) (s s' : State) (events : List Place) (out : Out A) → Stands around env k s → may_end s events out s' → Keeps around P k s out s'
   ended P k s s' events out st (inl r) = still P k s s' out r.same st (subst (EndsWell (P k)) (sym r.is) tt)
   ended P k s s' events out st (inr r) = still P k s s' out r.same st (subst (EndsWell (P k)) (sym r.is) tt)
+
+  -- what the state says
+  pub looks_safe : {A : Type 0} (known : HeapTyping → Type 0) (f : State → Out A) (P : HeapTyping → A → Type 0) → ((k : HeapTyping) (s : State) → known k → Stands around env k s → EndsWell (P k) (f s)) → IsSafe around env known (look f) P
+  looks_safe known f P h = record {
+    run = λ k s s' events o knows st r. elim r [
+      | inl l ↦ inr (still P k s s' o l.same st (subst (EndsWell (P k)) (sym l.is) (h k s knows st)))
+      | inr e ↦ inr (ended P k s s' events o st e)
+    ];
+  }
 
   -- a charge
   pub may_stop_safe : (known : HeapTyping → Type 0) → IsSafe around env known may_stop (λ k u. Unit {0})
@@ -115,7 +128,7 @@ module _ (around : Around) (env : Env) where
 
   -- where a place is evaluated, a listed place was, or no code stands there
   pub emits_safe : (known : HeapTyping → Type 0) (p : Place) (codes : List Code) → IsAllowed around.listed p codes → IsSafe around env known (Emits p) (λ k u. codes ≡ [])
-  emits_safe known p [] allowed = record { run = λ k s s' events o knows st r. inr (still (λ k u. [] ≡ []) k s s' o r.same st (subst (EndsWell (λ u. [] ≡ [])) (sym r.is) refl)) }
+  emits_safe known p [] allowed = record { run = λ k s s' events o knows st r. inr (still (λ k u. [] ≡ []) k s s' o r.same st (goes_well (λ u. [] ≡ []) o r.goes_on refl)) }
   emits_safe known p (c ∷ cs) allowed = record { run = λ k s s' events o knows st r. inl (record { place = p; is = allowed; event = here_is p events r.event }) }
 
   -- what is known where less is

@@ -13,13 +13,13 @@ use Rattle.pc_expr.specs.Context.{Context, name_mark}
 use Rattle.pc_expr.specs.Calls.{given, CallOffer, value_offer, value_offers, call_mark, length_mark, test_mark, positional_seat, named_seat}
 use Rattle.pc_expr.specs.Labels.{Marks, ItemsMarks, KeywordsMarks, mark_of, type_of, with_mark, Finds, ItemsFind, ArgumentsFind, KeywordsFind, IsFoundAt}
 use Rattle.pc_expr.specs.Lawful.{Lawful, LawfulItems, LawfulKeywords, is_length_of_one, whole_call_mark}
-use Rattle.pc_value.specs.Value.{Stop, Out, Gives, Stops}
+use Rattle.pc_value.specs.Value.{Value, Stop, Raised, Other, Outside, Cut, Out, Gives, Stops}
 use Rattle.pc_value.specs.Texts.{same_text}
 use Rattle.pc_machine.specs.State.{State}
 use Rattle.pc_machine.specs.Names.{Meaning, means_value, means_unbound, means_function, means_class, means_reserved, means_nothing, meaning}
 use Rattle.pc_machine.specs.Calls.{Callee, calls_value, callee_of_meaning, value_of_meaning}
 use Rattle.pc_machine.specs.Steps.{Parts}
-use Rattle.pc_machine.specs.Free.{Step, ◌>>=◌, comes, Emits, Looks, free}
+use Rattle.pc_machine.specs.Free.{Step, ◌>>=◌, comes, Emits, look, free}
 use Rattle.pc_machine.specs.Evaluation.{call_form, instance_test, ordinary, eval_callee, eval_all, eval_keywords, call_callee}
 use Rattle.pc_sound.specs.Values.{HeapTyping, HasType}
 use Rattle.pc_sound.specs.Judgment.{HasListed, EndsWell, Around, Stands, Keeps, IsSafe, Fits}
@@ -133,20 +133,44 @@ meant around k word t (means_class c) h = absurd h
 meant around k word t means_reserved h = absurd h
 meant around k word t means_nothing h = h
 
-not_stopped : {A : Type 0} {a : A} {stop : Stop} → Stops stop ≡ Gives a → ⊥
-not_stopped e = grind arith
-
 pub named_value_safe : (around : Around) (ctx : Context) (fits : Fits around ctx) (knows : KnowsNames around ctx) (env : Env) (parts : Parts Step) (n : Name) (m : Mark) → m ≡ name_mark ctx env (ctx.resolve n.text) → Covered around (IsFoundAt n.place m.codes) → IsSafe around env (λ k. Unit {0}) (eval_callee Step free parts (name n)) (λ k c. Fails (value_offers m.type))
 named_value_safe around ctx fits knows env parts n m law covered =
     bind_safe around env _ _ _ (λ k u. Unit {0}) _ (λ k k' x h. tt) (may_stop_safe around env _)
     λ u. weaken around env _ (λ k. Unit {0}) _ _ _ (λ k h. tt) (λ k c h. h) (record { run = go })
   where
-    go : (k : HeapTyping) (s s' : State) (events : List Place) (out : Out Callee) → Unit {0} → Stands around env k s → (Emits n.place >>= λ u. Looks (λ st. callee_of_meaning n.text (meaning n.text st))) s events out s' → HasListed around.listed events ⊎ Keeps around (λ k c. Fails (value_offers m.type)) k s out s'
-    go k s s' events out knows_nothing st (inl w) = elim ((name_safe around ctx fits knows env parts n m law covered).run k s s' events (value_of_meaning (meaning n.text w.middle)) tt st (inl (record { value = w.value; middle = w.middle; early = w.early; late = w.late; before = w.before; after = record { is = refl; quiet = w.after.quiet; same = w.after.same }; both = w.both }))) [
+    -- what came of the name as a value
+    as_value : (k : HeapTyping) (s s' : State) (events : List Place) (out : Out Value) (also : Out Callee) → Stands around env k s → (Emits n.place >>= λ u. look (λ st. value_of_meaning (meaning n.text st))) s events out s'
+        → ((j : HeapTyping) → EndsWell (λ v. HasType around.bases j m.type v) out → EndsWell (λ c. Fails (value_offers m.type)) also)
+        → HasListed around.listed events ⊎ Keeps around (λ k c. Fails (value_offers m.type)) k s also s'
+    as_value k s s' events out also st r so = elim ((name_safe around ctx fits knows env parts n m law covered).run k s s' events out tt st r) [
       | inl h ↦ inl h
-      | inr g ↦ inr (record { typing = g.typing; grows = g.grows; well = g.well; same_frame = g.same_frame; same_globals = g.same_globals; same_classes = g.same_classes; ends = subst (EndsWell (λ c. Fails (value_offers m.type))) (sym w.after.is) (meant around g.typing n.text m.type (meaning n.text w.middle) g.ends) })
+      | inr g ↦ inr (record { typing = g.typing; grows = g.grows; well = g.well; same_frame = g.same_frame; same_globals = g.same_globals; same_classes = g.same_classes; ends = so g.typing g.ends })
     ]
-    go k s s' events out knows_nothing st (inr w) = absurd (not_stopped w.before.is)
+
+    fails : Out Callee → Type 0
+    fails out = EndsWell (λ c. Fails (value_offers m.type)) out
+
+    go : (k : HeapTyping) (s s' : State) (events : List Place) (out : Out Callee) → Unit {0} → Stands around env k s → (Emits n.place >>= λ u. look (λ st. callee_of_meaning n.text (meaning n.text st))) s events out s' → HasListed around.listed events ⊎ Keeps around (λ k c. Fails (value_offers m.type)) k s out s'
+    go k s s' events out knows_nothing st (inl w) = elim w.after [
+      | inl l ↦ as_value k s s' events (value_of_meaning (meaning n.text w.middle)) out st
+          (inl (record { value = w.value; middle = w.middle; early = w.early; late = w.late; before = w.before; after = inl (record { is = refl; quiet = l.quiet; same = l.same }); both = w.both }))
+          (λ j ends. subst fails (sym l.is) (meant around j n.text m.type (meaning n.text w.middle) ends))
+      | inr e ↦ elim e [
+        | inl x ↦ as_value k s s' events (Stops Other) out st
+            (inl (record { value = w.value; middle = w.middle; early = w.early; late = w.late; before = w.before; after = inr (inl (record { is = refl; quiet = x.quiet; same = x.same })); both = w.both }))
+            (λ j ends. subst fails (sym x.is) tt)
+        | inr x ↦ as_value k s s' events (Stops Cut) out st
+            (inl (record { value = w.value; middle = w.middle; early = w.early; late = w.late; before = w.before; after = inr (inr (record { is = refl; quiet = x.quiet; same = x.same })); both = w.both }))
+            (λ j ends. subst fails (sym x.is) tt)
+      ]
+    ]
+    go k s s' events out knows_nothing st (inr w) = as_value k s s' events (Stops w.stop) out st (inr (record { stop = w.stop; before = w.before; is = refl })) (λ j ends. subst fails (sym w.is) (stopped w.stop ends))
+      where
+        stopped : (stop : Stop) → EndsWell (λ v. HasType around.bases k m.type v) (Stops stop) → fails (Stops stop)
+        stopped (Raised e) h = h
+        stopped Outside h = h
+        stopped Other h = h
+        stopped Cut h = h
 
 -- what is found in the arguments of an ordinary call
 pub arguments_covered : (around : Around) (c : Expr) (args : Exprs) (kws : Keywords) (marks : ItemsMarks args) → is_instance_test c args kws ≡ false → Covered around (ArgumentsFind (is_instance_test c args kws) args marks) → Covered around (ItemsFind args marks)
