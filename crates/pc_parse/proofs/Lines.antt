@@ -21,8 +21,8 @@ use Rattle.pc_reader.specs.declared.operand.Operand.{Operand}
 use Rattle.pc_parse.specs.declared.parser.Parser.{Parser}
 use Rattle.pc_reader.specs.declared.reader.Reader.{Reader}
 use Rattle.pc_reader.specs.Descent.{Gives, NextIs, Over, Undotted}
-use Rattle.pc_reader.specs.Reading.{kind_ahead, IsAhead, Onward, IsReady, lexeme, left_in}
-use Rattle.pc_parse.specs.Whole.{place_ahead, noted, Kept, GivesWhole}
+use Rattle.pc_reader.specs.Reading.{kind_ahead, place_ahead, IsAhead, Onward, IsReady, lexeme, left_in}
+use Rattle.pc_parse.specs.Whole.{noted, Kept, GivesWhole}
 use Rattle.pc_parse.specs.Suites.{LineEnds, ReadsLineEnd, ReadsFrom, ReadsSuite, ReadsElse}
 use Rattle.pc_parse.proofs.Depths.{note_of}
 use Rattle.pc_parse.proofs.Statements.{whole_turn, out_dedent}

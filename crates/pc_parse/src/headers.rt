@@ -33,7 +33,7 @@ fn imports<X: AsStr + Drop, I: Iterator<Item = Result<Token<X>, Fault>> + Drop>(
 }
 
 /// The headers.
-pub(crate) fn headers<X: AsStr + Drop, I: Iterator<Item = Result<Token<X>, Fault>> + Drop>(
+pub(crate) fn read_headers<X: AsStr + Drop, I: Iterator<Item = Result<Token<X>, Fault>> + Drop>(
     reader: &mut Reader<X, I>,
 ) -> Result<Headers, Fault>
     requires { IsReady I.can_next I.remaining reader.old }

@@ -6,7 +6,7 @@ ghost use Rattle.pc_tree.specs.Tree.{name_of};
 ghost use Rattle.pc_reader.specs.Reading.{IsReady, IsAhead};
 ghost use Rattle.pc_parse.specs.Modules.{ReadsConstant, ReadsPiece, ReadsModule};
 
-use crate::headers::headers;
+use crate::headers::read_headers;
 use crate::parser::Parser;
 use pc_reader::Reader;
 use pc_source::{Fault, Place};
@@ -93,7 +93,7 @@ impl<X: AsStr + Drop, I: Iterator<Item = Result<Token<X>, Fault>> + Drop> Parser
         requires { IsReady I.can_next I.remaining self.old.reader }
         ensures { ReadsModule X.text I.next_gives I.can_next I.remaining self.old self.new result }
     {
-        let headers = headers(&mut self.reader)?;
+        let headers = read_headers(&mut self.reader)?;
         let mut items = Vec::new(alloc);
         loop {
             match self.piece(alloc)? {

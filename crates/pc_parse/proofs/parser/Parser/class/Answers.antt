@@ -23,7 +23,7 @@ returns-in_err-base g c = let p = err_from_is_err_and c.from_residual-in_err-bas
 
 pub returns-in_err-members : goal.returns-in_err-members
 returns-in_err-members g c = let p = err_from_is_err_and c.from_residual-in_err-members.result c.from_residual-in_err-members.ensures.1 in
-    rw (p.1, p.2) (class_members_fail c.args.self.now c.in_ok-word.ensures c.in_ok-fixed.ensures c.in_ok-name.ensures (record { reader = c.base.new.self; deep = c.args.self.now.deep }) c.in_ok-base.ensures c.in_err-members.ensures)
+    rw (p.1, p.2) (class_members_fail c.args.self.now c.in_ok-word.ensures c.in_ok-fixed.ensures c.in_ok-name.ensures (record { reader = c.base.new.reader; deep = c.args.self.now.deep }) c.in_ok-base.ensures c.in_err-members.ensures)
 
 pub returns : goal.returns
-returns g c = class_read c.args.self.now c.in_ok-word.ensures c.in_ok-fixed.ensures c.in_ok-name.ensures (record { reader = c.base.new.self; deep = c.args.self.now.deep }) c.in_ok-base.ensures refl c.in_ok-members.ensures
+returns g c = class_read c.args.self.now c.in_ok-word.ensures c.in_ok-fixed.ensures c.in_ok-name.ensures (record { reader = c.base.new.reader; deep = c.args.self.now.deep }) c.in_ok-base.ensures refl c.in_ok-members.ensures

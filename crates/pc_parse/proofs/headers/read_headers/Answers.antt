@@ -11,7 +11,7 @@ use Rattle.pc_tree.specs.Machine.States.{after_future, after_dataclasses, items}
 use Rattle.pc_parse.specs.Modules.{import_words}
 use Rattle.pc_reader.proofs.Words.{kind_due}
 use Rattle.pc_parse.proofs.Imports.{dataclassed, headed, begun, future_fails, typing_fails, typed, dataclasses_fail, classed, then_typing_fails, then_typed}
-use Rattle.pc_parse.proofs.headers.headers.Goals as goal
+use Rattle.pc_parse.proofs.headers.read_headers.Goals as goal
 
 pub returns-in_err-expect : goal.returns-in_err-expect
 returns-in_err-expect g c = let p = err_from_is_err_and c.from_residual.result c.from_residual.ensures.1 in
