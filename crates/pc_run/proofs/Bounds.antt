@@ -4,9 +4,9 @@ use Rattle.pc_value.specs.declared.action.Action.{Action as RustAction}
 use Rattle.pc_value.specs.declared.action.Action.TheVariants as rust_action
 use Rattle.pc_value.specs.Actions.{Iteration}
 use Rattle.pc_tree.specs.Tree.{Expr, Stmts}
-use Rattle.pc_run.specs.Steps.{Flow}
-use Rattle.pc_run.specs.Plain.{Progress, After}
-use Rattle.pc_run.specs.Runs.{plain_parts}
+use Rattle.pc_machine.specs.Steps.{Flow}
+use Rattle.pc_machine.specs.Plain.{Progress, After}
+use Rattle.pc_machine.specs.Runs.{plain_parts}
 
 -- the further turns of a `while` from here are what is wanted
 pub record Above (fuel : ℕ) (e : Expr) (body : Stmts) (w : Progress) (l : After Flow) : Type 0 where

@@ -7,27 +7,27 @@ use Rattle.pc_value.specs.Value.{Value, whole, Stop, Raised, Outside, TypeError,
 use Rattle.pc_value.specs.Actions as action
 use Rattle.pc_value.specs.Actions.{gives, stops}
 use Rattle.pc_value.specs.Numbers.{number_of_digits, negative_of_digits, fits}
-use Rattle.pc_run.specs.State.{State, Parameter, Function, Class, a_function}
-use Rattle.pc_run.specs.Calls.{class_at}
-use Rattle.pc_run.specs.Steps.{value_out}
-use Rattle.pc_run.specs.Plain.{Progress, After, Came, Ended, Step, plain, and_then, comes, act, after_action, later_choices, changed}
-use Rattle.pc_run.specs.Evaluation as text
-use Rattle.pc_run.specs.Evaluation.{Members, base_of, class_behind, defaults_last, binds_class, binds_global}
-use Rattle.pc_run.specs.Machine.{Tells, Comes, unit, progress_of, state_of, stop_of, number_within, literal_value, default_value, parameter_of_param, function_of}
+use Rattle.pc_machine.specs.State.{State, Parameter, Function, Class, a_function}
+use Rattle.pc_machine.specs.Calls.{class_at}
+use Rattle.pc_machine.specs.Steps.{value_out}
+use Rattle.pc_machine.specs.Plain.{Progress, After, Came, Ended, Step, plain, and_then, comes, act, after_action, later_choices, changed}
+use Rattle.pc_machine.specs.Evaluation as text
+use Rattle.pc_machine.specs.Evaluation.{Members, base_of, class_behind, defaults_last, binds_class, binds_global}
+use Rattle.pc_machine.specs.Machine.{Tells, Comes, unit, progress_of, state_of, stop_of, number_within, literal_value, default_value, parameter_of_param, function_of}
 use Rattle.std.specs.Prelude.{IfOk, ◌⊎◌}
 use Rattle.std.proofs.Common.{inl, inr, subst}
 use Rattle.pc_source.specs.declared.fault.OutOfMemory.{OutOfMemory}
 use Rattle.pc_tree.specs.Tree.{Module}
 use Rattle.pc_tree.specs.Stopping.{is_runnable}
-use Rattle.pc_run.specs.Runs.{Leaves, PlainRun, plain_module, stopped}
-use Rattle.pc_run.specs.Plain.{begin}
+use Rattle.pc_machine.specs.Runs.{Leaves, PlainRun, plain_module, stopped}
+use Rattle.pc_machine.specs.Plain.{begin}
 use Rattle.pc_run.specs.Traces.{end_of_rust}
 use Rattle.pc_run.specs.declared.trace.Trace.{Trace}
 use Rattle.pc_source.specs.declared.place.Place.{Place}
 use Rattle.pc_tree.specs.declared.tree.Item.{Item as RustItem}
-use Rattle.pc_run.specs.declared.halt.Halt.{Halt}
-use Rattle.pc_run.specs.declared.halt.Halt.TheVariants.{Stopped, OutOfMemory as NoMemory}
-use Rattle.pc_run.specs.declared.machine.Machine.{Machine}
+use Rattle.pc_machine.specs.declared.halt.Halt.{Halt}
+use Rattle.pc_machine.specs.declared.halt.Halt.TheVariants.{Stopped, OutOfMemory as NoMemory}
+use Rattle.pc_machine.specs.declared.machine.Machine.{Machine}
 use Rattle.pc_run.specs.Items.{base_seen, items_in, item_in, class_made, has_value, param_has_value, have_values, member_has_values, members_have_values, with_field, with_method, members_made}
 
 -- a literal's value, or the run is cut off

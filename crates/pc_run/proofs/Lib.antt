@@ -1,10 +1,4 @@
 pub mod Bounds
+pub mod CallForms
 pub mod Defaults
-pub mod Expressions
-pub mod Fits
-pub mod Lists
-pub mod Modules
-pub mod Rows
-pub mod Statements
 pub mod Steps
-pub mod Trees

@@ -3,23 +3,24 @@ use Rattle.std.proofs.Common.{◌≡◌, ◌≢◌, ◌<◌, ◌≤◌, ℕ, zer
 use Rattle.std.specs.Prelude.{Result, Err, Some, None}
 use Rattle.pc_tree.specs.Tree.{Expr, Stmt, Stmts, no_stmts, more_stmts, Branches, more_branches, stmt_of, stmts_of_list}
 use Rattle.pc_tree.specs.declared.tree.Stmt.{Stmt as RustStmt}
-use Rattle.pc_run.specs.declared.state.Flow.{Flow as RustFlow}
-use Rattle.pc_run.specs.declared.state.Flow.TheVariants as rust_flow
+use Rattle.pc_machine.specs.declared.state.Flow.{Flow as RustFlow}
+use Rattle.pc_machine.specs.declared.state.Flow.TheVariants as rust_flow
 use Rattle.pc_run.proofs.Bounds.{Above, Turns}
 use Rattle.pc_value.specs.Value.{Value, is_true}
 use Rattle.pc_value.specs.Actions as action
 use Rattle.pc_value.specs.Actions.{Iteration}
 use Rattle.pc_value.specs.Meaning.{value_of}
-use Rattle.pc_run.specs.declared.halt.Halt.{Halt}
-use Rattle.pc_run.specs.declared.halt.Halt.TheVariants.{Stopped, OutOfMemory}
-use Rattle.pc_run.specs.declared.machine.Machine.{Machine}
-use Rattle.pc_run.specs.Steps.{Flow, next, breaking, continuing, leaves, item_out}
-use Rattle.pc_run.specs.Plain.{Progress, After, Came, Step, and_then, charge, act, changed, plain}
-use Rattle.pc_run.specs.Runs.{plain_parts}
-use Rattle.pc_run.specs.Evaluation as text
-use Rattle.pc_run.specs.Evaluation.{binds_local}
-use Rattle.pc_run.specs.Traced.{node, exec_one, branches_in, empty_charged}
-use Rattle.pc_run.specs.Machine.{Tells, unit, flow_of, item_of}
+use Rattle.pc_machine.specs.declared.halt.Halt.{Halt}
+use Rattle.pc_machine.specs.declared.halt.Halt.TheVariants.{Stopped, OutOfMemory}
+use Rattle.pc_machine.specs.declared.machine.Machine.{Machine}
+use Rattle.pc_machine.specs.Steps.{Flow, next, breaking, continuing, leaves, item_out}
+use Rattle.pc_machine.specs.Plain.{Progress, After, Came, Step, and_then, charge, act, changed, plain}
+use Rattle.pc_machine.specs.Runs.{plain_parts}
+use Rattle.pc_machine.specs.Evaluation as text
+use Rattle.pc_machine.specs.Evaluation.{binds_local}
+use Rattle.pc_run.specs.Traced.{node, exec_one, branches_in}
+use Rattle.pc_machine.specs.Performed.{empty_charged}
+use Rattle.pc_machine.specs.Machine.{Tells, unit, flow_of, item_of}
 
 -- an early end is one of the whole
 pub ends : {A B C D : Type 0} (va : A → B) (vc : C → D) (x : Halt) (m : Machine) (l : After B) (f : B → Step D) → Tells va (Err x) m l → Tells vc (Err x) m (and_then l f)

@@ -2,9 +2,9 @@
 -- Own rule of the profile.
 use Rattle.std.specs.Prelude.{ℕ}
 use Rattle.pc_value.specs.Value.{Value}
-use Rattle.pc_run.specs.Plain.{Step, plain}
-use Rattle.pc_run.specs.Runs.{plain_parts}
-use Rattle.pc_run.specs.Evaluation as text
+use Rattle.pc_machine.specs.Plain.{Step, plain}
+use Rattle.pc_machine.specs.Runs.{plain_parts}
+use Rattle.pc_machine.specs.Evaluation as text
 
 -- `main` is entered
 abbrev pub main_entered : ℕ → Step Value

@@ -3,11 +3,11 @@
 use Rattle.std.specs.Prelude.{ℕ, Bool, true, List, [], ◌∷◌, Option, Some, None, is_some}
 use Rattle.std.specs.List.{list_all}
 use Rattle.pc_tree.specs.Tree.{Literal, Param, FuncDef, Member, field_member, method_member, ClassDef, Item}
-use Rattle.pc_run.specs.Plain.{Step, plain}
-use Rattle.pc_run.specs.Runs.{plain_parts}
-use Rattle.pc_run.specs.Evaluation as text
-use Rattle.pc_run.specs.Evaluation.{Members}
-use Rattle.pc_run.specs.Machine.{literal_value, default_value, function_of}
+use Rattle.pc_machine.specs.Plain.{Step, plain}
+use Rattle.pc_machine.specs.Runs.{plain_parts}
+use Rattle.pc_machine.specs.Evaluation as text
+use Rattle.pc_machine.specs.Evaluation.{Members}
+use Rattle.pc_machine.specs.Machine.{literal_value, default_value, function_of}
 
 abbrev pub items_in : ℕ → (imports_dataclass : Bool) → List Item → Step (Unit {0})
 items_in n imports_dataclass items = text.exec_items Step plain (plain_parts n) imports_dataclass items

@@ -1,13 +1,5 @@
-pub mod Calls
 pub mod Entering
-pub mod Evaluation
-pub mod Free
+pub mod Forms
 pub mod Items
-pub mod Machine
-pub mod Names
-pub mod Plain
-pub mod Runs
-pub mod State
-pub mod Steps
 pub mod Traced
 pub mod Traces

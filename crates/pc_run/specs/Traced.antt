@@ -1,19 +1,24 @@
 -- The nodes of the text in a plain run, as the tracer's functions follow them.
 -- Own rule of the profile.
-use Rattle.std.specs.Prelude.{ℕ, Bool, true, false, nat_eq, List, ◌∷◌, Option, Some, None}
+use Rattle.std.specs.Prelude.{ℕ, List, Option, Some, None}
+use Rattle.std.specs.Prelude.{Vec, map}
+use Rattle.std.specs.Global.{Global as Allocator}
+use Rattle.pc_value.specs.Meaning.{value_of, entry_of}
+use Rattle.pc_value.specs.declared.value.Value.{Value as RustValue}
+use Rattle.pc_value.specs.declared.value.Entry.{Entry as RustEntry}
+use Rattle.pc_machine.specs.declared.state.NamedValue.{NamedValue as RustNamedValue}
+use Rattle.pc_machine.specs.Machine.{named_of}
 use Rattle.pc_source.specs.declared.place.Place.{Place}
-use Rattle.pc_tree.specs.Tree.{Expr, Exprs, Entries, Keywords, Target, Stmt, Stmts, no_stmts, more_stmts, Branches}
-use Rattle.pc_value.specs.Value.{Value, boolean, Entry, Cut}
-use Rattle.pc_value.specs.Actions as action
+use Rattle.pc_tree.specs.Tree.{Expr, Exprs, Entries, Keywords, Target, Stmt, Stmts, Branches}
+use Rattle.pc_value.specs.Value.{Value, Entry}
 use Rattle.pc_value.specs.Actions.{Iteration}
-use Rattle.pc_run.specs.State.{Function, Frame}
-use Rattle.pc_run.specs.Names.{frame_of}
-use Rattle.pc_run.specs.Calls.{Callee, NamedValue, named_method, bound_arguments, suited, range_argument, test_of, passes}
-use Rattle.pc_run.specs.Steps.{Flow, next, value_out, iteration_out}
-use Rattle.pc_run.specs.Plain.{Came, Ended, Step, and_then, comes, charge, emitted, entered, call_limit, plain, act}
-use Rattle.pc_run.specs.Runs.{plain_parts}
-use Rattle.pc_run.specs.Evaluation as text
-use Rattle.pc_run.specs.Evaluation.{call_form, iterable_form, self_local}
+use Rattle.pc_machine.specs.State.{Function}
+use Rattle.pc_machine.specs.Calls.{NamedValue}
+use Rattle.pc_machine.specs.Steps.{Flow}
+use Rattle.pc_machine.specs.Plain.{Step, plain}
+use Rattle.pc_machine.specs.Runs.{plain_parts}
+use Rattle.pc_machine.specs.Evaluation as text
+use Rattle.pc_machine.specs.Evaluation.{call_form, iterable_form}
 
 abbrev pub node : ℕ → Expr → Step Value
 node n e = text.eval_node Step plain (plain_parts n) e
@@ -27,14 +32,8 @@ entries_in n items = text.eval_entries Step plain (plain_parts n).eval items
 abbrev pub keywords_in : ℕ → Keywords → Step (List NamedValue)
 keywords_in n by_name = text.eval_keywords Step plain (plain_parts n).eval by_name
 
-abbrev pub callee_in : ℕ → Expr → Step Callee
-callee_in n e = text.eval_callee Step plain (plain_parts n) e
-
 abbrev pub call_in : ℕ → Place → Expr → Exprs → Keywords → Step Value
 call_in n p callee arguments by_name = text.eval_call Step plain (plain_parts n) p callee arguments by_name (call_form callee arguments by_name)
-
-abbrev pub callee_called : ℕ → Callee → List Value → List NamedValue → Step Value
-callee_called n callee values named = text.call_callee Step plain (plain_parts n) callee values named
 
 -- a function, or a method with its object
 abbrev pub entered_body : ℕ → Function → Option Value → List Value → List NamedValue → Step Value
@@ -53,33 +52,13 @@ branches_in n branches otherwise = text.exec_branches Step plain (plain_parts n)
 abbrev pub iterable_in : ℕ → Expr → Step Iteration
 iterable_in n e = text.eval_iterable Step plain (plain_parts n) e (iterable_form e)
 
--- ---- the parts of them that evaluate nothing
+-- ---- what is collected, as the program holds it
 
-abbrev pub attribute_callee : Value → List ℕ → Step Callee
-attribute_callee v m w = text.callee_of_attribute Step plain v m (named_method w.state v m) w
+abbrev pub values_of_vec : Vec RustValue Allocator → List Value
+values_of_vec vs = map value_of vs.items
 
-abbrev pub instance_tested : Value → Expr → Step Value
-instance_tested v t w = and_then (comes (test_of t w.state) w) (λ test v'. Came (boolean (passes v'.state v test)) v')
+abbrev pub entries_of_vec : Vec RustEntry Allocator → List Entry
+entries_of_vec es = map entry_of es.items
 
-abbrev pub attribute_stored : Value → List ℕ → Value → Step Flow
-attribute_stored o f v w = and_then (act value_out (action.store_attribute o f v) w) (λ stored w'. Came next w')
-
-abbrev pub item_stored : Value → Value → Value → Step Flow
-item_stored o k v w = and_then (act value_out (action.store_item o k v) w) (λ stored w'. Came next w')
-
-abbrev pub range_begun : List Value → List NamedValue → Step Iteration
-range_begun values named w = and_then (comes (range_argument values named) w) (λ limit w'. act iteration_out (action.iterate_range limit) w')
-
--- an empty suite of a loop is charged as `pass` is
-abbrev pub empty_charged : Stmts → Step (Unit {0})
-empty_charged no_stmts w = charge w
-empty_charged (more_stmts s rest) w = Came tt w
-
--- a frame is entered, if a further call may be open; what it comes to is the caller's frame
-abbrev pub entered_unless : Bool → Frame → Step Frame
-entered_unless true frame w = Ended Cut w
-entered_unless false frame w = Came w.state.frame (entered frame w)
-
-abbrev pub opened : Function → Option Value → List Value → List NamedValue → Step Frame
-opened f None values named w = and_then (comes (suited (bound_arguments f.parameters values named)) w) (λ arguments w'. entered_unless (nat_eq w'.depth call_limit) (frame_of f arguments) w')
-opened f (Some object) values named w = and_then (comes (suited (bound_arguments f.parameters values named)) w) (λ arguments w'. and_then (entered_unless (nat_eq w'.depth call_limit) (frame_of f (self_local object ∷ arguments)) w') (λ caller w''. Came caller (emitted f.name.place w'')))
+abbrev pub named_of_vec : Vec RustNamedValue Allocator → List NamedValue
+named_of_vec vs = map named_of vs.items

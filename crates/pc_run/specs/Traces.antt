@@ -4,7 +4,7 @@ use Rattle.std.specs.Prelude.{ℕ, List, ◌++◌, codes, decimal}
 use Rattle.std.specs.List.{flat_map}
 use Rattle.pc_source.specs.declared.place.Place.{Place}
 use Rattle.pc_value.specs.Value.{Raised, Other, Outside, Cut, TypeError, AttributeError, NameError, UnboundLocalError}
-use Rattle.pc_run.specs.Runs.{End, done, stopped}
+use Rattle.pc_machine.specs.Runs.{End, done, stopped}
 use Rattle.pc_run.specs.declared.trace.End.{End as RustEnd}
 use Rattle.pc_run.specs.declared.trace.End.TheVariants as rust
 

@@ -1,11 +1,10 @@
-ghost use Rattle.std.specs.Prelude.{◌≡◌, ◌<◌, ◌+◌, ◌-◌, ◌++◌, ◌∷◌, [], map, OnOk, IfOk, string_bytes};
+ghost use Rattle.std.specs.Prelude.{◌≡◌, ◌<◌, ◌+◌, ◌-◌, ◌++◌, ◌∷◌, [], map, OnOk};
 ghost use Rattle.pc_value.specs.Meaning.{value_of, entry_of};
-ghost use Rattle.pc_run.specs.Machine.{named_of};
+ghost use Rattle.pc_machine.specs.Machine.{named_of};
 
-use crate::state::NamedValue;
+use pc_machine::NamedValue;
 use pc_source::OutOfMemory;
 use pc_value::Value;
-use std::alloc::Global as Allocator;
 
 /// One more value.
 pub fn keep(values: &mut Vec<Value>, value: Value) -> Result<(), OutOfMemory>
@@ -43,11 +42,4 @@ pub fn keep_named<'m>(
         Ok(()) => Ok(()),
         Err(_) => Err(OutOfMemory),
     }
-}
-
-/// A text of its own.
-pub fn text_of(alloc: Allocator, text: &str) -> Result<String, OutOfMemory>
-    ensures { IfOk result (λ s. string_bytes s ≡ text.now) }
-{
-    Ok(String::from_str(alloc, text)?)
 }

@@ -1,14 +1,15 @@
 ghost use Rattle.std.specs.Prelude.{◌≡◌, ◌<◌, ◌+◌, ◌-◌, ◌^◌, ℕ};
 ghost use Rattle.pc_tree.specs.Tree.{expr_of};
 ghost use Rattle.pc_value.specs.Meaning.{value_of};
-ghost use Rattle.pc_run.specs.Evaluation.{is_nothing, value_of_flow, call_form, iterable_form};
-ghost use Rattle.pc_run.specs.Machine.{flow_of, form_seen, range_seen, exprs_of_list, keywords_of_list};
+ghost use Rattle.pc_machine.specs.Evaluation.{is_nothing, value_of_flow, call_form, iterable_form};
+ghost use Rattle.pc_machine.specs.Machine.{flow_of};
+ghost use Rattle.pc_run.specs.Forms.{form_seen, range_seen};
+ghost use Rattle.pc_tree.specs.Lists.{exprs_of_list, keywords_of_list};
 ghost use Rattle.pc_value.specs.declared.action.Iteration.{Iteration as RustIteration};
 ghost use Rattle.pc_value.specs.declared.action.Action.TheVariants as rust_action;
-ghost use Rattle.pc_run.specs.declared.state.Callee.TheVariants as callee;
+ghost use Rattle.pc_machine.specs.declared.state.Callee.TheVariants as callee;
 
-use crate::names::is_same;
-use crate::state::Flow;
+use pc_machine::Flow;
 use pc_source::Place;
 use pc_tree::{Expr, KeywordArgument, Name};
 use pc_value::{Action, Value};
@@ -56,7 +57,7 @@ pub fn instance_test<'m>(
     if !by_name.is_empty() {
         return None;
     }
-    if !is_same(name.text.as_str(), "isinstance") {
+    if name.text.as_str() != "isinstance" {
         return None;
     }
     Some((name, &arguments[0], &arguments[1]))
@@ -72,7 +73,7 @@ pub fn range_call<'m>(e: &'m Expr) -> Option<(Place, &'m Name, &'m [Expr], &'m [
     let Expr::Name(name) = callee.as_ref() else {
         return None;
     };
-    if is_same(name.text.as_str(), "range") {
+    if name.text.as_str() == "range" {
         Some((*place, name, arguments, by_name))
     } else {
         None

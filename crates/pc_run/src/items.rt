@@ -1,16 +1,16 @@
 ghost use Rattle.std.specs.Prelude.{◌≡◌, ◌≤◌, ◌<◌, ◌++◌, ◌∷◌, ℕ, IfOk, OnOk, map, length, is_some};
 ghost use Rattle.pc_tree.specs.Tree.{literal_of, option_literal_of, option_name_of, param_of, member_of, class_of as class_def_of, item_of, module_of};
 ghost use Rattle.pc_value.specs.Meaning.{value_of};
-ghost use Rattle.pc_run.specs.Calls.{class_at};
-ghost use Rattle.pc_run.specs.Evaluation.{base_of, defaults_last, class_behind, fields_of, methods_of, ancestors_of, binds_global, binds_class};
+ghost use Rattle.pc_machine.specs.Calls.{class_at};
+ghost use Rattle.pc_machine.specs.Evaluation.{base_of, defaults_last, class_behind, fields_of, methods_of, ancestors_of, binds_global, binds_class};
 ghost use Rattle.pc_run.specs.Items.{items_in, item_in, class_made, has_value, have_values, member_has_values, members_have_values, members_made, base_seen};
-ghost use Rattle.pc_run.specs.Machine.{Tells, Comes, class_of, found_class, bound_of, parameter_of, method_of_def, literal_value, unit, progress_of, state_of};
-ghost use Rattle.pc_run.specs.Plain.{changed};
-ghost use Rattle.pc_run.specs.Runs.{plain_module};
+ghost use Rattle.pc_machine.specs.Machine.{Tells, Comes, class_of, found_class, bound_of, parameter_of, method_of_def, literal_value, unit, progress_of, state_of};
+ghost use Rattle.pc_machine.specs.Plain.{changed};
+ghost use Rattle.pc_machine.specs.Runs.{plain_module};
 
-use crate::halt::{Halt, Stop};
-use crate::machine::{Machine, raised};
-use crate::state::{Bound, Class, Global, Meaning, Parameter};
+use crate::evaluate::eval;
+use crate::running::enter_main;
+use pc_machine::{Bound, Class, Global, Halt, Machine, Meaning, Parameter, Stop, raised};
 use pc_source::OutOfMemory;
 use pc_tree::{
     ClassDef, FuncDef, Item, ItemKind, Literal, LiteralKind, Member, Module, Name, Param,
@@ -188,142 +188,152 @@ fn methods<'m>(
     Ok(methods)
 }
 
-impl<'m> Machine<'m> {
-    /// The number of the base of a class, if it names one: a class that was made.
-    fn find_base(&self, base: &Option<Name>) -> Result<Option<usize>, Halt>
-        ensures { Comes base_seen result (base_of (option_name_of base.now) (state_of self.now)) }
-    {
-        let Some(name) = base else {
-            return Ok(None);
-        };
-        match self.meaning(name.text.as_str()) {
-            Meaning::Value(_) => Err(Halt::Stopped(Stop::Outside)),
-            Meaning::Unbound => Err(Halt::Stopped(Stop::Outside)),
-            Meaning::Function(_) => Err(Halt::Stopped(Stop::Outside)),
-            Meaning::Class(class) => Ok(Some(class)),
-            Meaning::Reserved => Err(Halt::Stopped(Stop::Outside)),
-            Meaning::Nothing => Err(raised(Exception::NameError)),
-        }
+/// The number of the base of a class, if it names one: a class that was made.
+fn find_base<'m>(machine: &Machine<'m>, base: &Option<Name>) -> Result<Option<usize>, Halt>
+    ensures { Comes base_seen result (base_of (option_name_of base.now) (state_of machine.now)) }
+{
+    let Some(name) = base else {
+        return Ok(None);
+    };
+    match machine.meaning(name.text.as_str()) {
+        Meaning::Value(_) => Err(Halt::Stopped(Stop::Outside)),
+        Meaning::Unbound => Err(Halt::Stopped(Stop::Outside)),
+        Meaning::Function(_) => Err(Halt::Stopped(Stop::Outside)),
+        Meaning::Class(class) => Ok(Some(class)),
+        Meaning::Reserved => Err(Halt::Stopped(Stop::Outside)),
+        Meaning::Nothing => Err(raised(Exception::NameError)),
     }
+}
 
-    /// The class that comes next, behind its base. Language Reference 8.8 "Class definitions".
-    fn class_behind(
-        &self,
-        alloc: Allocator,
-        base: Option<usize>,
-        members: &'m [Member],
-    ) -> Result<Class<'m>, OutOfMemory>
-        ensures { IfOk result (λ c. class_of c ≡ class_behind (class_at (state_of self.now).classes base) (members_made (map member_of members.now)) (length (state_of self.now).classes)) }
-    {
-        let base = match base {
-            Some(number) => self.classes.get(number),
-            None => None,
-        };
-        Ok(Class {
-            ancestors: ancestors(alloc, self.classes.len(), base)?,
-            fields: fields(alloc, base, members)?,
-            methods: methods(alloc, base, members)?,
-        })
+/// The class that comes next, behind its base. Language Reference 8.8 "Class definitions".
+fn class_behind<'m>(
+    machine: &Machine<'m>,
+    alloc: Allocator,
+    base: Option<usize>,
+    members: &'m [Member],
+) -> Result<Class<'m>, OutOfMemory>
+    ensures { IfOk result (λ c. class_of c ≡ class_behind (class_at (state_of machine.now).classes base) (members_made (map member_of members.now)) (length (state_of machine.now).classes)) }
+{
+    let base = match base {
+        Some(number) => machine.classes.get(number),
+        None => None,
+    };
+    Ok(Class {
+        ancestors: ancestors(alloc, machine.classes.len(), base)?,
+        fields: fields(alloc, base, members)?,
+        methods: methods(alloc, base, members)?,
+    })
+}
+
+/// The module binds a name.
+fn bind_global<'m>(
+    machine: &mut Machine<'m>,
+    name: &'m str,
+    bound: Bound<'m>,
+) -> Result<(), OutOfMemory>
+    ensures plain { OnOk result (progress_of machine.new ≡ changed (binds_global name.now (bound_of bound.entry)) (progress_of machine.old)) }
+    ensures fuel { machine.new.fuel ≡ machine.old.fuel }
+{
+    match machine.globals.push(Global { name, bound }) {
+        Ok(()) => Ok(()),
+        Err(_) => Err(OutOfMemory),
     }
+}
 
-    /// The module binds a name.
-    fn bind_global(&mut self, name: &'m str, bound: Bound<'m>) -> Result<(), OutOfMemory>
-        ensures plain { OnOk result (progress_of self.new ≡ changed (binds_global name.now (bound_of bound.entry)) (progress_of self.old)) }
-        ensures fuel { self.new.fuel ≡ self.old.fuel }
-    {
-        match self.globals.push(Global { name, bound }) {
-            Ok(()) => Ok(()),
-            Err(_) => Err(OutOfMemory),
-        }
+/// The module binds a name to a class that was made.
+fn bind_class<'m>(
+    machine: &mut Machine<'m>,
+    name: &'m str,
+    class: Class<'m>,
+) -> Result<(), OutOfMemory>
+    ensures plain { OnOk result (progress_of machine.new ≡ changed (binds_class name.now (class_of class.entry)) (progress_of machine.old)) }
+    ensures fuel { machine.new.fuel ≡ machine.old.fuel }
+{
+    let number = machine.classes.len();
+    match machine.classes.push(class) {
+        Ok(()) => bind_global(machine, name, Bound::Class(number)),
+        Err(_) => Err(OutOfMemory),
     }
+}
 
-    /// The module binds a name to a class that was made.
-    fn bind_class(&mut self, name: &'m str, class: Class<'m>) -> Result<(), OutOfMemory>
-        ensures plain { OnOk result (progress_of self.new ≡ changed (binds_class name.now (class_of class.entry)) (progress_of self.old)) }
-        ensures fuel { self.new.fuel ≡ self.old.fuel }
-    {
-        let number = self.classes.len();
-        match self.classes.push(class) {
-            Ok(()) => self.bind_global(name, Bound::Class(number)),
-            Err(_) => Err(OutOfMemory),
-        }
+/// A class is made: `@dataclass`, the base, the defaults, the order of its fields.
+fn make_class<'m>(
+    machine: &mut Machine<'m>,
+    alloc: Allocator,
+    imports_dataclass: bool,
+    class: &'m ClassDef,
+) -> Result<(), Halt>
+    ensures plain { Tells unit result machine.new (class_made imports_dataclass (class_def_of class.now) (progress_of machine.old)) }
+    ensures fuel { machine.new.fuel ≤ machine.old.fuel }
+{
+    if !imports_dataclass {
+        return Err(raised(Exception::NameError));
     }
-
-    /// A class is made: `@dataclass`, the base, the defaults, the order of its fields.
-    fn make_class(
-        &mut self,
-        alloc: Allocator,
-        imports_dataclass: bool,
-        class: &'m ClassDef,
-    ) -> Result<(), Halt>
-        ensures plain { Tells unit result self.new (class_made imports_dataclass (class_def_of class.now) (progress_of self.old)) }
-        ensures fuel { self.new.fuel ≤ self.old.fuel }
-    {
-        if !imports_dataclass {
-            return Err(raised(Exception::NameError));
-        }
-        let base = self.find_base(&class.base)?;
-        if !members_have_values(&class.members) {
-            return Err(Halt::Stopped(Stop::Cut));
-        }
-        let made = self.class_behind(alloc, base, &class.members)?;
-        if !defaults_last(&made.fields) {
-            return Err(raised(Exception::TypeError));
-        }
-        self.bind_class(class.name.text.as_str(), made)?;
-        Ok(())
+    let base = find_base(machine, &class.base)?;
+    if !members_have_values(&class.members) {
+        return Err(Halt::Stopped(Stop::Cut));
     }
+    let made = class_behind(machine, alloc, base, &class.members)?;
+    if !defaults_last(&made.fields) {
+        return Err(raised(Exception::TypeError));
+    }
+    bind_class(machine, class.name.text.as_str(), made)?;
+    Ok(())
+}
 
-    /// A constant, a class or a def runs.
-    fn run_item(
-        &mut self,
-        alloc: Allocator,
-        imports_dataclass: bool,
-        item: &'m Item,
-    ) -> Result<(), Halt>
-        ensures plain { (n : ℕ) → self.old.fuel < n → Tells unit result self.new (item_in n imports_dataclass (item_of item.now) (progress_of self.old)) }
-        ensures fuel { self.new.fuel ≤ self.old.fuel }
-    {
-        match &item.kind {
-            ItemKind::Constant(constant) => {
-                self.charge()?;
-                let value = self.eval(alloc, &constant.value)?;
-                self.bind_global(constant.name.text.as_str(), Bound::Value(value))?;
-                Ok(())
+/// A constant, a class or a def runs.
+fn run_item<'m>(
+    machine: &mut Machine<'m>,
+    alloc: Allocator,
+    imports_dataclass: bool,
+    item: &'m Item,
+) -> Result<(), Halt>
+    ensures plain { (n : ℕ) → machine.old.fuel < n → Tells unit result machine.new (item_in n imports_dataclass (item_of item.now) (progress_of machine.old)) }
+    ensures fuel { machine.new.fuel ≤ machine.old.fuel }
+{
+    match &item.kind {
+        ItemKind::Constant(constant) => {
+            machine.charge()?;
+            let value = eval(machine, alloc, &constant.value)?;
+            bind_global(machine, constant.name.text.as_str(), Bound::Value(value))?;
+            Ok(())
+        }
+        ItemKind::Class(class) => make_class(machine, alloc, imports_dataclass, class),
+        ItemKind::Def(def) => {
+            if !have_values(&def.params) {
+                return Err(Halt::Stopped(Stop::Cut));
             }
-            ItemKind::Class(class) => self.make_class(alloc, imports_dataclass, class),
-            ItemKind::Def(def) => {
-                if !have_values(&def.params) {
-                    return Err(Halt::Stopped(Stop::Cut));
-                }
-                self.bind_global(def.name.text.as_str(), Bound::Function(def))?;
-                Ok(())
-            }
+            bind_global(machine, def.name.text.as_str(), Bound::Function(def))?;
+            Ok(())
         }
     }
+}
 
-    /// The items, in the order of the text.
-    fn run_items(
-        &mut self,
-        alloc: Allocator,
-        imports_dataclass: bool,
-        items: &'m [Item],
-    ) -> Result<(), Halt>
-        ensures plain { (n : ℕ) → self.old.fuel < n → Tells unit result self.new (items_in n imports_dataclass (map item_of items.now) (progress_of self.old)) }
-        ensures fuel { self.new.fuel ≤ self.old.fuel }
-    {
-        for item in items {
-            self.run_item(alloc, imports_dataclass, item)?;
-        }
-        Ok(())
+/// The items, in the order of the text.
+fn run_items<'m>(
+    machine: &mut Machine<'m>,
+    alloc: Allocator,
+    imports_dataclass: bool,
+    items: &'m [Item],
+) -> Result<(), Halt>
+    ensures plain { (n : ℕ) → machine.old.fuel < n → Tells unit result machine.new (items_in n imports_dataclass (map item_of items.now) (progress_of machine.old)) }
+    ensures fuel { machine.new.fuel ≤ machine.old.fuel }
+{
+    for item in items {
+        run_item(machine, alloc, imports_dataclass, item)?;
     }
+    Ok(())
+}
 
-    /// The items, and then `main` is entered.
-    pub fn run_module(&mut self, alloc: Allocator, program: &'m Module) -> Result<Value, Halt>
-        ensures plain { (n : ℕ) → self.old.fuel < n → Tells value_of result self.new (plain_module n (module_of program.now) (progress_of self.old)) }
-        ensures fuel { self.new.fuel ≤ self.old.fuel }
-    {
-        self.run_items(alloc, program.imports_dataclass, &program.items)?;
-        self.enter_main(alloc)
-    }
+/// The items, and then `main` is entered.
+pub fn run_module<'m>(
+    machine: &mut Machine<'m>,
+    alloc: Allocator,
+    program: &'m Module,
+) -> Result<Value, Halt>
+    ensures plain { (n : ℕ) → machine.old.fuel < n → Tells value_of result machine.new (plain_module n (module_of program.now) (progress_of machine.old)) }
+    ensures fuel { machine.new.fuel ≤ machine.old.fuel }
+{
+    run_items(machine, alloc, program.imports_dataclass, &program.items)?;
+    enter_main(machine, alloc)
 }

@@ -1,22 +1,15 @@
-//! What running a module means, and a tracer that follows it.
+//! A tracer: it follows the plain run of a module, and gives its events and its end.
 #![tactic(auto)]
 
-mod calls;
 mod collecting;
-mod depth;
 mod evaluate;
 mod forms;
-mod halt;
 mod items;
-mod laws;
-mod look_up;
-mod machine;
-mod names;
-mod perform;
 mod running;
-mod state;
+#[cfg(test)]
+mod tests;
 mod trace;
 
-pub use laws::plain_runs_are_runs;
+pub use pc_machine::plain_runs_are_runs;
 pub use running::run;
 pub use trace::{End, Trace, trace_text};

@@ -2,19 +2,19 @@ ghost use Rattle.std.specs.Prelude.{◌≡◌, ◌≤◌, ◌<◌, ℕ, IfOk};
 ghost use Rattle.pc_tree.specs.Tree.{module_of};
 ghost use Rattle.pc_value.specs.Value.{Value as ValueOf};
 ghost use Rattle.pc_value.specs.Meaning.{value_of};
-ghost use Rattle.pc_run.specs.Plain.{begin, After};
-ghost use Rattle.pc_run.specs.Runs.{stopped, Leaves, PlainRun};
+ghost use Rattle.pc_machine.specs.Plain.{After};
+ghost use Rattle.pc_machine.specs.Runs.{stopped, Leaves, PlainRun};
 ghost use Rattle.pc_run.specs.Traces.{end_of_rust};
 ghost use Rattle.pc_run.specs.Entering.{main_entered};
-ghost use Rattle.pc_run.specs.Machine.{Tells, progress_of, stop_of};
+ghost use Rattle.pc_machine.specs.Machine.{Tells, progress_of, stop_of};
 
-use crate::depth::Depth;
-use crate::halt::{Halt, Stop};
-use crate::machine::Machine;
+use crate::evaluate::call;
+use crate::items::run_module;
 use crate::trace::{End, Trace};
+use pc_machine::{Halt, Machine, Stop};
 use pc_source::OutOfMemory;
 use pc_tree::Module;
-use pc_value::{Exception, Heap, Value};
+use pc_value::{Exception, Value};
 use std::alloc::Global as Allocator;
 
 /// How a run that was stopped ends.
@@ -32,31 +32,13 @@ fn end_of_stop(stop: Stop) -> End
     }
 }
 
-impl<'m> Machine<'m> {
-    /// Before the first item: nothing is bound.
-    pub fn begin(alloc: Allocator, fuel: u64, choices: &'m [u8]) -> Machine<'m>
-        ensures { progress_of result ≡ begin fuel choices.now }
-    {
-        Machine {
-            classes: Vec::new(alloc),
-            globals: Vec::new(alloc),
-            frame: Vec::new(alloc),
-            heap: Heap::new(alloc),
-            events: Vec::new(alloc),
-            fuel,
-            choices,
-            depth: Depth { calls: 0 },
-        }
-    }
-
-    /// `main` is entered, without an event.
-    pub fn enter_main(&mut self, alloc: Allocator) -> Result<Value, Halt>
-        ensures plain { (n : ℕ) → self.old.fuel < n → Tells value_of result self.new (main_entered n (progress_of self.old)) }
-        ensures fuel { self.new.fuel ≤ self.old.fuel }
-    {
-        let called = self.look_up_callee(alloc, "main")?;
-        self.call(alloc, called, &[], &[])
-    }
+/// `main` is entered, without an event.
+pub fn enter_main<'m>(machine: &mut Machine<'m>, alloc: Allocator) -> Result<Value, Halt>
+    ensures plain { (n : ℕ) → machine.old.fuel < n → Tells value_of result machine.new (main_entered n (progress_of machine.old)) }
+    ensures fuel { machine.new.fuel ≤ machine.old.fuel }
+{
+    let called = machine.look_up_callee(alloc, "main")?;
+    call(machine, alloc, called, &[], &[])
 }
 
 /// The trace of a run that came to its end.
@@ -97,6 +79,6 @@ pub fn run(
         });
     }
     let mut machine = Machine::begin(alloc, fuel, choices);
-    let ended = machine.run_module(alloc, program);
+    let ended = run_module(&mut machine, alloc, program);
     trace_of(machine, ended)
 }

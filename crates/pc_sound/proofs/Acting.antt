@@ -9,9 +9,9 @@ use Rattle.pc_value.specs.Value.{Value, Stop, Out, Stops, Raised, Other, Outside
 use Rattle.pc_value.specs.Actions as action
 use Rattle.pc_value.specs.Actions.{Action, Outcome, Free}
 use Rattle.pc_value.specs.Outcomes.{acted}
-use Rattle.pc_run.specs.State.{State}
-use Rattle.pc_run.specs.Steps.{value_out}
-use Rattle.pc_run.specs.Free.{act}
+use Rattle.pc_machine.specs.State.{State}
+use Rattle.pc_machine.specs.Steps.{value_out}
+use Rattle.pc_machine.specs.Free.{act}
 use Rattle.pc_sound.specs.Values.{HeapTyping, HasType, IsWell}
 use Rattle.pc_sound.specs.Kept.{OutcomeHas, ActsWell}
 use Rattle.pc_sound.specs.Judgment.{HasListed, EndsWell, Around, Stands, Keeps, IsSafe}

@@ -12,8 +12,8 @@ use Rattle.pc_scope.specs.Resolution.{entry_texts, local_of, or_else, builtin_re
 use Rattle.pc_scope.proofs.Unbound.{is_none_of}
 use Rattle.pc_types.specs.Tree.{Tree}
 use Rattle.pc_check.specs.Modules.{Labelling, constant_types}
-use Rattle.pc_run.specs.Free.{Step, free}
-use Rattle.pc_run.specs.Evaluation.{eval_node, steps}
+use Rattle.pc_machine.specs.Free.{Step, free}
+use Rattle.pc_machine.specs.Evaluation.{eval_node, steps}
 use Rattle.pc_sound.proofs.Expressions.{GoodEval}
 use Rattle.pc_sound.proofs.Conditions.{decides_over, steps_read}
 use Rattle.pc_sound.proofs.Places.{steps_evaluate}

@@ -11,9 +11,9 @@ use Rattle.pc_expr.specs.Calls.{Seat}
 use Rattle.pc_expr.specs.Labels.{ItemsMarks, KeywordsMarks, mark_of, type_of, ItemsFind, ArgumentsFind, KeywordsFind}
 use Rattle.pc_expr.specs.Lawful.{LawfulItems, LawfulKeywords, keyword_seat}
 use Rattle.pc_value.specs.Value.{Value, Gives}
-use Rattle.pc_run.specs.Calls.{NamedValue}
-use Rattle.pc_run.specs.Evaluation.{eval_all, eval_keywords}
-use Rattle.pc_run.specs.Free.{Step, free}
+use Rattle.pc_machine.specs.Calls.{NamedValue}
+use Rattle.pc_machine.specs.Evaluation.{eval_all, eval_keywords}
+use Rattle.pc_machine.specs.Free.{Step, free}
 use Rattle.pc_sound.specs.Values.{HeapTyping, HasType, Extends}
 use Rattle.pc_sound.specs.Judgment.{Around, IsSafe, Fits}
 use Rattle.pc_sound.proofs.ValuesFlow.{later}

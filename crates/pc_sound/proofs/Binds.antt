@@ -10,8 +10,8 @@ use Rattle.pc_scope.specs.Reserved.{builtin_of}
 use Rattle.pc_scope.specs.Bindings.{constants_in, classes_in, functions_in}
 use Rattle.pc_scope.specs.Resolution.{bound_first, or_else, builtin_res, resolve_in_module}
 use Rattle.pc_value.specs.Texts.{same_text}
-use Rattle.pc_run.specs.State.{Global, Globals, Bound}
-use Rattle.pc_run.specs.Names.{global_of}
+use Rattle.pc_machine.specs.State.{Global, Globals, Bound}
+use Rattle.pc_machine.specs.Names.{global_of}
 
 some_inj : {A : Type 0} {x y : A} → Some x ≡ Some y → x ≡ y
 some_inj e = grind arith

@@ -24,11 +24,12 @@ use Rattle.pc_expr.specs.Calls.{given, called, function_offer, class_signature, 
 use Rattle.pc_expr.specs.Labels.{Marks, mark_of, type_of, with_mark, item_types, Finds, ItemsFind}
 use Rattle.pc_expr.specs.Lawful.{Lawful, LawfulItems, LawfulKeywords, callee_of, is_length, is_length_of_one}
 use Rattle.pc_value.specs.Value.{Gives}
-use Rattle.pc_run.specs.Names.{meaning_of_global, is_reserved}
-use Rattle.pc_run.specs.Calls.{calls_value}
-use Rattle.pc_run.specs.Steps.{Parts}
-use Rattle.pc_run.specs.Free.{Step, ◌>>=◌, comes, Emits, free}
-use Rattle.pc_run.specs.Evaluation.{ordinary, eval_call, eval_node, eval_all, eval_keywords, call_callee}
+use Rattle.pc_machine.specs.Names.{meaning_of_global}
+use Rattle.pc_tree.specs.Stopping.{is_reserved}
+use Rattle.pc_machine.specs.Calls.{calls_value}
+use Rattle.pc_machine.specs.Steps.{Parts}
+use Rattle.pc_machine.specs.Free.{Step, ◌>>=◌, comes, Emits, free}
+use Rattle.pc_machine.specs.Evaluation.{ordinary, eval_call, eval_node, eval_all, eval_keywords, call_callee}
 use Rattle.pc_sound.specs.Values.{HasType}
 use Rattle.pc_sound.specs.Judgment.{Around, IsSafe, Fits}
 use Rattle.pc_sound.proofs.Keys.{Keyed}

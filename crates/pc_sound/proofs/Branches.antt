@@ -12,10 +12,10 @@ use Rattle.pc_flow.specs.Narrowing.{narrow}
 use Rattle.pc_expr.specs.Context.{Context}
 use Rattle.pc_check.specs.StatementLabels.{StmtMarks, SuiteMarks, BranchesMarks, breaks_in, breaks_in_suite, breaks_in_branches, ways_in}
 use Rattle.pc_check.specs.Statements.{Seen, LawfulStmt, LawfulSuite, LawfulBranches, StmtFinds, SuiteFinds, BranchesFind}
-use Rattle.pc_run.specs.State.{State, Frame}
-use Rattle.pc_run.specs.Steps.{Parts, Flow, next, breaking, continuing, leaves}
-use Rattle.pc_run.specs.Free.{Step, free}
-use Rattle.pc_run.specs.Evaluation.{exec_node, exec_branches}
+use Rattle.pc_machine.specs.State.{State, Frame}
+use Rattle.pc_machine.specs.Steps.{Parts, Flow, next, breaking, continuing, leaves}
+use Rattle.pc_machine.specs.Free.{Step, free}
+use Rattle.pc_machine.specs.Evaluation.{exec_node, exec_branches}
 use Rattle.pc_sound.specs.Values.{HeapTyping}
 use Rattle.pc_sound.specs.Kept.{HasLocals}
 use Rattle.pc_sound.specs.Judgment.{Around, Stands, Fits, Leads, At, Ways, Reaches, FlowEnds, Lasts}

@@ -17,12 +17,12 @@ use Rattle.pc_value.specs.Value as value
 use Rattle.pc_value.specs.Value.{Value, Gives, location, list_cell, Heap, seen, class_of, class_seen}
 use Rattle.pc_value.specs.Actions as action
 use Rattle.pc_value.specs.Containers.{last_of, pop_from, pop_outcome}
-use Rattle.pc_run.specs.State.{State}
-use Rattle.pc_run.specs.Calls as run
-use Rattle.pc_run.specs.Calls.{Callee, calls_builtin_method, BuiltinMethod, list_append, list_pop, dict_get, builtin_method_of, callee_of_method, method_of_class, class_at, named_method, NamedValue}
-use Rattle.pc_run.specs.Steps.{Parts, value_out}
-use Rattle.pc_run.specs.Evaluation.{call_callee}
-use Rattle.pc_run.specs.Free.{Step, free, act}
+use Rattle.pc_machine.specs.State.{State}
+use Rattle.pc_machine.specs.Calls as run
+use Rattle.pc_machine.specs.Calls.{Callee, calls_builtin_method, BuiltinMethod, list_append, list_pop, dict_get, builtin_method_of, callee_of_method, method_of_class, class_at, named_method, NamedValue}
+use Rattle.pc_machine.specs.Steps.{Parts, value_out}
+use Rattle.pc_machine.specs.Evaluation.{call_callee}
+use Rattle.pc_machine.specs.Free.{Step, free, act}
 use Rattle.pc_sound.specs.Values.{HeapTyping, HasType, Extends, a_list, AllHave, IsWell}
 use Rattle.pc_sound.specs.Kept.{OutcomeHas, ActsWell}
 use Rattle.pc_sound.specs.Judgment.{Around, EndsWell, IsSafe}

@@ -28,10 +28,10 @@ use Rattle.pc_value.specs.Actions.{Free}
 use Rattle.pc_value.specs.Containers.{length_outcome}
 use Rattle.pc_value.specs.Operators.{text_outcome}
 use Rattle.pc_value.specs.Texts.{same_text}
-use Rattle.pc_run.specs.Calls.{calls_reserved, callee_of_meaning, NamedValue, ReservedCall, prints, performs, reserved_call}
-use Rattle.pc_run.specs.Steps.{Parts, value_out}
-use Rattle.pc_run.specs.Evaluation.{instance_test, ordinary, call_form, eval_callee, eval_node, eval_call, call_callee, do_reserved}
-use Rattle.pc_run.specs.Free.{Step, free}
+use Rattle.pc_machine.specs.Calls.{calls_reserved, callee_of_meaning, NamedValue, ReservedCall, prints, performs, reserved_call}
+use Rattle.pc_machine.specs.Steps.{Parts, value_out}
+use Rattle.pc_machine.specs.Evaluation.{instance_test, ordinary, call_form, eval_callee, eval_node, eval_call, call_callee, do_reserved}
+use Rattle.pc_machine.specs.Free.{Step, free}
 use Rattle.pc_sound.specs.Values.{HeapTyping, HasType, IsWell}
 use Rattle.pc_sound.specs.Judgment.{Around, EndsWell, IsSafe, Fits}
 use Rattle.pc_sound.proofs.Steps.{Stays, bind_safe, comes_safe, looks_safe, act_safe, may_stop_safe, emits_safe, weaken}

@@ -20,12 +20,12 @@ use Rattle.pc_expr.specs.Calls.{Given, given, is_suited, Seat, called, fails_at_
 use Rattle.pc_expr.specs.Labels.{ItemsMarks, KeywordsMarks, ItemsFind, KeywordsFind, IsFoundAt}
 use Rattle.pc_expr.specs.Lawful.{LawfulItems, LawfulKeywords}
 use Rattle.pc_value.specs.Value.{Value}
-use Rattle.pc_run.specs.State.{State, Function, Class, Globals}
-use Rattle.pc_run.specs.Names.{means_class, means_function, meaning}
-use Rattle.pc_run.specs.Calls.{Callee, calls_value, calls_function, calls_class, calls_reserved, calls_method, calls_builtin_method, callee_of_meaning, NamedValue}
-use Rattle.pc_run.specs.Steps.{Parts}
-use Rattle.pc_run.specs.Free.{Step, ◌>>=◌, Emits, free}
-use Rattle.pc_run.specs.Evaluation.{eval_callee, eval_all, eval_keywords, call_callee, call_class}
+use Rattle.pc_machine.specs.State.{State, Function, Class, Globals}
+use Rattle.pc_machine.specs.Names.{means_class, means_function, meaning}
+use Rattle.pc_machine.specs.Calls.{Callee, calls_value, calls_function, calls_class, calls_reserved, calls_method, calls_builtin_method, callee_of_meaning, NamedValue}
+use Rattle.pc_machine.specs.Steps.{Parts}
+use Rattle.pc_machine.specs.Free.{Step, ◌>>=◌, Emits, free}
+use Rattle.pc_machine.specs.Evaluation.{eval_callee, eval_all, eval_keywords, call_callee, call_class}
 use Rattle.pc_sound.specs.Values.{HeapTyping, HasType, Extends}
 use Rattle.pc_sound.specs.Judgment.{EndsWell, Around, Stands, IsSafe, Fits}
 use Rattle.pc_sound.proofs.Steps.{Stays, bind_safe, looks_safe, emits_safe, may_stop_safe, weaken}

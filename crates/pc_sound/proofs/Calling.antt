@@ -15,12 +15,12 @@ use Rattle.pc_class.specs.Facts.{Parameter, parameters_of, returned, classes_of,
 use Rattle.pc_flow.specs.Environment.{Env}
 use Rattle.pc_value.specs.Value.{Value, Stop, Out, Gives, Stops}
 use Rattle.pc_value.specs.Actions as action
-use Rattle.pc_run.specs.State.{State, Frame, Local, Function, Class, Globals}
-use Rattle.pc_run.specs.Names.{frame_of}
-use Rattle.pc_run.specs.Calls.{NamedValue, bound_arguments, suited, slot_before, slots_of, class_at as made_at}
-use Rattle.pc_run.specs.Steps.{Parts, Flow}
-use Rattle.pc_run.specs.Free.{Step, ◌>>=◌, Emits, enter, free}
-use Rattle.pc_run.specs.Evaluation.{call_function, call_method, call_class, value_of_flow, self_local, fields_of}
+use Rattle.pc_machine.specs.State.{State, Frame, Local, Function, Class, Globals}
+use Rattle.pc_machine.specs.Names.{frame_of}
+use Rattle.pc_machine.specs.Calls.{NamedValue, bound_arguments, suited, slot_before, slots_of, class_at as made_at}
+use Rattle.pc_machine.specs.Steps.{Parts, Flow}
+use Rattle.pc_machine.specs.Free.{Step, ◌>>=◌, Emits, enter, free}
+use Rattle.pc_machine.specs.Evaluation.{call_function, call_method, call_class, value_of_flow, self_local, fields_of}
 use Rattle.pc_sound.specs.Values.{HeapTyping, HasType, Extends, SlotsHave, IsWell}
 use Rattle.pc_sound.specs.Judgment.{HasListed, EndsWell, Around, Stands, Keeps, IsSafe, Leads, FlowEnds}
 use Rattle.pc_sound.proofs.ValuesFlow.{later, extends_refl}

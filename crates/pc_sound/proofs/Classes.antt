@@ -21,15 +21,16 @@ use Rattle.pc_class.specs.Facts as facts
 use Rattle.pc_class.specs.Facts.{Parameter, Method, inherited, classes_of, class_at, binds_field, binds_method, own_fields, own_methods}
 use Rattle.pc_class.specs.Findings.{base_class, method_made}
 use Rattle.pc_value.specs.Value.{Value, Gives, Stops, Raised, TypeError}
-use Rattle.pc_run.specs.State as state
-use Rattle.pc_run.specs.State.{State, Function, Class, a_class}
-use Rattle.pc_run.specs.Calls as run
-use Rattle.pc_run.specs.Calls.{is_ancestor}
-use Rattle.pc_run.specs.Names.{means_class, meaning, meaning_of_local, meaning_of_global, local_of, global_of, is_reserved}
-use Rattle.pc_run.specs.Steps.{Parts}
-use Rattle.pc_run.specs.Free.{Step, free}
-use Rattle.pc_run.specs.Evaluation as evaluation
-use Rattle.pc_run.specs.Evaluation.{make_members, exec_item, dataclass_found, binds_class, Members, fields_of, methods_of, ancestors_of, class_behind, all_with, defaults_last}
+use Rattle.pc_machine.specs.State as state
+use Rattle.pc_machine.specs.State.{State, Function, Class, a_class}
+use Rattle.pc_machine.specs.Calls as run
+use Rattle.pc_machine.specs.Calls.{is_ancestor}
+use Rattle.pc_machine.specs.Names.{means_class, meaning, meaning_of_local, meaning_of_global, local_of, global_of}
+use Rattle.pc_tree.specs.Stopping.{is_reserved}
+use Rattle.pc_machine.specs.Steps.{Parts}
+use Rattle.pc_machine.specs.Free.{Step, free}
+use Rattle.pc_machine.specs.Evaluation as evaluation
+use Rattle.pc_machine.specs.Evaluation.{make_members, exec_item, dataclass_found, binds_class, Members, fields_of, methods_of, ancestors_of, class_behind, all_with, defaults_last}
 use Rattle.pc_expr.specs.Signatures.{LawfulDefault}
 use Rattle.pc_check.specs.Modules.{MembersMarks, LawfulMembers, MembersFind, Before, ItemMarks, LawfulItem, ItemFinds}
 use Rattle.pc_sound.specs.Values.{HeapTyping}

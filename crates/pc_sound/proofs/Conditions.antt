@@ -24,12 +24,13 @@ use Rattle.pc_expr.specs.Calls.{given, length_mark, call_mark, is_object_or_any,
 use Rattle.pc_value.specs.Value as value
 use Rattle.pc_value.specs.Value.{Value, boolean, Stop, Out, Gives, Stops, Cut, Heap, is_true}
 use Rattle.pc_value.specs.Actions as action
-use Rattle.pc_run.specs.State.{State, Frame, Class}
-use Rattle.pc_run.specs.Names.{meaning, meaning_of_local, meaning_of_global, is_reserved, global_of, local_of}
-use Rattle.pc_run.specs.Calls.{value_of_meaning, Test, tests_int, tests_str, tests_bool, tests_class, test_of, passes}
-use Rattle.pc_run.specs.Steps.{Parts, value_out}
-use Rattle.pc_run.specs.Evaluation.{eval_node, eval_over, eval_call, instance_test, ordinary, call_form, steps, choose, is_nothing}
-use Rattle.pc_run.specs.Free.{Step, WentOn, ◌>>=◌, comes, may_stop, Emits, Looks, free}
+use Rattle.pc_machine.specs.State.{State, Frame, Class}
+use Rattle.pc_machine.specs.Names.{meaning, meaning_of_local, meaning_of_global, global_of, local_of}
+use Rattle.pc_tree.specs.Stopping.{is_reserved}
+use Rattle.pc_machine.specs.Calls.{value_of_meaning, Test, tests_int, tests_str, tests_bool, tests_class, test_of, passes}
+use Rattle.pc_machine.specs.Steps.{Parts, value_out}
+use Rattle.pc_machine.specs.Evaluation.{eval_node, eval_over, eval_call, instance_test, ordinary, call_form, steps, choose, is_nothing}
+use Rattle.pc_machine.specs.Free.{Step, WentOn, ◌>>=◌, comes, may_stop, Emits, Looks, free}
 use Rattle.pc_sound.specs.Values.{HeapTyping, HasType, IsWell}
 use Rattle.pc_sound.specs.Kept.{HasLocals, Passes, IsTestedType, CanFollow, CanFollowAll}
 use Rattle.pc_sound.specs.Judgment.{HasListed, IsAllowed, Around, Stands, Keeps, IsSafe, Fits, Tells, Leads}

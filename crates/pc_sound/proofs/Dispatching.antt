@@ -16,12 +16,12 @@ use Rattle.pc_class.specs.Overrides.{has_shape_of, Flow, parameter_flows, IsStat
 use Rattle.pc_flow.specs.Environment.{Env}
 use Rattle.pc_value.specs.Value.{Value, location, seen, class_seen}
 use Rattle.pc_value.specs.Texts.{same_text}
-use Rattle.pc_run.specs.State.{State, Function, Class, Globals}
-use Rattle.pc_run.specs.Calls.{calls_method, method_among, method_of_class, callee_of_method, named_method, builtin_method_of, NamedValue, bound_arguments}
-use Rattle.pc_run.specs.Calls as run
-use Rattle.pc_run.specs.Steps.{Parts}
-use Rattle.pc_run.specs.Free.{Step, free}
-use Rattle.pc_run.specs.Evaluation.{call_method}
+use Rattle.pc_machine.specs.State.{State, Function, Class, Globals}
+use Rattle.pc_machine.specs.Calls.{calls_method, method_among, method_of_class, callee_of_method, named_method, builtin_method_of, NamedValue, bound_arguments}
+use Rattle.pc_machine.specs.Calls as run
+use Rattle.pc_machine.specs.Steps.{Parts}
+use Rattle.pc_machine.specs.Free.{Step, free}
+use Rattle.pc_machine.specs.Evaluation.{call_method}
 use Rattle.pc_sound.specs.Values.{HeapTyping, HasType, Extends, IsWell}
 use Rattle.pc_sound.specs.Judgment.{IsSafe}
 use Rattle.pc_sound.proofs.ValuesFlow.{of_static}

@@ -19,9 +19,9 @@ use Rattle.pc_expr.specs.Lawful.{Lawful, LawfulItems, LawfulEntries, KeyValue, l
 use Rattle.pc_value.specs.Value.{Value, Entry, Gives, tuple_of, values_of}
 use Rattle.pc_value.specs.Actions as action
 use Rattle.pc_value.specs.Outcomes.{acted}
-use Rattle.pc_run.specs.Steps.{Parts}
-use Rattle.pc_run.specs.Evaluation.{eval_all, eval_entries, eval_node}
-use Rattle.pc_run.specs.Free.{Step, free}
+use Rattle.pc_machine.specs.Steps.{Parts}
+use Rattle.pc_machine.specs.Evaluation.{eval_all, eval_entries, eval_node}
+use Rattle.pc_machine.specs.Free.{Step, free}
 use Rattle.pc_sound.specs.Values.{HeapTyping, HasType, HaveTypes, AllHave, EntriesHave, Extends}
 use Rattle.pc_sound.specs.Kept.{ActsWell}
 use Rattle.pc_sound.specs.Judgment.{Around, IsSafe, Fits}

@@ -24,11 +24,11 @@ use Rattle.pc_check.specs.StatementLabels.{breaks_in_suite}
 use Rattle.pc_expr.specs.Labels.{IsCodeAt}
 use Rattle.pc_check.specs.Modules.{entries_of, names_entered, entry_env, ReturnsWell, leaves as never_completes, may_complete, may_not}
 use Rattle.pc_value.specs.Value.{none, Out}
-use Rattle.pc_run.specs.State.{State, Frame, Local, Function}
-use Rattle.pc_run.specs.Names.{names_bound, unbound, frame_of}
-use Rattle.pc_run.specs.Steps.{Flow, next, breaking, continuing, leaves}
-use Rattle.pc_run.specs.Free.{Step, enter}
-use Rattle.pc_run.specs.Evaluation.{value_of_flow}
+use Rattle.pc_machine.specs.State.{State, Frame, Local, Function}
+use Rattle.pc_machine.specs.Names.{names_bound, unbound, frame_of}
+use Rattle.pc_machine.specs.Steps.{Flow, next, breaking, continuing, leaves}
+use Rattle.pc_machine.specs.Free.{Step, enter}
+use Rattle.pc_machine.specs.Evaluation.{value_of_flow}
 use Rattle.pc_sound.specs.Values.{HeapTyping, HasType, IsWell}
 use Rattle.pc_sound.specs.Judgment.{HasListed, Around, Stands, Keeps, IsSafe, Fits, Goes, Leads, At, Ways, FlowEnds, IsLocal, Lasts}
 use Rattle.pc_sound.proofs.ValuesFlow.{of_static}

@@ -18,8 +18,8 @@ use Rattle.pc_check.specs.Modules.{DeclaredEntry, LawfulEntry, entered, entry_en
 use Rattle.pc_check.specs.Statements.{Seen}
 use Rattle.pc_value.specs.Value.{Value}
 use Rattle.pc_value.specs.Texts.{same_text}
-use Rattle.pc_run.specs.State.{Local, Frame}
-use Rattle.pc_run.specs.Names.{names_bound, names_bound_by, names_bound_in, unbound, local_of}
+use Rattle.pc_machine.specs.State.{Local, Frame}
+use Rattle.pc_machine.specs.Names.{names_bound, names_bound_by, names_bound_in, unbound, local_of}
 use Rattle.pc_sound.specs.Values.{HeapTyping, HasType}
 use Rattle.pc_sound.specs.Kept.{HasLocal, HasLocals}
 use Rattle.pc_sound.specs.Judgment.{IsHeld, HasNames}

@@ -23,9 +23,9 @@ use Rattle.pc_class.specs.Overrides.{Judges, static, dynamic, wrong}
 use Rattle.pc_expr.specs.Labels.{IsCodeAt}
 use Rattle.pc_expr.specs.Signatures.{body_context}
 use Rattle.pc_check.specs.Modules.{ItemsMarks, MembersMarks, LawfulMembers, MembersFind, LawfulItems, ItemsFind, Before, before_next, nothing_before, constant_types, Labelling, IsLawful, IsFinding}
-use Rattle.pc_run.specs.Free.{Step, free}
-use Rattle.pc_run.specs.Evaluation.{steps}
-use Rattle.pc_run.specs.Runs.{Run, End, IsFault}
+use Rattle.pc_machine.specs.Free.{Step, free}
+use Rattle.pc_machine.specs.Evaluation.{steps}
+use Rattle.pc_machine.specs.Runs.{Run, End, IsFault}
 use Rattle.pc_sound.specs.Sound.{HasNoError, HasEvaluated}
 use Rattle.pc_sound.proofs.Keys.{IsKeyed, Keyed}
 use Rattle.pc_sound.proofs.TimelyBodies.{NamesTimely}

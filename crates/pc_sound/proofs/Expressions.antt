@@ -16,9 +16,9 @@ use Rattle.pc_value.specs.Value as value
 use Rattle.pc_value.specs.Value.{Value, Out, Gives, Stops, boolean, string, is_true}
 use Rattle.pc_value.specs.Actions as action
 use Rattle.pc_value.specs.Numbers.{number_of_digits}
-use Rattle.pc_run.specs.Steps.{Parts, value_out}
-use Rattle.pc_run.specs.Evaluation.{eval_node, is_nothing}
-use Rattle.pc_run.specs.Free.{Step, free}
+use Rattle.pc_machine.specs.Steps.{Parts, value_out}
+use Rattle.pc_machine.specs.Evaluation.{eval_node, is_nothing}
+use Rattle.pc_machine.specs.Free.{Step, free}
 use Rattle.pc_sound.specs.Values.{HeapTyping, HasType}
 use Rattle.pc_sound.specs.Judgment.{IsAllowed, Around, IsSafe}
 use Rattle.pc_sound.proofs.Keys.{Keyed}

@@ -20,9 +20,9 @@ use Rattle.pc_value.specs.Actions as action
 use Rattle.pc_value.specs.Texts.{same_text}
 use Rattle.pc_value.specs.Containers.{placed}
 use Rattle.pc_value.specs.Attributes.{field_value, with_field, field_outcome, attribute_outcome, store_field, store_attribute_outcome}
-use Rattle.pc_run.specs.Steps.{Parts, value_out}
-use Rattle.pc_run.specs.Evaluation.{eval_node}
-use Rattle.pc_run.specs.Free.{Step, free}
+use Rattle.pc_machine.specs.Steps.{Parts, value_out}
+use Rattle.pc_machine.specs.Evaluation.{eval_node}
+use Rattle.pc_machine.specs.Free.{Step, free}
 use Rattle.pc_sound.specs.Values.{HeapTyping, HasType, a_class, SlotsHave, IsWell}
 use Rattle.pc_sound.specs.Kept.{ActsWell}
 use Rattle.pc_sound.specs.Judgment.{EndsWell, Around, IsSafe, Fits}

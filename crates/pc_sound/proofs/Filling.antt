@@ -13,9 +13,9 @@ use Rattle.pc_class.specs.Facts.{Parameter, field_of}
 use Rattle.pc_expr.specs.Calls.{once_each, position_of, is_free, are_filled, parameter_names}
 use Rattle.pc_value.specs.Value.{Value}
 use Rattle.pc_value.specs.Texts.{same_text}
-use Rattle.pc_run.specs.State as state
-use Rattle.pc_run.specs.State.{Local}
-use Rattle.pc_run.specs.Calls.{NamedValue, value_named, is_parameter, are_parameters, first_some, taken, and_others, filled, bound_arguments}
+use Rattle.pc_machine.specs.State as state
+use Rattle.pc_machine.specs.State.{Local}
+use Rattle.pc_machine.specs.Calls.{NamedValue, value_named, is_parameter, are_parameters, first_some, taken, and_others, filled, bound_arguments}
 use Rattle.pc_sound.specs.Values.{HeapTyping, HasType}
 use Rattle.pc_sound.proofs.Entry.{ParametersHave}
 use Rattle.pc_sound.proofs.World.{DefaultHas, DefaultsHave}

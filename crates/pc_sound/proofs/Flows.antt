@@ -15,8 +15,8 @@ use Rattle.pc_expr.specs.Context.{Context, Flows, static, dynamic, wrong, FlowUn
 use Rattle.pc_expr.specs.Labels.{Marks, mark_of, type_of, Finds, IsFoundAt, IsFlowAt}
 use Rattle.pc_expr.specs.Lawful.{Lawful}
 use Rattle.pc_value.specs.Value.{Value, Stop, Out, Gives, Stops, Raised, Other, Outside, Cut}
-use Rattle.pc_run.specs.State.{State}
-use Rattle.pc_run.specs.Free.{Step, ◌>>=◌, Emits}
+use Rattle.pc_machine.specs.State.{State}
+use Rattle.pc_machine.specs.Free.{Step, ◌>>=◌, Emits}
 use Rattle.pc_sound.specs.Values.{HeapTyping, HasType}
 use Rattle.pc_sound.specs.Judgment.{HasListed, EndsWell, Around, Stands, Keeps, IsSafe}
 use Rattle.pc_sound.proofs.Keys.{Keyed}

@@ -20,10 +20,10 @@ use Rattle.pc_check.specs.Statements.{Seen, only_code, binds_number, LawfulItera
 use Rattle.pc_value.specs.Value.{Value, Gives}
 use Rattle.pc_value.specs.Actions.{Iteration}
 use Rattle.pc_value.specs.Actions as action
-use Rattle.pc_run.specs.State.{Frame}
-use Rattle.pc_run.specs.Steps.{Parts, Flow, next, item_out}
-use Rattle.pc_run.specs.Free.{Step, free}
-use Rattle.pc_run.specs.Evaluation.{exec_node, for_turn, with_item, eval_iterable, iterable_form}
+use Rattle.pc_machine.specs.State.{Frame}
+use Rattle.pc_machine.specs.Steps.{Parts, Flow, next, item_out}
+use Rattle.pc_machine.specs.Free.{Step, free}
+use Rattle.pc_machine.specs.Evaluation.{exec_node, for_turn, with_item, eval_iterable, iterable_form}
 use Rattle.pc_sound.specs.Values.{HeapTyping, HasType}
 use Rattle.pc_sound.specs.Kept.{HasLocals}
 use Rattle.pc_sound.specs.Judgment.{IsAllowed, Around, IsSafe, Fits, Leads, At, FlowEnds, Lasts}

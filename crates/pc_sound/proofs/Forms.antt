@@ -14,9 +14,9 @@ use Rattle.pc_expr.specs.Context.{Context}
 use Rattle.pc_expr.specs.Calls.{is_callable_builtin}
 use Rattle.pc_expr.specs.Labels.{Marks, type_of, Finds}
 use Rattle.pc_expr.specs.Lawful.{Lawful}
-use Rattle.pc_run.specs.Steps.{Parts}
-use Rattle.pc_run.specs.Evaluation.{eval_node}
-use Rattle.pc_run.specs.Free.{Step, free}
+use Rattle.pc_machine.specs.Steps.{Parts}
+use Rattle.pc_machine.specs.Evaluation.{eval_node}
+use Rattle.pc_machine.specs.Free.{Step, free}
 use Rattle.pc_sound.specs.Values.{HasType}
 use Rattle.pc_sound.specs.Judgment.{Around, IsSafe, Fits}
 use Rattle.pc_sound.proofs.Keys.{Keyed}

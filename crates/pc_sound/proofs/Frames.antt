@@ -9,8 +9,8 @@ use Rattle.pc_flow.specs.Environment.{Env, current, declared_type, assign}
 use Rattle.pc_scope.specs.Resolution.{index_of}
 use Rattle.pc_value.specs.Value.{Value}
 use Rattle.pc_value.specs.Texts.{same_text}
-use Rattle.pc_run.specs.State.{Frame, Local}
-use Rattle.pc_run.specs.Names.{local_of, with_local}
+use Rattle.pc_machine.specs.State.{Frame, Local}
+use Rattle.pc_machine.specs.Names.{local_of, with_local}
 use Rattle.pc_sound.specs.Values.{HeapTyping, HasType}
 use Rattle.pc_sound.specs.Kept.{HasLocal, HasLocals}
 use Rattle.pc_sound.specs.Judgment.{IsHeld, HasNames}

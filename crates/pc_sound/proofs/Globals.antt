@@ -20,12 +20,13 @@ use Rattle.pc_expr.specs.Operations.{Mark, in_error}
 use Rattle.pc_expr.specs.Context.{Context, name_mark, constant_mark}
 use Rattle.pc_expr.specs.Labels.{IsFoundAt}
 use Rattle.pc_value.specs.Value.{Value}
-use Rattle.pc_run.specs.State.{State, Class, Globals, a_value, a_class}
-use Rattle.pc_run.specs.Names.{means_class, means_reserved, meaning, meaning_of_local, meaning_of_global, local_of, global_of, is_reserved}
-use Rattle.pc_run.specs.Calls.{value_of_meaning}
-use Rattle.pc_run.specs.Steps.{Parts}
-use Rattle.pc_run.specs.Evaluation.{eval_node}
-use Rattle.pc_run.specs.Free.{Step, free}
+use Rattle.pc_machine.specs.State.{State, Class, Globals, a_value, a_class}
+use Rattle.pc_machine.specs.Names.{means_class, means_reserved, meaning, meaning_of_local, meaning_of_global, local_of, global_of}
+use Rattle.pc_tree.specs.Stopping.{is_reserved}
+use Rattle.pc_machine.specs.Calls.{value_of_meaning}
+use Rattle.pc_machine.specs.Steps.{Parts}
+use Rattle.pc_machine.specs.Evaluation.{eval_node}
+use Rattle.pc_machine.specs.Free.{Step, free}
 use Rattle.pc_sound.specs.Values.{HeapTyping, HasType}
 use Rattle.pc_sound.specs.Judgment.{Around, Stands, EndsWell, IsSafe, Fits}
 use Rattle.pc_sound.proofs.Steps.{bind_safe, emits_safe, looks_safe}

@@ -21,10 +21,10 @@ use Rattle.pc_value.specs.Actions as action
 use Rattle.pc_value.specs.Actions.{Outcome}
 use Rattle.pc_value.specs.Numbers.{number_behind, number_of_digits}
 use Rattle.pc_value.specs.Containers.{index_among, at_index, item_of, gives_item, gives_character, item_outcome}
-use Rattle.pc_run.specs.State.{State}
-use Rattle.pc_run.specs.Steps.{Parts, value_out}
-use Rattle.pc_run.specs.Evaluation.{eval_node, eval_over, steps}
-use Rattle.pc_run.specs.Free.{Step, free}
+use Rattle.pc_machine.specs.State.{State}
+use Rattle.pc_machine.specs.Steps.{Parts, value_out}
+use Rattle.pc_machine.specs.Evaluation.{eval_node, eval_over, steps}
+use Rattle.pc_machine.specs.Free.{Step, free}
 use Rattle.pc_sound.specs.Values.{HeapTyping, HasType, HaveTypes, AllHave, IsWell}
 use Rattle.pc_sound.specs.Judgment.{HasListed, EndsWell, Around, Stands, Keeps, IsSafe, Fits}
 use Rattle.pc_sound.proofs.ValuesFlow.{later, of_static}

@@ -20,9 +20,9 @@ use Rattle.pc_expr.specs.Signatures.{initializer_context}
 use Rattle.pc_expr.specs.Calls.{given, is_one, Callee, called, class_signature, good_callee, value_callee, name_callee, value_offers, call_mark, positional_seat, named_seat}
 use Rattle.pc_expr.specs.Labels.{Marks, mark_of, with_mark, item_types, Finds, ItemsFind}
 use Rattle.pc_expr.specs.Lawful.{Lawful, LawfulItems, LawfulKeywords, callee_of, is_length, is_length_of_one}
-use Rattle.pc_run.specs.Steps.{Parts}
-use Rattle.pc_run.specs.Free.{Step, free}
-use Rattle.pc_run.specs.Evaluation.{ordinary, eval_call, eval_node}
+use Rattle.pc_machine.specs.Steps.{Parts}
+use Rattle.pc_machine.specs.Free.{Step, free}
+use Rattle.pc_machine.specs.Evaluation.{ordinary, eval_call, eval_node}
 use Rattle.pc_sound.specs.Values.{HasType}
 use Rattle.pc_sound.specs.Judgment.{Around, IsSafe, Fits}
 use Rattle.pc_sound.proofs.Keys.{Keyed}

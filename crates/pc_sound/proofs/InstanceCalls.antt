@@ -20,12 +20,12 @@ use Rattle.pc_expr.specs.Calls.{given, Seat, second_code, positional_seat, test_
 use Rattle.pc_expr.specs.Labels.{Marks, mark_of, type_of, Finds, ArgumentsFind, IsCodeAt}
 use Rattle.pc_expr.specs.Lawful.{Lawful, callee_of}
 use Rattle.pc_value.specs.Value.{boolean}
-use Rattle.pc_run.specs.State.{State}
-use Rattle.pc_run.specs.Names.{meaning}
-use Rattle.pc_run.specs.Calls.{test_of, test_of_meaning, test_of_reserved, passes}
-use Rattle.pc_run.specs.Steps.{Parts}
-use Rattle.pc_run.specs.Evaluation.{instance_test, ordinary, call_form, eval_node, eval_call}
-use Rattle.pc_run.specs.Free.{Step, free}
+use Rattle.pc_machine.specs.State.{State}
+use Rattle.pc_machine.specs.Names.{meaning}
+use Rattle.pc_machine.specs.Calls.{test_of, test_of_meaning, test_of_reserved, passes}
+use Rattle.pc_machine.specs.Steps.{Parts}
+use Rattle.pc_machine.specs.Evaluation.{instance_test, ordinary, call_form, eval_node, eval_call}
+use Rattle.pc_machine.specs.Free.{Step, free}
 use Rattle.pc_sound.specs.Values.{HeapTyping, HasType}
 use Rattle.pc_sound.specs.Judgment.{Around, Stands, EndsWell, IsSafe, Fits}
 use Rattle.pc_sound.proofs.ValuesFlow.{later}

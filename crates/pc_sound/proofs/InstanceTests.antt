@@ -11,9 +11,9 @@ use Rattle.pc_flow.specs.Narrowing.{Tested, for_type, for_list, test_named}
 use Rattle.pc_expr.specs.Context.{Context}
 use Rattle.pc_value.specs.Value.{Value, whole, boolean, string, tuple_of, location, Gives, Cell, list_cell, dict_cell, instance_cell, Heap, is_list, seen_cell, class_seen}
 use Rattle.pc_value.specs.Value as value
-use Rattle.pc_run.specs.State.{State, Class}
-use Rattle.pc_run.specs.Names.{meaning}
-use Rattle.pc_run.specs.Calls.{Test, tests_int, tests_str, tests_bool, tests_list, tests_class, test_of_meaning, descends_from, class_at, passes}
+use Rattle.pc_machine.specs.State.{State, Class}
+use Rattle.pc_machine.specs.Names.{meaning}
+use Rattle.pc_machine.specs.Calls.{Test, tests_int, tests_str, tests_bool, tests_list, tests_class, test_of_meaning, descends_from, class_at, passes}
 use Rattle.pc_sound.specs.Values.{HeapTyping, Recorded, a_list, a_dict, a_class, IsInstance, CellHas, IsWell}
 use Rattle.pc_sound.specs.Kept.{IsRecordedList, Passes}
 use Rattle.pc_sound.specs.Judgment.{Around, Stands}

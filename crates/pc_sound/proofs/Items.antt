@@ -20,13 +20,13 @@ use Rattle.pc_expr.specs.Lawful.{Lawful}
 use Rattle.pc_expr.specs.Signatures.{initializer_context}
 use Rattle.pc_check.specs.Modules.{annotated_types, first_of_types, binds_item, Before, before_next, ItemMarks, ItemsMarks, LawfulItem, LawfulItems, ItemFinds, ItemsFind}
 use Rattle.pc_value.specs.Value.{Gives}
-use Rattle.pc_run.specs.State.{State, Function, Class, Globals}
-use Rattle.pc_run.specs.Names.{Meaning, means_function, meaning, meaning_of_bound, meaning_of_global, meaning_of_local, global_of, local_of}
-use Rattle.pc_run.specs.Names as run
-use Rattle.pc_run.specs.Calls.{Callee, calls_value, calls_function, calls_class, calls_reserved, calls_method, calls_builtin_method, callee_of_meaning, bound_arguments}
-use Rattle.pc_run.specs.Steps.{Parts}
-use Rattle.pc_run.specs.Free.{Step, free}
-use Rattle.pc_run.specs.Evaluation.{exec_item, exec_items, enter_main, call_callee}
+use Rattle.pc_machine.specs.State.{State, Function, Class, Globals}
+use Rattle.pc_machine.specs.Names.{Meaning, means_function, meaning, meaning_of_bound, meaning_of_global, meaning_of_local, global_of, local_of}
+use Rattle.pc_machine.specs.Names as run
+use Rattle.pc_machine.specs.Calls.{Callee, calls_value, calls_function, calls_class, calls_reserved, calls_method, calls_builtin_method, callee_of_meaning, bound_arguments}
+use Rattle.pc_machine.specs.Steps.{Parts}
+use Rattle.pc_machine.specs.Free.{Step, free}
+use Rattle.pc_machine.specs.Evaluation.{exec_item, exec_items, enter_main, call_callee}
 use Rattle.pc_sound.specs.Values.{HeapTyping, HasType}
 use Rattle.pc_sound.specs.Judgment.{EndsWell, Around, Stands, IsSafe}
 use Rattle.pc_sound.proofs.Steps.{bind_safe, looks_safe, weaken}

@@ -11,7 +11,7 @@ use Rattle.pc_value.specs.Value.{Value, Values, whole, string, tuple_of, locatio
 use Rattle.pc_value.specs.Actions.{Iteration, over_list, over_dict, over_text, over_tuple, over_range, gives, finished, stops}
 use Rattle.pc_value.specs.Iteration.{iterate_outcome, turn_outcome, turn_item, turn_character, list_turn, dict_turn}
 use Rattle.pc_value.specs.Numbers.{number_below}
-use Rattle.pc_run.specs.Steps.{iteration_out, item_out}
+use Rattle.pc_machine.specs.Steps.{iteration_out, item_out}
 use Rattle.pc_sound.specs.Values.{HeapTyping, a_list, a_dict, Extends, HasType, HaveTypes, AllHave, EntriesHave, CellHas, CellAt, IsWell}
 use Rattle.pc_sound.specs.Judgment.{EndsWell}
 use Rattle.pc_sound.proofs.ValuesFlow.{of_static, later}

@@ -6,7 +6,7 @@ use Rattle.pc_types.specs.Below.{Bases, AreSmaller}
 use Rattle.pc_types.specs.Join.{join}
 use Rattle.pc_flow.specs.Environment.{Env, current, declared_type, join_local, join_env, join_envs_onto, join_ways}
 use Rattle.pc_scope.specs.Resolution.{index_of}
-use Rattle.pc_run.specs.State.{Frame}
+use Rattle.pc_machine.specs.State.{Frame}
 use Rattle.pc_sound.specs.Values.{HeapTyping, HasType}
 use Rattle.pc_sound.specs.Kept.{HasLocal, HasLocals}
 use Rattle.pc_sound.proofs.Joins.{join_or_holds}

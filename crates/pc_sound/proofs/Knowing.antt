@@ -16,8 +16,8 @@ use Rattle.pc_types.specs.Tree as tree
 use Rattle.pc_types.specs.Below.{Below}
 use Rattle.pc_types.proofs.Structural.{Chain, here, up, Sub, s_class, sub_of}
 use Rattle.pc_class.specs.Bases.{bases_of}
-use Rattle.pc_run.specs.State.{Class, Globals}
-use Rattle.pc_run.specs.Calls.{descends_from, class_at}
+use Rattle.pc_machine.specs.State.{Class, Globals}
+use Rattle.pc_machine.specs.Calls.{descends_from, class_at}
 use Rattle.pc_expr.specs.Signatures.{initializer_context}
 use Rattle.pc_sound.specs.Values.{HeapTyping}
 use Rattle.pc_sound.proofs.Globals.{KnowsNames}

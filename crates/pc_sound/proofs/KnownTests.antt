@@ -10,9 +10,9 @@ use Rattle.pc_flow.specs.Environment.{Env}
 use Rattle.pc_flow.specs.Narrowing.{Tested, for_type, for_list, test_named}
 use Rattle.pc_expr.specs.Context.{Context}
 use Rattle.pc_value.specs.Value.{Gives}
-use Rattle.pc_run.specs.State.{State, Class, Globals}
-use Rattle.pc_run.specs.Names.{meaning}
-use Rattle.pc_run.specs.Calls.{Test, tests_int, tests_str, tests_bool, tests_list, tests_class, test_of_meaning, test_of_reserved}
+use Rattle.pc_machine.specs.State.{State, Class, Globals}
+use Rattle.pc_machine.specs.Names.{meaning}
+use Rattle.pc_machine.specs.Calls.{Test, tests_int, tests_str, tests_bool, tests_list, tests_class, test_of_meaning, test_of_reserved}
 use Rattle.pc_sound.specs.Values.{HeapTyping}
 use Rattle.pc_sound.specs.Judgment.{Around, Stands, Fits}
 use Rattle.pc_sound.proofs.Globals.{KnowsNames, means_a_class, means_a_builtin, reserved_is}

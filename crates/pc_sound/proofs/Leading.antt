@@ -6,10 +6,10 @@ use Rattle.pc_flow.specs.Environment.{Env}
 use Rattle.pc_value.specs.Value.{Value, Stop, Out, Gives, Stops, Raised, Other, Outside, Cut}
 use Rattle.pc_value.specs.Actions.{Action, Outcome, Free}
 use Rattle.pc_value.specs.Outcomes.{acted}
-use Rattle.pc_run.specs.State.{State, Frame}
-use Rattle.pc_run.specs.Names.{with_local}
-use Rattle.pc_run.specs.Free.{Step, ◌>>=◌, comes, may_end, may_stop, Looks, Changes, act}
-use Rattle.pc_run.specs.Evaluation.{binds_local}
+use Rattle.pc_machine.specs.State.{State, Frame}
+use Rattle.pc_machine.specs.Names.{with_local}
+use Rattle.pc_machine.specs.Free.{Step, ◌>>=◌, comes, may_end, may_stop, Looks, Changes, act}
+use Rattle.pc_machine.specs.Evaluation.{binds_local}
 use Rattle.pc_sound.specs.Values.{HeapTyping, Extends, IsWell}
 use Rattle.pc_sound.specs.Judgment.{HasListed, EndsWell, Around, IsSafe, Goes, Leads, At}
 use Rattle.pc_sound.proofs.ValuesFlow.{extends_refl, extends_through}

@@ -8,12 +8,13 @@ use Rattle.pc_types.specs.Tree.{Tree}
 use Rattle.pc_flow.specs.Environment.{Env, current}
 use Rattle.pc_expr.specs.Operations.{Mark}
 use Rattle.pc_expr.specs.Context.{Context, name_mark, local_mark}
-use Rattle.pc_run.specs.State.{State}
-use Rattle.pc_run.specs.Names.{meaning, meaning_of_local, meaning_of_global, is_reserved, global_of}
-use Rattle.pc_run.specs.Calls.{value_of_meaning}
-use Rattle.pc_run.specs.Steps.{Parts}
-use Rattle.pc_run.specs.Evaluation.{eval_node}
-use Rattle.pc_run.specs.Free.{Step, free}
+use Rattle.pc_machine.specs.State.{State}
+use Rattle.pc_machine.specs.Names.{meaning, meaning_of_local, meaning_of_global, global_of}
+use Rattle.pc_tree.specs.Stopping.{is_reserved}
+use Rattle.pc_machine.specs.Calls.{value_of_meaning}
+use Rattle.pc_machine.specs.Steps.{Parts}
+use Rattle.pc_machine.specs.Evaluation.{eval_node}
+use Rattle.pc_machine.specs.Free.{Step, free}
 use Rattle.pc_sound.specs.Values.{HeapTyping, HasType}
 use Rattle.pc_sound.specs.Judgment.{Around, Stands, EndsWell, IsSafe}
 use Rattle.pc_sound.proofs.Steps.{bind_safe, emits_safe, looks_safe}

@@ -6,8 +6,8 @@ use Rattle.pc_types.specs.Below.{Bases}
 use Rattle.pc_flow.specs.Environment.{Env, current, declared_type, head_local, loop_head}
 use Rattle.pc_scope.specs.Resolution.{index_of}
 use Rattle.pc_value.specs.Value.{Value}
-use Rattle.pc_run.specs.State.{Frame}
-use Rattle.pc_run.specs.Names.{local_of}
+use Rattle.pc_machine.specs.State.{Frame}
+use Rattle.pc_machine.specs.Names.{local_of}
 use Rattle.pc_sound.specs.Values.{HeapTyping, HasType, Extends}
 use Rattle.pc_sound.specs.Kept.{HasLocal, HasLocals}
 use Rattle.pc_sound.proofs.ValuesFlow.{later}

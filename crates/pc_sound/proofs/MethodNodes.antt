@@ -24,11 +24,11 @@ use Rattle.pc_expr.specs.Lawful.{Lawful, LawfulItems, LawfulKeywords}
 use Rattle.pc_value.specs.Value.{Value, location, seen, Out, Gives}
 use Rattle.pc_value.specs.Actions as action
 use Rattle.pc_value.specs.Attributes.{attribute_outcome}
-use Rattle.pc_run.specs.State.{State, Function}
-use Rattle.pc_run.specs.Calls.{Callee, calls_value, calls_function, calls_class, calls_reserved, calls_method, calls_builtin_method, named_method, NamedValue, BuiltinMethod}
-use Rattle.pc_run.specs.Steps.{Parts, value_out}
-use Rattle.pc_run.specs.Free.{Step, ◌>>=◌, Emits, free}
-use Rattle.pc_run.specs.Evaluation.{eval_callee, callee_of_attribute, eval_all, eval_keywords, call_callee, call_method}
+use Rattle.pc_machine.specs.State.{State, Function}
+use Rattle.pc_machine.specs.Calls.{Callee, calls_value, calls_function, calls_class, calls_reserved, calls_method, calls_builtin_method, named_method, NamedValue, BuiltinMethod}
+use Rattle.pc_machine.specs.Steps.{Parts, value_out}
+use Rattle.pc_machine.specs.Free.{Step, ◌>>=◌, Emits, free}
+use Rattle.pc_machine.specs.Evaluation.{eval_callee, callee_of_attribute, eval_all, eval_keywords, call_callee, call_method}
 use Rattle.pc_sound.specs.Values.{HeapTyping, HasType, IsWell}
 use Rattle.pc_sound.specs.Judgment.{HasListed, EndsWell, Around, Stands, Keeps, IsSafe, Fits}
 use Rattle.pc_sound.proofs.ValuesFlow.{later}

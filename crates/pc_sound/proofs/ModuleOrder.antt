@@ -28,12 +28,12 @@ use Rattle.pc_value.specs.Actions as action
 use Rattle.pc_value.specs.Actions.{Action, Outcome, Free}
 use Rattle.pc_value.specs.Outcomes.{acted}
 use Rattle.pc_value.specs.Numbers.{number_of_digits, negative_of_digits}
-use Rattle.pc_run.specs.State as state
-use Rattle.pc_run.specs.State.{State, Function, Class, Globals, a_value, a_function, a_class}
-use Rattle.pc_run.specs.Names.{global_of, local_of}
-use Rattle.pc_run.specs.Steps.{Parts, value_out}
-use Rattle.pc_run.specs.Free.{Step, act, free}
-use Rattle.pc_run.specs.Evaluation.{make_literal, make_default, make_parameters, make_function, binds_global, exec_item}
+use Rattle.pc_machine.specs.State as state
+use Rattle.pc_machine.specs.State.{State, Function, Class, Globals, a_value, a_function, a_class}
+use Rattle.pc_machine.specs.Names.{global_of, local_of}
+use Rattle.pc_machine.specs.Steps.{Parts, value_out}
+use Rattle.pc_machine.specs.Free.{Step, act, free}
+use Rattle.pc_machine.specs.Evaluation.{make_literal, make_default, make_parameters, make_function, binds_global, exec_item}
 use Rattle.pc_sound.specs.Values.{HeapTyping, HasType, Extends, IsWell}
 use Rattle.pc_sound.specs.Judgment.{HasListed, EndsWell, Around, Stands, IsSafe}
 use Rattle.pc_sound.proofs.ValuesFlow.{later, of_static}

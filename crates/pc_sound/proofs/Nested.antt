@@ -4,8 +4,8 @@ use Rattle.pc_tree.specs.Tree.{Module}
 use Rattle.pc_types.specs.Tree.{Tree}
 use Rattle.pc_expr.specs.Context.{Context}
 use Rattle.pc_value.specs.Value.{Stops, Cut}
-use Rattle.pc_run.specs.Free.{Step, free}
-use Rattle.pc_run.specs.Evaluation.{eval_node, eval_over, exec_all, steps}
+use Rattle.pc_machine.specs.Free.{Step, free}
+use Rattle.pc_machine.specs.Evaluation.{eval_node, eval_over, exec_all, steps}
 use Rattle.pc_sound.specs.Judgment.{Around, Fits}
 use Rattle.pc_sound.proofs.Steps.{bind_safe, comes_safe, may_stop_safe, weaken}
 use Rattle.pc_sound.proofs.Leading.{leads_comes}

@@ -4,9 +4,9 @@ use Rattle.pc_tree.specs.Tree.{Expr, Stmt, pass, breaks, continues, returns, ass
 use Rattle.pc_scope.specs.Expressions.{place_of}
 use Rattle.pc_types.specs.Tree.{Tree}
 use Rattle.pc_expr.specs.Context.{Context}
-use Rattle.pc_run.specs.Steps.{Parts}
-use Rattle.pc_run.specs.Free.{Step, free}
-use Rattle.pc_run.specs.Evaluation.{exec_node, exec_all}
+use Rattle.pc_machine.specs.Steps.{Parts}
+use Rattle.pc_machine.specs.Free.{Step, free}
+use Rattle.pc_machine.specs.Evaluation.{exec_node, exec_all}
 use Rattle.pc_sound.specs.Judgment.{Around, Fits}
 use Rattle.pc_sound.proofs.Expressions.{GoodEval}
 use Rattle.pc_sound.proofs.Flows.{Evaluates}

@@ -26,9 +26,9 @@ use Rattle.pc_value.specs.Actions.{Outcome, Free}
 use Rattle.pc_value.specs.Numbers.{is_zero}
 use Rattle.pc_value.specs.Containers.{contains_key}
 use Rattle.pc_value.specs.Operators.{negative_of, binary_outcome, compare_outcome, opposite, member_of, is_equal}
-use Rattle.pc_run.specs.Steps.{Parts, value_out}
-use Rattle.pc_run.specs.Evaluation.{eval_node}
-use Rattle.pc_run.specs.Free.{Step, free}
+use Rattle.pc_machine.specs.Steps.{Parts, value_out}
+use Rattle.pc_machine.specs.Evaluation.{eval_node}
+use Rattle.pc_machine.specs.Free.{Step, free}
 use Rattle.pc_sound.specs.Values.{HeapTyping, HasType, IsWell}
 use Rattle.pc_sound.specs.Judgment.{EndsWell, Around, IsSafe, Fits}
 use Rattle.pc_sound.proofs.ValuesFlow.{later}

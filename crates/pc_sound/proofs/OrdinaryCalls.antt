@@ -10,10 +10,10 @@ use Rattle.pc_expr.specs.Calls.{Seat}
 use Rattle.pc_expr.specs.Labels.{ItemsMarks, KeywordsMarks, ItemsFind, KeywordsFind, IsFoundAt}
 use Rattle.pc_expr.specs.Lawful.{LawfulItems, LawfulKeywords}
 use Rattle.pc_value.specs.Value.{Value}
-use Rattle.pc_run.specs.Calls.{Callee, NamedValue}
-use Rattle.pc_run.specs.Evaluation.{eval_all, eval_keywords, call_callee}
-use Rattle.pc_run.specs.Steps.{Parts}
-use Rattle.pc_run.specs.Free.{Step, free, ◌>>=◌, Emits}
+use Rattle.pc_machine.specs.Calls.{Callee, NamedValue}
+use Rattle.pc_machine.specs.Evaluation.{eval_all, eval_keywords, call_callee}
+use Rattle.pc_machine.specs.Steps.{Parts}
+use Rattle.pc_machine.specs.Free.{Step, free, ◌>>=◌, Emits}
 use Rattle.pc_sound.specs.Values.{HeapTyping}
 use Rattle.pc_sound.specs.Judgment.{Around, IsSafe, Fits}
 use Rattle.pc_sound.proofs.Steps.{Stays, bind_safe, emits_safe}

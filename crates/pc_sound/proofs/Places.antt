@@ -4,9 +4,9 @@ use Rattle.pc_source.specs.declared.place.Place.{Place}
 use Rattle.pc_tree.specs.Tree.{Expr, Exprs, Keywords, name, number, text, truth, nothing, tuple, list, dict, negative, negation, binary, compare, is_none, is_not_none, conjunction, disjunction, attribute, index, call}
 use Rattle.pc_scope.specs.Expressions.{place_of}
 use Rattle.pc_value.specs.Value.{Value, Stop, Gives, Stops}
-use Rattle.pc_run.specs.Steps.{Parts}
-use Rattle.pc_run.specs.Free.{Step, free}
-use Rattle.pc_run.specs.Evaluation.{CallForm, instance_test, ordinary, call_form, eval_call, eval_node, eval_over, steps}
+use Rattle.pc_machine.specs.Steps.{Parts}
+use Rattle.pc_machine.specs.Free.{Step, free}
+use Rattle.pc_machine.specs.Evaluation.{CallForm, instance_test, ordinary, call_form, eval_call, eval_node, eval_over, steps}
 use Rattle.pc_sound.proofs.Flows.{Evaluates, emit_evaluates, later_evaluates, first_evaluates}
 
 module _ (parts : Parts Step) where

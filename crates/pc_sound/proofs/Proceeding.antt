@@ -4,8 +4,8 @@ use Rattle.std.specs.Prelude.{◌⊎◌}
 use Rattle.std.proofs.lemmas.List.Elements.{Contains-append_left, Contains-append_right}
 use Rattle.pc_source.specs.declared.place.Place.{Place}
 use Rattle.pc_value.specs.Value.{Out, Gives, Stops}
-use Rattle.pc_run.specs.State.{State}
-use Rattle.pc_run.specs.Free.{Step, ◌>>=◌, comes, may_stop, Looks, Changes}
+use Rattle.pc_machine.specs.State.{State}
+use Rattle.pc_machine.specs.Free.{Step, ◌>>=◌, comes, may_stop, Looks, Changes}
 use Rattle.pc_sound.specs.Values.{HeapTyping}
 use Rattle.pc_sound.specs.Judgment.{HasListed, EndsWell}
 use Rattle.pc_sound.proofs.Leading.{Known, Promised, ends_as, stopped_as}

@@ -24,11 +24,11 @@ use Rattle.pc_value.specs.Value.{Value, Out, Gives, Stops, whole, boolean, seen}
 use Rattle.pc_value.specs.Actions as action
 use Rattle.pc_value.specs.Iteration.{range_outcome}
 use Rattle.pc_value.specs.Texts.{same_text}
-use Rattle.pc_run.specs.State.{State}
-use Rattle.pc_run.specs.Calls.{NamedValue, range_argument}
-use Rattle.pc_run.specs.Steps.{Parts, iteration_out}
-use Rattle.pc_run.specs.Evaluation.{IterableForm, range_call, any_iterable, iterable_form, eval_iterable}
-use Rattle.pc_run.specs.Free.{Step, free}
+use Rattle.pc_machine.specs.State.{State}
+use Rattle.pc_machine.specs.Calls.{NamedValue, range_argument}
+use Rattle.pc_machine.specs.Steps.{Parts, iteration_out}
+use Rattle.pc_machine.specs.Evaluation.{IterableForm, range_call, any_iterable, iterable_form, eval_iterable}
+use Rattle.pc_machine.specs.Free.{Step, free}
 use Rattle.pc_sound.specs.Values.{HeapTyping, HasType}
 use Rattle.pc_sound.specs.Judgment.{HasListed, EndsWell, Around, Stands, Keeps, IsSafe, Fits}
 use Rattle.pc_sound.proofs.Steps.{bind_safe, emits_safe, looks_safe, act_safe, may_stop_safe}

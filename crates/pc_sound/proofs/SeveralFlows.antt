@@ -16,8 +16,8 @@ use Rattle.pc_expr.specs.Context.{Context, Flows, static, dynamic, wrong, FlowUn
 use Rattle.pc_expr.specs.Labels.{Flowing, Marks, mark_of, type_of, Finds, IsFlowAt}
 use Rattle.pc_expr.specs.Lawful.{Lawful}
 use Rattle.pc_value.specs.Value.{Value, Out, Gives, Stops}
-use Rattle.pc_run.specs.State.{State}
-use Rattle.pc_run.specs.Free.{Step}
+use Rattle.pc_machine.specs.State.{State}
+use Rattle.pc_machine.specs.Free.{Step}
 use Rattle.pc_sound.specs.Values.{HeapTyping, HasType}
 use Rattle.pc_sound.specs.Judgment.{HasListed, Around, Stands, Keeps, IsSafe}
 use Rattle.pc_sound.proofs.ValuesFlow.{of_static}

@@ -7,8 +7,8 @@ use Rattle.pc_flow.specs.Environment.{Env}
 use Rattle.pc_value.specs.Value.{Out, Gives, Stops}
 use Rattle.pc_value.specs.Actions.{Action, Outcome, Free}
 use Rattle.pc_value.specs.Outcomes.{acted}
-use Rattle.pc_run.specs.State.{State, Frame}
-use Rattle.pc_run.specs.Free.{Step, ◌>>=◌, comes, may_end, may_stop, Emits, Looks, act}
+use Rattle.pc_machine.specs.State.{State, Frame}
+use Rattle.pc_machine.specs.Free.{Step, ◌>>=◌, comes, may_end, may_stop, Emits, Looks, act}
 use Rattle.pc_sound.specs.Values.{HeapTyping, IsWell}
 use Rattle.pc_sound.specs.Judgment.{HasListed, IsAllowed, EndsWell, Around, Stands, Keeps, IsSafe, Leads}
 use Rattle.pc_sound.proofs.ValuesFlow.{extends_refl, extends_through}

@@ -18,11 +18,11 @@ use Rattle.pc_expr.specs.Lawful.{Lawful}
 use Rattle.pc_check.specs.StatementLabels.{OptionMarks, TargetMarks, StmtMarks}
 use Rattle.pc_check.specs.Statements.{Seen, only_code, LawfulBinding, LawfulStore, LawfulOption, LawfulStmt, OptionFinds, TargetFinds, StmtFinds}
 use Rattle.pc_value.specs.Value.{Value, none, Gives, Stops, Other, is_true}
-use Rattle.pc_run.specs.State.{State, Frame}
-use Rattle.pc_run.specs.Names.{with_local}
-use Rattle.pc_run.specs.Steps.{Parts, Flow, next, breaking, continuing, leaves}
-use Rattle.pc_run.specs.Free.{Step, ◌>>=◌, comes, Changes, free}
-use Rattle.pc_run.specs.Evaluation.{exec_node, assign as assign_target, fail, condition, choose, binds_local}
+use Rattle.pc_machine.specs.State.{State, Frame}
+use Rattle.pc_machine.specs.Names.{with_local}
+use Rattle.pc_machine.specs.Steps.{Parts, Flow, next, breaking, continuing, leaves}
+use Rattle.pc_machine.specs.Free.{Step, ◌>>=◌, comes, Changes, free}
+use Rattle.pc_machine.specs.Evaluation.{exec_node, assign as assign_target, fail, condition, choose, binds_local}
 use Rattle.pc_sound.specs.Values.{HeapTyping, HasType, Extends}
 use Rattle.pc_sound.specs.Judgment.{Around, Stands, IsSafe, Fits, Tells, Leads, At, FlowEnds, Lasts}
 use Rattle.pc_sound.proofs.ValuesFlow.{of_static}

@@ -3,7 +3,7 @@ use Rattle.std.proofs.Common.{List}
 use Rattle.pc_source.specs.declared.place.Place.{Place}
 use Rattle.pc_tree.specs.Tree.{Module}
 use Rattle.pc_check.specs.Modules.{Labelling, IsLawful, nothing_before, constant_types}
-use Rattle.pc_run.specs.Runs.{Run, End, IsFault}
+use Rattle.pc_machine.specs.Runs.{Run, End, IsFault}
 use Rattle.pc_sound.specs.Sound.{HasNoError, HasEvaluated, Sound}
 use Rattle.pc_sound.proofs.Whole.{IsListedPlace}
 use Rattle.pc_sound.proofs.ClassesAreReady.{classes_ready}

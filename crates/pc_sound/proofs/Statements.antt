@@ -13,10 +13,10 @@ use Rattle.pc_expr.specs.Context.{Context}
 use Rattle.pc_check.specs.StatementLabels.{StmtMarks, SuiteMarks, Behind, BehindRule, behind_list, breaks_in, breaks_in_suite}
 use Rattle.pc_check.specs.Statements.{Seen, Undeclared, LawfulStmt, LawfulSuite, StmtFinds, SuiteFinds}
 use Rattle.pc_value.specs.Value.{Gives}
-use Rattle.pc_run.specs.State.{State, Frame}
-use Rattle.pc_run.specs.Steps.{Parts, Flow, next, breaking, continuing, leaves}
-use Rattle.pc_run.specs.Free.{Step, free}
-use Rattle.pc_run.specs.Evaluation.{exec_node, exec_all, then_follows}
+use Rattle.pc_machine.specs.State.{State, Frame}
+use Rattle.pc_machine.specs.Steps.{Parts, Flow, next, breaking, continuing, leaves}
+use Rattle.pc_machine.specs.Free.{Step, free}
+use Rattle.pc_machine.specs.Evaluation.{exec_node, exec_all, then_follows}
 use Rattle.pc_sound.specs.Values.{HeapTyping, HasType}
 use Rattle.pc_sound.specs.Judgment.{Around, Stands, Leads, At, Ways, FlowEnds, Lasts}
 use Rattle.pc_sound.proofs.Expressions.{Covered}

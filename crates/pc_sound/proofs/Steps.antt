@@ -10,8 +10,8 @@ use Rattle.pc_flow.specs.Environment.{Env, declared_type}
 use Rattle.pc_value.specs.Value.{Stop, Out, Gives, Stops, Raised, Other, Outside, Cut}
 use Rattle.pc_value.specs.Actions.{Action, Outcome, Free}
 use Rattle.pc_value.specs.Outcomes.{acted}
-use Rattle.pc_run.specs.State.{State, Frame}
-use Rattle.pc_run.specs.Free.{Step, ◌>>=◌, comes, may_end, may_stop, Emits, Looks, act}
+use Rattle.pc_machine.specs.State.{State, Frame}
+use Rattle.pc_machine.specs.Free.{Step, ◌>>=◌, comes, may_end, may_stop, Emits, Looks, act}
 use Rattle.pc_sound.specs.Values.{HeapTyping, Extends, IsWell}
 use Rattle.pc_sound.specs.Kept.{HasLocals}
 use Rattle.pc_sound.specs.Judgment.{HasListed, IsAllowed, EndsWell, Around, HasNames, Stands, Keeps, IsSafe}

@@ -17,9 +17,9 @@ use Rattle.pc_check.specs.Statements.{LawfulStore, TargetFinds}
 use Rattle.pc_value.specs.Value.{Value, Gives, Heap, seen}
 use Rattle.pc_value.specs.Actions as action
 use Rattle.pc_value.specs.Containers.{store_outcome}
-use Rattle.pc_run.specs.Steps.{Parts, next}
-use Rattle.pc_run.specs.Evaluation.{assign}
-use Rattle.pc_run.specs.Free.{Step, ◌>>=◌, free}
+use Rattle.pc_machine.specs.Steps.{Parts, next}
+use Rattle.pc_machine.specs.Evaluation.{assign}
+use Rattle.pc_machine.specs.Free.{Step, ◌>>=◌, free}
 use Rattle.pc_sound.specs.Values.{HeapTyping, HasType, IsWell}
 use Rattle.pc_sound.specs.Kept.{ActsWell}
 use Rattle.pc_sound.specs.Judgment.{Around, IsSafe, Fits}

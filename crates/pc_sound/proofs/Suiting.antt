@@ -17,9 +17,9 @@ use Rattle.pc_expr.specs.Calls.{count_exprs, once_each, given, position_of, is_f
 use Rattle.pc_expr.specs.Labels.{ItemsMarks, KeywordsMarks}
 use Rattle.pc_value.specs.Value.{Value}
 use Rattle.pc_value.specs.Texts.{same_text}
-use Rattle.pc_run.specs.State as state
-use Rattle.pc_run.specs.State.{Local}
-use Rattle.pc_run.specs.Calls.{NamedValue, value_named, bound_arguments}
+use Rattle.pc_machine.specs.State as state
+use Rattle.pc_machine.specs.State.{Local}
+use Rattle.pc_machine.specs.Calls.{NamedValue, value_named, bound_arguments}
 use Rattle.pc_sound.specs.Values.{HeapTyping}
 use Rattle.pc_sound.proofs.ValuesFlow.{of_static}
 use Rattle.pc_sound.proofs.Members.{HasEach, each_left, each_right}

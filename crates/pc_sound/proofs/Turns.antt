@@ -18,11 +18,11 @@ use Rattle.pc_check.specs.StatementLabels.{SuiteMarks, breaks_in_suite}
 use Rattle.pc_check.specs.Statements.{Seen, is_number, binds_number, LawfulSuite, SuiteFinds}
 use Rattle.pc_value.specs.Value.{Value, Gives}
 use Rattle.pc_value.specs.Texts.{same_text}
-use Rattle.pc_run.specs.State.{State, Frame}
-use Rattle.pc_run.specs.Names.{local_of, with_local}
-use Rattle.pc_run.specs.Steps.{Parts, Flow, next, breaking, continuing, leaves}
-use Rattle.pc_run.specs.Free.{Step, free}
-use Rattle.pc_run.specs.Evaluation.{exec_node, exec_body, after_turn, while_turn}
+use Rattle.pc_machine.specs.State.{State, Frame}
+use Rattle.pc_machine.specs.Names.{local_of, with_local}
+use Rattle.pc_machine.specs.Steps.{Parts, Flow, next, breaking, continuing, leaves}
+use Rattle.pc_machine.specs.Free.{Step, free}
+use Rattle.pc_machine.specs.Evaluation.{exec_node, exec_body, after_turn, while_turn}
 use Rattle.pc_sound.specs.Values.{HeapTyping, HasType, Extends}
 use Rattle.pc_sound.specs.Kept.{HasLocals}
 use Rattle.pc_sound.specs.Judgment.{Around, Stands, Fits, Leads, At, Ways, Reaches, FlowEnds, Lasts}

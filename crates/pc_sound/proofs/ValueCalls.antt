@@ -15,12 +15,12 @@ use Rattle.pc_expr.specs.Labels.{Marks, ItemsMarks, KeywordsMarks, mark_of, type
 use Rattle.pc_expr.specs.Lawful.{Lawful, LawfulItems, LawfulKeywords, is_length_of_one, whole_call_mark}
 use Rattle.pc_value.specs.Value.{Stop, Out, Gives, Stops}
 use Rattle.pc_value.specs.Texts.{same_text}
-use Rattle.pc_run.specs.State.{State}
-use Rattle.pc_run.specs.Names.{Meaning, means_value, means_unbound, means_function, means_class, means_reserved, means_nothing, meaning}
-use Rattle.pc_run.specs.Calls.{Callee, calls_value, callee_of_meaning, value_of_meaning}
-use Rattle.pc_run.specs.Steps.{Parts}
-use Rattle.pc_run.specs.Free.{Step, ◌>>=◌, comes, Emits, Looks, free}
-use Rattle.pc_run.specs.Evaluation.{call_form, instance_test, ordinary, eval_callee, eval_all, eval_keywords, call_callee}
+use Rattle.pc_machine.specs.State.{State}
+use Rattle.pc_machine.specs.Names.{Meaning, means_value, means_unbound, means_function, means_class, means_reserved, means_nothing, meaning}
+use Rattle.pc_machine.specs.Calls.{Callee, calls_value, callee_of_meaning, value_of_meaning}
+use Rattle.pc_machine.specs.Steps.{Parts}
+use Rattle.pc_machine.specs.Free.{Step, ◌>>=◌, comes, Emits, Looks, free}
+use Rattle.pc_machine.specs.Evaluation.{call_form, instance_test, ordinary, eval_callee, eval_all, eval_keywords, call_callee}
 use Rattle.pc_sound.specs.Values.{HeapTyping, HasType}
 use Rattle.pc_sound.specs.Judgment.{HasListed, EndsWell, Around, Stands, Keeps, IsSafe, Fits}
 use Rattle.pc_sound.proofs.Steps.{bind_safe, comes_safe, may_stop_safe, weaken}

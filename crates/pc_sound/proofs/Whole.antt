@@ -19,10 +19,10 @@ use Rattle.pc_expr.specs.Context.{Context}
 use Rattle.pc_expr.specs.Signatures.{initializer_context}
 use Rattle.pc_check.specs.Modules.{Labelling, IsLawful, IsFinding, constant_types, Before, nothing_before, ItemsFind}
 use Rattle.pc_value.specs.Value.{Value, Raised, Other, Outside, Cut, Out, Gives, Stops}
-use Rattle.pc_run.specs.State.{nothing_bound}
-use Rattle.pc_run.specs.Free.{Step, free}
-use Rattle.pc_run.specs.Evaluation.{steps, exec_module, enter_main}
-use Rattle.pc_run.specs.Runs.{Run, End, end_of, IsFault}
+use Rattle.pc_machine.specs.State.{nothing_bound}
+use Rattle.pc_machine.specs.Free.{Step, free}
+use Rattle.pc_machine.specs.Evaluation.{steps, exec_module, enter_main}
+use Rattle.pc_machine.specs.Runs.{Run, End, end_of, IsFault}
 use Rattle.pc_sound.specs.Judgment.{EndsWell, Around, Fits}
 use Rattle.pc_sound.specs.Sound.{HasNoError, HasEvaluated}
 use Rattle.pc_sound.proofs.Fields.{Inherits}

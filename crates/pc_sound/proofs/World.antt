@@ -22,10 +22,10 @@ use Rattle.pc_expr.specs.Context.{Context}
 use Rattle.pc_expr.specs.Signatures.{body_context}
 use Rattle.pc_check.specs.Modules.{FunctionMarks, LawfulFunction, FunctionFinds}
 use Rattle.pc_value.specs.Value.{Value}
-use Rattle.pc_run.specs.State as state
-use Rattle.pc_run.specs.State.{Function, Class, Globals, a_value, a_function, a_class}
-use Rattle.pc_run.specs.Names.{global_of}
-use Rattle.pc_run.specs.Calls.{is_ancestor}
+use Rattle.pc_machine.specs.State as state
+use Rattle.pc_machine.specs.State.{Function, Class, Globals, a_value, a_function, a_class}
+use Rattle.pc_machine.specs.Names.{global_of}
+use Rattle.pc_machine.specs.Calls.{is_ancestor}
 use Rattle.pc_sound.specs.Values.{HeapTyping, HasType, Extends}
 use Rattle.pc_sound.specs.Judgment.{Around}
 use Rattle.pc_sound.proofs.ValuesFlow.{later}

@@ -13,10 +13,10 @@ use Rattle.pc_flow.specs.Environment.{Env, declared_type}
 use Rattle.pc_flow.specs.Narrowing.{narrow}
 use Rattle.pc_expr.specs.Context.{Context}
 use Rattle.pc_value.specs.Value.{Value, Out, Gives, Stops, Raised, Other, Outside, Cut, is_true}
-use Rattle.pc_run.specs.State.{State, Class, Globals, Frame}
-use Rattle.pc_run.specs.Names.{local_of, with_local}
-use Rattle.pc_run.specs.Steps.{Flow, next, breaking, continuing, leaves}
-use Rattle.pc_run.specs.Free.{Step}
+use Rattle.pc_machine.specs.State.{State, Class, Globals, Frame}
+use Rattle.pc_machine.specs.Names.{local_of, with_local}
+use Rattle.pc_machine.specs.Steps.{Flow, next, breaking, continuing, leaves}
+use Rattle.pc_machine.specs.Free.{Step}
 use Rattle.pc_sound.specs.Values.{HeapTyping, HasType, Extends, IsWell}
 use Rattle.pc_sound.specs.Kept.{HasLocals}
 

@@ -9,8 +9,8 @@ use Rattle.pc_flow.specs.Environment.{Env, current, declared_type}
 use Rattle.pc_scope.specs.Resolution.{index_of}
 use Rattle.pc_value.specs.Value.{Value, none, location, Raised, Other, Outside, Cut}
 use Rattle.pc_value.specs.Actions.{Outcome, gives, iterates, finished, stops, Acted}
-use Rattle.pc_run.specs.State.{Frame}
-use Rattle.pc_run.specs.Names.{local_of}
+use Rattle.pc_machine.specs.State.{Frame}
+use Rattle.pc_machine.specs.Names.{local_of}
 use Rattle.pc_flow.specs.Narrowing.{Tested, for_none, for_type, for_list}
 use Rattle.pc_sound.specs.Values.{HeapTyping, a_list, HasType, Extends, IsWell}
 

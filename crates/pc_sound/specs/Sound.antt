@@ -6,7 +6,7 @@ use Rattle.pc_tree.specs.declared.code.Finding.{Finding}
 use Rattle.pc_tree.specs.Code.{IsError}
 use Rattle.pc_tree.specs.Tree.{Module}
 use Rattle.pc_check.specs.Modules.{HasLabelling, IsFinding}
-use Rattle.pc_run.specs.Runs.{Run, End, IsFault}
+use Rattle.pc_machine.specs.Runs.{Run, End, IsFault}
 
 -- no finding is an error
 abbrev pub HasNoError : Module → Type 0

@@ -1,7 +1,7 @@
 use Rattle.std.proofs.Common.{arith, sym, rules}
 use Rattle.pc_tree.specs.Tree.{name_of}
-use Rattle.pc_run.specs.Machine.{keywords_of_list}
-use Rattle.pc_run.proofs.Lists.{other_count, named_too}
+use Rattle.pc_tree.specs.Lists.{keywords_of_list}
+use Rattle.pc_run.proofs.CallForms.{other_count, named_too}
 use Rattle.pc_run.proofs.forms.instance_test.Goals as goal
 
 pub returns-then-arguments-ne2 : goal.returns-then-arguments-ne2

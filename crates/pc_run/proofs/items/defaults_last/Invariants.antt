@@ -1,6 +1,6 @@
 use Rattle.std.proofs.Common.{◌≡◌, ◌++◌, ◌∷◌, drop, map}
-use Rattle.pc_run.specs.Evaluation.{all_with, defaults_last}
-use Rattle.pc_run.specs.Machine.{parameter_of}
+use Rattle.pc_machine.specs.Evaluation.{all_with, defaults_last}
+use Rattle.pc_machine.specs.Machine.{parameter_of}
 use Rattle.std.specs.Prelude.{if◌then◌else◌}
 use Rattle.pc_run.proofs.items.defaults_last.Given as goal
 

@@ -1,5 +1,5 @@
 use Rattle.std.proofs.Common.{◌≡◌, ◌++◌, ◌∷◌, drop, map}
-use Rattle.pc_run.specs.Machine.{parameter_of}
+use Rattle.pc_machine.specs.Machine.{parameter_of}
 use Rattle.pc_run.proofs.items.inherited_fields.Given as goal
 
 abbrev pub invariant-loop-field : goal.invariant-loop-field

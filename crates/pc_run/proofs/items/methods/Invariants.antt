@@ -1,5 +1,5 @@
 use Rattle.std.proofs.Common.{◌≡◌, ◌++◌, ◌∷◌, drop, map}
-use Rattle.pc_run.specs.Machine.{method_of_def}
+use Rattle.pc_machine.specs.Machine.{method_of_def}
 use Rattle.pc_run.proofs.items.methods.Given as goal
 
 abbrev pub invariant-loop-method : goal.invariant-loop-method

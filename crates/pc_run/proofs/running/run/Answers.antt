@@ -1,7 +1,7 @@
 use Rattle.std.proofs.Common.{◌≡◌, ◌∙◌, sym, rules}
 use Rattle.pc_tree.specs.Tree.{module_of}
-use Rattle.pc_run.specs.Runs.{plain_module}
-use Rattle.pc_run.specs.Machine.{progress_of}
+use Rattle.pc_machine.specs.Runs.{plain_module}
+use Rattle.pc_machine.specs.Machine.{progress_of}
 use Rattle.pc_run.proofs.Defaults.{run_from, never_runs}
 use Rattle.pc_run.proofs.running.run.Goals as goal
 

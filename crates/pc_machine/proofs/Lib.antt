@@ -1,0 +1,6 @@
+pub mod Expressions
+pub mod Fits
+pub mod Lists
+pub mod Modules
+pub mod Rows
+pub mod Statements

@@ -1,0 +1,547 @@
+-- The run model: what each expression and each statement does, in order, then the items of a module and `main`.
+-- Language Reference 4 "Execution model", 6 "Expressions", 7 "Simple statements", 8 "Compound statements"; events,
+-- charges and ends: own rules of the profile.
+use Rattle.std.specs.Prelude.{ℕ, zero, suc, Bool, true, false, not, List, [], ◌∷◌, ◌++◌, length, if◌then◌else◌, Option, Some, None, is_some, codes, chars}
+use Rattle.pc_source.specs.declared.place.Place.{Place}
+use Rattle.pc_tree.specs.Tree.{Name, Expr, name, number, text, truth, nothing, tuple, list, dict, negative, negation, binary, compare, is_none, is_not_none, conjunction, disjunction, attribute, index, call, Exprs, no_exprs, more_exprs, Entries, no_entries, more_entries, Keywords, no_keywords, more_keywords, Target, to_name, to_attribute, to_index, Literal, number_literal, negative_literal, text_literal, truth_literal, none_literal, Stmt, pass, breaks, continues, returns, asserts, annotated, assigns, evaluates, while_loop, for_loop, conditional, Stmts, no_stmts, more_stmts, Branches, no_branches, more_branches, Param, FuncDef, Member, field_member, method_member, ClassDef, Item, constant_item, class_item, def_item, Module}
+use Rattle.pc_value.specs.Value as value
+use Rattle.pc_value.specs.Value.{Value, whole, boolean, string, tuple_of, location, values_of, Entry, is_true, Stop, Raised, Other, Outside, Cut, TypeError, NameError, Out, Gives, Stops}
+use Rattle.pc_value.specs.Actions as action
+use Rattle.pc_value.specs.Actions.{Action, Iteration}
+use Rattle.pc_value.specs.Numbers.{number_of_digits, negative_of_digits}
+use Rattle.pc_value.specs.Texts.{same_text}
+use Rattle.pc_machine.specs.State.{State, Parameter, Function, Class, Bound, a_value, a_function, a_class, Local}
+use Rattle.pc_machine.specs.Names.{Meaning, means_class, means_nothing, meaning, with_local, frame_of}
+use Rattle.pc_machine.specs.Calls.{Callee, calls_value, calls_function, calls_class, calls_reserved, calls_method, calls_builtin_method, callee_of_meaning, value_of_meaning, method_of, named_method, class_at, NamedValue, bound_arguments, suited, slots_of, builtin_method_action, ReservedCall, prints, performs, reserved_call, range_argument, test_of, passes}
+use Rattle.pc_machine.specs.Steps.{Reading, Parts, Flow, next, breaking, continuing, leaves, value_out, iteration_out, item_out}
+
+-- a value is None
+abbrev pub is_nothing : Value → Bool
+is_nothing value.none = true
+is_nothing v = false
+
+-- what a call gives, by how the body ended
+abbrev pub value_of_flow : Flow → Value
+value_of_flow next = value.none
+value_of_flow breaking = value.none
+value_of_flow continuing = value.none
+value_of_flow (leaves v) = v
+
+-- a call is a test `isinstance(e, T)`, which has exactly two arguments by position, or an ordinary one
+pub data CallForm : Type 0 where
+  instance_test : (callee : Name) (object test : Expr) → CallForm
+  ordinary : CallForm
+
+abbrev pub call_form : Expr → Exprs → Keywords → CallForm
+call_form (name n) (more_exprs e (more_exprs t no_exprs)) no_keywords = if same_text n.text (codes "isinstance") then instance_test n e t else ordinary
+call_form callee arguments by_name = ordinary
+
+-- what a `for` goes over is a call of `range`, or a value
+pub data IterableForm : Type 0 where
+  range_call : (place : Place) (callee : Name) (arguments : Exprs) (keywords : Keywords) → IterableForm
+  any_iterable : IterableForm
+
+abbrev pub iterable_form : Expr → IterableForm
+iterable_form (call p (name n) arguments keywords) = if same_text n.text (codes "range") then range_call p n arguments keywords else any_iterable
+iterable_form e = any_iterable
+
+-- `self` as a local of a method
+abbrev pub self_local : Value → Local
+self_local v = record { name = codes "self"; value = Some v }
+
+-- the fields of a class
+abbrev pub fields_of : Option Class → List Parameter
+fields_of None = []
+fields_of (Some c) = c.fields
+
+abbrev pub methods_of : Option Class → List Function
+methods_of None = []
+methods_of (Some c) = c.methods
+
+abbrev pub ancestors_of : Option Class → List ℕ
+ancestors_of None = []
+ancestors_of (Some c) = c.ancestors
+
+-- `@dataclass` without its header
+abbrev pub dataclass_found : Bool → Out (Unit {0})
+dataclass_found true = Gives tt
+dataclass_found false = Stops (Raised NameError)
+
+-- a base is a class that was made; a name bound to nothing is NameError, all else out of the profile
+abbrev pub base_of_meaning : Meaning → Out (Option ℕ)
+base_of_meaning (means_class c) = Gives (Some c)
+base_of_meaning means_nothing = Stops (Raised NameError)
+base_of_meaning m = Stops Outside
+
+abbrev pub base_of : Option Name → State → Out (Option ℕ)
+base_of None s = Gives None
+base_of (Some n) s = base_of_meaning (meaning n.text s)
+
+-- a field without default after one with default is TypeError
+abbrev pub all_without : List Parameter → Bool
+all_without [] = true
+all_without (p ∷ rest) = if is_some p.default then false else all_without rest
+
+abbrev pub all_with : List Parameter → Bool
+all_with [] = true
+all_with (p ∷ rest) = if is_some p.default then all_with rest else false
+
+abbrev pub defaults_last : List Parameter → Bool
+defaults_last [] = true
+defaults_last (p ∷ rest) = if is_some p.default then all_with rest else defaults_last rest
+
+abbrev pub in_order : List Parameter → Out (Unit {0})
+in_order fields = if defaults_last fields then Gives tt else Stops (Raised TypeError)
+
+-- the fields and methods of a class that are its own
+pub record Members : Type 0 where
+  pub fields : List Parameter
+  pub methods : List Function
+
+-- the class that a number will name, behind its base
+abbrev pub class_behind : Option Class → Members → ℕ → Class
+class_behind base own n = record { ancestors = n ∷ ancestors_of base; fields = fields_of base ++ own.fields; methods = own.methods ++ methods_of base }
+
+-- the state after a local, a name of the module or a class was bound
+abbrev pub binds_local : List ℕ → Value → State → State
+binds_local n v s = record s { frame = with_local n v s.frame }
+
+abbrev pub binds_global : List ℕ → Bound → State → State
+binds_global n b s = record s { globals = s.globals ++ record { name = n; is = b } ∷ [] }
+
+abbrev pub binds_class : List ℕ → Class → State → State
+binds_class n c s = record s { classes = s.classes ++ c ∷ []; globals = s.globals ++ record { name = n; is = a_class (length s.classes) } ∷ [] }
+
+module _ {ℓ} (Step : Type 0 → Type ℓ) (reading : Reading Step) where
+  infixl 20 ◌>>=◌ ◌>>◌
+  open reading use {pure, ◌>>=◌, stop, charge, emit, look, change, act, enter}
+
+  abbrev pub ◌>>◌ : {A B : Type 0} → Step A → Step B → Step B
+  m >> n = m >>= λ a. n
+
+  -- it comes to this
+  abbrev pub answer : {A : Type 0} → Out A → Step A
+  answer out = look (λ s. out)
+
+  -- one of two steps
+  abbrev pub choose : {A : Type 0} → Bool → Step A → Step A → Step A
+  choose true first second = first
+  choose false first second = second
+
+  -- the truth of a value
+  abbrev pub condition : Value → Step Bool
+  condition v = look (λ s. Gives (is_true s.heap v))
+
+  -- ---- expressions
+
+  -- operands, arguments and items, from left to right
+  abbrev pub eval_all : (Expr → Step Value) → Exprs → Step (List Value)
+  eval_all eval no_exprs = pure []
+  eval_all eval (more_exprs e rest) = do
+    v ← eval e
+    values ← eval_all eval rest
+    pure (v ∷ values)
+
+  -- key, value, key, value
+  abbrev pub eval_entries : (Expr → Step Value) → Entries → Step (List Entry)
+  eval_entries eval no_entries = pure []
+  eval_entries eval (more_entries key e rest) = do
+    k ← eval key
+    v ← eval e
+    entries ← eval_entries eval rest
+    pure (record { key = k; value = v } ∷ entries)
+
+  -- arguments by name, as they are written
+  abbrev pub eval_keywords : (Expr → Step Value) → Keywords → Step (List NamedValue)
+  eval_keywords eval no_keywords = pure []
+  eval_keywords eval (more_keywords n e rest) = do
+    v ← eval e
+    named ← eval_keywords eval rest
+    pure (record { name = n.text; value = v } ∷ named)
+
+  -- what `e.m` is as a callee: a method, else what reading `e.m` gives
+  abbrev pub callee_of_attribute : Value → List ℕ → Option Callee → Step Callee
+  callee_of_attribute v m (Some callee) = pure callee
+  callee_of_attribute v m None = do
+    field ← act value_out (action.read_attribute v m false)
+    pure (calls_value field)
+
+  -- a callee: a name or attribute is looked up, and its place evaluated, before the arguments
+  abbrev pub eval_callee : Parts Step → Expr → Step Callee
+  eval_callee parts (name n) = do
+    charge
+    emit n.place
+    look (λ s. callee_of_meaning n.text (meaning n.text s))
+  eval_callee parts (attribute p e m) = do
+    charge
+    v ← parts.eval e
+    emit p
+    method ← look (λ s. Gives (named_method s v m.text))
+    callee_of_attribute v m.text method
+  eval_callee parts e = do
+    v ← parts.eval e
+    pure (calls_value v)
+
+  -- a function runs from a frame of its own
+  abbrev pub call_function : Parts Step → Function → List Value → List NamedValue → Step Value
+  call_function parts f values named = do
+    arguments ← answer (suited (bound_arguments f.parameters values named))
+    flow ← enter (frame_of f arguments) (parts.exec f.body)
+    pure (value_of_flow flow)
+
+  -- a method too, with its object as `self`; its name's place is evaluated as it is entered
+  abbrev pub call_method : Parts Step → Value → Function → List Value → List NamedValue → Step Value
+  call_method parts object f values named = do
+    arguments ← answer (suited (bound_arguments f.parameters values named))
+    flow ← enter (frame_of f (self_local object ∷ arguments)) (emit f.name.place >> parts.exec f.body)
+    pure (value_of_flow flow)
+
+  -- a class makes an instance, its fields from the arguments
+  abbrev pub call_class : ℕ → List Value → List NamedValue → Step Value
+  call_class c values named = do
+    fields ← look (λ s. Gives (fields_of (class_at s.classes (Some c))))
+    arguments ← answer (suited (bound_arguments fields values named))
+    act value_out (action.new_instance c (slots_of arguments))
+
+  abbrev pub do_reserved : ReservedCall → Step Value
+  do_reserved prints = pure value.none
+  do_reserved (performs a) = act value_out a
+
+  -- what a callee does with its arguments
+  abbrev pub call_callee : Parts Step → Callee → List Value → List NamedValue → Step Value
+  call_callee parts (calls_value v) values named = stop (Raised TypeError)
+  call_callee parts (calls_function f) values named = call_function parts f values named
+  call_callee parts (calls_class c) values named = call_class c values named
+  call_callee parts (calls_reserved n) values named = do
+    reserved ← answer (reserved_call n values named)
+    do_reserved reserved
+  call_callee parts (calls_method object f) values named = call_method parts object f values named
+  call_callee parts (calls_builtin_method object method) values named = do
+    a ← answer (builtin_method_action object method values named)
+    act value_out a
+
+  -- a call: the callee, the arguments, its event, its action. The second argument of `isinstance` is not evaluated
+  abbrev pub eval_call : Parts Step → Place → Expr → Exprs → Keywords → CallForm → Step Value
+  eval_call parts p callee arguments by_name (instance_test n e t) = do
+    charge
+    emit n.place
+    v ← parts.eval e
+    emit p
+    test ← look (test_of t)
+    look (λ s. Gives (boolean (passes s v test)))
+  eval_call parts p callee arguments by_name ordinary = do
+    called ← eval_callee parts callee
+    values ← eval_all parts.eval arguments
+    named ← eval_keywords parts.eval by_name
+    emit p
+    call_callee parts called values named
+
+  -- an expression: its parts, its event, its action
+  abbrev pub eval_node : Parts Step → Expr → Step Value
+  eval_node parts (name n) = do
+    emit n.place
+    look (λ s. value_of_meaning (meaning n.text s))
+  eval_node parts (number p digits) = do
+    emit p
+    act value_out (action.number (number_of_digits digits))
+  eval_node parts (text p bytes) = do
+    emit p
+    pure (string (chars bytes))
+  eval_node parts (truth p b) = do
+    emit p
+    pure (boolean b)
+  eval_node parts (nothing p) = do
+    emit p
+    pure value.none
+  eval_node parts (tuple p items) = do
+    values ← eval_all parts.eval items
+    emit p
+    pure (tuple_of (values_of values))
+  eval_node parts (list p items) = do
+    values ← eval_all parts.eval items
+    emit p
+    act value_out (action.new_list values)
+  eval_node parts (dict p items) = do
+    entries ← eval_entries parts.eval items
+    emit p
+    act value_out (action.new_dict entries)
+  eval_node parts (negative p e) = do
+    v ← parts.eval e
+    emit p
+    act value_out (action.negative v)
+  eval_node parts (negation p e) = do
+    v ← parts.eval e
+    emit p
+    act value_out (action.negation v)
+  eval_node parts (binary p operator l r) = do
+    v ← parts.eval l
+    w ← parts.eval r
+    emit p
+    act value_out (action.binary operator v w)
+  eval_node parts (compare p operator l r) = do
+    v ← parts.eval l
+    w ← parts.eval r
+    emit p
+    act value_out (action.compare operator v w)
+  eval_node parts (is_none p e) = do
+    v ← parts.eval e
+    emit p
+    pure (boolean (is_nothing v))
+  eval_node parts (is_not_none p e) = do
+    v ← parts.eval e
+    emit p
+    pure (boolean (not (is_nothing v)))
+  -- the right side only where it is needed; the deciding operand's value
+  eval_node parts (conjunction p l r) = do
+    v ← parts.eval l
+    b ← condition v
+    w ← choose b (parts.eval r) (pure v)
+    emit p
+    pure w
+  eval_node parts (disjunction p l r) = do
+    v ← parts.eval l
+    b ← condition v
+    w ← choose b (pure v) (parts.eval r)
+    emit p
+    pure w
+  eval_node parts (attribute p e f) = do
+    v ← parts.eval e
+    emit p
+    is_method ← look (λ s. Gives (is_some (method_of s v f.text)))
+    act value_out (action.read_attribute v f.text is_method)
+  eval_node parts (index p e i) = do
+    v ← parts.eval e
+    k ← parts.eval i
+    emit p
+    act value_out (action.read_item v k)
+  eval_node parts (call p callee arguments keywords) = eval_call parts p callee arguments keywords (call_form callee arguments keywords)
+
+  -- ---- statements
+
+  -- after its value, a target: its parts, its event, the store
+  abbrev pub assign : Parts Step → Target → Value → Step Flow
+  assign parts (to_name n) v = do
+    change (binds_local n.text v)
+    pure next
+  assign parts (to_attribute p e f) v = do
+    object ← parts.eval e
+    emit p
+    stored ← act value_out (action.store_attribute object f.text v)
+    pure next
+  assign parts (to_index p e i) v = do
+    object ← parts.eval e
+    k ← parts.eval i
+    emit p
+    stored ← act value_out (action.store_item object k v)
+    pure next
+
+  -- an `assert` whose condition was false: its message, then another exception
+  abbrev pub fail : Parts Step → Option Expr → Step Flow
+  fail parts None = stop Other
+  fail parts (Some e) = do
+    v ← parts.eval e
+    stop Other
+
+  -- the first branch whose condition is true, else the suite of `else`
+  abbrev pub exec_branches : Parts Step → Branches → Stmts → Step Flow
+  exec_branches parts no_branches otherwise = parts.exec otherwise
+  exec_branches parts (more_branches e body rest) otherwise = do
+    v ← parts.eval e
+    b ← condition v
+    choose b (parts.exec body) (exec_branches parts rest otherwise)
+
+  -- what a `for` goes over; `range(e)` evaluates its name, its argument and its call as any call does
+  abbrev pub eval_iterable : Parts Step → Expr → IterableForm → Step Iteration
+  eval_iterable parts e (range_call p n arguments keywords) = do
+    charge
+    charge
+    emit n.place
+    values ← eval_all parts.eval arguments
+    named ← eval_keywords parts.eval keywords
+    emit p
+    limit ← answer (range_argument values named)
+    act iteration_out (action.iterate_range limit)
+  eval_iterable parts e any_iterable = do
+    v ← parts.eval e
+    act iteration_out (action.iterate v)
+
+  abbrev pub exec_node : Parts Step → Stmt → Step Flow
+  exec_node parts (pass p) = pure next
+  exec_node parts (breaks p) = pure breaking
+  exec_node parts (continues p) = pure continuing
+  exec_node parts (returns p None) = pure (leaves value.none)
+  exec_node parts (returns p (Some e)) = do
+    v ← parts.eval e
+    pure (leaves v)
+  exec_node parts (asserts p e message) = do
+    v ← parts.eval e
+    b ← condition v
+    choose b (pure next) (fail parts message)
+  exec_node parts (annotated p n a None) = pure next
+  exec_node parts (annotated p n a (Some e)) = do
+    v ← parts.eval e
+    change (binds_local n.text v)
+    pure next
+  exec_node parts (assigns p target e) = do
+    v ← parts.eval e
+    assign parts target v
+  exec_node parts (evaluates p e) = do
+    v ← parts.eval e
+    pure next
+  exec_node parts (while_loop p e body) = parts.again e body
+  exec_node parts (for_loop p n e body) = do
+    over ← eval_iterable parts e (iterable_form e)
+    parts.turns over 0 n.text body
+  exec_node parts (conditional p branches otherwise) = exec_branches parts branches otherwise
+
+  -- what follows a statement, if anything does
+  abbrev pub then_follows : Flow → Step Flow → Step Flow
+  then_follows next rest = rest
+  then_follows breaking rest = pure breaking
+  then_follows continuing rest = pure continuing
+  then_follows (leaves v) rest = pure (leaves v)
+
+  -- statements, one after another
+  abbrev pub exec_all : Parts Step → Stmts → Step Flow
+  exec_all parts no_stmts = pure next
+  exec_all parts (more_stmts s rest) = do
+    charge
+    flow ← exec_node parts s
+    then_follows flow (exec_all parts rest)
+
+  -- ---- loops
+
+  -- the suite of a loop; an empty one, which no text spells, runs as `pass` does
+  abbrev pub exec_body : (Stmts → Step Flow) → Stmts → Step Flow
+  exec_body exec no_stmts = do
+    charge
+    pure next
+  exec_body exec (more_stmts s rest) = exec (more_stmts s rest)
+
+  -- what follows the suite of a loop: `break` leaves the loop
+  abbrev pub after_turn : Flow → Step Flow → Step Flow
+  after_turn next more = more
+  after_turn continuing more = more
+  after_turn breaking more = pure next
+  after_turn (leaves v) more = pure (leaves v)
+
+  -- a turn of a `while`: the condition, the suite, the further turns
+  abbrev pub while_turn : (Expr → Step Value) → (Stmts → Step Flow) → Step Flow → Expr → Stmts → Step Flow
+  while_turn eval exec more e body = do
+    v ← eval e
+    b ← condition v
+    choose b (exec_body exec body >>= λ flow. after_turn flow more) (pure next)
+
+  -- a turn of a `for`: the item if there is one, the target, the suite, the further turns
+  abbrev pub with_item : (Stmts → Step Flow) → Step Flow → List ℕ → Stmts → Option Value → Step Flow
+  with_item exec more n body None = pure next
+  with_item exec more n body (Some v) = do
+    change (binds_local n v)
+    flow ← exec_body exec body
+    after_turn flow more
+
+  abbrev pub for_turn : (Stmts → Step Flow) → Step Flow → Iteration → ℕ → List ℕ → Stmts → Step Flow
+  for_turn exec more over i n body = do
+    item ← act item_out (action.turn over i)
+    with_item exec more n body item
+
+  -- ---- nested steps
+
+  -- an expression, a suite and the turns of loops, over parts of one step less
+  abbrev pub eval_over : Parts Step → Expr → Step Value
+  eval_over parts e = do
+    charge
+    eval_node parts e
+
+  abbrev pub over_parts : Parts Step → Parts Step
+  over_parts parts = record {
+    eval = eval_over parts;
+    exec = exec_all parts;
+    again = λ e body. while_turn (eval_over parts) (exec_all parts) (parts.again e body) e body;
+    turns = λ over i n body. for_turn (exec_all parts) (parts.turns over (suc i) n body) over i n body;
+  }
+
+  -- at most n nested steps
+  abbrev pub steps : ℕ → Parts Step
+  steps zero = record { eval = λ e. stop Cut; exec = λ body. stop Cut; again = λ e body. stop Cut; turns = λ over i n body. stop Cut }
+  steps (suc n) = over_parts (steps n)
+
+  -- ---- the module
+
+  -- a literal as a default: it has no event, and a `-` and its number are one number
+  abbrev pub make_literal : Literal → Step Value
+  make_literal (number_literal p digits) = act value_out (action.number (number_of_digits digits))
+  make_literal (negative_literal p digits) = act value_out (action.number (negative_of_digits digits))
+  make_literal (text_literal p bytes) = pure (string (chars bytes))
+  make_literal (truth_literal p b) = pure (boolean b)
+  make_literal (none_literal p) = pure value.none
+
+  abbrev pub make_default : Option Literal → Step (Option Value)
+  make_default None = pure None
+  make_default (Some l) = do
+    v ← make_literal l
+    pure (Some v)
+
+  -- the parameters of a def that runs, with their defaults
+  abbrev pub make_parameters : List Param → Step (List Parameter)
+  make_parameters [] = pure []
+  make_parameters (p ∷ rest) = do
+    default ← make_default p.default
+    others ← make_parameters rest
+    pure (record { name = p.name.text; default = default } ∷ others)
+
+  abbrev pub make_function : FuncDef → Step Function
+  make_function f = do
+    parameters ← make_parameters f.params
+    pure (record { name = f.name; parameters = parameters; body = f.body })
+
+  -- the members of a class that is made: fields and methods with their defaults
+  abbrev pub make_members : List Member → Step Members
+  make_members [] = pure (record { fields = []; methods = [] })
+  make_members (field_member f ∷ rest) = do
+    default ← make_default f.default
+    others ← make_members rest
+    pure (record { fields = record { name = f.name.text; default = default } ∷ others.fields; methods = others.methods })
+  make_members (method_member f ∷ rest) = do
+    method ← make_function f
+    others ← make_members rest
+    pure (record { fields = others.fields; methods = method ∷ others.methods })
+
+  -- a class is made: `@dataclass`, the base, the members with their defaults, the order of its fields
+  abbrev pub make_class : Bool → ClassDef → Step (Unit {0})
+  make_class imports_dataclass c = do
+    answer (dataclass_found imports_dataclass)
+    base ← look (base_of c.base)
+    own ← make_members c.members
+    class ← look (λ s. Gives (class_behind (class_at s.classes base) own (length s.classes)))
+    answer (in_order class.fields)
+    change (binds_class c.name.text class)
+
+  -- a constant, a class or a def runs
+  abbrev pub exec_item : Parts Step → Bool → Item → Step (Unit {0})
+  exec_item parts imports_dataclass (constant_item p c) = do
+    charge
+    v ← parts.eval c.value
+    change (binds_global c.name.text (a_value v))
+  exec_item parts imports_dataclass (class_item p c) = make_class imports_dataclass c
+  exec_item parts imports_dataclass (def_item p f) = do
+    function ← make_function f
+    change (binds_global f.name.text (a_function function))
+
+  -- items, in the order of the text
+  abbrev pub exec_items : Parts Step → Bool → List Item → Step (Unit {0})
+  exec_items parts imports_dataclass [] = pure tt
+  exec_items parts imports_dataclass (i ∷ rest) = do
+    exec_item parts imports_dataclass i
+    exec_items parts imports_dataclass rest
+
+  -- the last line: `main` is entered, without an event
+  abbrev pub enter_main : Parts Step → Step Value
+  enter_main parts = do
+    called ← look (λ s. callee_of_meaning (codes "main") (meaning (codes "main") s))
+    call_callee parts called [] []
+
+  abbrev pub exec_module : Parts Step → Module → Step Value
+  exec_module parts m = do
+    exec_items parts m.imports_dataclass m.items
+    enter_main parts

@@ -1,0 +1,10 @@
+pub mod Calls
+pub mod Evaluation
+pub mod Free
+pub mod Machine
+pub mod Names
+pub mod Performed
+pub mod Plain
+pub mod Runs
+pub mod State
+pub mod Steps

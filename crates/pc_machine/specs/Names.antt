@@ -1,0 +1,89 @@
+-- Names at run time: what a function binds, what the module binds, the reserved names.
+-- Language Reference 4.2 "Naming and binding"; the reserved names: own rule of the profile.
+use Rattle.std.specs.Prelude.{ℕ, Bool, true, false, List, [], ◌∷◌, ◌++◌, map, if◌then◌else◌, Option, Some, None}
+use Rattle.pc_tree.specs.Stopping.{is_reserved}
+use Rattle.pc_tree.specs.Tree.{Stmts, no_stmts, more_stmts, Stmt, pass, breaks, continues, returns, asserts, annotated, assigns, evaluates, while_loop, for_loop, conditional, Branches, no_branches, more_branches, Target, to_name, to_attribute, to_index}
+use Rattle.pc_value.specs.Value.{Value}
+use Rattle.pc_value.specs.Texts.{same_text}
+use Rattle.pc_machine.specs.State.{Local, Frame, Function, Globals, Bound, a_value, a_function, a_class, State}
+
+-- the names that a target binds
+abbrev pub target_names : Target → List (List ℕ)
+target_names (to_name n) = n.text ∷ []
+target_names (to_attribute p e f) = []
+target_names (to_index p e i) = []
+
+-- the names that statements bind: by an assignment, an annotation, or as the target of a `for`
+abbrev mutual
+  pub names_bound : Stmts → List (List ℕ)
+  names_bound no_stmts = []
+  names_bound (more_stmts s rest) = names_bound_by s ++ names_bound rest
+
+  pub names_bound_by : Stmt → List (List ℕ)
+  names_bound_by (pass p) = []
+  names_bound_by (breaks p) = []
+  names_bound_by (continues p) = []
+  names_bound_by (returns p e) = []
+  names_bound_by (asserts p e m) = []
+  names_bound_by (annotated p n a e) = n.text ∷ []
+  names_bound_by (assigns p t e) = target_names t
+  names_bound_by (evaluates p e) = []
+  names_bound_by (while_loop p e body) = names_bound body
+  names_bound_by (for_loop p n e body) = n.text ∷ names_bound body
+  names_bound_by (conditional p branches otherwise) = names_bound_in branches ++ names_bound otherwise
+
+  pub names_bound_in : Branches → List (List ℕ)
+  names_bound_in no_branches = []
+  names_bound_in (more_branches e body rest) = names_bound body ++ names_bound_in rest
+
+-- a local that is not bound yet
+abbrev pub unbound : List ℕ → Local
+unbound name = record { name = name; value = None }
+
+-- the frame of a function that is entered: its parameters with their values, then the other names that it binds
+abbrev pub frame_of : Function → List Local → Frame
+frame_of f arguments = arguments ++ map unbound (names_bound f.body)
+
+-- a local of the frame: none of that name, or one with its value if it is bound
+abbrev pub local_of : List ℕ → Frame → Option (Option Value)
+local_of name [] = None
+local_of name (l ∷ rest) = if same_text l.name name then Some l.value else local_of name rest
+
+-- the frame after a local was bound
+abbrev pub with_local : List ℕ → Value → Frame → Frame
+with_local name v [] = []
+with_local name v (l ∷ rest) = if same_text l.name name then record { name = l.name; value = Some v } ∷ rest else l ∷ with_local name v rest
+
+-- what the module has bound to a name so far
+abbrev pub global_of : List ℕ → Globals → Option Bound
+global_of name [] = None
+global_of name (g ∷ rest) = if same_text g.name name then Some g.is else global_of name rest
+
+-- what a name means where it is read: a value, a local that is not bound, a function, a class, a reserved name, nothing
+pub data Meaning : Type 0 where
+  means_value : (value : Value) → Meaning
+  means_unbound : Meaning
+  means_function : (function : Function) → Meaning
+  means_class : (class : ℕ) → Meaning
+  means_reserved : Meaning
+  means_nothing : Meaning
+
+abbrev pub meaning_of_bound : Bound → Meaning
+meaning_of_bound (a_value v) = means_value v
+meaning_of_bound (a_function f) = means_function f
+meaning_of_bound (a_class c) = means_class c
+
+-- the module, then the reserved names
+abbrev pub meaning_of_global : Bool → Option Bound → Meaning
+meaning_of_global reserved (Some g) = meaning_of_bound g
+meaning_of_global true None = means_reserved
+meaning_of_global false None = means_nothing
+
+abbrev pub meaning_of_local : Meaning → Option (Option Value) → Meaning
+meaning_of_local outer None = outer
+meaning_of_local outer (Some None) = means_unbound
+meaning_of_local outer (Some (Some v)) = means_value v
+
+-- a name that the function binds is local in all of it; others are the module's, then reserved
+abbrev pub meaning : List ℕ → State → Meaning
+meaning name s = meaning_of_local (meaning_of_global (is_reserved name) (global_of name s.globals)) (local_of name s.frame)

@@ -1,0 +1,52 @@
+-- The nodes of the text that evaluate nothing further, in a plain run, and the parts of others that do so.
+-- Own rule of the profile.
+use Rattle.std.specs.Prelude.{ℕ, Bool, true, false, nat_eq, List, ◌∷◌, Option, Some, None}
+use Rattle.pc_tree.specs.Tree.{Expr, Stmts, no_stmts, more_stmts}
+use Rattle.pc_value.specs.Value.{Value, boolean, Cut}
+use Rattle.pc_value.specs.Actions as action
+use Rattle.pc_value.specs.Actions.{Iteration}
+use Rattle.pc_machine.specs.State.{Function, Frame}
+use Rattle.pc_machine.specs.Names.{frame_of}
+use Rattle.pc_machine.specs.Calls.{Callee, NamedValue, named_method, bound_arguments, suited, range_argument, test_of, passes}
+use Rattle.pc_machine.specs.Steps.{Flow, next, value_out, iteration_out}
+use Rattle.pc_machine.specs.Plain.{Came, Ended, Step, and_then, comes, charge, emitted, entered, call_limit, plain, act}
+use Rattle.pc_machine.specs.Runs.{plain_parts}
+use Rattle.pc_machine.specs.Evaluation as text
+use Rattle.pc_machine.specs.Evaluation.{self_local}
+
+-- a callee
+abbrev pub callee_in : ℕ → Expr → Step Callee
+callee_in n e = text.eval_callee Step plain (plain_parts n) e
+
+-- a call of a callee with its arguments
+abbrev pub callee_called : ℕ → Callee → List Value → List NamedValue → Step Value
+callee_called n callee values named = text.call_callee Step plain (plain_parts n) callee values named
+
+abbrev pub attribute_callee : Value → List ℕ → Step Callee
+attribute_callee v m w = text.callee_of_attribute Step plain v m (named_method w.state v m) w
+
+abbrev pub instance_tested : Value → Expr → Step Value
+instance_tested v t w = and_then (comes (test_of t w.state) w) (λ test v'. Came (boolean (passes v'.state v test)) v')
+
+abbrev pub attribute_stored : Value → List ℕ → Value → Step Flow
+attribute_stored o f v w = and_then (act value_out (action.store_attribute o f v) w) (λ stored w'. Came next w')
+
+abbrev pub item_stored : Value → Value → Value → Step Flow
+item_stored o k v w = and_then (act value_out (action.store_item o k v) w) (λ stored w'. Came next w')
+
+abbrev pub range_begun : List Value → List NamedValue → Step Iteration
+range_begun values named w = and_then (comes (range_argument values named) w) (λ limit w'. act iteration_out (action.iterate_range limit) w')
+
+-- an empty suite of a loop is charged as `pass` is
+abbrev pub empty_charged : Stmts → Step (Unit {0})
+empty_charged no_stmts w = charge w
+empty_charged (more_stmts s rest) w = Came tt w
+
+-- a frame is entered, if a further call may be open; what it comes to is the caller's frame
+abbrev pub entered_unless : Bool → Frame → Step Frame
+entered_unless true frame w = Ended Cut w
+entered_unless false frame w = Came w.state.frame (entered frame w)
+
+abbrev pub opened : Function → Option Value → List Value → List NamedValue → Step Frame
+opened f None values named w = and_then (comes (suited (bound_arguments f.parameters values named)) w) (λ arguments w'. entered_unless (nat_eq w'.depth call_limit) (frame_of f arguments) w')
+opened f (Some object) values named w = and_then (comes (suited (bound_arguments f.parameters values named)) w) (λ arguments w'. and_then (entered_unless (nat_eq w'.depth call_limit) (frame_of f (self_local object ∷ arguments)) w') (λ caller w''. Came caller (emitted f.name.place w'')))

@@ -1,0 +1,122 @@
+-- The text read as what happens in a plain run: a function of the fuel and the choices.
+-- Own rule of the profile.
+use Rattle.std.specs.Prelude.{ℕ, zero, suc, Bool, true, false, nat_eq, List, [], ◌∷◌, ◌++◌}
+use Rattle.pc_source.specs.declared.place.Place.{Place}
+use Rattle.pc_value.specs.Value.{Heap, Stop, Cut, Out, Gives, Stops}
+use Rattle.pc_value.specs.Actions.{Action, Outcome, Acted}
+use Rattle.pc_value.specs.Outcomes.{takes_choice}
+use Rattle.pc_value.specs.Plain.{plainly_acted}
+use Rattle.pc_machine.specs.State.{State, Frame, nothing_bound}
+use Rattle.pc_machine.specs.Steps.{Reading}
+
+-- a plain run so far: its state, the places evaluated, the fuel and the choice bytes that are left, the open calls
+pub record Progress : Type 0 where
+  pub state : State
+  pub events : List Place
+  pub fuel : ℕ
+  pub choices : List ℕ
+  pub depth : ℕ
+
+-- a step came to a value, or ended the run
+pub data After (A : Type 0) : Type 0 where
+  Came : (value : A) (progress : Progress) → After A
+  Ended : (stop : Stop) (progress : Progress) → After A
+
+abbrev pub Step : Type 0 → Type 0
+Step A = Progress → After A
+
+abbrev pub and_then : {A B : Type 0} → After A → (A → Step B) → After B
+and_then (Came a w) next = next a w
+and_then (Ended stop w) next = Ended stop w
+
+infixl 20 ◌>>=◌
+abbrev pub ◌>>=◌ : {A B : Type 0} → Step A → (A → Step B) → Step B
+(first >>= next) w = and_then (first w) next
+
+abbrev pub comes : {A : Type 0} → Out A → Step A
+comes (Gives a) w = Came a w
+comes (Stops stop) w = Ended stop w
+
+-- one of fuel; cut off where none is left
+abbrev pub charged : ℕ → Step (Unit {0})
+charged zero w = Ended Cut w
+charged (suc fuel) w = Came tt (record w { fuel = fuel })
+
+abbrev pub charge : Step (Unit {0})
+charge w = charged w.fuel w
+
+abbrev pub emitted : Place → Progress → Progress
+emitted place w = record w { events = w.events ++ place ∷ [] }
+
+abbrev pub emit : Place → Step (Unit {0})
+emit place w = Came tt (emitted place w)
+
+abbrev pub look : {A : Type 0} → (State → Out A) → Step A
+look f w = comes (f w.state) w
+
+abbrev pub changed : (State → State) → Progress → Progress
+changed f w = record w { state = f w.state }
+
+abbrev pub change : (State → State) → Step (Unit {0})
+change f w = Came tt (changed f w)
+
+-- the next choice byte, 0 when they are used up, and those after it
+abbrev pub next_choice : List ℕ → ℕ
+next_choice [] = 0
+next_choice (byte ∷ rest) = byte
+
+abbrev pub later_choices : Bool → List ℕ → List ℕ
+later_choices taken [] = []
+later_choices true (byte ∷ rest) = rest
+later_choices false (byte ∷ rest) = byte ∷ rest
+
+-- the progress after an action left a heap, and took a choice or none
+abbrev pub after_action : Bool → Heap → Progress → Progress
+after_action taken heap w = record w { state = record w.state { heap = heap }; choices = later_choices taken w.choices }
+
+abbrev pub acted_to : {A : Type 0} → (Outcome → Out A) → Bool → Acted → Step A
+acted_to want taken a w = comes (want a.outcome) (after_action taken a.heap w)
+
+-- an action; a free answer takes the next choice
+abbrev pub act : {A : Type 0} → (Outcome → Out A) → Action → Step A
+act want a w = acted_to want (takes_choice w.state.heap a) (plainly_acted (next_choice w.choices) a w.state.heap) w
+
+-- the most open calls
+abbrev pub call_limit : ℕ
+call_limit = 64
+
+abbrev pub entered : Frame → Progress → Progress
+entered frame w = record w { state = record w.state { frame = frame }; depth = suc w.depth }
+
+-- back in the caller's frame
+abbrev pub back_in : Progress → Progress → Progress
+back_in w v = record v { state = record v.state { frame = w.state.frame }; depth = w.depth }
+
+abbrev pub left_to : Progress → {A : Type 0} → After A → After A
+left_to w (Came a v) = Came a (back_in w v)
+left_to w (Ended stop v) = Ended stop (back_in w v)
+
+-- the call past the limit is cut off at its entry
+abbrev pub entered_if : Bool → {A : Type 0} → Frame → Step A → Step A
+entered_if true frame body w = Ended Cut w
+entered_if false frame body w = left_to w (body (entered frame w))
+
+abbrev pub enter : {A : Type 0} → Frame → Step A → Step A
+enter frame body w = entered_if (nat_eq w.depth call_limit) frame body w
+
+abbrev pub plain : Reading Step
+plain = record {
+  pure = λ a w. Came a w;
+  ◌>>=◌ = λ first next. first >>= next;
+  stop = λ stop w. Ended stop w;
+  charge = charge;
+  emit = λ place. emit place;
+  look = λ f. look f;
+  change = λ f. change f;
+  act = λ want a. act want a;
+  enter = λ frame body. enter frame body;
+}
+
+-- before the first item
+abbrev pub begin : ℕ → List ℕ → Progress
+begin fuel choices = record { state = nothing_bound; events = []; fuel = fuel; choices = choices; depth = 0 }

@@ -1,0 +1,156 @@
+ghost use Rattle.std.specs.Prelude.{◌≡◌, map, IfOk, chars, string_bytes};
+ghost use Rattle.pc_tree.specs.Tree.{literal_of, param_of};
+ghost use Rattle.pc_value.specs.Meaning.{value_of};
+ghost use Rattle.pc_machine.specs.Calls.{value_named, is_parameter, are_parameters, bound_arguments, taken};
+ghost use Rattle.pc_machine.specs.Machine.{literal_value, parameter_of, parameter_of_param, named_of, item_of, locals_of, value_seen, default_of};
+
+use crate::names::is_same;
+use crate::state::{Local, NamedValue, Parameter};
+use pc_source::OutOfMemory;
+use pc_tree::{Literal, LiteralKind, Param};
+use pc_value::Value;
+use std::alloc::Global;
+
+/// The value of a literal; a whole number has one where it fits 128 signed bits.
+/// Language Reference 2.4 "Literals".
+pub fn literal_value(alloc: Global, literal: &Literal) -> Result<Option<Value>, OutOfMemory>
+    ensures { IfOk result (λ o. item_of o ≡ literal_value (literal_of literal.now)) }
+{
+    match &literal.kind {
+        LiteralKind::Int(digits) => Ok(pc_value::read_number(false, digits.as_bytes()).map(
+            Value::Int,
+        )),
+        LiteralKind::NegativeInt(digits) => Ok(pc_value::read_number(true, digits.as_bytes()).map(
+            Value::Int,
+        )),
+        LiteralKind::Str(text) => Ok(Some(Value::Str(characters(alloc, text.as_str())?))),
+        LiteralKind::True => Ok(Some(Value::Bool(true))),
+        LiteralKind::False => Ok(Some(Value::Bool(false))),
+        LiteralKind::NoneValue => Ok(Some(Value::None)),
+    }
+}
+
+/// The characters of a text.
+pub fn characters(alloc: Global, text: &str) -> Result<Vec<char>, OutOfMemory>
+    ensures { IfOk result (λ cs. cs.items ≡ chars text.now) }
+{
+    Ok(text.chars().collect(alloc)?)
+}
+
+/// A text of its own.
+pub fn text_of(alloc: Global, text: &str) -> Result<String, OutOfMemory>
+    ensures { IfOk result (λ s. string_bytes s ≡ text.now) }
+{
+    Ok(String::from_str(alloc, text)?)
+}
+
+/// The parameters of a def, with their defaults.
+pub fn parameters<'m>(alloc: Global, params: &'m [Param]) -> Result<Vec<Parameter<'m>>, OutOfMemory>
+    ensures { IfOk result (λ ps. map parameter_of ps.items ≡ map parameter_of_param (map param_of params.now)) }
+{
+    let mut parameters = Vec::new(alloc);
+    for param in params {
+        parameters.push(Parameter {
+            name: param.name.text.as_str(),
+            default: param.default.as_ref(),
+        })?;
+    }
+    Ok(parameters)
+}
+
+/// The first argument of a name.
+fn value_named<'a>(name: &str, named: &'a [NamedValue<'_>]) -> Option<&'a Value>
+    ensures { value_seen result ≡ value_named name.now (map named_of named.now) }
+{
+    for argument in named {
+        if is_same(argument.name, name) {
+            return Some(&argument.value);
+        }
+    }
+    None
+}
+
+/// A name is one of a parameter.
+fn is_parameter(name: &str, parameters: &[Parameter<'_>]) -> bool
+    ensures { result ≡ is_parameter name.now (map parameter_of parameters.now) }
+{
+    for parameter in parameters {
+        if is_same(parameter.name, name) {
+            return true;
+        }
+    }
+    false
+}
+
+/// Each argument by name is for a parameter.
+fn are_parameters(named: &[NamedValue<'_>], parameters: &[Parameter<'_>]) -> bool
+    ensures { result ≡ are_parameters (map named_of named.now) (map parameter_of parameters.now) }
+{
+    for argument in named {
+        if !is_parameter(argument.name, parameters) {
+            return false;
+        }
+    }
+    true
+}
+
+/// The value of a parameter's default, if it has one.
+fn default_value(alloc: Global, default: Option<&Literal>) -> Result<Option<Value>, OutOfMemory>
+    ensures { IfOk result (λ o. item_of o ≡ default_of default.entry) }
+{
+    match default {
+        Some(literal) => literal_value(alloc, literal),
+        None => Ok(None),
+    }
+}
+
+/// What a parameter takes: an argument by position, or one by name, or its default; not two arguments.
+fn take(
+    alloc: Global,
+    parameter: Parameter<'_>,
+    by_position: Option<&Value>,
+    by_name: Option<&Value>,
+) -> Result<Option<Value>, OutOfMemory>
+    ensures { IfOk result (λ o. item_of o ≡ taken (parameter_of parameter.entry) (value_seen by_position.entry) (value_seen by_name.entry)) }
+{
+    match (by_position, by_name) {
+        (Some(_), Some(_)) => Ok(None),
+        (Some(value), None) => Ok(Some(value.copy(alloc)?)),
+        (None, Some(value)) => Ok(Some(value.copy(alloc)?)),
+        (None, None) => default_value(alloc, parameter.default),
+    }
+}
+
+/// The parameters with the values that they take, if the arguments suit them.
+/// Language Reference 6.3.4 "Calls".
+pub fn bound_arguments<'m>(
+    alloc: Global,
+    parameters: &[Parameter<'m>],
+    values: &[Value],
+    named: &[NamedValue<'_>],
+) -> Result<Option<Vec<Local<'m>>>, OutOfMemory>
+    ensures { IfOk result (λ o. locals_of o ≡ bound_arguments (map parameter_of parameters.now) (map value_of values.now) (map named_of named.now)) }
+{
+    if !are_parameters(named, parameters) {
+        return Ok(None);
+    }
+    let mut locals = Vec::new(alloc);
+    for (i, parameter) in parameters.iter().enumerate() {
+        match take(
+            alloc,
+            *parameter,
+            values.get(i),
+            value_named(parameter.name, named),
+        )? {
+            Some(value) => locals.push(Local {
+                name: parameter.name,
+                value: Some(value),
+            })?,
+            None => return Ok(None),
+        }
+    }
+    if values.len() > parameters.len() {
+        return Ok(None);
+    }
+    Ok(Some(locals))
+}

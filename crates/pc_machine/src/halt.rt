@@ -1,0 +1,43 @@
+ghost use Rattle.std.specs.Prelude.{◌≡◌};
+ghost use Rattle.pc_machine.specs.declared.halt.Halt.TheVariants as halt;
+
+use pc_source::OutOfMemory;
+use pc_value::Exception;
+
+/// How a run ends before its time. Own rule of the profile.
+#[derive(Clone, Copy, Debug, PartialEq, Eq)]
+pub enum Stop {
+    /// It raised one of the exceptions that are told apart.
+    Raised(Exception),
+    /// Another exception.
+    Other,
+    /// The run left the profile.
+    Outside,
+    /// The run was cut off: no fuel was left, a call was too deep, or a whole number did not fit 128 bits.
+    Cut,
+}
+
+/// Why a step comes to no value. Own rule of the profile.
+#[derive(Clone, Copy, Debug, PartialEq, Eq)]
+pub enum Halt {
+    /// The run ends.
+    Stopped(Stop),
+    /// Memory is wanting; the model says nothing of it.
+    OutOfMemory,
+}
+
+impl From<OutOfMemory> for Halt {
+    ghost from_gives = { λ _ e. e ≡ halt.OutOfMemory };
+
+    fn from(_error: OutOfMemory) -> Halt {
+        Halt::OutOfMemory
+    }
+}
+
+impl From<Stop> for Halt {
+    ghost from_gives = { λ s e. e ≡ halt.Stopped s };
+
+    fn from(stop: Stop) -> Halt {
+        Halt::Stopped(stop)
+    }
+}

@@ -1,0 +1,207 @@
+ghost use Rattle.std.specs.Prelude.{◌≡◌, ◌<◌, ◌-◌, [], map};
+ghost use Rattle.pc_tree.specs.Tree.{expr_of};
+ghost use Rattle.pc_value.specs.Meaning.{value_of, heap_of};
+ghost use Rattle.pc_value.specs.Value.{is_true, seen, a_list, a_dict, class_of};
+ghost use Rattle.pc_machine.specs.Plain.{comes};
+ghost use Rattle.pc_machine.specs.Calls.{method_of, method_among, builtin_method_of, class_at, callee_of_meaning, test_of, test_of_reserved, passes, is_ancestor, descends_from};
+ghost use Rattle.pc_machine.specs.Names.{meaning};
+ghost use Rattle.pc_machine.specs.Machine.{Tells, Comes, found_method, found_class, found_builtin, test_seen, progress_of, state_of, callee_seen, method_of_def};
+
+use crate::halt::{Halt, Stop};
+use crate::machine::{Machine, raised};
+use crate::names::is_same;
+use crate::state::{BuiltinMethod, Callee, Class, Meaning, Test};
+use pc_tree::{Expr, FuncDef, Name};
+use pc_value::{Exception, Seen, Value, see};
+use std::alloc::Global as Allocator;
+
+/// The method of a name.
+fn method_named<'m>(methods: &[&'m FuncDef], name: &str) -> Option<&'m FuncDef>
+    ensures { found_method result ≡ method_among name.now (map method_of_def methods.now) }
+{
+    for method in methods {
+        if is_same(method.name.text.as_str(), name) {
+            return Some(*method);
+        }
+    }
+    None
+}
+
+/// The built-in method of lists of a name.
+fn list_method(name: &str) -> Option<BuiltinMethod>
+    ensures { found_builtin result ≡ builtin_method_of (a_list 0 []) name.now }
+{
+    if is_same(name, "append") {
+        Some(BuiltinMethod::ListAppend)
+    } else if is_same(name, "pop") {
+        Some(BuiltinMethod::ListPop)
+    } else {
+        None
+    }
+}
+
+/// The built-in method of dicts of a name.
+fn dict_method(name: &str) -> Option<BuiltinMethod>
+    ensures { found_builtin result ≡ builtin_method_of (a_dict 0 []) name.now }
+{
+    if is_same(name, "get") {
+        Some(BuiltinMethod::DictGet)
+    } else {
+        None
+    }
+}
+
+/// What the second argument of `isinstance` tests for, where it is a reserved name.
+fn reserved_test(name: &str) -> Result<Test, Halt>
+    ensures { Comes test_seen result (test_of_reserved name.now) }
+{
+    if is_same(name, "int") {
+        Ok(Test::Int)
+    } else if is_same(name, "str") {
+        Ok(Test::Str)
+    } else if is_same(name, "bool") {
+        Ok(Test::Bool)
+    } else if is_same(name, "list") {
+        Ok(Test::List)
+    } else {
+        Err(Halt::Stopped(Stop::Outside))
+    }
+}
+
+/// A class is itself or an ancestor of the one with these.
+fn is_ancestor(class: usize, ancestors: &[usize]) -> bool
+    ensures { result ≡ is_ancestor class ancestors.now }
+{
+    for ancestor in ancestors {
+        if *ancestor == class {
+            return true;
+        }
+    }
+    false
+}
+
+impl<'m> Machine<'m> {
+    /// The class of an instance.
+    fn class_of(&self, object: &Value) -> Option<&Class<'m>>
+        ensures { found_class result ≡ class_at (state_of self.now).classes (class_of (heap_of self.now.heap) (value_of object.now)) }
+    {
+        match see(&self.heap, object) {
+            Seen::Number(_) => None,
+            Seen::Text(_) => None,
+            Seen::Nothing => None,
+            Seen::Tuple(_) => None,
+            Seen::List(_, _) => None,
+            Seen::Dict(_, _) => None,
+            Seen::Instance(_, class, _) => self.classes.get(class),
+            Seen::Stray => None,
+        }
+    }
+
+    /// The method that an object's class has by a name.
+    pub(crate) fn find_method(&self, object: &Value, name: &str) -> Option<&'m FuncDef>
+        ensures { found_method result ≡ method_of (state_of self.now) (value_of object.now) name.now }
+    {
+        match self.class_of(object) {
+            Some(class) => method_named(&class.methods, name),
+            None => None,
+        }
+    }
+
+    /// The built-in method that an object has by a name.
+    pub(crate) fn find_builtin_method(&self, object: &Value, name: &str) -> Option<BuiltinMethod>
+        ensures { found_builtin result ≡ builtin_method_of (seen (heap_of self.now.heap) (value_of object.now)) name.now }
+    {
+        match see(&self.heap, object) {
+            Seen::Number(_) => None,
+            Seen::Text(_) => None,
+            Seen::Nothing => None,
+            Seen::Tuple(_) => None,
+            Seen::List(_, _) => list_method(name),
+            Seen::Dict(_, _) => dict_method(name),
+            Seen::Instance(_, _, _) => None,
+            Seen::Stray => None,
+        }
+    }
+
+    /// What a name is as a callee. Language Reference 6.3.4 "Calls".
+    pub fn look_up_callee(&self, alloc: Allocator, name: &'m str) -> Result<Callee<'m>, Halt>
+        ensures { Tells callee_seen result self.now (comes (callee_of_meaning name.now (meaning name.now (state_of self.now))) (progress_of self.now)) }
+    {
+        match self.meaning(name) {
+            Meaning::Value(value) => Ok(Callee::Value(value.copy(alloc)?)),
+            Meaning::Unbound => Err(raised(Exception::UnboundLocalError)),
+            Meaning::Function(def) => Ok(Callee::Function(def)),
+            Meaning::Class(class) => Ok(Callee::Class(class)),
+            Meaning::Reserved => Ok(Callee::Reserved(name)),
+            Meaning::Nothing => Err(raised(Exception::NameError)),
+        }
+    }
+
+    /// What the second argument of `isinstance` tests for.
+    pub(crate) fn test_of(&self, e: &Expr) -> Result<Test, Halt>
+        ensures { Comes test_seen result (test_of (expr_of e.now) (state_of self.now)) }
+    {
+        let Expr::Name(name) = e else {
+            return Err(Halt::Stopped(Stop::Outside));
+        };
+        match self.meaning(name.text.as_str()) {
+            Meaning::Value(_) => Err(Halt::Stopped(Stop::Outside)),
+            Meaning::Unbound => Err(Halt::Stopped(Stop::Outside)),
+            Meaning::Function(_) => Err(Halt::Stopped(Stop::Outside)),
+            Meaning::Class(class) => Ok(Test::Class(class)),
+            Meaning::Reserved => reserved_test(name.text.as_str()),
+            Meaning::Nothing => Err(Halt::Stopped(Stop::Outside)),
+        }
+    }
+
+    /// An object is an instance of a class or of a descendant of it.
+    fn is_instance(&self, object: &Value, class: usize) -> bool
+        ensures { result ≡ descends_from class (class_at (state_of self.now).classes (class_of (heap_of self.now.heap) (value_of object.now))) }
+    {
+        match self.class_of(object) {
+            Some(made) => is_ancestor(class, &made.ancestors),
+            None => false,
+        }
+    }
+
+    /// Whether a value passes a test; bool counts as int.
+    pub(crate) fn passes(&self, object: &Value, test: Test) -> bool
+        ensures { result ≡ passes (state_of self.now) (value_of object.now) (test_seen test) }
+    {
+        match test {
+            Test::Int => match object {
+                Value::Int(_) => true,
+                Value::Bool(_) => true,
+                Value::Str(_) => false,
+                Value::None => false,
+                Value::Tuple(_) => false,
+                Value::Location(_) => false,
+            },
+            Test::Bool => match object {
+                Value::Int(_) => false,
+                Value::Bool(_) => true,
+                Value::Str(_) => false,
+                Value::None => false,
+                Value::Tuple(_) => false,
+                Value::Location(_) => false,
+            },
+            Test::Str => match object {
+                Value::Int(_) => false,
+                Value::Bool(_) => false,
+                Value::Str(_) => true,
+                Value::None => false,
+                Value::Tuple(_) => false,
+                Value::Location(_) => false,
+            },
+            Test::List => self.heap.is_list(object),
+            Test::Class(class) => self.is_instance(object, class),
+        }
+    }
+
+    /// The truth of a value. Language Reference 6.11 "Boolean operations".
+    pub fn is_true(&self, value: &Value) -> bool
+        ensures { result ≡ is_true (heap_of self.now.heap) (value_of value.now) }
+    {
+        self.heap.is_true(value)
+    }
+}

@@ -1,0 +1,245 @@
+ghost use Rattle.std.specs.Prelude.{◌≡◌, ◌≤◌, ◌<◌, OnOk, IfOk};
+ghost use Rattle.pc_value.specs.Meaning.{value_of};
+ghost use Rattle.pc_value.specs.Doing.{action_of, iteration_of};
+ghost use Rattle.pc_machine.specs.Plain.{begin, Came, emitted, charge, act, next_choice, comes, changed};
+ghost use Rattle.pc_machine.specs.Steps.{value_out, iteration_out, item_out};
+ghost use Rattle.pc_machine.specs.Names.{meaning};
+ghost use Rattle.pc_machine.specs.Calls.{value_of_meaning};
+ghost use Rattle.pc_machine.specs.Evaluation.{binds_local};
+ghost use Rattle.pc_machine.specs.declared.halt.Halt.TheVariants as halt;
+ghost use Rattle.pc_machine.specs.declared.halt.Stop.TheVariants as stop;
+ghost use Rattle.pc_machine.specs.Machine.{Tells, meaning_seen, state_of, progress_of, Performs, after_choice, unit, item_of};
+
+use crate::depth::Depth;
+use crate::halt::{Halt, Stop};
+use crate::names::{find_global, find_local, set_local};
+use crate::state::{Bound, Class, Global, Local, Meaning};
+use pc_source::{OutOfMemory, Place};
+use pc_tree::is_reserved;
+use pc_value::{Action, Exception, Heap, Iteration, Outcome, Value};
+use std::alloc::Global as Allocator;
+
+/// A plain run so far. Own rule of the profile.
+#[derive(Drop)]
+pub struct Machine<'m> {
+    /// The classes made, each under its number.
+    pub classes: Vec<Class<'m>>,
+    /// The names that the module has bound, in their order.
+    pub globals: Vec<Global<'m>>,
+    /// The locals of the function that runs.
+    pub frame: Vec<Local<'m>>,
+    /// The lists, dicts and instances.
+    pub heap: Heap,
+    /// The places evaluated, in their order.
+    pub events: Vec<Place>,
+    /// The fuel that is left.
+    pub fuel: u64,
+    /// The choice bytes that are left.
+    pub choices: &'m [u8],
+    /// The open calls.
+    pub depth: Depth,
+}
+
+/// The run ends in an exception. Own rule of the profile.
+pub fn raised(exception: Exception) -> Halt
+    ensures { result ≡ halt.Stopped (stop.Raised exception) }
+{
+    Halt::Stopped(Stop::Raised(exception))
+}
+
+impl<'m> Machine<'m> {
+    /// Before the first item: nothing is bound. Own rule of the profile.
+    pub fn begin(alloc: Allocator, fuel: u64, choices: &'m [u8]) -> Machine<'m>
+        ensures { progress_of result ≡ begin fuel choices.now }
+    {
+        Machine {
+            classes: Vec::new(alloc),
+            globals: Vec::new(alloc),
+            frame: Vec::new(alloc),
+            heap: Heap::new(alloc),
+            events: Vec::new(alloc),
+            fuel,
+            choices,
+            depth: Depth { calls: 0 },
+        }
+    }
+
+    /// What a name means where it is read: a local, what the module has bound, or a reserved name.
+    /// Language Reference 4.2.2 "Resolution of names".
+    pub fn meaning(&self, name: &str) -> Meaning<'_, 'm>
+        ensures { meaning_seen result ≡ meaning name.now (state_of self.now) }
+    {
+        if let Some(local) = find_local(&self.frame, name) {
+            return match &local.value {
+                Some(value) => Meaning::Value(value),
+                None => Meaning::Unbound,
+            };
+        }
+        match find_global(&self.globals, name) {
+            Some(Bound::Value(value)) => Meaning::Value(value),
+            Some(Bound::Function(def)) => Meaning::Function(def),
+            Some(Bound::Class(class)) => Meaning::Class(*class),
+            None if is_reserved(name) => Meaning::Reserved,
+            None => Meaning::Nothing,
+        }
+    }
+
+    /// The value of a name.
+    fn value_of_name(&self, alloc: Allocator, name: &str) -> Result<Value, Halt>
+        ensures { Tells value_of result self.now (comes (value_of_meaning (meaning name.now (state_of self.now))) (progress_of self.now)) }
+    {
+        match self.meaning(name) {
+            Meaning::Value(value) => Ok(value.copy(alloc)?),
+            Meaning::Unbound => Err(raised(Exception::UnboundLocalError)),
+            Meaning::Function(_) => Err(Halt::Stopped(Stop::Outside)),
+            Meaning::Class(_) => Err(Halt::Stopped(Stop::Outside)),
+            Meaning::Reserved => Err(Halt::Stopped(Stop::Outside)),
+            Meaning::Nothing => Err(raised(Exception::NameError)),
+        }
+    }
+
+    /// A name as an expression: its place, then its value. Language Reference 6.2.1 "Identifiers (Names)".
+    pub fn read_name(&mut self, alloc: Allocator, place: Place, name: &str) -> Result<Value, Halt>
+        ensures plain { Tells value_of result self.new (comes (value_of_meaning (meaning name.now (state_of self.old))) (emitted place (progress_of self.old))) }
+        ensures fuel { self.new.fuel ≤ self.old.fuel }
+    {
+        self.emit(place)?;
+        self.value_of_name(alloc, name)
+    }
+
+    /// A local is bound to a value. Language Reference 4.2.1 "Binding of names".
+    pub fn bind_local(&mut self, name: &str, value: Value)
+        ensures plain { progress_of self.new ≡ changed (binds_local name.now (value_of value)) (progress_of self.old) }
+        ensures fuel { self.new.fuel ≡ self.old.fuel }
+    {
+        set_local(&mut self.frame, name, value);
+    }
+
+    /// One of fuel is taken; the run is cut off where none is left. Own rule of the profile.
+    pub fn charge(&mut self) -> Result<(), Halt>
+        ensures plain { Tells unit result self.new (charge (progress_of self.old)) }
+        ensures fuel { self.new.fuel ≤ self.old.fuel }
+        ensures spent { OnOk result (self.new.fuel < self.old.fuel) }
+    {
+        if self.fuel == 0 {
+            return Err(Halt::Stopped(Stop::Cut));
+        }
+        self.fuel -= 1;
+        Ok(())
+    }
+
+    /// A place is evaluated. Own rule of the profile.
+    pub fn emit(&mut self, place: Place) -> Result<(), OutOfMemory>
+        ensures ok { OnOk result (progress_of self.new ≡ emitted place (progress_of self.old)) }
+        ensures fuel { self.new.fuel ≡ self.old.fuel }
+    {
+        match self.events.push(place) {
+            Ok(()) => Ok(()),
+            Err(_) => Err(OutOfMemory),
+        }
+    }
+
+    /// A value, at its place. Own rule of the profile.
+    pub fn give(&mut self, place: Place, value: Value) -> Result<Value, Halt>
+        ensures plain { Tells value_of result self.new (Came (value_of value) (emitted place (progress_of self.old))) }
+        ensures fuel { self.new.fuel ≤ self.old.fuel }
+    {
+        self.emit(place)?;
+        Ok(value)
+    }
+
+    /// The next choice byte, 0 where they are used up.
+    fn choice(&self) -> u8
+        ensures { result ≡ next_choice self.now.choices.now }
+    {
+        match self.choices {
+            [byte, ..] => *byte,
+            [] => 0,
+        }
+    }
+
+    /// The next choice byte is used.
+    fn use_choice(&mut self)
+        ensures { progress_of self.new ≡ after_choice (progress_of self.old) }
+    {
+        if let [_, rest @ ..] = self.choices {
+            self.choices = rest;
+        }
+    }
+
+    /// An action on values; a free answer takes the next choice.
+    fn act(&mut self, alloc: Allocator, action: &Action) -> Result<Outcome, OutOfMemory>
+        ensures acts { IfOk result (λ o. Performs o self.new (action_of action.now) (progress_of self.old)) }
+        ensures fuel { self.new.fuel ≡ self.old.fuel }
+    {
+        let taken = pc_value::takes_choice(&self.heap, action);
+        let choice = self.choice();
+        let outcome = pc_value::act(alloc, &mut self.heap, action, choice)?;
+        if taken {
+            self.use_choice();
+        }
+        Ok(outcome)
+    }
+
+    /// An action that comes to a value.
+    pub(crate) fn act_value(&mut self, alloc: Allocator, action: &Action) -> Result<Value, Halt>
+        ensures plain { Tells value_of result self.new (act value_out (action_of action.now) (progress_of self.old)) }
+        ensures fuel { self.new.fuel ≤ self.old.fuel }
+    {
+        match self.act(alloc, action)? {
+            Outcome::Gives(value) => Ok(value),
+            Outcome::Iterates(_) => Err(Halt::Stopped(Stop::Other)),
+            Outcome::Finished => Err(Halt::Stopped(Stop::Other)),
+            Outcome::Raised(exception) => Err(raised(exception)),
+            Outcome::Other => Err(Halt::Stopped(Stop::Other)),
+            Outcome::Outside => Err(Halt::Stopped(Stop::Outside)),
+            Outcome::Cut => Err(Halt::Stopped(Stop::Cut)),
+        }
+    }
+
+    /// An action that comes to what a `for` goes over. Language Reference 8.3 "The for statement".
+    pub fn act_iteration(&mut self, alloc: Allocator, action: &Action) -> Result<Iteration, Halt>
+        ensures plain { Tells iteration_of result self.new (act iteration_out (action_of action.now) (progress_of self.old)) }
+        ensures fuel { self.new.fuel ≤ self.old.fuel }
+    {
+        match self.act(alloc, action)? {
+            Outcome::Gives(_) => Err(Halt::Stopped(Stop::Other)),
+            Outcome::Iterates(over) => Ok(over),
+            Outcome::Finished => Err(Halt::Stopped(Stop::Other)),
+            Outcome::Raised(exception) => Err(raised(exception)),
+            Outcome::Other => Err(Halt::Stopped(Stop::Other)),
+            Outcome::Outside => Err(Halt::Stopped(Stop::Outside)),
+            Outcome::Cut => Err(Halt::Stopped(Stop::Cut)),
+        }
+    }
+
+    /// A turn of a `for`: the item, or none at the end. Language Reference 8.3 "The for statement".
+    pub fn act_item(&mut self, alloc: Allocator, action: &Action) -> Result<Option<Value>, Halt>
+        ensures plain { Tells item_of result self.new (act item_out (action_of action.now) (progress_of self.old)) }
+        ensures fuel { self.new.fuel ≤ self.old.fuel }
+    {
+        match self.act(alloc, action)? {
+            Outcome::Gives(value) => Ok(Some(value)),
+            Outcome::Iterates(_) => Err(Halt::Stopped(Stop::Other)),
+            Outcome::Finished => Ok(None),
+            Outcome::Raised(exception) => Err(raised(exception)),
+            Outcome::Other => Err(Halt::Stopped(Stop::Other)),
+            Outcome::Outside => Err(Halt::Stopped(Stop::Outside)),
+            Outcome::Cut => Err(Halt::Stopped(Stop::Cut)),
+        }
+    }
+
+    /// An action that comes to a value, at its place. Own rule of the profile.
+    pub fn perform(
+        &mut self,
+        alloc: Allocator,
+        place: Place,
+        action: &Action,
+    ) -> Result<Value, Halt>
+        ensures plain { Tells value_of result self.new (act value_out (action_of action.now) (emitted place (progress_of self.old))) }
+        ensures fuel { self.new.fuel ≤ self.old.fuel }
+    {
+        self.emit(place)?;
+        self.act_value(alloc, action)
+    }
+}

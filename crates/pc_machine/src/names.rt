@@ -1,0 +1,126 @@
+ghost use Rattle.std.specs.Prelude.{◌≡◌, ◌++◌, ◌∷◌, [], map, OnOk};
+ghost use Rattle.pc_tree.specs.Tree.{stmts_of_list, stmt_of_kind, target_of};
+ghost use Rattle.pc_source.specs.declared.place.Place.{Place as PlaceOf};
+ghost use Rattle.pc_value.specs.Meaning.{value_of};
+ghost use Rattle.pc_value.specs.Texts.{same_text};
+ghost use Rattle.pc_machine.specs.Names.{unbound, names_bound, names_bound_by, names_bound_in, target_names, local_of, global_of, with_local};
+ghost use Rattle.pc_machine.specs.Machine.{local_of as local_seen, global_of as global_seen, found_local, found_global};
+ghost use Rattle.pc_tree.specs.Lists.{branches_of_list};
+
+use crate::state::{Bound, Global, Local};
+use pc_source::OutOfMemory;
+use pc_tree::{Branch, Stmt, StmtKind, Target};
+use pc_value::Value;
+
+/// Two names are the same.
+pub fn is_same(a: &str, b: &str) -> bool
+    ensures { result ≡ same_text a.now b.now }
+{
+    a == b
+}
+
+/// The local of a name, if the frame has one.
+pub fn find_local<'a, 'm>(frame: &'a [Local<'m>], name: &str) -> Option<&'a Local<'m>>
+    ensures { found_local result ≡ local_of name.now (map local_seen frame.now) }
+{
+    for local in frame {
+        if is_same(local.name, name) {
+            return Some(local);
+        }
+    }
+    None
+}
+
+/// What the module has bound to a name, if anything.
+pub fn find_global<'a, 'm>(globals: &'a [Global<'m>], name: &str) -> Option<&'a Bound<'m>>
+    ensures { found_global result ≡ global_of name.now (map global_seen globals.now) }
+{
+    for global in globals {
+        if is_same(global.name, name) {
+            return Some(&global.bound);
+        }
+    }
+    None
+}
+
+/// A local is bound to a value.
+pub fn set_local(frame: &mut [Local<'_>], name: &str, value: Value)
+    ensures { map local_seen frame.new ≡ with_local name.now (value_of value) (map local_seen frame.old) }
+{
+    for i in 0..frame.len() {
+        let local = &mut frame[i];
+        if is_same(local.name, name) {
+            local.value = Some(value);
+            return;
+        }
+    }
+}
+
+/// One more local, not bound yet.
+fn add_name<'m>(frame: &mut Vec<Local<'m>>, name: &'m str) -> Result<(), OutOfMemory>
+    ensures { OnOk result (map local_seen frame.new.items ≡ map local_seen frame.old.items ++ map unbound (name.now ∷ [])) }
+{
+    match frame.push(Local { name, value: None }) {
+        Ok(()) => Ok(()),
+        Err(_) => Err(OutOfMemory),
+    }
+}
+
+/// The names that statements bind, as locals that are not bound yet.
+#[cycle(names)]
+pub fn add_names<'m>(frame: &mut Vec<Local<'m>>, body: &'m [Stmt]) -> Result<(), OutOfMemory>
+    ensures { OnOk result (map local_seen frame.new.items ≡ map local_seen frame.old.items ++ map unbound (names_bound (stmts_of_list body.now))) }
+{
+    for statement in body {
+        add_names_of(frame, &statement.kind)?;
+    }
+    Ok(())
+}
+
+/// The names that a statement binds.
+#[cycle(names)]
+fn add_names_of<'m>(frame: &mut Vec<Local<'m>>, kind: &'m StmtKind) -> Result<(), OutOfMemory>
+    ensures { (p : PlaceOf) → OnOk result (map local_seen frame.new.items ≡ map local_seen frame.old.items ++ map unbound (names_bound_by (stmt_of_kind p kind.now))) }
+{
+    match kind {
+        StmtKind::Pass => Ok(()),
+        StmtKind::Break => Ok(()),
+        StmtKind::Continue => Ok(()),
+        StmtKind::Return(_) => Ok(()),
+        StmtKind::Assert(_, _) => Ok(()),
+        StmtKind::Annotated(name, _, _) => add_name(frame, name.text.as_str()),
+        StmtKind::Assign(target, _) => add_target(frame, target),
+        StmtKind::Expr(_) => Ok(()),
+        StmtKind::While(_, body) => add_names(frame, body),
+        StmtKind::For(name, _, body) => {
+            add_name(frame, name.text.as_str())?;
+            add_names(frame, body)
+        }
+        StmtKind::If(branches, otherwise) => {
+            add_names_in(frame, branches)?;
+            add_names(frame, otherwise)
+        }
+    }
+}
+
+/// The name that a target binds, if it binds one.
+fn add_target<'m>(frame: &mut Vec<Local<'m>>, target: &'m Target) -> Result<(), OutOfMemory>
+    ensures { OnOk result (map local_seen frame.new.items ≡ map local_seen frame.old.items ++ map unbound (target_names (target_of target.now))) }
+{
+    match target {
+        Target::Name(name) => add_name(frame, name.text.as_str()),
+        Target::Attribute(_, _, _) => Ok(()),
+        Target::Index(_, _, _) => Ok(()),
+    }
+}
+
+/// The names that the suites of conditions bind.
+#[cycle(names)]
+fn add_names_in<'m>(frame: &mut Vec<Local<'m>>, branches: &'m [Branch]) -> Result<(), OutOfMemory>
+    ensures { OnOk result (map local_seen frame.new.items ≡ map local_seen frame.old.items ++ map unbound (names_bound_in (branches_of_list branches.now))) }
+{
+    for branch in branches {
+        add_names(frame, &branch.body)?;
+    }
+    Ok(())
+}

@@ -1,0 +1,367 @@
+ghost use Rattle.std.specs.Prelude.{◌≡◌, ◌≤◌, ◌<◌, ◌-◌, [], ℕ, map, OnOk, IfOk, chars, is_some};
+ghost use Rattle.pc_tree.specs.Tree.{expr_of, stmts_of_list, name_of};
+ghost use Rattle.pc_value.specs.Meaning.{value_of, slot_of};
+ghost use Rattle.pc_value.specs.Doing.{iteration_of, action_of};
+ghost use Rattle.pc_value.specs.Numbers.{number_of_digits};
+ghost use Rattle.pc_value.specs.Actions as action;
+ghost use Rattle.pc_value.specs.Value.{string};
+ghost use Rattle.pc_machine.specs.Plain.{Came, emitted, act};
+ghost use Rattle.pc_machine.specs.Steps.{value_out};
+ghost use Rattle.pc_machine.specs.Calls.{method_of, bound_arguments, suited, slots_of, builtin_method_action};
+ghost use Rattle.pc_machine.specs.Names.{frame_of};
+ghost use Rattle.pc_machine.specs.Performed.{callee_in, callee_called, attribute_callee, instance_tested, attribute_stored, item_stored, range_begun, empty_charged, opened};
+ghost use Rattle.pc_machine.specs.Machine.{Tells, Comes, method_seen, local_of, with_object, unit, progress_of, state_of, flow_of, named_of, item_of, callee_seen, frame_of_vec, method_of_def};
+ghost use Rattle.pc_tree.specs.Tree.{name as name_node};
+ghost use Rattle.pc_machine.specs.Calls.{calls_class, calls_reserved};
+ghost use Rattle.pc_machine.specs.declared.state.Callee.TheVariants as callee;
+
+use crate::calls::{bound_arguments, characters, parameters, text_of};
+use crate::halt::{Halt, Stop};
+use crate::machine::{Machine, raised};
+use crate::names::{add_names, is_same};
+use crate::state::{BuiltinMethod, Callee, Flow, Local, NamedValue};
+use pc_source::{OutOfMemory, Place};
+use pc_tree::{Expr, FuncDef, Name, Stmt};
+use pc_value::{Action, Exception, Iteration, Slot, Value};
+use std::alloc::Global as Allocator;
+use std::mem;
+
+/// The fields of a new instance, from the values that its class's fields took.
+fn slots_of(alloc: Allocator, locals: &[Local<'_>]) -> Result<Vec<Slot>, OutOfMemory>
+    ensures { IfOk result (λ ss. map slot_of ss.items ≡ slots_of (map local_of locals.now)) }
+{
+    let mut slots = Vec::new(alloc);
+    for local in locals {
+        if let Some(value) = &local.value {
+            let name = text_of(alloc, local.name)?;
+            let value = value.copy(alloc)?;
+            slots.push(Slot { name, value })?;
+        }
+    }
+    Ok(slots)
+}
+
+/// What a call of a built-in method does.
+fn builtin_action(
+    alloc: Allocator,
+    object: Value,
+    method: BuiltinMethod,
+    values: &[Value],
+    named: &[NamedValue<'_>],
+) -> Result<Action, Halt>
+    ensures { Comes action_of result (builtin_method_action (value_of object) (method_seen method) (map value_of values.now) (map named_of named.now)) }
+{
+    if !named.is_empty() {
+        return Err(Halt::Stopped(Stop::Outside));
+    }
+    match (method, values) {
+        (BuiltinMethod::ListAppend, [value]) => Ok(Action::Append(object, value.copy(alloc)?)),
+        (BuiltinMethod::ListPop, []) => Ok(Action::Pop(object)),
+        (BuiltinMethod::DictGet, [key]) => Ok(Action::Get(object, key.copy(alloc)?)),
+        _ => Err(Halt::Stopped(Stop::Outside)),
+    }
+}
+
+/// The parameters of a def with the values that they take; arguments that do not suit are TypeError.
+fn suited_arguments<'m>(
+    alloc: Allocator,
+    def: &'m FuncDef,
+    values: &[Value],
+    named: &[NamedValue<'m>],
+) -> Result<Vec<Local<'m>>, Halt>
+    ensures { Comes frame_of_vec result (suited (bound_arguments (method_of_def def.entry).parameters (map value_of values.now) (map named_of named.now))) }
+{
+    let parameters = parameters(alloc, &def.params)?;
+    match bound_arguments(alloc, &parameters, values, named)? {
+        Some(locals) => Ok(locals),
+        None => Err(raised(Exception::TypeError)),
+    }
+}
+
+/// The frame of a function that is entered.
+fn frame_of<'m>(
+    alloc: Allocator,
+    object: Option<Value>,
+    arguments: Vec<Local<'m>>,
+    def: &'m FuncDef,
+) -> Result<Vec<Local<'m>>, OutOfMemory>
+    ensures { IfOk result (λ ls. map local_of ls.items ≡ frame_of (method_of_def def.entry) (with_object (item_of object) (map local_of arguments.entry.items))) }
+{
+    let mut frame = Vec::new(alloc);
+    if let Some(object) = object {
+        frame.push(Local {
+            name: "self",
+            value: Some(object),
+        })?;
+    }
+    for argument in arguments {
+        frame.push(argument)?;
+    }
+    add_names(&mut frame, &def.body)?;
+    Ok(frame)
+}
+
+impl<'m> Machine<'m> {
+    /// A whole number as it is written. Language Reference 2.4.5 "Integer literals".
+    pub fn number(&mut self, alloc: Allocator, place: Place, digits: &str) -> Result<Value, Halt>
+        ensures plain { Tells value_of result self.new (act value_out (action.number (number_of_digits digits.now)) (emitted place (progress_of self.old))) }
+        ensures fuel { self.new.fuel ≤ self.old.fuel }
+    {
+        let digits = text_of(alloc, digits)?;
+        self.perform(alloc, place, &Action::Number(false, digits))
+    }
+
+    /// A text. Language Reference 2.4.1 "String and Bytes literals".
+    pub fn text(&mut self, alloc: Allocator, place: Place, text: &str) -> Result<Value, Halt>
+        ensures plain { Tells value_of result self.new (Came (string (chars text.now)) (emitted place (progress_of self.old))) }
+        ensures fuel { self.new.fuel ≤ self.old.fuel }
+    {
+        let characters = characters(alloc, text)?;
+        self.give(place, Value::Str(characters))
+    }
+
+    /// An attribute that is read. Language Reference 6.3.1 "Attribute references".
+    pub fn read_attribute(
+        &mut self,
+        alloc: Allocator,
+        place: Place,
+        object: Value,
+        name: &str,
+    ) -> Result<Value, Halt>
+        ensures plain { Tells value_of result self.new (act value_out (action.read_attribute (value_of object) name.now (is_some (method_of (state_of self.old) (value_of object) name.now))) (emitted place (progress_of self.old))) }
+        ensures fuel { self.new.fuel ≤ self.old.fuel }
+    {
+        let is_method = self.find_method(&object, name).is_some();
+        let name = text_of(alloc, name)?;
+        self.perform(
+            alloc,
+            place,
+            &Action::ReadAttribute(object, name, is_method),
+        )
+    }
+
+    /// A name as a callee: it is charged, then its place, then what it is. Language Reference 6.3.4 "Calls".
+    pub fn callee_of_name(&mut self, alloc: Allocator, name: &'m Name) -> Result<Callee<'m>, Halt>
+        ensures plain { (n : ℕ) → Tells callee_seen result self.new (callee_in n (name_node (name_of name.now)) (progress_of self.old)) }
+        ensures fuel { self.new.fuel ≤ self.old.fuel }
+    {
+        self.charge()?;
+        self.emit(name.place)?;
+        self.look_up_callee(alloc, name.text.as_str())
+    }
+
+    /// An attribute as a callee: a method, a built-in method, or what reading it gives.
+    /// Language Reference 6.3.1 "Attribute references", 6.3.4 "Calls".
+    pub fn callee_of_attribute(
+        &mut self,
+        alloc: Allocator,
+        place: Place,
+        object: Value,
+        name: &str,
+    ) -> Result<Callee<'m>, Halt>
+        ensures plain { Tells callee_seen result self.new (attribute_callee (value_of object) name.now (emitted place (progress_of self.old))) }
+        ensures fuel { self.new.fuel ≤ self.old.fuel }
+    {
+        self.emit(place)?;
+        if let Some(method) = self.find_method(&object, name) {
+            return Ok(Callee::Method(object, method));
+        }
+        if let Some(method) = self.find_builtin_method(&object, name) {
+            return Ok(Callee::BuiltinMethod(object, method));
+        }
+        let name = text_of(alloc, name)?;
+        let field = self.act_value(alloc, &Action::ReadAttribute(object, name, false))?;
+        Ok(Callee::Value(field))
+    }
+
+    /// The test of `isinstance`. Library Reference, "Built-in Functions".
+    pub fn test_instance(
+        &mut self,
+        place: Place,
+        object: &Value,
+        test: &Expr,
+    ) -> Result<Value, Halt>
+        ensures plain { Tells value_of result self.new (instance_tested (value_of object.now) (expr_of test.now) (emitted place (progress_of self.old))) }
+        ensures fuel { self.new.fuel ≤ self.old.fuel }
+    {
+        self.emit(place)?;
+        let test = self.test_of(test)?;
+        Ok(Value::Bool(self.passes(object, test)))
+    }
+
+    /// A call of a class: an instance, its fields from the arguments. Language Reference 6.3.4 "Calls".
+    pub fn make_instance(
+        &mut self,
+        alloc: Allocator,
+        class: usize,
+        values: &[Value],
+        named: &[NamedValue<'m>],
+    ) -> Result<Value, Halt>
+        ensures plain { (n : ℕ) → Tells value_of result self.new (callee_called n (calls_class class) (map value_of values.now) (map named_of named.now) (progress_of self.old)) }
+        ensures fuel { self.new.fuel ≤ self.old.fuel }
+    {
+        let fields = match self.classes.get(class) {
+            Some(made) => bound_arguments(alloc, &made.fields, values, named)?,
+            None => bound_arguments(alloc, &[], values, named)?,
+        };
+        match fields {
+            Some(fields) => {
+                let slots = slots_of(alloc, &fields)?;
+                self.act_value(alloc, &Action::NewInstance(class, slots))
+            }
+            None => Err(raised(Exception::TypeError)),
+        }
+    }
+
+    /// A call of a reserved name, after its arguments. Library Reference, "Built-in Functions"; own rule of the profile.
+    pub fn call_reserved(
+        &mut self,
+        alloc: Allocator,
+        name: &str,
+        values: &[Value],
+        named: &[NamedValue<'m>],
+    ) -> Result<Value, Halt>
+        ensures plain { (n : ℕ) → Tells value_of result self.new (callee_called n (calls_reserved name.now) (map value_of values.now) (map named_of named.now) (progress_of self.old)) }
+        ensures fuel { self.new.fuel ≤ self.old.fuel }
+    {
+        if !named.is_empty() {
+            return Err(Halt::Stopped(Stop::Outside));
+        }
+        if is_same(name, "print") {
+            return Ok(Value::None);
+        }
+        if is_same(name, "len") {
+            return match values {
+                [operand] => self.act_value(alloc, &Action::Length(operand.copy(alloc)?)),
+                _ => Err(raised(Exception::TypeError)),
+            };
+        }
+        if is_same(name, "str") {
+            return match values {
+                [operand] => self.act_value(alloc, &Action::Text(operand.copy(alloc)?)),
+                _ => Err(Halt::Stopped(Stop::Outside)),
+            };
+        }
+        if is_same(name, "isinstance") {
+            return Err(raised(Exception::TypeError));
+        }
+        Err(Halt::Stopped(Stop::Outside))
+    }
+
+    /// A call of a built-in method, after its arguments.
+    /// Library Reference, "Mutable Sequence Types" and "Mapping Types".
+    pub fn call_builtin_method(
+        &mut self,
+        alloc: Allocator,
+        object: Value,
+        method: BuiltinMethod,
+        values: &[Value],
+        named: &[NamedValue<'m>],
+    ) -> Result<Value, Halt>
+        ensures plain { (n : ℕ) → Tells value_of result self.new (callee_called n (callee_seen (callee.BuiltinMethod object method)) (map value_of values.now) (map named_of named.now) (progress_of self.old)) }
+        ensures fuel { self.new.fuel ≤ self.old.fuel }
+    {
+        let action = builtin_action(alloc, object, method, values, named)?;
+        self.act_value(alloc, &action)
+    }
+
+    /// A function or method is entered, where a further call may be open: what it comes to is the caller's
+    /// frame. Language Reference 6.3.4 "Calls"; own rule of the profile.
+    pub fn open(
+        &mut self,
+        alloc: Allocator,
+        def: &'m FuncDef,
+        object: Option<Value>,
+        values: &[Value],
+        named: &[NamedValue<'m>],
+    ) -> Result<Vec<Local<'m>>, Halt>
+        ensures plain { Tells frame_of_vec result self.new (opened (method_of_def def.entry) (item_of object) (map value_of values.now) (map named_of named.now) (progress_of self.old)) }
+        ensures fuel { self.new.fuel ≤ self.old.fuel }
+    {
+        let arguments = suited_arguments(alloc, def, values, named)?;
+        let Some(depth) = self.depth.deeper() else {
+            return Err(Halt::Stopped(Stop::Cut));
+        };
+        match object {
+            None => {
+                let frame = frame_of(alloc, None, arguments, def)?;
+                let caller = mem::replace(&mut self.frame, frame);
+                self.depth = depth;
+                Ok(caller)
+            }
+            Some(object) => {
+                let frame = frame_of(alloc, Some(object), arguments, def)?;
+                let caller = mem::replace(&mut self.frame, frame);
+                self.depth = depth;
+                self.emit(def.name.place)?;
+                Ok(caller)
+            }
+        }
+    }
+
+    /// A loop's suite that is empty is charged. Own rule of the profile.
+    pub fn charge_empty(&mut self, body: &[Stmt]) -> Result<(), Halt>
+        ensures plain { Tells unit result self.new (empty_charged (stmts_of_list body.now) (progress_of self.old)) }
+        ensures fuel { self.new.fuel ≤ self.old.fuel }
+        ensures spent { OnOk result (body.now ≡ [] → self.new.fuel < self.old.fuel) }
+    {
+        match body {
+            [] => self.charge(),
+            [_, ..] => Ok(()),
+        }
+    }
+
+    /// An attribute that is stored to. Language Reference 7.2 "Assignment statements".
+    pub fn store_attribute(
+        &mut self,
+        alloc: Allocator,
+        place: Place,
+        object: Value,
+        name: &str,
+        value: Value,
+    ) -> Result<Flow, Halt>
+        ensures plain { Tells flow_of result self.new (attribute_stored (value_of object) name.now (value_of value) (emitted place (progress_of self.old))) }
+        ensures fuel { self.new.fuel ≤ self.old.fuel }
+    {
+        let name = text_of(alloc, name)?;
+        self.perform(alloc, place, &Action::StoreAttribute(object, name, value))?;
+        Ok(Flow::Next)
+    }
+
+    /// An item that is stored to. Language Reference 7.2 "Assignment statements".
+    pub fn store_item(
+        &mut self,
+        alloc: Allocator,
+        place: Place,
+        object: Value,
+        key: Value,
+        value: Value,
+    ) -> Result<Flow, Halt>
+        ensures plain { Tells flow_of result self.new (item_stored (value_of object) (value_of key) (value_of value) (emitted place (progress_of self.old))) }
+        ensures fuel { self.new.fuel ≤ self.old.fuel }
+    {
+        self.perform(alloc, place, &Action::StoreItem(object, key, value))?;
+        Ok(Flow::Next)
+    }
+
+    /// What a `for` over `range(..)` goes over, after its arguments. Language Reference 8.3 "The for statement".
+    pub fn iterate_range(
+        &mut self,
+        alloc: Allocator,
+        place: Place,
+        values: Vec<Value>,
+        named: &[NamedValue<'m>],
+    ) -> Result<Iteration, Halt>
+        ensures plain { Tells iteration_of result self.new (range_begun (map value_of values.items) (map named_of named.now) (emitted place (progress_of self.old))) }
+        ensures fuel { self.new.fuel ≤ self.old.fuel }
+    {
+        self.emit(place)?;
+        match (values.as_slice(), named) {
+            ([limit], []) => {
+                let limit = limit.copy(alloc)?;
+                self.act_iteration(alloc, &Action::IterateRange(limit))
+            }
+            _ => Err(Halt::Stopped(Stop::Outside)),
+        }
+    }
+}

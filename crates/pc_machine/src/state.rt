@@ -1,0 +1,133 @@
+use pc_tree::{FuncDef, Literal};
+use pc_value::Value;
+
+/// A parameter of a def, or a field of a class. Language Reference 8.7 "Function definitions".
+#[derive(Clone, Copy)]
+pub struct Parameter<'m> {
+    /// The name by which an argument may be given.
+    pub name: &'m str,
+    /// Its default as it is written, where it has one.
+    pub default: Option<&'m Literal>,
+}
+
+/// A class that was made. Language Reference 8.8 "Class definitions".
+#[derive(Drop)]
+pub struct Class<'m> {
+    /// The numbers of itself and its ancestors.
+    pub ancestors: Vec<usize>,
+    /// All its fields, those of its ancestors first.
+    pub fields: Vec<Parameter<'m>>,
+    /// All its methods, the nearest first.
+    pub methods: Vec<&'m FuncDef>,
+}
+
+/// What the module binds to a name. Language Reference 4.2.1 "Binding of names".
+#[derive(Drop)]
+pub enum Bound<'m> {
+    /// The value of a constant.
+    Value(Value),
+    /// A def of the module.
+    Function(&'m FuncDef),
+    /// The number of a class, in the order in which classes are made.
+    Class(usize),
+}
+
+/// A name that the module has bound. Language Reference 4.2.1 "Binding of names".
+#[derive(Drop)]
+pub struct Global<'m> {
+    /// The name.
+    pub name: &'m str,
+    /// What it is bound to.
+    pub bound: Bound<'m>,
+}
+
+/// A local of a function. Language Reference 4.2.1 "Binding of names".
+#[derive(Drop)]
+pub struct Local<'m> {
+    /// The name.
+    pub name: &'m str,
+    /// Its value, where it is bound.
+    pub value: Option<Value>,
+}
+
+/// An argument by name. Language Reference 6.3.4 "Calls".
+#[derive(Drop)]
+pub struct NamedValue<'m> {
+    /// The name of the parameter that it is for.
+    pub name: &'m str,
+    /// Its value.
+    pub value: Value,
+}
+
+/// How a statement ends. Language Reference 7 "Simple statements".
+#[derive(Drop)]
+pub enum Flow {
+    /// The next one follows.
+    Next,
+    /// The innermost loop is left.
+    Breaking,
+    /// The innermost loop begins its next turn.
+    Continuing,
+    /// The function is left with a value.
+    Leaves(Value),
+}
+
+/// What a name means where it is read. Language Reference 4.2.2 "Resolution of names".
+#[derive(Clone, Copy)]
+pub enum Meaning<'a, 'm> {
+    /// A value that a local or the module has.
+    Value(&'a Value),
+    /// A local that is not bound.
+    Unbound,
+    /// A def of the module.
+    Function(&'m FuncDef),
+    /// The number of a class.
+    Class(usize),
+    /// A name that the language has before a module binds any.
+    Reserved,
+    /// Nothing has that name.
+    Nothing,
+}
+
+/// The built-in methods of lists and dicts. Library Reference, "Mutable Sequence Types" and "Mapping Types".
+#[derive(Clone, Copy)]
+pub enum BuiltinMethod {
+    /// `append` of a list.
+    ListAppend,
+    /// `pop` of a list.
+    ListPop,
+    /// `get` of a dict.
+    DictGet,
+}
+
+/// What a callee turns out to be. Language Reference 6.3.4 "Calls".
+#[derive(Drop)]
+pub enum Callee<'m> {
+    /// A value, which is none that can be called.
+    Value(Value),
+    /// A def of the module.
+    Function(&'m FuncDef),
+    /// The number of a class.
+    Class(usize),
+    /// A reserved name.
+    Reserved(&'m str),
+    /// An object with a method of its class.
+    Method(Value, &'m FuncDef),
+    /// An object with a built-in method.
+    BuiltinMethod(Value, BuiltinMethod),
+}
+
+/// What the second argument of `isinstance` tests for. Library Reference, "Built-in Functions".
+#[derive(Clone, Copy)]
+pub enum Test {
+    /// A whole number or a truth value.
+    Int,
+    /// A text.
+    Str,
+    /// A truth value.
+    Bool,
+    /// A list.
+    List,
+    /// An instance of the class of this number, or of one that descends from it.
+    Class(usize),
+}

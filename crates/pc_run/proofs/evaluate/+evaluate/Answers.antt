@@ -1,0 +1,268 @@
+use Rattle.std.proofs.Common.{rules, ◌≡◌, ◌<◌, ◌+◌, ◌∙◌, sym, ap, arith, drop, true, false, inl, inr, suc, ◌⊎◌}
+use Rattle.std.specs.Prelude.{Err}
+use Rattle.pc_tree.specs.Tree.{expr_of, stmts_of_list, stmt_of}
+use Rattle.pc_value.specs.Meaning.{value_of}
+use Rattle.pc_value.specs.Doing.{iteration_of, action_of}
+use Rattle.pc_value.proofs.Views.{tuple_value}
+use Rattle.pc_value.specs.Meaning.{heap_of}
+use Rattle.pc_value.specs.Value.{is_true}
+use Rattle.pc_machine.specs.Steps.{next, breaking, continuing, leaves}
+use Rattle.pc_machine.specs.Plain.{Came, and_then, act, changed}
+use Rattle.pc_machine.specs.Evaluation.{binds_local}
+use Rattle.pc_machine.specs.Runs.{plain_parts}
+use Rattle.pc_run.specs.Traced.{node, exec_one, branches_in}
+use Rattle.pc_machine.specs.Performed.{empty_charged}
+use Rattle.pc_machine.specs.Machine.{progress_of, unit, flow_of, item_of}
+use Rattle.pc_run.specs.Traced.{values_of_vec, entries_of_vec}
+use Rattle.pc_tree.specs.Lists.{branches_of_list}
+use Rattle.pc_machine.specs.Steps.{item_out}
+use Rattle.pc_machine.specs.Evaluation as text
+use Rattle.pc_machine.specs.Plain.{Step, plain, emitted}
+use Rattle.pc_run.proofs.Bounds.{turn_index}
+use Rattle.pc_run.proofs.Steps.{spent_turn, tells_as, went, turned_err, turned_break, turned_leave, suite_to, suite_err, while_more, for_more, stmts_next, stmts_end, other_flow, ends, charged_eval, begun, uncharged, nothing_left, branch_taken, branch_passed, while_err, while_over, while_turn, for_err, for_over, for_turn, suite_uncharged}
+use Rattle.pc_value.specs.declared.action.Action.TheVariants as rust_action
+use Rattle.pc_tree.specs.declared.tree.Branch.{out-Branch}
+use Rattle.pc_tree.proofs.Trees.{branches_next, tuple_tree, list_tree, dict_tree, call_tree, while_tree, for_tree, if_tree}
+use Rattle.pc_run.proofs.evaluate.+evaluate.Goals as goal
+use Rattle.pc_run.proofs.evaluate.+evaluate.Goals.{run_while-in-Next, run_while-in-Continuing, run_for-in-Next, run_for-in-Continuing}
+
+pub call-returns-in-Function-clause-plain : goal.call-returns-in-Function-clause-plain
+call-returns-in-Function-clause-plain t c n lt = rw c.in-Function.is (c.enter.ensures.plain n lt)
+
+pub call-returns-in-Class-clause-plain : goal.call-returns-in-Class-clause-plain
+call-returns-in-Class-clause-plain t c n lt = rw c.in-Class.is (c.make_instance.ensures.plain n)
+
+pub call-returns-in-Reserved-clause-plain : goal.call-returns-in-Reserved-clause-plain
+call-returns-in-Reserved-clause-plain t c n lt = rw c.in-Reserved.is (c.call_reserved.ensures.plain n)
+
+pub call-returns-in-Method-clause-plain : goal.call-returns-in-Method-clause-plain
+call-returns-in-Method-clause-plain t c n lt = rw c.in-Method.is (c.enter-in-Method.ensures.plain n lt)
+
+pub call-returns-clause-plain : goal.call-returns-clause-plain
+call-returns-clause-plain t c n lt = rw c.in-BuiltinMethod.is (c.call_builtin_method.ensures.plain n)
+
+pub eval-returns-clause-plain : goal.eval-returns-clause-plain
+eval-returns-clause-plain t c n lt =
+    let w = charged_eval n (expr_of c.args.e.now) (progress_of c.args.machine.now) (progress_of c.charge.new.self) c.in_ok-charge.ensures.spent lt c.in_ok-charge.ensures.plain in
+    rw w.is (c.eval_node.ensures.plain w.k w.room)
+
+pub eval_callee-returns-in-Name-clause-plain : goal.eval_callee-returns-in-Name-clause-plain
+eval_callee-returns-in-Name-clause-plain t c n lt = rw c.in-Name.is (c.callee_of_name.ensures.plain n)
+
+pub eval_node-returns-in_err-values-in-Tuple-clause-plain : goal.eval_node-returns-in_err-values-in-Tuple-clause-plain
+eval_node-returns-in_err-values-in-Tuple-clause-plain t c n lt =
+    let is : c.from_residual.result ≡ Err c.in_err-values-in-Tuple.field-0.0 = search rules in
+    rw (is, c.in-Tuple.is) (tells_as value_of (Err c.in_err-values-in-Tuple.field-0.0) c.eval_all.new.machine _ _ (ap (λ x. node n x (progress_of c.args.machine.now)) (tuple_tree c.in-Tuple.place c.in-Tuple.items)) (ends values_of_vec value_of c.in_err-values-in-Tuple.field-0.0 c.eval_all.new.machine _ _ (rw c.deref.ensures.value at (c.in_err-values-in-Tuple.ensures.plain n lt))))
+
+pub eval_node-returns-in_ok-values-in-Tuple-clause-plain : goal.eval_node-returns-in_ok-values-in-Tuple-clause-plain
+eval_node-returns-in_ok-values-in-Tuple-clause-plain t c n lt =
+    rw c.in-Tuple.is (tells_as value_of c.give-in-Tuple.result c.give-in-Tuple.new.self _ _ (ap (λ x. node n x (progress_of c.args.machine.now)) (tuple_tree c.in-Tuple.place c.in-Tuple.items)) (went value_of c.give-in-Tuple.result c.give-in-Tuple.new.self _ _ (values_of_vec c.in_ok-values-in-Tuple.values) (progress_of c.eval_all.new.machine) (rw c.deref.ensures.value at (c.in_ok-values-in-Tuple.ensures.plain n lt)) (tells_as value_of c.give-in-Tuple.result c.give-in-Tuple.new.self _ _ (ap (λ v. Came v (emitted c.in-Tuple.place (progress_of c.eval_all.new.machine))) (sym (tuple_value c.in_ok-values-in-Tuple.values))) c.give-in-Tuple.ensures.plain)))
+
+pub eval_node-returns-in_err-values-in-List-clause-plain : goal.eval_node-returns-in_err-values-in-List-clause-plain
+eval_node-returns-in_err-values-in-List-clause-plain t c n lt =
+    let is : c.from_residual-in_err-values-in-List.result ≡ Err c.in_err-values-in-List.field-0.0 = search rules in
+    rw (is, c.in-List.is) (tells_as value_of (Err c.in_err-values-in-List.field-0.0) c.eval_all-in-List.new.machine _ _ (ap (λ x. node n x (progress_of c.args.machine.now)) (list_tree c.in-List.place c.in-List.items)) (ends values_of_vec value_of c.in_err-values-in-List.field-0.0 c.eval_all-in-List.new.machine _ _ (rw c.deref-in-List.ensures.value at (c.in_err-values-in-List.ensures.plain n lt))))
+
+pub eval_node-returns-in_ok-values-in-List-clause-plain : goal.eval_node-returns-in_ok-values-in-List-clause-plain
+eval_node-returns-in_ok-values-in-List-clause-plain t c n lt =
+    rw c.in-List.is (tells_as value_of c.perform.result c.perform.new.self _ _ (ap (λ x. node n x (progress_of c.args.machine.now)) (list_tree c.in-List.place c.in-List.items)) (went value_of c.perform.result c.perform.new.self _ _ (values_of_vec c.in_ok-values-in-List.values) (progress_of c.eval_all-in-List.new.machine) (rw c.deref-in-List.ensures.value at (c.in_ok-values-in-List.ensures.plain n lt)) c.perform.ensures.plain))
+
+pub eval_node-returns-in_err-entries-in-Dict-clause-plain : goal.eval_node-returns-in_err-entries-in-Dict-clause-plain
+eval_node-returns-in_err-entries-in-Dict-clause-plain t c n lt =
+    let is : c.from_residual-in_err-entries-in-Dict.result ≡ Err c.in_err-entries-in-Dict.field-0.0 = search rules in
+    rw (is, c.in-Dict.is) (tells_as value_of (Err c.in_err-entries-in-Dict.field-0.0) c.eval_entries.new.machine _ _ (ap (λ x. node n x (progress_of c.args.machine.now)) (dict_tree c.in-Dict.place c.in-Dict.items)) (ends entries_of_vec value_of c.in_err-entries-in-Dict.field-0.0 c.eval_entries.new.machine _ _ (rw c.deref-in-Dict.ensures.value at (c.in_err-entries-in-Dict.ensures.plain n lt))))
+
+pub eval_node-returns-in_ok-entries-in-Dict-clause-plain : goal.eval_node-returns-in_ok-entries-in-Dict-clause-plain
+eval_node-returns-in_ok-entries-in-Dict-clause-plain t c n lt =
+    rw c.in-Dict.is (tells_as value_of c.perform-in-Dict.result c.perform-in-Dict.new.self _ _ (ap (λ x. node n x (progress_of c.args.machine.now)) (dict_tree c.in-Dict.place c.in-Dict.items)) (went value_of c.perform-in-Dict.result c.perform-in-Dict.new.self _ _ (entries_of_vec c.in_ok-entries-in-Dict.entries) (progress_of c.eval_entries.new.machine) (rw c.deref-in-Dict.ensures.value at (c.in_ok-entries-in-Dict.ensures.plain n lt)) c.perform-in-Dict.ensures.plain))
+
+pub eval_node-returns-in-Call-clause-plain : goal.eval_node-returns-in-Call-clause-plain
+eval_node-returns-in-Call-clause-plain t c n lt =
+    rw c.in-Call.is (tells_as value_of c.eval_call.result c.eval_call.new.machine _ _ (ap (λ x. node n x (progress_of c.args.machine.now)) (call_tree c.in-Call.place c.in-Call.callee c.in-Call.arguments c.in-Call.by_name)) (rw (c.deref-in-Call.ensures, c.deref-in-Call-2.ensures.value, c.deref-in-Call-3.ensures.value) at (c.eval_call.ensures.plain n lt)))
+
+pub exec-returns-in_err-charge-clause-plain : goal.exec-returns-in_err-charge-clause-plain
+exec-returns-in_err-charge-clause-plain t c n lt =
+    let is : c.from_residual.result ≡ Err c.in_err-charge.field-0.0 = search rules in
+    rw is (tells_as flow_of (Err c.in_err-charge.field-0.0) c.charge.new.self _ _ (c.loop-statement.invariant.run n lt ∙ ap (λ b. (plain_parts n).exec b (progress_of c.loop-statement.machine)) (stmts_next c.args.body.now c.loop-statement.statement-index c.statement-item.result (omega arith) c.statement-item.is)) (uncharged n (stmt_of c.statement-item.result) (stmts_of_list (drop (c.loop-statement.statement-index + 1) c.args.body.now)) (progress_of c.loop-statement.machine) c.in_err-charge.field-0.0 c.charge.new.self (omega (arith, c.loop-statement.invariant.fuel, lt)) c.in_err-charge.ensures.plain))
+
+pub exec-returns-in_err-flow-clause-plain : goal.exec-returns-in_err-flow-clause-plain
+exec-returns-in_err-flow-clause-plain t c n lt =
+    let is : c.from_residual-in_err-flow.result ≡ Err c.in_err-flow.field-0.0 = search rules in
+    let b = begun n (stmt_of c.statement-item.result) (stmts_of_list (drop (c.loop-statement.statement-index + 1) c.args.body.now)) (progress_of c.loop-statement.machine) (progress_of c.charge.new.self) c.in_ok-charge.ensures.spent (omega (arith, c.loop-statement.invariant.fuel, lt)) c.in_ok-charge.ensures.plain in
+    rw is (tells_as flow_of (Err c.in_err-flow.field-0.0) c.exec_node.new.machine _ _ (c.loop-statement.invariant.run n lt ∙ ap (λ b. (plain_parts n).exec b (progress_of c.loop-statement.machine)) (stmts_next c.args.body.now c.loop-statement.statement-index c.statement-item.result (omega arith) c.statement-item.is) ∙ b.is) (ends flow_of flow_of c.in_err-flow.field-0.0 c.exec_node.new.machine _ _ (c.in_err-flow.ensures.plain b.k c.statement-item.result.first b.room)))
+
+pub exec-returns-in_default : goal.exec-returns-in_default
+exec-returns-in_default t c = record {
+  plain = λ n lt. let b = begun n (stmt_of c.statement-item.result) (stmts_of_list (drop (c.loop-statement.statement-index + 1) c.args.body.now)) (progress_of c.loop-statement.machine) (progress_of c.charge.new.self) c.in_ok-charge.ensures.spent (omega (arith, c.loop-statement.invariant.fuel, lt)) c.in_ok-charge.ensures.plain in c.loop-statement.invariant.run n lt ∙ ap (λ b. (plain_parts n).exec b (progress_of c.loop-statement.machine)) (stmts_next c.args.body.now c.loop-statement.statement-index c.statement-item.result (omega arith) c.statement-item.is) ∙ b.is ∙ ap (λ l. and_then l (λ flow. text.then_follows Step plain flow ((plain_parts n).exec (stmts_of_list (drop (c.loop-statement.statement-index + 1) c.args.body.now))))) (c.in_ok-flow.ensures.plain b.k c.statement-item.result.first b.room) ∙ other_flow c.in_ok-flow.flow ((plain_parts n).exec (stmts_of_list (drop (c.loop-statement.statement-index + 1) c.args.body.now))) (progress_of c.exec_node.new.machine) (search rules);
+  fuel = omega (arith, c.loop-statement.invariant.fuel, c.in_ok-flow.ensures.fuel, c.in_ok-charge.ensures.fuel);
+  spent = λ ne. omega (arith, c.loop-statement.invariant.fuel, c.in_ok-flow.ensures.fuel, c.in_ok-charge.ensures.spent);
+}
+
+pub exec-loop-statement-preserved : goal.exec-loop-statement-preserved
+exec-loop-statement-preserved t c = record {
+  fuel = omega (arith, c.loop-statement.invariant.fuel, c.in_ok-flow.ensures.fuel, c.in_ok-charge.ensures.spent);
+  run = λ n lt. let b = begun n (stmt_of c.statement-item.result) (stmts_of_list (drop (c.loop-statement.statement-index + 1) c.args.body.now)) (progress_of c.loop-statement.machine) (progress_of c.charge.new.self) c.in_ok-charge.ensures.spent (omega (arith, c.loop-statement.invariant.fuel, lt)) c.in_ok-charge.ensures.plain in c.loop-statement.invariant.run n lt ∙ ap (λ b. (plain_parts n).exec b (progress_of c.loop-statement.machine)) (stmts_next c.args.body.now c.loop-statement.statement-index c.statement-item.result (omega arith) c.statement-item.is) ∙ b.is ∙ ap (λ l. and_then l (λ flow. text.then_follows Step plain flow ((plain_parts n).exec (stmts_of_list (drop (c.loop-statement.statement-index + 1) c.args.body.now))))) (c.in_ok-flow.ensures.plain b.k c.statement-item.result.first b.room) ∙ ap (λ g. text.then_follows Step plain (flow_of g) ((plain_parts n).exec (stmts_of_list (drop (c.loop-statement.statement-index + 1) c.args.body.now))) (progress_of c.exec_node.new.machine)) c.in-Next.is;
+}
+
+pub exec-returns-clause-plain : goal.exec-returns-clause-plain
+exec-returns-clause-plain t c n lt =
+    c.loop-statement.invariant.run n lt ∙ ap (λ b. (plain_parts n).exec b (progress_of c.loop-statement.machine)) (stmts_end c.args.body.now c.loop-statement.statement-index (omega arith)) ∙ nothing_left n (progress_of c.loop-statement.machine) (omega (arith, c.loop-statement.invariant.fuel, lt))
+
+pub exec_node-returns-in-While-clause-plain : goal.exec_node-returns-in-While-clause-plain
+exec_node-returns-in-While-clause-plain t c n p lt =
+    rw c.in-While.is (tells_as flow_of c.run_while.result c.run_while.new.machine _ _ (ap (λ s. exec_one n s (progress_of c.args.machine.now)) (while_tree p c.in-While.condition c.in-While.body)) (rw c.deref.ensures.value at (c.run_while.ensures.plain n lt)))
+
+pub exec_node-returns-in_ok-over-in-For-clause-plain : goal.exec_node-returns-in_ok-over-in-For-clause-plain
+exec_node-returns-in_ok-over-in-For-clause-plain t c n p lt =
+    rw c.in-For.is (tells_as flow_of c.run_for.result c.run_for.new.machine _ _ (ap (λ s. exec_one n s (progress_of c.args.machine.now)) (for_tree p c.in-For.name c.in-For.e c.in-For.body)) (went flow_of c.run_for.result c.run_for.new.machine _ _ (iteration_of c.in_ok-over-in-For.over) (progress_of c.eval_iterable.new.machine) (c.in_ok-over-in-For.ensures.plain n lt) (rw (c.deref-in-For.ensures.value, c.as_str-in-For.ensures.value) at (c.run_for.ensures.plain n (omega (arith, lt, c.in_ok-over-in-For.ensures.fuel))))))
+
+pub exec_node-returns-in-If-clause-plain : goal.exec_node-returns-in-If-clause-plain
+exec_node-returns-in-If-clause-plain t c n p lt =
+    rw c.in-If.is (tells_as flow_of c.exec_branches.result c.exec_branches.new.machine _ _ (ap (λ s. exec_one n s (progress_of c.args.machine.now)) (if_tree p c.in-If.branches c.in-If.otherwise)) (rw (c.deref-in-If.ensures.value, c.deref-in-If-2.ensures.value) at (c.exec_branches.ensures.plain n lt)))
+
+pub exec_node-returns-in-Assert-clause-plain : goal.exec_node-returns-in-Assert-clause-plain
+exec_node-returns-in-Assert-clause-plain t c n p lt = rw c.in-Assert.is (c.exec_assert.ensures.plain n p lt)
+
+pub run_while-returns-in_err-v-clause-plain : goal.run_while-returns-in_err-v-clause-plain
+run_while-returns-in_err-v-clause-plain t c n lt =
+    let is : c.from_residual.result ≡ Err c.in_err-v.field-0.0 = search rules in
+    let a = c.loop-v.invariant.run n lt in
+    rw is (tells_as flow_of (Err c.in_err-v.field-0.0) c.eval.new.machine _ _ a.is (while_err a.bound (expr_of c.args.condition.now) (stmts_of_list c.args.body.now) (progress_of c.loop-v.machine) c.in_err-v.field-0.0 c.eval.new.machine a.room (c.in_err-v.ensures.plain a.bound a.room)))
+
+pub run_while-returns-then-not-is_true-clause-plain : goal.run_while-returns-then-not-is_true-clause-plain
+run_while-returns-then-not-is_true-clause-plain t c n lt =
+    let b : is_true (heap_of c.eval.new.machine.heap) (value_of c.in_ok-v.v) ≡ false = search rules in
+    let a = c.loop-v.invariant.run n lt in
+    a.is ∙ while_over a.bound (expr_of c.args.condition.now) (stmts_of_list c.args.body.now) (progress_of c.loop-v.machine) (progress_of c.eval.new.machine) (value_of c.in_ok-v.v) a.room (c.in_ok-v.ensures.plain a.bound a.room) b
+
+pub run_while-returns-in_err-charge_empty-clause-plain : goal.run_while-returns-in_err-charge_empty-clause-plain
+run_while-returns-in_err-charge_empty-clause-plain t c n lt =
+    let is : c.from_residual-in_err-charge_empty.result ≡ Err c.in_err-charge_empty.field-0.0 = search rules in
+    let b : is_true (heap_of c.eval.new.machine.heap) (value_of c.in_ok-v.v) ≡ true = search rules in
+    let a = c.loop-v.invariant.run n lt in
+    let w = while_turn a.bound (expr_of c.args.condition.now) (stmts_of_list c.args.body.now) (progress_of c.loop-v.machine) (progress_of c.eval.new.machine) (value_of c.in_ok-v.v) a.room (c.in_ok-v.ensures.plain a.bound a.room) b in
+    rw is (tells_as flow_of (Err c.in_err-charge_empty.field-0.0) c.charge_empty.new.self _ _ a.is (turned_err a.bound (stmts_of_list c.args.body.now) (progress_of c.eval.new.machine) (λ k. (plain_parts k).again (expr_of c.args.condition.now) (stmts_of_list c.args.body.now)) ((plain_parts a.bound).again (expr_of c.args.condition.now) (stmts_of_list c.args.body.now) (progress_of c.loop-v.machine)) c.in_err-charge_empty.field-0.0 c.charge_empty.new.self w (suite_uncharged a.bound (stmts_of_list c.args.body.now) (progress_of c.eval.new.machine) c.in_err-charge_empty.field-0.0 c.charge_empty.new.self c.in_err-charge_empty.ensures.plain)))
+
+pub run_while-returns-in_err-exec-clause-plain : goal.run_while-returns-in_err-exec-clause-plain
+run_while-returns-in_err-exec-clause-plain t c n lt =
+    let is : c.from_residual-in_err-exec.result ≡ Err c.in_err-exec.field-0.0 = search rules in
+    let b : is_true (heap_of c.eval.new.machine.heap) (value_of c.in_ok-v.v) ≡ true = search rules in
+    let a = c.loop-v.invariant.run n lt in
+    let w = while_turn a.bound (expr_of c.args.condition.now) (stmts_of_list c.args.body.now) (progress_of c.loop-v.machine) (progress_of c.eval.new.machine) (value_of c.in_ok-v.v) a.room (c.in_ok-v.ensures.plain a.bound a.room) b in
+    rw is (tells_as flow_of (Err c.in_err-exec.field-0.0) c.exec.new.machine _ _ a.is (turned_err a.bound (stmts_of_list c.args.body.now) (progress_of c.eval.new.machine) (λ k. (plain_parts k).again (expr_of c.args.condition.now) (stmts_of_list c.args.body.now)) ((plain_parts a.bound).again (expr_of c.args.condition.now) (stmts_of_list c.args.body.now) (progress_of c.loop-v.machine)) c.in_err-exec.field-0.0 c.exec.new.machine w (suite_err a.bound (stmts_of_list c.args.body.now) (progress_of c.eval.new.machine) (progress_of c.charge_empty.new.self) c.in_err-exec.field-0.0 c.exec.new.machine c.in_ok-charge_empty.ensures.plain (c.in_err-exec.ensures.plain a.bound (omega (arith, a.room, c.in_ok-v.ensures.fuel, c.in_ok-charge_empty.ensures.fuel))))))
+
+pub run_while-returns-in-Breaking-clause-plain : goal.run_while-returns-in-Breaking-clause-plain
+run_while-returns-in-Breaking-clause-plain t c n lt =
+    let b : is_true (heap_of c.eval.new.machine.heap) (value_of c.in_ok-v.v) ≡ true = search rules in
+    let a = c.loop-v.invariant.run n lt in
+    let w = while_turn a.bound (expr_of c.args.condition.now) (stmts_of_list c.args.body.now) (progress_of c.loop-v.machine) (progress_of c.eval.new.machine) (value_of c.in_ok-v.v) a.room (c.in_ok-v.ensures.plain a.bound a.room) b in
+    a.is ∙ turned_break a.bound (stmts_of_list c.args.body.now) (progress_of c.eval.new.machine) (progress_of c.exec.new.machine) (λ k. (plain_parts k).again (expr_of c.args.condition.now) (stmts_of_list c.args.body.now)) ((plain_parts a.bound).again (expr_of c.args.condition.now) (stmts_of_list c.args.body.now) (progress_of c.loop-v.machine)) w (suite_to a.bound (stmts_of_list c.args.body.now) (progress_of c.eval.new.machine) (progress_of c.charge_empty.new.self) (progress_of c.exec.new.machine) breaking c.in_ok-charge_empty.ensures.plain (c.in_ok-exec.ensures.plain a.bound (omega (arith, a.room, c.in_ok-v.ensures.fuel, c.in_ok-charge_empty.ensures.fuel)) ∙ ap (λ g. Came (flow_of g) (progress_of c.exec.new.machine)) c.in-Breaking.is))
+
+pub run_while-returns-in-Leaves-clause-plain : goal.run_while-returns-in-Leaves-clause-plain
+run_while-returns-in-Leaves-clause-plain t c n lt =
+    let b : is_true (heap_of c.eval.new.machine.heap) (value_of c.in_ok-v.v) ≡ true = search rules in
+    let a = c.loop-v.invariant.run n lt in
+    let w = while_turn a.bound (expr_of c.args.condition.now) (stmts_of_list c.args.body.now) (progress_of c.loop-v.machine) (progress_of c.eval.new.machine) (value_of c.in_ok-v.v) a.room (c.in_ok-v.ensures.plain a.bound a.room) b in
+    a.is ∙ turned_leave a.bound (stmts_of_list c.args.body.now) (progress_of c.eval.new.machine) (progress_of c.exec.new.machine) (value_of c.in-Leaves.v) (λ k. (plain_parts k).again (expr_of c.args.condition.now) (stmts_of_list c.args.body.now)) ((plain_parts a.bound).again (expr_of c.args.condition.now) (stmts_of_list c.args.body.now) (progress_of c.loop-v.machine)) w (suite_to a.bound (stmts_of_list c.args.body.now) (progress_of c.eval.new.machine) (progress_of c.charge_empty.new.self) (progress_of c.exec.new.machine) (leaves (value_of c.in-Leaves.v)) c.in_ok-charge_empty.ensures.plain (c.in_ok-exec.ensures.plain a.bound (omega (arith, a.room, c.in_ok-v.ensures.fuel, c.in_ok-charge_empty.ensures.fuel)) ∙ ap (λ g. Came (flow_of g) (progress_of c.exec.new.machine)) c.in-Leaves.is))
+
+pub run_while-loop-v-preserved-after-branch-4 : goal.run_while-loop-v-preserved-after-branch-4
+run_while-loop-v-preserved-after-branch-4 t c = record {
+  fuel = omega (arith, c.loop-v.invariant.fuel, c.in_ok-v.ensures.fuel, c.in_ok-charge_empty.ensures.fuel, c.in_ok-exec.ensures.fuel);
+  run = λ n lt.
+      let b : is_true (heap_of c.eval.new.machine.heap) (value_of c.in_ok-v.v) ≡ true = search rules in
+      let a = c.loop-v.invariant.run n lt in
+      let go : (flow_of c.in_ok-exec.field-0 ≡ next) ⊎ (flow_of c.in_ok-exec.field-0 ≡ continuing) = elim c.match-branch-4.branch [ run_while-in-Next w ↦ inl (ap flow_of w.in-Next.is) | run_while-in-Continuing w ↦ inr (ap flow_of w.in-Continuing.is) ] in
+      while_more a.bound (expr_of c.args.condition.now) (stmts_of_list c.args.body.now) (progress_of c.loop-v.machine) (progress_of c.eval.new.machine) (progress_of c.charge_empty.new.self) (progress_of c.exec.new.machine) (value_of c.in_ok-v.v) (flow_of c.in_ok-exec.field-0) _ a.room (omega (arith, c.in_ok-v.ensures.spent, c.in_ok-charge_empty.ensures.fuel, c.in_ok-exec.ensures.fuel)) a.is (c.in_ok-v.ensures.plain a.bound a.room) b c.in_ok-charge_empty.ensures.plain (c.in_ok-exec.ensures.plain a.bound (omega (arith, a.room, c.in_ok-v.ensures.fuel, c.in_ok-charge_empty.ensures.fuel))) go;
+}
+
+pub run_while-loop-v-preserved-after-branch-4-2 : goal.run_while-loop-v-preserved-after-branch-4-2
+run_while-loop-v-preserved-after-branch-4-2 t c = record {
+  fuel = omega (arith, c.loop-v.invariant.fuel, c.in_ok-v.ensures.fuel, c.in_ok-charge_empty.ensures.fuel, c.in_ok-exec.ensures.fuel);
+  run = λ n lt.
+      let b : is_true (heap_of c.eval.new.machine.heap) (value_of c.in_ok-v.v) ≡ true = search rules in
+      let a = c.loop-v.invariant.run n lt in
+      let go : (flow_of c.in_ok-exec.field-0 ≡ next) ⊎ (flow_of c.in_ok-exec.field-0 ≡ continuing) = elim c.match-branch-4.branch [ run_while-in-Next w ↦ inl (ap flow_of w.in-Next.is) | run_while-in-Continuing w ↦ inr (ap flow_of w.in-Continuing.is) ] in
+      while_more a.bound (expr_of c.args.condition.now) (stmts_of_list c.args.body.now) (progress_of c.loop-v.machine) (progress_of c.eval.new.machine) (progress_of c.charge_empty.new.self) (progress_of c.exec.new.machine) (value_of c.in_ok-v.v) (flow_of c.in_ok-exec.field-0) _ a.room (omega (arith, c.in_ok-v.ensures.spent, c.in_ok-charge_empty.ensures.fuel, c.in_ok-exec.ensures.fuel)) a.is (c.in_ok-v.ensures.plain a.bound a.room) b c.in_ok-charge_empty.ensures.plain (c.in_ok-exec.ensures.plain a.bound (omega (arith, a.room, c.in_ok-v.ensures.fuel, c.in_ok-charge_empty.ensures.fuel))) go;
+}
+
+pub run_while-loop-v-preserved : goal.run_while-loop-v-preserved
+run_while-loop-v-preserved t c = record {
+  fuel = omega (arith, c.loop-v.invariant.fuel, c.in_ok-v.ensures.fuel, c.in_ok-charge_empty.ensures.fuel, c.in_ok-exec.ensures.fuel);
+  run = λ n lt.
+      let b : is_true (heap_of c.eval.new.machine.heap) (value_of c.in_ok-v.v) ≡ true = search rules in
+      let a = c.loop-v.invariant.run n lt in
+      let go : (flow_of c.in_ok-exec.field-0 ≡ next) ⊎ (flow_of c.in_ok-exec.field-0 ≡ continuing) = elim c.match-branch-4.branch [ run_while-in-Next w ↦ inl (ap flow_of w.in-Next.is) | run_while-in-Continuing w ↦ inr (ap flow_of w.in-Continuing.is) ] in
+      while_more a.bound (expr_of c.args.condition.now) (stmts_of_list c.args.body.now) (progress_of c.loop-v.machine) (progress_of c.eval.new.machine) (progress_of c.charge_empty.new.self) (progress_of c.exec.new.machine) (value_of c.in_ok-v.v) (flow_of c.in_ok-exec.field-0) _ a.room (omega (arith, c.in_ok-v.ensures.spent, c.in_ok-charge_empty.ensures.fuel, c.in_ok-exec.ensures.fuel)) a.is (c.in_ok-v.ensures.plain a.bound a.room) b c.in_ok-charge_empty.ensures.plain (c.in_ok-exec.ensures.plain a.bound (omega (arith, a.room, c.in_ok-v.ensures.fuel, c.in_ok-charge_empty.ensures.fuel))) go;
+}
+
+pub run_for-returns-in_err-act_item-clause-plain : goal.run_for-returns-in_err-act_item-clause-plain
+run_for-returns-in_err-act_item-clause-plain t c n lt =
+    let is : c.from_residual.result ≡ Err c.in_err-act_item.field-0.0 = search rules in
+    let a = c.loop-turn.invariant.run n lt in
+    rw is (tells_as flow_of (Err c.in_err-act_item.field-0.0) c.act_item.new.self _ _ a.is (for_err a.bound (iteration_of c.args.over) (turn_index c.loop-turn.turn) c.args.name.now (stmts_of_list c.args.body.now) (progress_of c.loop-turn.machine) c.in_err-act_item.field-0.0 c.act_item.new.self a.room (tells_as item_of (Err c.in_err-act_item.field-0.0) c.act_item.new.self _ _ (ap (λ a. act item_out a (progress_of c.loop-turn.machine)) (sym (ap action_of c.loop-turn.invariant.turn))) c.in_err-act_item.ensures.plain)))
+
+pub run_for-returns-in-None-clause-plain : goal.run_for-returns-in-None-clause-plain
+run_for-returns-in-None-clause-plain t c n lt =
+    let a = c.loop-turn.invariant.run n lt in
+    a.is ∙ for_over a.bound (iteration_of c.args.over) (turn_index c.loop-turn.turn) c.args.name.now (stmts_of_list c.args.body.now) (progress_of c.loop-turn.machine) (progress_of c.act_item.new.self) a.room (ap (λ a. act item_out a (progress_of c.loop-turn.machine)) (sym (ap action_of c.loop-turn.invariant.turn)) ∙ c.in_ok-act_item.ensures.plain ∙ ap (λ o. Came (item_of o) (progress_of c.act_item.new.self)) c.in-None.is)
+
+pub run_for-returns-in_err-charge_empty-clause-plain : goal.run_for-returns-in_err-charge_empty-clause-plain
+run_for-returns-in_err-charge_empty-clause-plain t c n lt =
+    let is : c.from_residual-in_err-charge_empty.result ≡ Err c.in_err-charge_empty.field-0.0 = search rules in
+    let a = c.loop-turn.invariant.run n lt in
+    let w = for_turn a.bound (iteration_of c.args.over) (turn_index c.loop-turn.turn) c.args.name.now (stmts_of_list c.args.body.now) (progress_of c.loop-turn.machine) (progress_of c.act_item.new.self) (value_of c.in-Some.v) a.room (ap (λ a. act item_out a (progress_of c.loop-turn.machine)) (sym (ap action_of c.loop-turn.invariant.turn)) ∙ c.in_ok-act_item.ensures.plain ∙ ap (λ o. Came (item_of o) (progress_of c.act_item.new.self)) c.in-Some.is) in
+    rw is (tells_as flow_of (Err c.in_err-charge_empty.field-0.0) c.charge_empty.new.self _ _ a.is (turned_err a.bound (stmts_of_list c.args.body.now) (changed (binds_local c.args.name.now (value_of c.in-Some.v)) (progress_of c.act_item.new.self)) (λ k. (plain_parts k).turns (iteration_of c.args.over) (suc (turn_index c.loop-turn.turn)) c.args.name.now (stmts_of_list c.args.body.now)) ((plain_parts a.bound).turns (iteration_of c.args.over) (turn_index c.loop-turn.turn) c.args.name.now (stmts_of_list c.args.body.now) (progress_of c.loop-turn.machine)) c.in_err-charge_empty.field-0.0 c.charge_empty.new.self w (suite_uncharged a.bound (stmts_of_list c.args.body.now) (changed (binds_local c.args.name.now (value_of c.in-Some.v)) (progress_of c.act_item.new.self)) c.in_err-charge_empty.field-0.0 c.charge_empty.new.self (tells_as unit (Err c.in_err-charge_empty.field-0.0) c.charge_empty.new.self _ _ (ap (empty_charged (stmts_of_list c.args.body.now)) (sym c.bind_local.ensures.plain)) c.in_err-charge_empty.ensures.plain))))
+
+pub run_for-returns-in_err-exec-clause-plain : goal.run_for-returns-in_err-exec-clause-plain
+run_for-returns-in_err-exec-clause-plain t c n lt =
+    let is : c.from_residual-in_err-exec.result ≡ Err c.in_err-exec.field-0.0 = search rules in
+    let a = c.loop-turn.invariant.run n lt in
+    let w = for_turn a.bound (iteration_of c.args.over) (turn_index c.loop-turn.turn) c.args.name.now (stmts_of_list c.args.body.now) (progress_of c.loop-turn.machine) (progress_of c.act_item.new.self) (value_of c.in-Some.v) a.room (ap (λ a. act item_out a (progress_of c.loop-turn.machine)) (sym (ap action_of c.loop-turn.invariant.turn)) ∙ c.in_ok-act_item.ensures.plain ∙ ap (λ o. Came (item_of o) (progress_of c.act_item.new.self)) c.in-Some.is) in
+    rw is (tells_as flow_of (Err c.in_err-exec.field-0.0) c.exec.new.machine _ _ a.is (turned_err a.bound (stmts_of_list c.args.body.now) (changed (binds_local c.args.name.now (value_of c.in-Some.v)) (progress_of c.act_item.new.self)) (λ k. (plain_parts k).turns (iteration_of c.args.over) (suc (turn_index c.loop-turn.turn)) c.args.name.now (stmts_of_list c.args.body.now)) ((plain_parts a.bound).turns (iteration_of c.args.over) (turn_index c.loop-turn.turn) c.args.name.now (stmts_of_list c.args.body.now) (progress_of c.loop-turn.machine)) c.in_err-exec.field-0.0 c.exec.new.machine w (suite_err a.bound (stmts_of_list c.args.body.now) (changed (binds_local c.args.name.now (value_of c.in-Some.v)) (progress_of c.act_item.new.self)) (progress_of c.charge_empty.new.self) c.in_err-exec.field-0.0 c.exec.new.machine (ap (empty_charged (stmts_of_list c.args.body.now)) (sym c.bind_local.ensures.plain) ∙ c.in_ok-charge_empty.ensures.plain) (c.in_err-exec.ensures.plain a.bound (omega (arith, a.room, c.in_ok-act_item.ensures.fuel, c.bind_local.ensures.fuel, c.in_ok-charge_empty.ensures.fuel))))))
+
+pub run_for-returns-in-Breaking-clause-plain : goal.run_for-returns-in-Breaking-clause-plain
+run_for-returns-in-Breaking-clause-plain t c n lt =
+    let a = c.loop-turn.invariant.run n lt in
+    let w = for_turn a.bound (iteration_of c.args.over) (turn_index c.loop-turn.turn) c.args.name.now (stmts_of_list c.args.body.now) (progress_of c.loop-turn.machine) (progress_of c.act_item.new.self) (value_of c.in-Some.v) a.room (ap (λ a. act item_out a (progress_of c.loop-turn.machine)) (sym (ap action_of c.loop-turn.invariant.turn)) ∙ c.in_ok-act_item.ensures.plain ∙ ap (λ o. Came (item_of o) (progress_of c.act_item.new.self)) c.in-Some.is) in
+    a.is ∙ turned_break a.bound (stmts_of_list c.args.body.now) (changed (binds_local c.args.name.now (value_of c.in-Some.v)) (progress_of c.act_item.new.self)) (progress_of c.exec.new.machine) (λ k. (plain_parts k).turns (iteration_of c.args.over) (suc (turn_index c.loop-turn.turn)) c.args.name.now (stmts_of_list c.args.body.now)) ((plain_parts a.bound).turns (iteration_of c.args.over) (turn_index c.loop-turn.turn) c.args.name.now (stmts_of_list c.args.body.now) (progress_of c.loop-turn.machine)) w (suite_to a.bound (stmts_of_list c.args.body.now) (changed (binds_local c.args.name.now (value_of c.in-Some.v)) (progress_of c.act_item.new.self)) (progress_of c.charge_empty.new.self) (progress_of c.exec.new.machine) breaking (ap (empty_charged (stmts_of_list c.args.body.now)) (sym c.bind_local.ensures.plain) ∙ c.in_ok-charge_empty.ensures.plain) (c.in_ok-exec.ensures.plain a.bound (omega (arith, a.room, c.in_ok-act_item.ensures.fuel, c.bind_local.ensures.fuel, c.in_ok-charge_empty.ensures.fuel)) ∙ ap (λ g. Came (flow_of g) (progress_of c.exec.new.machine)) c.in-Breaking.is))
+
+pub run_for-returns-in-Leaves-clause-plain : goal.run_for-returns-in-Leaves-clause-plain
+run_for-returns-in-Leaves-clause-plain t c n lt =
+    let a = c.loop-turn.invariant.run n lt in
+    let w = for_turn a.bound (iteration_of c.args.over) (turn_index c.loop-turn.turn) c.args.name.now (stmts_of_list c.args.body.now) (progress_of c.loop-turn.machine) (progress_of c.act_item.new.self) (value_of c.in-Some.v) a.room (ap (λ a. act item_out a (progress_of c.loop-turn.machine)) (sym (ap action_of c.loop-turn.invariant.turn)) ∙ c.in_ok-act_item.ensures.plain ∙ ap (λ o. Came (item_of o) (progress_of c.act_item.new.self)) c.in-Some.is) in
+    a.is ∙ turned_leave a.bound (stmts_of_list c.args.body.now) (changed (binds_local c.args.name.now (value_of c.in-Some.v)) (progress_of c.act_item.new.self)) (progress_of c.exec.new.machine) (value_of c.in-Leaves.v) (λ k. (plain_parts k).turns (iteration_of c.args.over) (suc (turn_index c.loop-turn.turn)) c.args.name.now (stmts_of_list c.args.body.now)) ((plain_parts a.bound).turns (iteration_of c.args.over) (turn_index c.loop-turn.turn) c.args.name.now (stmts_of_list c.args.body.now) (progress_of c.loop-turn.machine)) w (suite_to a.bound (stmts_of_list c.args.body.now) (changed (binds_local c.args.name.now (value_of c.in-Some.v)) (progress_of c.act_item.new.self)) (progress_of c.charge_empty.new.self) (progress_of c.exec.new.machine) (leaves (value_of c.in-Leaves.v)) (ap (empty_charged (stmts_of_list c.args.body.now)) (sym c.bind_local.ensures.plain) ∙ c.in_ok-charge_empty.ensures.plain) (c.in_ok-exec.ensures.plain a.bound (omega (arith, a.room, c.in_ok-act_item.ensures.fuel, c.bind_local.ensures.fuel, c.in_ok-charge_empty.ensures.fuel)) ∙ ap (λ g. Came (flow_of g) (progress_of c.exec.new.machine)) c.in-Leaves.is))
+
+pub run_for-next_turn-turn-requires : goal.run_for-next_turn-turn-requires
+run_for-next_turn-turn-requires t c =
+    let less : c.exec.new.machine.fuel < c.bind_local.new.self.fuel = spent_turn c.args.body.now c.bind_local.new.self.fuel c.charge_empty.new.self.fuel c.exec.new.machine.fuel c.in_ok-charge_empty.ensures.fuel c.in_ok-exec.ensures.fuel c.in_ok-charge_empty.ensures.spent c.in_ok-exec.ensures.spent in
+    (c.args.over, (turn_index c.loop-turn.turn, (c.loop-turn.invariant.turn, omega (arith, less, c.loop-turn.invariant.fuel, c.in_ok-act_item.ensures.fuel, c.bind_local.ensures.fuel))))
+
+pub run_for-loop-turn-preserved : goal.run_for-loop-turn-preserved
+run_for-loop-turn-preserved t c =
+    let less : c.exec.new.machine.fuel < c.bind_local.new.self.fuel = spent_turn c.args.body.now c.bind_local.new.self.fuel c.charge_empty.new.self.fuel c.exec.new.machine.fuel c.in_ok-charge_empty.ensures.fuel c.in_ok-exec.ensures.fuel c.in_ok-charge_empty.ensures.spent c.in_ok-exec.ensures.spent in
+    let r = c.next_turn-turn.ensures c.args.over (turn_index c.loop-turn.turn) c.loop-turn.invariant.turn in
+    let idx : turn_index c.next_turn-turn.result ≡ turn_index c.loop-turn.turn + 1 = ap turn_index r in
+    record {
+      fuel = omega (arith, less, idx, c.loop-turn.invariant.fuel, c.in_ok-act_item.ensures.fuel, c.bind_local.ensures.fuel);
+      turn = r ∙ ap (λ k. rust_action.Turn c.args.over k) (sym idx);
+      run = λ n lt.
+          let a = c.loop-turn.invariant.run n lt in
+          let go : (flow_of c.in_ok-exec.field-0 ≡ next) ⊎ (flow_of c.in_ok-exec.field-0 ≡ continuing) = elim c.match-branch-5.branch [ run_for-in-Next w ↦ inl (ap flow_of w.in-Next.is) | run_for-in-Continuing w ↦ inr (ap flow_of w.in-Continuing.is) ] in
+          for_more a.bound (iteration_of c.args.over) (turn_index c.loop-turn.turn) (turn_index c.next_turn-turn.result) c.args.name.now (stmts_of_list c.args.body.now) (progress_of c.loop-turn.machine) (progress_of c.act_item.new.self) (progress_of c.bind_local.new.self) (progress_of c.charge_empty.new.self) (progress_of c.exec.new.machine) (value_of c.in-Some.v) (flow_of c.in_ok-exec.field-0) _ a.room (omega (arith, less, c.in_ok-act_item.ensures.fuel, c.bind_local.ensures.fuel)) idx a.is (ap (λ a. act item_out a (progress_of c.loop-turn.machine)) (sym (ap action_of c.loop-turn.invariant.turn)) ∙ c.in_ok-act_item.ensures.plain ∙ ap (λ o. Came (item_of o) (progress_of c.act_item.new.self)) c.in-Some.is) c.bind_local.ensures.plain c.in_ok-charge_empty.ensures.plain (c.in_ok-exec.ensures.plain a.bound (omega (arith, a.room, c.in_ok-act_item.ensures.fuel, c.bind_local.ensures.fuel, c.in_ok-charge_empty.ensures.fuel))) go;
+    }
+
+pub exec_branches-returns-in_err-v-clause-plain : goal.exec_branches-returns-in_err-v-clause-plain
+exec_branches-returns-in_err-v-clause-plain t c n lt =
+    let is : c.from_residual.result ≡ Err c.in_err-v.field-0.0 = search rules in
+    rw is (tells_as flow_of (Err c.in_err-v.field-0.0) c.eval.new.machine _ _ (c.loop-branch.invariant.run n lt ∙ ap (λ b. branches_in n b (stmts_of_list c.args.otherwise.now) (progress_of c.loop-branch.machine)) (branches_next c.args.branches.now c.loop-branch.branch-index c.branch-item.result (omega arith) c.branch-item.is)) (ends value_of flow_of c.in_err-v.field-0.0 c.eval.new.machine _ _ (c.in_err-v.ensures.plain n (omega (arith, c.loop-branch.invariant.fuel, lt)))))
+
+pub exec_branches-returns-then-is_true-clause-plain : goal.exec_branches-returns-then-is_true-clause-plain
+exec_branches-returns-then-is_true-clause-plain t c n lt =
+    let b : is_true (heap_of c.eval.new.machine.heap) (value_of c.in_ok-v.v) ≡ true = search rules in
+    tells_as flow_of c.exec.result c.exec.new.machine _ _ (c.loop-branch.invariant.run n lt ∙ ap (λ b. branches_in n b (stmts_of_list c.args.otherwise.now) (progress_of c.loop-branch.machine)) (branches_next c.args.branches.now c.loop-branch.branch-index c.branch-item.result (omega arith) c.branch-item.is) ∙ branch_taken n (expr_of (out-Branch c.branch-item.result).condition) (stmts_of_list (out-Branch c.branch-item.result).body.items) (branches_of_list (drop (c.loop-branch.branch-index + 1) c.args.branches.now)) (stmts_of_list c.args.otherwise.now) (progress_of c.loop-branch.machine) (progress_of c.eval.new.machine) (value_of c.in_ok-v.v) (c.in_ok-v.ensures.plain n (omega (arith, c.loop-branch.invariant.fuel, lt))) b) (rw c.deref.ensures.value at (c.exec.ensures.plain n (omega (arith, c.loop-branch.invariant.fuel, c.in_ok-v.ensures.fuel, lt))))
+
+pub exec_branches-loop-branch-preserved : goal.exec_branches-loop-branch-preserved
+exec_branches-loop-branch-preserved t c = record {
+  fuel = omega (arith, c.loop-branch.invariant.fuel, c.in_ok-v.ensures.fuel);
+  run = λ n lt. let b : is_true (heap_of c.eval.new.machine.heap) (value_of c.in_ok-v.v) ≡ false = search rules in c.loop-branch.invariant.run n lt ∙ ap (λ b. branches_in n b (stmts_of_list c.args.otherwise.now) (progress_of c.loop-branch.machine)) (branches_next c.args.branches.now c.loop-branch.branch-index c.branch-item.result (omega arith) c.branch-item.is) ∙ branch_passed n (expr_of (out-Branch c.branch-item.result).condition) (stmts_of_list (out-Branch c.branch-item.result).body.items) (branches_of_list (drop (c.loop-branch.branch-index + 1) c.args.branches.now)) (stmts_of_list c.args.otherwise.now) (progress_of c.loop-branch.machine) (progress_of c.eval.new.machine) (value_of c.in_ok-v.v) (c.in_ok-v.ensures.plain n (omega (arith, c.loop-branch.invariant.fuel, lt))) b;
+}

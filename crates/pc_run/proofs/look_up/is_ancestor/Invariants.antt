@@ -1,6 +1,0 @@
-use Rattle.std.proofs.Common.{◌≡◌, drop}
-use Rattle.pc_run.specs.Calls.{is_ancestor}
-use Rattle.pc_run.proofs.look_up.is_ancestor.Given as goal
-
-abbrev pub invariant-loop-ancestor : goal.invariant-loop-ancestor
-invariant-loop-ancestor l = is_ancestor l.class (drop l.ancestor-index l.ancestors) ≡ is_ancestor l.class l.ancestors

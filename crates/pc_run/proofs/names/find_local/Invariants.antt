@@ -1,7 +1,0 @@
-use Rattle.std.proofs.Common.{◌≡◌, map, drop}
-use Rattle.pc_run.specs.Names.{local_of}
-use Rattle.pc_run.specs.Machine.{local_of as local_seen}
-use Rattle.pc_run.proofs.names.find_local.Given as goal
-
-abbrev pub invariant-loop-local : goal.invariant-loop-local
-invariant-loop-local l = local_of l.name (map local_seen (drop l.local-index l.frame)) ≡ local_of l.name (map local_seen l.frame)

@@ -1,7 +1,0 @@
-ghost use Rattle.pc_run.specs.Runs.{PlainRunsAreRuns};
-
-/// A law of the definitions: whatever a plain run does, for some fuel and choices, is among the runs of
-/// the module. Own rule of the profile.
-pub fn plain_runs_are_runs()
-    ensures { PlainRunsAreRuns }
-{}
