@@ -85,3 +85,5 @@ pub mod KeyedInitializers
 pub mod ClassesAreReady
 pub mod Sounding
 pub mod EarlyNames
+pub mod Listings
+pub mod ExampleFindings

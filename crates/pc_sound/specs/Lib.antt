@@ -1,3 +1,4 @@
+pub mod Examples
 pub mod Judgment
 pub mod Kept
 pub mod Sound
