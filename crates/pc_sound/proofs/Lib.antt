@@ -87,3 +87,7 @@ pub mod Sounding
 pub mod EarlyNames
 pub mod Listings
 pub mod ExampleFindings
+pub mod ExampleRuns
+pub mod LoopExample
+pub mod AliasExample
+pub mod AssignmentExample

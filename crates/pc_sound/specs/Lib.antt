@@ -1,5 +1,8 @@
+pub mod AliasExample
+pub mod AssignmentExample
 pub mod Examples
 pub mod Judgment
 pub mod Kept
+pub mod LoopExample
 pub mod Sound
 pub mod Values
