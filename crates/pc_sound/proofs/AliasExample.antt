@@ -1,11 +1,10 @@
 -- The lawful labelling of the module that passes one list as three types, its two findings, and its run.
 use Rattle.std.proofs.Common.{[], ◌∷◌, refl}
-use Rattle.std.specs.Prelude.{Option, Some, None}
-use Rattle.pc_tree.specs.declared.code.Code.{Code}
+use Rattle.std.specs.Prelude.{Some, None}
 use Rattle.pc_tree.specs.declared.code.Code.TheVariants.{A1, E12, E20}
 use Rattle.pc_scope.specs.Reserved.{builtin_of}
 use Rattle.pc_types.specs.Tree.{Tree, Int, Str, Any, Object, ListOf, Union}
-use Rattle.pc_types.specs.Below.{Bases, Below, Static, same, object}
+use Rattle.pc_types.specs.Below.{Bases, Static, same, object}
 use Rattle.pc_types.specs.Assignable.{Assignable, Fills, any, int, str, list, union}
 use Rattle.pc_types.proofs.Structural.{Sub, s_list, s_both, sub_of}
 use Rattle.pc_class.specs.Bases.{bases_of}
@@ -14,10 +13,10 @@ use Rattle.pc_flow.specs.Environment.{Env}
 use Rattle.pc_expr.specs.Operations.{clean, in_error}
 use Rattle.pc_expr.specs.Context.{static, dynamic, wrong}
 use Rattle.pc_expr.specs.Signatures.{signatures_of}
-use Rattle.pc_check.specs.Modules.{Labelling, FunctionMarks, IsLawful, HasLabelling, may_complete}
+use Rattle.pc_check.specs.Modules.{Labelling, IsLawful, HasLabelling, may_complete}
 use Rattle.pc_run.specs.Runs.{Run}
 use Rattle.pc_sound.specs.Examples.{FindsJust}
-use Rattle.pc_sound.specs.AliasExample.{a, b, c, main, program, findings, events, end}
+use Rattle.pc_sound.specs.AliasExample.{program, findings, events, end}
 use Rattle.pc_sound.proofs.ExampleFindings.{no_classes_listed, finds_just}
 use Rattle.pc_sound.proofs.ExampleRuns.{runs_plainly}
 

@@ -1,5 +1,5 @@
 -- The lawful labelling of the module whose loop rebinds a narrowed parameter, with the error in the loop, and its run.
-use Rattle.std.proofs.Common.{[], ◌∷◌, refl, subst}
+use Rattle.std.proofs.Common.{[], ◌∷◌, refl}
 use Rattle.std.specs.Prelude.{Some, None}
 use Rattle.pc_tree.specs.declared.code.Code.TheVariants.{E13, E20}
 use Rattle.pc_scope.specs.Reserved.{builtin_of}
@@ -15,7 +15,7 @@ use Rattle.pc_check.specs.Modules.{Labelling, IsLawful, HasLabelling, may_comple
 use Rattle.pc_run.specs.Runs.{Run}
 use Rattle.pc_sound.specs.Examples.{FindsJust}
 use Rattle.pc_sound.specs.LoopExample.{program, findings, events, end}
-use Rattle.pc_sound.proofs.ExampleFindings.{no_classes_listed, module_listed, finds_just}
+use Rattle.pc_sound.proofs.ExampleFindings.{no_classes_listed, finds_just}
 use Rattle.pc_sound.proofs.ExampleRuns.{runs_plainly}
 
 abbrev wide : Env
