@@ -91,3 +91,7 @@ pub mod ExampleRuns
 pub mod LoopExample
 pub mod AliasExample
 pub mod AssignmentExample
+pub mod ClassListing
+pub mod OrderExample
+pub mod NarrowingExample
+pub mod DispatchExample
