@@ -1,4 +1,3 @@
-pub mod LoopExample
 pub mod OneModule
 pub mod OneStatement
 pub mod Scopes

@@ -85,3 +85,13 @@ pub mod KeyedInitializers
 pub mod ClassesAreReady
 pub mod Sounding
 pub mod EarlyNames
+pub mod Listings
+pub mod ExampleFindings
+pub mod ExampleRuns
+pub mod LoopExample
+pub mod AliasExample
+pub mod AssignmentExample
+pub mod ClassListing
+pub mod OrderExample
+pub mod NarrowingExample
+pub mod DispatchExample

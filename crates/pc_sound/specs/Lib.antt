@@ -1,4 +1,11 @@
+pub mod AliasExample
+pub mod AssignmentExample
+pub mod DispatchExample
+pub mod Examples
 pub mod Judgment
 pub mod Kept
+pub mod LoopExample
+pub mod NarrowingExample
+pub mod OrderExample
 pub mod Sound
 pub mod Values

@@ -1,9 +1,21 @@
 //! Values of a type, well-typed heaps, and what the findings of a module say of its runs.
 #![tactic(auto)]
 
+mod alias_example;
+mod assignment_example;
+mod dispatch_example;
 mod laws;
+mod loop_example;
+mod narrowing_example;
+mod order_example;
 
+pub use alias_example::example_of_aliases;
+pub use assignment_example::example_of_assignment;
+pub use dispatch_example::example_of_dispatch;
 pub use laws::{
     aliases_keep_heaps, joins_keep_values, narrowing_keeps_values, soundness,
     values_flow_statically,
 };
+pub use loop_example::example_of_loops;
+pub use narrowing_example::example_of_narrowing;
+pub use order_example::example_of_order;

@@ -1,0 +1,356 @@
+-- A method that is overridden twice: its lawful labelling, its findings, and a run.
+use Rattle.std.proofs.Common.{◌≡◌, ℕ, zero, suc, List, [], ◌∷◌, All, Contains, refl, subst, sym, ap, ◌∙◌, inl, inr, arith, codes}
+use Rattle.std.specs.Prelude.{false, take, Some, None, slice_get}
+use Rattle.std.specs.List.{AllByRecursion}
+use Rattle.std.proofs.lemmas.List.Elements.{All-from_recursion, All-nil}
+use Rattle.pc_source.specs.declared.place.Place.{Place}
+use Rattle.pc_tree.specs.declared.code.Code.{Code}
+use Rattle.pc_tree.specs.declared.code.Code.TheVariants.{A8, E20}
+use Rattle.pc_tree.specs.declared.code.Finding.{Finding}
+use Rattle.pc_tree.specs.Code.{finding}
+use Rattle.pc_tree.specs.Tree.{FuncDef, method_member, ClassDef, Module}
+use Rattle.pc_scope.specs.Reserved.{builtin_of}
+use Rattle.pc_scope.specs.Bindings.{classes_in}
+use Rattle.pc_types.specs.Tree.{Tree, Any, Int, Str, Class}
+use Rattle.pc_types.specs.Below.{Bases, Static, same, through, object, base}
+use Rattle.pc_types.specs.Assignable.{Assignable, any, int}
+use Rattle.pc_types.proofs.Structural.{sub_of}
+use Rattle.pc_class.specs.Bases.{bases_of}
+use Rattle.pc_class.specs.Facts as facts
+use Rattle.pc_class.specs.Facts.{Method, classes_of}
+use Rattle.pc_class.specs.Overrides.{Flow, override_flows, IsGood, IsStatic, Judges, dynamic}
+use Rattle.pc_class.specs.Overrides as overrides
+use Rattle.pc_class.specs.Findings.{OverrideRule, IsOverride, ClassFinds, base_class, member_texts}
+use Rattle.pc_expr.specs.Operations.{clean, in_error}
+use Rattle.pc_expr.specs.Context.{static}
+use Rattle.pc_expr.specs.Signatures.{signatures_of}
+use Rattle.pc_check.specs.Modules.{Labelling, IsLawful, HasLabelling, may_complete, leaves}
+use Rattle.pc_run.specs.Runs.{Run}
+use Rattle.pc_sound.specs.Examples.{FindsJust}
+use Rattle.pc_sound.specs.DispatchExample.{m_of_a, m_of_b, m_of_c, class_a, class_b, class_c, program, findings, events, end}
+use Rattle.pc_sound.proofs.Listings.{Listing}
+use Rattle.pc_sound.proofs.ClassListing.{Overrides, of_classes, classes_listed, judged_static, judged_dynamic, just_these}
+use Rattle.pc_sound.proofs.ExampleFindings.{finds_just, module_listed}
+use Rattle.pc_sound.proofs.ExampleRuns.{runs_plainly}
+
+-- ---- the methods against each other
+
+-- the method `m` of a class, whose `x` is of this type
+abbrev method : (c number : ℕ) → Place → Tree → Method
+method c number place t = record {
+  name = codes "m";
+  owner = c;
+  number = number;
+  place = place;
+  parameters = record { name = codes "x"; type = t; has_default = false } ∷ [];
+  returns = Int;
+}
+
+abbrev Fits : Bases → Flow → Type 0
+Fits bases f = Assignable bases f.from f.into
+
+int_to_int : (bases : Bases) → Assignable bases Int Int
+int_to_int bases = record { filled_left = Int; filled_right = Int; fills_left = int; fills_right = int; is_below = same }
+
+good_over : (bases : Bases) (c i d j : ℕ) (p q : Place) (s t : Tree) → Assignable bases s t → IsGood bases (method c i p t) (method d j q s)
+good_over bases c i d j p q s t h = record {
+  shape = refl;
+  flows = All-from_recursion (Fits bases) (override_flows (method d j q s) (method c i p t)) (int_to_int bases, (h, tt));
+}
+
+any_to_int : (bases : Bases) → Assignable bases Any Int
+any_to_int bases = record { filled_left = Int; filled_right = Int; fills_left = any tt; fills_right = int; is_below = same }
+
+any_not_int : (bases : Bases) → ¬ (Static bases Any Int)
+any_not_int bases h = elim (sub_of h) [ ]
+
+-- a method that takes an int is not static to one that takes Any
+not_static : (bases : Bases) (c i d j : ℕ) (p q : Place) → ¬ (IsStatic bases (method c i p Int) (method d j q Any))
+not_static bases c i d j p q h = any_not_int bases (h.flows 1 (record { from = Any; into = Any }) (omega arith))
+
+-- `m` of A, B and C, as their facts say them; another number changes nothing
+abbrev of_a : Method
+of_a = method 0 0 m_of_a.name.place Any
+
+abbrev of_b : ℕ → Method
+of_b i = method 1 i m_of_b.name.place Int
+
+abbrev of_c : ℕ → Method
+of_c i = method 2 i m_of_c.name.place Int
+
+b_is_good : (bases : Bases) (i : ℕ) → All (IsGood bases (of_b i)) (of_a ∷ [])
+b_is_good bases i = All-from_recursion (IsGood bases (of_b i)) (of_a ∷ []) (good_over bases 1 i 0 0 _ _ Any Int (any_to_int bases), tt)
+
+c_is_good : (bases : Bases) (i : ℕ) → All (IsGood bases (of_c i)) (of_b 0 ∷ of_a ∷ [])
+c_is_good bases i =
+    All-from_recursion (IsGood bases (of_c i)) (of_b 0 ∷ of_a ∷ []) (good_over bases 2 i 1 0 _ _ Int Int (int_to_int bases), (good_over bases 2 i 0 0 _ _ Any Int (any_to_int bases), tt))
+
+-- ---- the labelling
+
+marks : Labelling program
+marks = (
+  record {
+    method = record { params = record { default = None; rest = tt }; declared = Class 0 ∷ Any ∷ []; body = (record { value = clean Int; flows = None ∷ [] }, tt); out = None; completing = None };
+    override = None;
+    rest = tt;
+  },
+  (
+    record {
+      method = record { params = record { default = None; rest = tt }; declared = Class 1 ∷ Int ∷ []; body = (record { value = clean Int; flows = None ∷ [] }, tt); out = None; completing = None };
+      override = Some A8;
+      rest = tt;
+    },
+    (
+      record {
+        method = record {
+          params = record { default = None; rest = tt };
+          declared = Class 2 ∷ Int ∷ [];
+          body = (record { value = record { here = clean Int; left = clean Int; right = clean Int }; flows = None ∷ [] }, tt);
+          out = None;
+          completing = None;
+        };
+        override = Some A8;
+        rest = tt;
+      },
+      (
+        record {
+          params = record { default = None; rest = tt };
+          declared = Class 0 ∷ [];
+          body = (
+            record {
+              value = record {
+                here = clean Int;
+                callee = record { here = clean Any; object = clean (Class 0) };
+                second = None;
+                arguments = record { first = clean Str; flows = None ∷ []; rest = tt };
+                keywords = tt;
+              };
+              flows = None ∷ [];
+            },
+            tt,
+          );
+          out = None;
+          completing = None;
+        },
+        (
+          record {
+            params = tt;
+            declared = [];
+            body = (
+              record {
+                here = clean Int;
+                callee = clean Any;
+                second = None;
+                arguments = record {
+                  first = record { here = clean (Class 2); callee = clean Any; second = None; arguments = tt; keywords = tt };
+                  flows = None ∷ [];
+                  rest = tt;
+                };
+                keywords = tt;
+              },
+              ([], tt),
+            );
+            out = Some [];
+            completing = None;
+          },
+          tt,
+        ),
+      ),
+    ),
+  ),
+)
+
+lawful : IsLawful program marks
+unfolding marks builtin_of bases_of classes_of signatures_of
+lawful = (
+  record {
+    method = record { params = record { default = refl; rest = tt }; each_local = refl; entry = (refl, (refl, tt)); body = (((refl, (static same, tt)), refl), tt, refl); completing = leaves };
+    override = inl (refl, overrides.static (All-nil (IsStatic (bases_of program) of_a)));
+    others = tt;
+  },
+  (
+    record {
+      method = record { params = record { default = refl; rest = tt }; each_local = refl; entry = (refl, (refl, tt)); body = (((refl, (static same, tt)), refl), tt, refl); completing = leaves };
+      override = inl (refl, dynamic (b_is_good (bases_of program) 0) (λ h. not_static (bases_of program) 1 0 0 0 _ _ (h 0 of_a (omega arith))));
+      others = tt;
+    },
+    (
+      record {
+        method = record {
+          params = record { default = refl; rest = tt };
+          each_local = refl;
+          entry = (refl, (refl, tt));
+          body = (((record { left = refl; right = refl; here = refl }, (static same, tt)), refl), tt, refl);
+          completing = leaves;
+        };
+        override = inl (refl, dynamic (c_is_good (bases_of program) 0) (λ h. not_static (bases_of program) 2 0 0 0 _ _ (h 1 of_a (omega arith))));
+        others = tt;
+      },
+      (
+        record {
+          params = record { default = refl; rest = tt };
+          each_local = refl;
+          entry = (refl, tt);
+          body = (
+            (
+              (
+                record {
+                  value = record { here = in_error E20; object = clean (Class 0) };
+                  lawful = record { object = refl; here = refl };
+                  callee = refl;
+                  arguments = record { first = refl; flows = (static object, tt); rest = tt };
+                  keywords = tt;
+                  here = refl;
+                  second = refl;
+                },
+                (static same, tt),
+              ),
+              refl,
+            ),
+            tt,
+            refl,
+          );
+          completing = leaves;
+        },
+        (
+          record {
+            params = tt;
+            each_local = refl;
+            entry = tt;
+            body = (
+              (
+                record {
+                  value = in_error E20;
+                  lawful = refl;
+                  callee = refl;
+                  arguments = record {
+                    first = record { value = in_error E20; lawful = refl; callee = refl; arguments = tt; keywords = tt; here = refl; second = refl };
+                    flows = (static (through (base refl) (base refl)), tt);
+                    rest = tt;
+                  };
+                  keywords = tt;
+                  here = refl;
+                  second = refl;
+                },
+                refl,
+              ),
+              refl,
+            );
+            completing = may_complete object;
+          },
+          tt,
+        ),
+      ),
+    ),
+  ),
+)
+
+pub labelled : HasLabelling program
+labelled = record { marks = marks; lawful = lawful }
+
+-- ---- the findings
+
+-- what is judged of the only member of a class, a method
+record Judged (m : Module) (base : facts.Class) (c : ℕ) (d : FuncDef) (f : Finding) : Type 0 where
+  number : ℕ
+  code : Code
+  rule : OverrideRule m base c [] number d (Some code)
+  is : f ≡ finding d.name.place code
+
+some_is : {A : Type 0} {x y : A} → Some x ≡ Some y → x ≡ y
+some_is e = cc
+
+none_some : {A : Type 0} {x : A} → Some x ≡ None → ⊥
+none_some e = cc
+
+member_is : {d k : FuncDef} → method_member d ≡ method_member k → d ≡ k
+member_is e = cc
+
+only_method : (m : Module) (class : ClassDef) (c : ℕ) (d : FuncDef) (f : Finding) → class.members ≡ method_member d ∷ [] → IsOverride m class c f → Judged m (base_class m c class) c d f
+only_method m class c d f one h =
+    go h.at h.method (subst (λ ms. slice_get ms h.at ≡ Some (method_member h.method)) one h.here)
+    (subst (λ ms. OverrideRule m (base_class m c class) c (member_texts (take h.at ms)) h.number h.method (Some h.code)) one h.judged) h.is
+  where
+    go : (at : ℕ) (k : FuncDef) → slice_get (method_member d ∷ []) at ≡ Some (method_member k) → OverrideRule m (base_class m c class) c (member_texts (take at (method_member d ∷ []))) h.number k (Some h.code) → f ≡ finding k.name.place h.code → Judged m (base_class m c class) c d f
+    go zero k e rule is =
+        let same : d ≡ k = member_is (some_is e) in
+        record {
+          number = h.number;
+          code = h.code;
+          rule = subst (λ x. OverrideRule m (base_class m c class) c [] h.number x (Some h.code)) (sym same) rule;
+          is = subst (λ (x : FuncDef). f ≡ finding x.name.place h.code) (sym same) is;
+        }
+    go (suc at) k e rule is = absurd (none_some (sym e))
+
+-- of A nothing is judged, of B and C no other code than A8
+none_of_a : (f : Finding) → Judged program (base_class program 0 class_a) 0 m_of_a f → Contains findings f
+unfolding builtin_of bases_of classes_of
+none_of_a f j = elim j.rule [
+  | inl r ↦ absurd (judged_static (All-nil (IsStatic (bases_of program) (method 0 j.number m_of_a.name.place Any))) r.1)
+  | inr r ↦ absurd (none_some r.1)
+]
+
+that_of_b : (f : Finding) → Judged program (base_class program 1 class_b) 1 m_of_b f → Contains findings f
+unfolding builtin_of bases_of classes_of
+that_of_b f j = elim j.rule [
+  | inl r ↦ (0, omega arith, sym (j.is ∙ ap (finding m_of_b.name.place) (judged_dynamic (b_is_good (bases_of program) j.number) r.1)))
+  | inr r ↦ absurd (none_some r.1)
+]
+
+that_of_c : (f : Finding) → Judged program (base_class program 2 class_c) 2 m_of_c f → Contains findings f
+unfolding builtin_of bases_of classes_of
+that_of_c f j = elim j.rule [
+  | inl r ↦ (1, omega arith, sym (j.is ∙ ap (finding m_of_c.name.place) (judged_dynamic (c_is_good (bases_of program) j.number) r.1)))
+  | inr r ↦ absurd (none_some r.1)
+]
+
+overrides_into : (f : Finding) → Overrides program f → Contains findings f
+overrides_into f h = go h.number h.class h.is h.override
+  where
+    go : (c : ℕ) (class : ClassDef) → slice_get (classes_in program.items) c ≡ Some class → IsOverride program class c f → Contains findings f
+    go zero class e h = none_of_a f (only_method program class_a 0 m_of_a f refl (subst (λ x. IsOverride program x 0 f) (sym (some_is e)) h))
+    go (suc zero) class e h = that_of_b f (only_method program class_b 1 m_of_b f refl (subst (λ x. IsOverride program x 1 f) (sym (some_is e)) h))
+    go (suc (suc zero)) class e h = that_of_c f (only_method program class_c 2 m_of_c f refl (subst (λ x. IsOverride program x 2 f) (sym (some_is e)) h))
+    go (suc (suc (suc c))) class e h = absurd (none_some (sym e))
+
+each_overrides : AllByRecursion (Overrides program) findings
+unfolding builtin_of bases_of classes_of
+each_overrides = (
+  record {
+    number = 1;
+    class = class_b;
+    is = refl;
+    override = record { at = 0; number = 0; method = m_of_b; code = A8; here = refl; judged = inl (refl, dynamic (b_is_good (bases_of program) 0) (λ h. not_static (bases_of program) 1 0 0 0 _ _ (h 0 of_a (omega arith)))); is = refl };
+  },
+  (
+    record {
+      number = 2;
+      class = class_c;
+      is = refl;
+      override = record { at = 0; number = 0; method = m_of_c; code = A8; here = refl; judged = inl (refl, dynamic (c_is_good (bases_of program) 0) (λ h. not_static (bases_of program) 2 0 0 0 _ _ (h 1 of_a (omega arith)))); is = refl };
+    },
+    tt,
+  ),
+)
+
+-- no class lacks its base, and there are no fields
+nothing_else : of_classes program ≡ []
+unfolding builtin_of bases_of classes_of
+nothing_else = refl
+
+abbrev of_overrides : Listing (ClassFinds program)
+of_overrides = classes_listed program refl nothing_else findings overrides_into each_overrides
+
+abbrev all_found : List Finding
+all_found = (module_listed program refl marks of_overrides).all
+
+-- what is found of classes is what is found at the labels
+pub found : FindsJust program findings
+unfolding marks builtin_of bases_of classes_of signatures_of
+found =
+    just_these program all_found findings (finds_just program refl marks of_overrides lawful)
+    ((0, omega arith, refl), ((1, omega arith, refl), ((0, omega arith, refl), ((1, omega arith, refl), tt))))
+    ((0, omega arith, refl), ((1, omega arith, refl), tt))
+
+pub runs : Run program events end
+runs = runs_plainly program 40 events end refl (λ rest. (refl, refl))

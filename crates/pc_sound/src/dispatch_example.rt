@@ -1,0 +1,12 @@
+ghost use Rattle.pc_check.specs.Modules.{HasLabelling};
+ghost use Rattle.pc_run.specs.Runs.{Run};
+ghost use Rattle.pc_sound.specs.Examples.{FindsJust};
+ghost use Rattle.pc_sound.specs.DispatchExample.{end, events, findings, program};
+
+/// The law that of a module that overrides a method twice just the two overrides are found, each as A8, and that a
+/// run of it enters the second one with a text and ends in a TypeError.
+pub fn example_of_dispatch()
+    ensures labelled { HasLabelling program }
+    ensures found { FindsJust program findings }
+    ensures runs { Run program events end }
+{}

@@ -1,0 +1,12 @@
+ghost use Rattle.pc_check.specs.Modules.{HasLabelling};
+ghost use Rattle.pc_run.specs.Runs.{Run};
+ghost use Rattle.pc_sound.specs.Examples.{FindsJust};
+ghost use Rattle.pc_sound.specs.LoopExample.{program, findings, events, end};
+
+/// The law of a module whose loop rebinds a narrowed parameter: it has a lawful labelling, one error is found in it,
+/// and its run raises a TypeError in the second turn.
+pub fn example_of_loops()
+    ensures labelled { HasLabelling program }
+    ensures found { FindsJust program findings }
+    ensures runs { Run program events end }
+{}
