@@ -25,7 +25,7 @@ use Rattle.pc_expr.specs.Operations.{clean, in_error}
 use Rattle.pc_expr.specs.Context.{static}
 use Rattle.pc_expr.specs.Signatures.{signatures_of}
 use Rattle.pc_check.specs.Modules.{Labelling, IsLawful, HasLabelling, may_complete, leaves}
-use Rattle.pc_run.specs.Runs.{Run}
+use Rattle.pc_machine.specs.Runs.{Run}
 use Rattle.pc_sound.specs.Examples.{FindsJust}
 use Rattle.pc_sound.specs.DispatchExample.{m_of_a, m_of_b, m_of_c, class_a, class_b, class_c, program, findings, events, end}
 use Rattle.pc_sound.proofs.Listings.{Listing}

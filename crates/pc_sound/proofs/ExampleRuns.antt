@@ -4,9 +4,9 @@ use Rattle.std.specs.Prelude.{true}
 use Rattle.pc_source.specs.declared.place.Place.{Place}
 use Rattle.pc_tree.specs.Tree.{Module}
 use Rattle.pc_tree.specs.Stopping.{is_runnable}
-use Rattle.pc_run.specs.Plain.{begin}
-use Rattle.pc_run.specs.Runs.{End, Run, Leaves, plain_module}
-use Rattle.pc_run.proofs.Modules.{plain_is_run}
+use Rattle.pc_machine.specs.Plain.{begin}
+use Rattle.pc_machine.specs.Runs.{End, Run, Leaves, plain_module}
+use Rattle.pc_machine.proofs.Modules.{plain_is_run}
 
 -- so many successors of a number
 abbrev pub sucs : ℕ → ℕ → ℕ

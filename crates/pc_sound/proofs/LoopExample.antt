@@ -12,7 +12,7 @@ use Rattle.pc_expr.specs.Operations.{clean, in_error}
 use Rattle.pc_expr.specs.Context.{static}
 use Rattle.pc_expr.specs.Signatures.{signatures_of}
 use Rattle.pc_check.specs.Modules.{Labelling, IsLawful, HasLabelling, may_complete}
-use Rattle.pc_run.specs.Runs.{Run}
+use Rattle.pc_machine.specs.Runs.{Run}
 use Rattle.pc_sound.specs.Examples.{FindsJust}
 use Rattle.pc_sound.specs.LoopExample.{program, findings, events, end}
 use Rattle.pc_sound.proofs.ExampleFindings.{no_classes_listed, finds_just}

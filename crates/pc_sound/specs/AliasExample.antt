@@ -19,7 +19,7 @@ use Rattle.pc_tree.specs.declared.code.Code.TheVariants.{A1, E12}
 use Rattle.pc_tree.specs.declared.code.Finding.{Finding}
 use Rattle.pc_tree.specs.Code.{finding}
 use Rattle.pc_tree.specs.Tree.{Ann, FuncDef, Module, name, number, list, call, no_exprs, more_exprs, no_keywords, named, applied, union, no_anns, more_anns, to_name, pass, evaluates, assigns, no_stmts, more_stmts, def_item}
-use Rattle.pc_run.specs.Runs.{End, done}
+use Rattle.pc_machine.specs.Runs.{End, done}
 use Rattle.pc_sound.specs.Examples.{at, word}
 
 abbrev pub int_or_str : Ann

@@ -13,7 +13,7 @@ use Rattle.pc_tree.specs.declared.code.Finding.{Finding}
 use Rattle.pc_tree.specs.Code.{finding}
 use Rattle.pc_tree.specs.Tree.{Ann, FuncDef, Module, name, list, call, no_exprs, more_exprs, no_keywords, named, applied, no_anns, more_anns, pass, annotated, evaluates, for_loop, no_stmts, more_stmts, def_item}
 use Rattle.pc_value.specs.Value.{Raised, UnboundLocalError}
-use Rattle.pc_run.specs.Runs.{End, stopped}
+use Rattle.pc_machine.specs.Runs.{End, stopped}
 use Rattle.pc_sound.specs.Examples.{at, word}
 
 abbrev pub list_of_int : Ann

@@ -28,7 +28,7 @@ use Rattle.pc_tree.specs.declared.tree.BinaryOperator.TheVariants.{Add}
 use Rattle.pc_tree.specs.Code.{finding}
 use Rattle.pc_tree.specs.Tree.{Name, Expr, name, number, text, binary, attribute, call, no_exprs, more_exprs, no_keywords, named, Stmts, returns, evaluates, no_stmts, more_stmts, Param, FuncDef, method_member, ClassDef, class_item, def_item, Module}
 use Rattle.pc_value.specs.Value.{Raised, TypeError}
-use Rattle.pc_run.specs.Runs.{End, stopped}
+use Rattle.pc_machine.specs.Runs.{End, stopped}
 use Rattle.pc_sound.specs.Examples.{at, word}
 
 abbrev typed : Name → Name → Param

@@ -17,7 +17,7 @@ use Rattle.pc_tree.specs.declared.code.Finding.{Finding}
 use Rattle.pc_tree.specs.Code.{finding}
 use Rattle.pc_tree.specs.Tree.{Ann, Stmts, FuncDef, Module, name, number, nothing, truth, binary, is_none, call, no_exprs, more_exprs, no_keywords, named, none_type, union, no_anns, more_anns, to_name, returns, evaluates, assigns, while_loop, conditional, no_stmts, more_stmts, no_branches, more_branches, def_item}
 use Rattle.pc_value.specs.Value.{Raised, TypeError}
-use Rattle.pc_run.specs.Runs.{End, stopped}
+use Rattle.pc_machine.specs.Runs.{End, stopped}
 use Rattle.pc_sound.specs.Examples.{at, word}
 
 abbrev pub int_or_none : Ann

@@ -17,7 +17,7 @@ use Rattle.pc_tree.specs.declared.code.Finding.{Finding}
 use Rattle.pc_tree.specs.Code.{finding}
 use Rattle.pc_tree.specs.Tree.{Name, Expr, name, number, text, nothing, list, attribute, call, Exprs, no_exprs, more_exprs, no_keywords, Ann, named, none_type, applied, no_anns, more_anns, Stmt, Stmts, evaluates, conditional, no_stmts, more_stmts, no_branches, more_branches, Param, FuncDef, def_item, Module}
 use Rattle.pc_tree.specs.Tree as tree
-use Rattle.pc_run.specs.Runs.{End, done}
+use Rattle.pc_machine.specs.Runs.{End, done}
 use Rattle.pc_sound.specs.Examples.{at, word}
 
 abbrev two : Expr → Expr → Exprs

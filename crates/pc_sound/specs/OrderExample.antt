@@ -12,7 +12,7 @@ use Rattle.pc_tree.specs.declared.code.Finding.{Finding}
 use Rattle.pc_tree.specs.Code.{finding}
 use Rattle.pc_tree.specs.Tree.{name, number, call, no_exprs, more_exprs, no_keywords, named, Stmts, evaluates, no_stmts, more_stmts, Constant, FuncDef, constant_item, def_item, Module}
 use Rattle.pc_value.specs.Value.{Raised, NameError}
-use Rattle.pc_run.specs.Runs.{End, stopped}
+use Rattle.pc_machine.specs.Runs.{End, stopped}
 use Rattle.pc_sound.specs.Examples.{at, word}
 
 -- `a: int = b`

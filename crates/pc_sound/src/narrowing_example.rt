@@ -1,5 +1,5 @@
 ghost use Rattle.pc_check.specs.Modules.{HasLabelling};
-ghost use Rattle.pc_run.specs.Runs.{Run};
+ghost use Rattle.pc_machine.specs.Runs.{Run};
 ghost use Rattle.pc_sound.specs.Examples.{FindsJust};
 ghost use Rattle.pc_sound.specs.NarrowingExample.{end, events, findings, program};
 
