@@ -17,4 +17,26 @@ pub use top::{check, read_module};
 #[cfg(test)]
 mod module_tests;
 #[cfg(test)]
+mod near_misses;
+#[cfg(test)]
+mod near_misses_of_annotations;
+#[cfg(test)]
+mod near_misses_of_classes;
+#[cfg(test)]
+mod near_misses_of_functions;
+#[cfg(test)]
+mod near_misses_of_headers;
+#[cfg(test)]
+mod near_misses_of_items;
+#[cfg(test)]
+mod near_misses_of_limits;
+#[cfg(test)]
+mod near_misses_of_operands;
+#[cfg(test)]
+mod near_misses_of_operators;
+#[cfg(test)]
+mod near_misses_of_statements;
+#[cfg(test)]
+mod near_misses_of_suites;
+#[cfg(test)]
 mod tests;

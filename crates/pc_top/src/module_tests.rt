@@ -5,7 +5,7 @@ use std::alloc::Global;
 use std::test::Fail;
 
 /// The code and the byte of a refusal of the bytes, if they are refused.
-fn refused(alloc: Global, bytes: &[u8]) -> Result<Option<(RefusalCode, usize)>, Fail> {
+pub(crate) fn refused(alloc: Global, bytes: &[u8]) -> Result<Option<(RefusalCode, usize)>, Fail> {
     match read_module(alloc, bytes) {
         Ok(_) => Ok(None),
         Err(Fault::Refused(refusal)) => Ok(Some((refusal.code, refusal.byte))),
@@ -465,7 +465,7 @@ fn long_sums_and_keyword_arguments(rt: HostRuntime) -> Result<(), Fail> {
 const MAIN: &str = "from __future__ import annotations\ndef main():\n";
 
 /// A text of parts, each repeated.
-fn repeated(alloc: Global, parts: &[(&str, usize)]) -> Result<String, Fail> {
+pub(crate) fn repeated(alloc: Global, parts: &[(&str, usize)]) -> Result<String, Fail> {
     let mut text = String::new(alloc);
     for (part, times) in parts {
         text.push_str(part.repeat(alloc, *times)?.as_str())?;
