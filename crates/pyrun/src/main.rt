@@ -1,0 +1,101 @@
+//! Runs a module: `pyrun --fuel N FILE`.
+#![tactic(auto)]
+
+#[cfg(test)]
+mod attributes_tests;
+#[cfg(test)]
+mod built_ins_tests;
+#[cfg(test)]
+mod calls_tests;
+#[cfg(test)]
+mod choices_tests;
+mod command_line;
+#[cfg(test)]
+mod comparisons_tests;
+#[cfg(test)]
+mod events_tests;
+#[cfg(test)]
+mod fuel_tests;
+#[cfg(test)]
+mod items_tests;
+#[cfg(test)]
+mod limits_tests;
+#[cfg(test)]
+mod loops_tests;
+#[cfg(test)]
+mod modules_tests;
+#[cfg(test)]
+mod names_tests;
+#[cfg(test)]
+mod operators_tests;
+mod running;
+mod status;
+#[cfg(test)]
+mod traces;
+#[cfg(test)]
+mod truth_tests;
+mod words;
+#[cfg(test)]
+mod words_tests;
+#[cfg(test)]
+mod worked_tests;
+
+use crate::running::traced;
+use crate::status::status_of;
+use crate::words::{OptionFault, Options};
+use pc_run::{Trace, trace_text};
+use pc_source::Fault;
+use std::alloc::AllocError;
+use std::process::ExitCode;
+use std::rt::{Env, Files};
+use std::{env, fs, io};
+
+/// What the words of the command line ask for.
+fn asked_for<R: Env + AllocGlobal>(rt: &R) -> Result<Options, OptionFault> {
+    let words = env::args(rt).map_err(|_| OptionFault::Usage)?;
+    let given: Vec<String> = words.skip(1).collect(rt.alloc())?;
+    let words: Vec<&str> = given.iter().map(|word| word.as_str()).collect(rt.alloc())?;
+    command_line::options(rt.alloc(), words.as_slice())
+}
+
+/// Prints a trace.
+fn print_trace<R: Print + AllocGlobal>(rt: &R, trace: &Trace) -> io::Result<()> {
+    let text = trace_text(rt.alloc(), trace).map_err(|_| io::Error::from(AllocError))?;
+    print!(rt; "{text}")
+}
+
+/// Prints what a run came to, and gives the exit status.
+fn report<R: Print + Eprint + AllocGlobal>(rt: &R, outcome: &Result<Trace, Fault>) -> u8 {
+    match outcome {
+        Ok(trace) => {
+            if print_trace(rt, trace).is_err() {
+                let _ = eprintln!(rt; "the trace could not be printed");
+                return 3;
+            }
+        }
+        Err(fault) => {
+            let _ = eprintln!(rt; "{fault}");
+        }
+    }
+    status_of(outcome)
+}
+
+/// Does what the words ask for, and gives the exit status.
+fn run<R: Print + Eprint + Env + Files + AllocGlobal>(rt: &R) -> u8 {
+    let options = match asked_for(rt) {
+        Ok(options) => options,
+        Err(fault) => {
+            let _ = eprintln!(rt; "{fault}");
+            return 3;
+        }
+    };
+    let Ok(bytes) = fs::read(rt, options.file.as_str()) else {
+        let _ = eprintln!(rt; "the input could not be read");
+        return 3;
+    };
+    report(rt, &traced(rt.alloc(), bytes.as_slice(), options.fuel))
+}
+
+fn main(rt: HostRuntime) -> ExitCode {
+    ExitCode::from(run(&rt))
+}

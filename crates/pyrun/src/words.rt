@@ -1,0 +1,31 @@
+ghost use Rattle.std.specs.Prelude.{◌≡◌};
+ghost use Rattle.pyrun.specs.declared.words.OptionFault.TheVariants as option_fault;
+
+use std::alloc::AllocError;
+use thiserror::Error;
+
+/// What the words of the command line ask for: a run of a file, with so much fuel.
+#[derive(Debug, PartialEq, Eq, Drop)]
+pub struct Options {
+    pub fuel: u64,
+    pub file: String,
+}
+
+/// Why the words ask for nothing.
+#[derive(Clone, Copy, Debug, PartialEq, Eq, Error)]
+pub enum OptionFault {
+    /// They are not as the program is called.
+    #[error("usage: pyrun --fuel N FILE")]
+    Usage,
+    /// A growth of memory was refused.
+    #[error("out of memory")]
+    OutOfMemory,
+}
+
+impl From<AllocError> for OptionFault {
+    ghost from_gives = { λ _ e. e ≡ option_fault.OutOfMemory };
+
+    fn from(_error: AllocError) -> OptionFault {
+        OptionFault::OutOfMemory
+    }
+}

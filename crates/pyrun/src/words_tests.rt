@@ -1,0 +1,111 @@
+//! The words of the command line, what is said of their faults, and the statuses.
+use crate::command_line::options;
+use crate::running::traced;
+use crate::status::status_of;
+use crate::words::OptionFault;
+use pc_source::Fault;
+use std::test::Fail;
+
+#[test]
+fn words_for_a_run(rt: HostRuntime) -> Result<(), Fail> {
+    let cases: [(&[&str], u64, &str); 7] = [
+        (&["--fuel", "4", "add.py"], 4, "add.py"),
+        (&["--fuel", "0", "add.py"], 0, "add.py"),
+        (
+            &["--fuel", "18446744073709551615", "a b.py"],
+            u64::MAX,
+            "a b.py",
+        ),
+        (&["--fuel", "007", "-"], 7, "-"),
+        (&["--fuel", "1", "--fuel"], 1, "--fuel"),
+        (
+            &["--fuel", "000000000000000000000000000012", "caf\u{e9}.py"],
+            12,
+            "caf\u{e9}.py",
+        ),
+        (&["--fuel", "10", ""], 10, ""),
+    ];
+    for (words, fuel, file) in cases {
+        let asked = options(rt.alloc(), words)?;
+        assert_eq!(rt; asked.fuel, fuel, "at {file}");
+        assert_eq!(rt; asked.file.as_str(), file);
+    }
+    Ok(())
+}
+
+#[test]
+fn other_words(rt: HostRuntime) {
+    let cases: [&[&str]; 10] = [
+        &[],
+        &["add.py"],
+        &["--fuel"],
+        &["--fuel", "4"],
+        &["--fuel", "4", "add.py", "more.py"],
+        &["4", "--fuel", "add.py"],
+        &["add.py", "--fuel", "4"],
+        &["--fuel=4", "add.py"],
+        &["-fuel", "4", "add.py"],
+        &["--FUEL", "4", "add.py"],
+    ];
+    for words in cases {
+        let got = options(rt.alloc(), words);
+        assert!(rt; matches!(got, Err(OptionFault::Usage)), "at {words:?}");
+    }
+}
+
+#[test]
+fn numbers_that_are_none(rt: HostRuntime) {
+    let cases: [&str; 14] = [
+        "",
+        "+4",
+        "-1",
+        "4.0",
+        " 4",
+        "4 ",
+        "1_000",
+        "0x10",
+        "four",
+        "4a",
+        "1e3",
+        "\u{664}",
+        "18446744073709551616",
+        "99999999999999999999999999",
+    ];
+    for number in cases {
+        let got = options(rt.alloc(), &["--fuel", number, "add.py"]);
+        assert!(rt; matches!(got, Err(OptionFault::Usage)), "at {number}");
+    }
+}
+
+#[test]
+fn texts_of_faults(rt: HostRuntime) -> Result<(), Fail> {
+    let usage = OptionFault::Usage;
+    let text = format!(in rt.alloc(); "{usage}")?;
+    assert_eq!(rt; text.as_str(), "usage: pyrun --fuel N FILE");
+    let memory = OptionFault::OutOfMemory;
+    let text = format!(in rt.alloc(); "{memory}")?;
+    assert_eq!(rt; text.as_str(), "out of memory");
+    Ok(())
+}
+
+#[test]
+fn statuses(rt: HostRuntime) -> Result<(), Fail> {
+    let add = b"from __future__ import annotations\ndef main():\n    return 1 + \"a\"\nmain()\n";
+    let outcome = traced(rt.alloc(), add, 4);
+    assert_eq!(rt; status_of(&outcome), 0);
+    assert_eq!(rt; outcome?.events.len(), 3);
+    let outcome = traced(rt.alloc(), add, 3);
+    assert_eq!(rt; status_of(&outcome), 0);
+    assert_eq!(rt; outcome?.events.len(), 1);
+    let outcome = traced(rt.alloc(), b"$", 4);
+    assert_eq!(rt; status_of(&outcome), 2);
+    match outcome {
+        Ok(_) => assert!(rt; false, "a text that is no module has a trace"),
+        Err(fault) => {
+            let text = format!(in rt.alloc(); "{fault}")?;
+            assert_eq!(rt; text.as_str(), "refused L1 at byte 0");
+        }
+    }
+    assert_eq!(rt; status_of(&Err(Fault::OutOfMemory)), 3);
+    Ok(())
+}

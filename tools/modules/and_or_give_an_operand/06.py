@@ -1,0 +1,4 @@
+from __future__ import annotations
+def main():
+    0 or 1 // 0
+main()

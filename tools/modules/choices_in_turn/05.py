@@ -1,0 +1,12 @@
+from __future__ import annotations
+from dataclasses import dataclass
+@dataclass
+class P:
+    a: int
+    def m(self):
+        return self.a
+def main():
+    assert 1 in {1: 2}
+    assert "a" in "a"
+    assert 1 in [2]
+main()

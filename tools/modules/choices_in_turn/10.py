@@ -1,0 +1,13 @@
+from __future__ import annotations
+from dataclasses import dataclass
+@dataclass
+class P:
+    a: int
+    def m(self):
+        return self.a
+def main():
+    x = [] == []
+    y = [] == []
+    assert x
+    assert not y
+main()

@@ -1,0 +1,12 @@
+from __future__ import annotations
+from dataclasses import dataclass
+@dataclass
+class P:
+    a: int
+    def m(self):
+        return self.a
+def main():
+    assert None == None
+    assert P(1) != 1
+    assert P(1) == P(1)
+main()

@@ -1,0 +1,7 @@
+from __future__ import annotations
+@dataclass
+class A:
+    a: int
+def main():
+    pass
+main()

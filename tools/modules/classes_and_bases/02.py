@@ -1,0 +1,7 @@
+from __future__ import annotations
+@dataclass
+class A:
+    pass
+def main():
+    pass
+main()

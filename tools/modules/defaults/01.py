@@ -1,0 +1,20 @@
+from __future__ import annotations
+from dataclasses import dataclass
+@dataclass
+class A:
+    a: int
+    b: int = 2
+def f(a, b=2):
+    return a * 10 + b
+def g():
+    pass
+def k(a=-1, b="s", c=True, d=None, e=0):
+    return (a, b, c, d, e)
+def main():
+    x = k()
+    assert x[0] == -1
+    assert x[1] == "s"
+    assert x[2] == True
+    assert x[3] is None
+    assert x[4] == 0
+main()

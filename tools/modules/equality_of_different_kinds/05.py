@@ -1,0 +1,10 @@
+from __future__ import annotations
+from dataclasses import dataclass
+@dataclass
+class P:
+    a: int
+    def m(self):
+        return self.a
+def main():
+    assert not (P(1) == 1)
+main()

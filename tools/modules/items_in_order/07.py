@@ -1,0 +1,5 @@
+from __future__ import annotations
+a = main
+def main():
+    pass
+main()

@@ -1,0 +1,5 @@
+from __future__ import annotations
+a = print
+def main():
+    pass
+main()

@@ -1,0 +1,12 @@
+from __future__ import annotations
+from dataclasses import dataclass
+@dataclass
+class P:
+    a: int
+    def m(self):
+        return self.a
+def main():
+    for x in [1, 2]:
+        pass
+    assert x == 2
+main()

@@ -1,0 +1,5 @@
+from __future__ import annotations
+def main():
+    for i in range(2):
+        i
+main()

@@ -1,0 +1,5 @@
+from __future__ import annotations
+def main():
+    for i in range(n=1):
+        i
+main()

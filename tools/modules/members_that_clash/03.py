@@ -1,0 +1,11 @@
+from __future__ import annotations
+from dataclasses import dataclass
+@dataclass
+class A:
+    def a(self):
+        pass
+    def a(self):
+        pass
+def main():
+    1 + 1
+main()

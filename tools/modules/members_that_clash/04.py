@@ -1,0 +1,11 @@
+from __future__ import annotations
+from dataclasses import dataclass
+@dataclass
+class A:
+    a: int
+@dataclass
+class B(A):
+    a: int
+def main():
+    1 + 1
+main()

@@ -1,0 +1,4 @@
+from __future__ import annotations
+def main():
+    not 1 == 2
+main()

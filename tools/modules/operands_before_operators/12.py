@@ -1,0 +1,4 @@
+from __future__ import annotations
+def main():
+    y + 1 // 0
+main()

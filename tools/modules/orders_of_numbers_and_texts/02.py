@@ -1,0 +1,4 @@
+from __future__ import annotations
+def main():
+    assert not (2 < 1)
+main()

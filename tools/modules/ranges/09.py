@@ -1,0 +1,11 @@
+from __future__ import annotations
+from dataclasses import dataclass
+@dataclass
+class P:
+    a: int
+    def m(self):
+        return self.a
+def main():
+    for x in range(3, n=3):
+        pass
+main()

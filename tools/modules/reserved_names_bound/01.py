@@ -1,0 +1,5 @@
+from __future__ import annotations
+print = 1
+def main():
+    1 + 1
+main()

@@ -1,0 +1,4 @@
+from __future__ import annotations
+def main():
+    print(1).a = 2
+main()

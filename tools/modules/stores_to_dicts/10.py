@@ -1,0 +1,12 @@
+from __future__ import annotations
+from dataclasses import dataclass
+@dataclass
+class P:
+    a: int
+    def m(self):
+        return self.a
+def main():
+    d = {}
+    d[0] = d
+    assert len(d[0]) == 1
+main()

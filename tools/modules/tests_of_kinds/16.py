@@ -1,0 +1,18 @@
+from __future__ import annotations
+from dataclasses import dataclass
+@dataclass
+class A:
+    pass
+@dataclass
+class B(A):
+    pass
+@dataclass
+class C:
+    pass
+c = 1
+def f(x):
+    T = 1
+    return isinstance(x, T)
+def main():
+    assert not isinstance(C(), A)
+main()
