@@ -22,7 +22,7 @@ use Rattle.pc_check.specs.Modules.{annotated_types, first_of_types, binds_item, 
 use Rattle.pc_value.specs.Value.{Gives}
 use Rattle.pc_machine.specs.State.{State, Function, Class, Globals}
 use Rattle.pc_machine.specs.Names.{Meaning, means_function, meaning, meaning_of_bound, meaning_of_global, meaning_of_local, global_of, local_of}
-use Rattle.pc_machine.specs.Names as run
+use Rattle.pc_tree.specs.Stopping as stopping
 use Rattle.pc_machine.specs.Calls.{Callee, calls_value, calls_function, calls_class, calls_reserved, calls_method, calls_builtin_method, callee_of_meaning, bound_arguments}
 use Rattle.pc_machine.specs.Steps.{Parts}
 use Rattle.pc_machine.specs.Free.{Step, free}
@@ -246,8 +246,8 @@ module _ (m : Module) (constants : List Tree) (listed : Place → Type 0) where
         found : (k : HeapTyping) (s : State) → Stands (around_items m listed types (functions_in m.items) n names) [] k s → EndsWell (λ c. IsMain main.function k c) (callee_of_meaning (codes "main") (meaning (codes "main") s))
         found k s st =
             let f = st.outside.function (codes "main") main.number main.function main.resolves main.is in
-            subst (λ o. EndsWell (λ c. IsMain main.function k c) (callee_of_meaning (codes "main") (meaning_of_local (meaning_of_global (run.is_reserved (codes "main")) (global_of (codes "main") s.globals)) o))) (sym (st.frame.others (codes "main") refl))
-            (subst (λ o. EndsWell (λ c. IsMain main.function k c) (callee_of_meaning (codes "main") (meaning_of_global (run.is_reserved (codes "main")) o))) (sym f.is) f.made)
+            subst (λ o. EndsWell (λ c. IsMain main.function k c) (callee_of_meaning (codes "main") (meaning_of_local (meaning_of_global (stopping.is_reserved (codes "main")) (global_of (codes "main") s.globals)) o))) (sym (st.frame.others (codes "main") refl))
+            (subst (λ o. EndsWell (λ c. IsMain main.function k c) (callee_of_meaning (codes "main") (meaning_of_global (stopping.is_reserved (codes "main")) o))) (sym f.is) f.made)
 
         none_left : (ps : List Parameter) → ps ≡ [] → (k : HeapTyping) (f : Function) → DefaultsHave (bases_of m) k f.parameters ps → Filled (bases_of m) k ps (bound_arguments f.parameters [] [])
         none_left ps e k f d = suited_bound (bases_of m) k f.parameters ps [] [] d (subst (λ l. Suits (bases_of m) k l [] []) (sym e) (record { fills = tt; all_for = tt }))
