@@ -31,6 +31,7 @@ use Rattle.pc_value.specs.Value.{Raised, TypeError}
 use Rattle.pc_machine.specs.Runs.{End, stopped}
 use Rattle.pc_sound.specs.Examples.{at, word}
 
+-- a parameter with its annotation
 abbrev typed : Name → Name → Param
 typed n type = record { name = n; annotation = Some (named type); default = None }
 
@@ -38,26 +39,31 @@ typed n type = record { name = n; annotation = Some (named type); default = None
 abbrev gives : ℕ → ℕ → Expr → Stmts
 gives start end e = more_stmts (returns (at start end) (Some e)) no_stmts
 
--- the methods `m`
+-- `m` of A, which takes anything and gives 0
 abbrev pub m_of_a : FuncDef
 m_of_a = record { name = word 120 (codes "m"); params = typed (word 128 (codes "x")) (word 131 (codes "Any")) ∷ []; returns = Some (named (word 139 (codes "int"))); body = gives 152 158 (number (at 159 160) (codes "0")) }
 
+-- `m` of B, which takes an int and gives it
 abbrev pub m_of_b : FuncDef
 m_of_b = record { name = word 192 (codes "m"); params = typed (word 200 (codes "x")) (word 203 (codes "int")) ∷ []; returns = Some (named (word 211 (codes "int"))); body = gives 224 230 (name (word 231 (codes "x"))) }
 
+-- `m` of C, which takes an int and gives one more
 abbrev pub m_of_c : FuncDef
 m_of_c = record { name = word 264 (codes "m"); params = typed (word 272 (codes "x")) (word 275 (codes "int")) ∷ []; returns = Some (named (word 283 (codes "int"))); body = gives 296 302 (binary (at 303 308) Add (name (word 303 (codes "x"))) (number (at 307 308) (codes "1"))) }
 
+-- A, with no base
 abbrev pub class_a : ClassDef
 class_a = record { decorator = at 93 102; name = word 109 (codes "A"); base = None; members = method_member m_of_a ∷ [] }
 
+-- B, whose base is A
 abbrev pub class_b : ClassDef
 class_b = record { decorator = at 162 171; name = word 178 (codes "B"); base = Some (word 180 (codes "A")); members = method_member m_of_b ∷ [] }
 
+-- C, whose base is B
 abbrev pub class_c : ClassDef
 class_c = record { decorator = at 234 243; name = word 250 (codes "C"); base = Some (word 252 (codes "B")); members = method_member m_of_c ∷ [] }
 
--- `return a.m("s")`
+-- `f`, which calls `m` of an A with a text
 abbrev f : FuncDef
 f = record {
   name = word 313 (codes "f");
@@ -71,6 +77,7 @@ abbrev main_body : Stmts
 main_body =
     more_stmts (evaluates (at 365 366) (call (at 365 371) (name (word 365 (codes "f"))) (more_exprs (call (at 367 370) (name (word 367 (codes "C"))) no_exprs no_keywords) no_exprs) no_keywords)) no_stmts
 
+-- `main`, with that body
 abbrev main : FuncDef
 main = record { name = word 353 (codes "main"); params = []; returns = None; body = main_body }
 

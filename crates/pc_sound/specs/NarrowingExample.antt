@@ -20,6 +20,7 @@ use Rattle.pc_tree.specs.Tree as tree
 use Rattle.pc_machine.specs.Runs.{End, done}
 use Rattle.pc_sound.specs.Examples.{at, word}
 
+-- two arguments by position
 abbrev two : Expr → Expr → Exprs
 two e f = more_exprs e (more_exprs f no_exprs)
 
@@ -46,12 +47,14 @@ abbrev list_or_none : Ann
 list_or_none =
     tree.union (at 75 91) (more_anns (applied (at 75 84) (word 75 (codes "list")) (more_anns (named (word 80 (codes "int"))) no_anns)) (more_anns (none_type (at 87 91)) no_anns))
 
+-- the parameters `x: Any` and `y: list[int] | None`
 abbrev params : List Param
 params =
     record { name = word 64 (codes "x"); annotation = Some (named (word 67 (codes "Any"))); default = None }
     ∷ record { name = word 72 (codes "y"); annotation = Some list_or_none; default = None }
     ∷ []
 
+-- `f`, with both tests
 abbrev f : FuncDef
 f = record { name = word 62 (codes "f"); params = params; returns = None; body = more_stmts first_test (more_stmts second_test no_stmts) }
 
@@ -60,6 +63,7 @@ abbrev main_body : Stmts
 main_body =
     more_stmts (evaluates (at 208 209) (call (at 208 220) (name (word 208 (codes "f"))) (two (list (at 210 213) (more_exprs (number (at 211 212) (codes "1")) no_exprs)) (nothing (at 215 219))) no_keywords)) no_stmts
 
+-- `main`, with that body
 abbrev main : FuncDef
 main = record { name = word 196 (codes "main"); params = []; returns = None; body = main_body }
 

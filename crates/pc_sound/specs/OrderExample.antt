@@ -28,6 +28,7 @@ abbrev main_body : Stmts
 main_body =
     more_stmts (evaluates (at 73 78) (call (at 73 81) (name (word 73 (codes "print"))) (more_exprs (name (word 79 (codes "a"))) no_exprs) no_keywords)) no_stmts
 
+-- `main`, with that body
 abbrev main : FuncDef
 main = record { name = word 61 (codes "main"); params = []; returns = None; body = main_body }
 
