@@ -105,8 +105,8 @@ module _ (ctx : Context) (declared : List Tree) (env : Env) where
     left = expr_lawful None l;
     right = expr_lawful None r;
     here = operator_lawful ctx.bases op (type_in l) (type_in r)
-    ∙ ap (λ s. binary_mark ctx.bases (whole_operator op) s (type_tree (type_in r))) (sym (type_is l))
-    ∙ ap (λ t. binary_mark ctx.bases (whole_operator op) (type_of (whole_expr l) (expr_marks l)) t) (sym (type_is r));
+        ∙ ap (λ s. binary_mark ctx.bases (whole_operator op) s (type_tree (type_in r))) (sym (type_is l))
+        ∙ ap (λ t. binary_mark ctx.bases (whole_operator op) (type_of (whole_expr l) (expr_marks l)) t) (sym (type_is r));
   }
 
 -- ---- statements: nothing is bound, so one environment stands everywhere
@@ -169,8 +169,7 @@ module _ (dataclass any : Bool) (first name main : Place) (ss : List Stmt) where
 
   pub lawful : IsLawful (whole_module dataclass any first name main ss) marks
   lawful =
-      let m = whole_module dataclass any first name main ss in
-      (
+      let m = whole_module dataclass any first name main ss in (
         record {
           params = tt;
           each_local = ap length (sym (no_locals name ss));
