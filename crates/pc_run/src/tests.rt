@@ -236,17 +236,20 @@ impl Builder {
                 kind,
             });
         } else if let Some(name) = word.strip_prefix("param:") {
+            let name = self.name(name)?;
             let default = self.default.take();
             self.params.push(Param {
-                name: self.name(name)?,
+                name,
                 annotation: None,
                 default,
             })?;
         } else if let Some(name) = word.strip_prefix("field:") {
+            let name = self.name(name)?;
+            let annotation = Ann::NoneValue(self.place);
             let default = self.default.take();
             self.members.push(Member::Field(Field {
-                name: self.name(name)?,
-                annotation: Ann::NoneValue(self.place),
+                name,
+                annotation,
                 default,
             }))?;
         } else if let Some(name) = word.strip_prefix("method:") {
@@ -255,11 +258,9 @@ impl Builder {
         } else if let Some(name) = word.strip_prefix("base:") {
             self.base = Some(self.name(name)?);
         } else if let Some(name) = word.strip_prefix("by:") {
+            let name = self.name(name)?;
             let value = self.pop();
-            self.keywords.push(KeywordArgument {
-                name: self.name(name)?,
-                value,
-            })?;
+            self.keywords.push(KeywordArgument { name, value })?;
         } else {
             return self.whole(word);
         }
