@@ -80,7 +80,14 @@ fn every_fuel_of_ten_statements(rt: HostRuntime) -> Result<(), Fail> {
 /// What a loop, a condition, a call and a default are charged.
 #[test]
 fn charges(rt: HostRuntime) -> Result<(), Fail> {
-    let cases: [(&str, u64, &str); 20] = [
+    let cases: [(&str, u64, &str); 23] = [
+        (
+            "return 1 + \"a\"",
+            4,
+            "58 59\n62 65\n58 65\nend TypeError\n",
+        ),
+        ("return 1 + \"a\"", 3, "58 59\nend Cut\n"),
+        ("return 1 + \"a\"", 0, "end Cut\n"),
         (
             "while True:\n    pass",
             10,

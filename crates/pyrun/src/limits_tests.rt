@@ -1,220 +1,281 @@
 //! Whole numbers that do not fit, and calls that are too deep.
-use crate::traces::{AMPLE, count_of, end_of, module_text, trace_of};
-use pc_run::End;
+use crate::traces::{AMPLE, count_of, module_text, other_module_ends, trace_of};
 use std::test::Fail;
+
+const NUMBERS_THAT_DO_NOT_FIT: &str = r#"
+def main():
+    x = 170141183460469231731687303715884105727  # Done
+
+def main():
+    x = 170141183460469231731687303715884105728  # Cut
+
+def main():
+    x = -170141183460469231731687303715884105727  # Done
+
+def main():
+    x = -170141183460469231731687303715884105728  # Cut
+
+def main():
+    x = 170141183460469231731687303715884105727 + 1  # Cut
+
+def main():
+    x = -170141183460469231731687303715884105727 - 1  # Done
+
+def main():
+    x = -170141183460469231731687303715884105727 - 2  # Cut
+
+def main():
+    x = -(-170141183460469231731687303715884105727 - 1)  # Cut
+
+def main():
+    x = (-170141183460469231731687303715884105727 - 1) // -1  # Cut
+
+def main():
+    x = 18446744073709551616 * 9223372036854775808  # Cut
+
+def main():
+    x = 18446744073709551616 * -9223372036854775808  # Done
+
+def main():
+    x = 9223372036854775808 * 9223372036854775808  # Done
+
+def main():
+    assert (-170141183460469231731687303715884105727 - 1) % -1 == 0  # Done
+
+def main():
+    x = 9999999999999999999999999999999999999999999999999999999999999999999999999999999999999999999999999999999999999999999999999999999999999999999999999999999999999999999999999999999999999999999999999999999999999999999999999999999999999999999999999999999999999999999999999999999999999999999999999999999999999999999999999999999999999999999999999999999999999999999999999999999999999999999999999999999999999999999999999999999999999999999999999999999999999999999999999999999999999999999999999999999999999999999999999999999999999999999999999999999999999999999999999999999999999999999999999999999999999999999999999999999999999999999999999999999999999999999999999999999999999999999999999999999999999999999999999999999999999999999999999999999999999999999999999999999999999999999999999999999999999999999999999999999999999999999999999999999999999999999999999999999999999999999999999999999999999999999999999999999999999999999999999999999999999999999999999999999999999999999999999999999999999999999999999999999999999999  # Cut
+
+def main():
+    x = 170141183460469231731687303715884105728 - 170141183460469231731687303715884105728  # Cut
+
+def main():
+    if False:
+        x = 170141183460469231731687303715884105728  # Done
+
+def main():
+    assert len(str(-170141183460469231731687303715884105727 - 1)) == 40  # Done
+"#;
 
 /// A whole number that is made fits 128 signed bits, or the run is cut off.
 #[test]
 fn numbers_that_do_not_fit(rt: HostRuntime) -> Result<(), Fail> {
-    use End::{Cut, Done};
-    let cases: [(&str, &str, End); 17] = [
-        ("", "x = 170141183460469231731687303715884105727", Done),
-        ("", "x = 170141183460469231731687303715884105728", Cut),
-        ("", "x = -170141183460469231731687303715884105727", Done),
-        ("", "x = -170141183460469231731687303715884105728", Cut),
-        ("", "x = 170141183460469231731687303715884105727 + 1", Cut),
-        ("", "x = -170141183460469231731687303715884105727 - 1", Done),
-        ("", "x = -170141183460469231731687303715884105727 - 2", Cut),
-        (
-            "",
-            "x = -(-170141183460469231731687303715884105727 - 1)",
-            Cut,
-        ),
-        (
-            "",
-            "x = (-170141183460469231731687303715884105727 - 1) // -1",
-            Cut,
-        ),
-        ("", "x = 18446744073709551616 * 9223372036854775808", Cut),
-        ("", "x = 18446744073709551616 * -9223372036854775808", Done),
-        ("", "x = 9223372036854775808 * 9223372036854775808", Done),
-        (
-            "",
-            "assert (-170141183460469231731687303715884105727 - 1) % -1 == 0",
-            Done,
-        ),
-        (
-            "",
-            "x = 9999999999999999999999999999999999999999999999999999999999999999999999999999999999999999999999999999999999999999999999999999999999999999999999999999999999999999999999999999999999999999999999999999999999999999999999999999999999999999999999999999999999999999999999999999999999999999999999999999999999999999999999999999999999999999999999999999999999999999999999999999999999999999999999999999999999999999999999999999999999999999999999999999999999999999999999999999999999999999999999999999999999999999999999999999999999999999999999999999999999999999999999999999999999999999999999999999999999999999999999999999999999999999999999999999999999999999999999999999999999999999999999999999999999999999999999999999999999999999999999999999999999999999999999999999999999999999999999999999999999999999999999999999999999999999999999999999999999999999999999999999999999999999999999999999999999999999999999999999999999999999999999999999999999999999999999999999999999999999999999999999999999999999999999999999999999999999",
-            Cut,
-        ),
-        (
-            "",
-            "x = 170141183460469231731687303715884105728 - 170141183460469231731687303715884105728",
-            Cut,
-        ),
-        (
-            "",
-            "if False:\n    x = 170141183460469231731687303715884105728",
-            Done,
-        ),
-        (
-            "",
-            "assert len(str(-170141183460469231731687303715884105727 - 1)) == 40",
-            Done,
-        ),
-    ];
-    for (before, statements, want) in cases {
-        assert_eq!(rt;
-            end_of(rt.alloc(), before, statements)?,
-            want,
-            "at {before} {statements}"
-        );
-    }
+    assert_eq!(rt;
+        other_module_ends(rt.alloc(), NUMBERS_THAT_DO_NOT_FIT)?.as_str(),
+        ""
+    );
     Ok(())
 }
+
+const DEFAULTS_THAT_DO_NOT_FIT: &str = r#"
+def f(a=170141183460469231731687303715884105727):
+    pass
+def main():
+    pass  # Done
+
+def f(a=170141183460469231731687303715884105728):
+    pass
+def main():
+    pass  # Cut
+
+def f(a=-170141183460469231731687303715884105728):
+    return a
+def main():
+    assert f() == -170141183460469231731687303715884105727 - 1  # Done
+
+def f(a=-170141183460469231731687303715884105729):
+    pass
+def main():
+    pass  # Cut
+
+from dataclasses import dataclass
+@dataclass
+class A:
+    a: int = -170141183460469231731687303715884105728
+def main():
+    assert A().a == -170141183460469231731687303715884105727 - 1  # Done
+
+from dataclasses import dataclass
+@dataclass
+class A:
+    a: int = 170141183460469231731687303715884105728
+def main():
+    pass  # Cut
+
+from dataclasses import dataclass
+@dataclass
+class A:
+    def m(self, x=170141183460469231731687303715884105728):
+        pass
+def main():
+    pass  # Cut
+
+from dataclasses import dataclass
+@dataclass
+class A:
+    a: int = 170141183460469231731687303715884105728
+    b: int
+def main():
+    pass  # Cut
+
+from dataclasses import dataclass
+@dataclass
+class A:
+    a: int = 1
+    b: int
+    def m(self, x=170141183460469231731687303715884105728):
+        pass
+def main():
+    pass  # Cut
+
+from dataclasses import dataclass
+@dataclass
+class A(y):
+    a: int = 170141183460469231731687303715884105728
+def main():
+    pass  # NameError
+
+@dataclass
+class A:
+    a: int = 170141183460469231731687303715884105728
+def main():
+    pass  # NameError
+
+from dataclasses import dataclass
+@dataclass
+class A(int):
+    a: int = 170141183460469231731687303715884105728
+def main():
+    pass  # Outside
+
+a = 1 // 0
+def f(a=170141183460469231731687303715884105728):
+    pass
+def main():
+    pass  # Other
+
+def f(a=170141183460469231731687303715884105728):
+    pass
+a = 1 // 0
+def main():
+    pass  # Cut
+"#;
 
 /// A default is made with its def or class; a `-` and its number are one number.
 #[test]
 fn defaults_that_do_not_fit(rt: HostRuntime) -> Result<(), Fail> {
-    use End::{Cut, Done, NameError, Other, Outside};
-    let cases: [(&str, &str, End); 14] = [
-        (
-            "def f(a=170141183460469231731687303715884105727):\n    pass\n",
-            "pass",
-            Done,
-        ),
-        (
-            "def f(a=170141183460469231731687303715884105728):\n    pass\n",
-            "pass",
-            Cut,
-        ),
-        (
-            "def f(a=-170141183460469231731687303715884105728):\n    return a\n",
-            "assert f() == -170141183460469231731687303715884105727 - 1",
-            Done,
-        ),
-        (
-            "def f(a=-170141183460469231731687303715884105729):\n    pass\n",
-            "pass",
-            Cut,
-        ),
-        (
-            "from dataclasses import dataclass\n@dataclass\nclass A:\n    a: int = -170141183460469231731687303715884105728\n",
-            "assert A().a == -170141183460469231731687303715884105727 - 1",
-            Done,
-        ),
-        (
-            "from dataclasses import dataclass\n@dataclass\nclass A:\n    a: int = 170141183460469231731687303715884105728\n",
-            "pass",
-            Cut,
-        ),
-        (
-            "from dataclasses import dataclass\n@dataclass\nclass A:\n    def m(self, x=170141183460469231731687303715884105728):\n        pass\n",
-            "pass",
-            Cut,
-        ),
-        (
-            "from dataclasses import dataclass\n@dataclass\nclass A:\n    a: int = 170141183460469231731687303715884105728\n    b: int\n",
-            "pass",
-            Cut,
-        ),
-        (
-            "from dataclasses import dataclass\n@dataclass\nclass A:\n    a: int = 1\n    b: int\n    def m(self, x=170141183460469231731687303715884105728):\n        pass\n",
-            "pass",
-            Cut,
-        ),
-        (
-            "from dataclasses import dataclass\n@dataclass\nclass A(y):\n    a: int = 170141183460469231731687303715884105728\n",
-            "pass",
-            NameError,
-        ),
-        (
-            "@dataclass\nclass A:\n    a: int = 170141183460469231731687303715884105728\n",
-            "pass",
-            NameError,
-        ),
-        (
-            "from dataclasses import dataclass\n@dataclass\nclass A(int):\n    a: int = 170141183460469231731687303715884105728\n",
-            "pass",
-            Outside,
-        ),
-        (
-            "a = 1 // 0\ndef f(a=170141183460469231731687303715884105728):\n    pass\n",
-            "pass",
-            Other,
-        ),
-        (
-            "def f(a=170141183460469231731687303715884105728):\n    pass\na = 1 // 0\n",
-            "pass",
-            Cut,
-        ),
-    ];
-    for (before, statements, want) in cases {
-        assert_eq!(rt;
-            end_of(rt.alloc(), before, statements)?,
-            want,
-            "at {before} {statements}"
-        );
-    }
+    assert_eq!(rt;
+        other_module_ends(rt.alloc(), DEFAULTS_THAT_DO_NOT_FIT)?.as_str(),
+        ""
+    );
     Ok(())
 }
+
+const OPEN_CALLS: &str = r#"
+def f(n):
+    if n == 0:
+        return 0
+    return f(n - 1)
+def main():
+    f(62)  # Done
+
+def f(n):
+    if n == 0:
+        return 0
+    return f(n - 1)
+def main():
+    f(63)  # Cut
+
+from dataclasses import dataclass
+@dataclass
+class A:
+    def m(self, n):
+        if n == 0:
+            return 0
+        return self.m(n - 1)
+def main():
+    A().m(62)  # Done
+
+from dataclasses import dataclass
+@dataclass
+class A:
+    def m(self, n):
+        if n == 0:
+            return 0
+        return self.m(n - 1)
+def main():
+    A().m(63)  # Cut
+
+from dataclasses import dataclass
+@dataclass
+class A:
+    a: int
+def f(n):
+    if n == 0:
+        A(1)
+        print(len("a"))
+        [].append(1)
+        return 0
+    return f(n - 1)
+def main():
+    f(62)  # Done
+
+def f(n):
+    if n == 0:
+        return 0
+    return f(n - 1)
+def main():
+    f(62)
+    f(62)  # Done
+
+def f(n):
+    if n == 0:
+        return 0
+    return f(n - 1)
+a = f(63)
+def main():
+    pass  # Done
+
+def f(n):
+    if n == 0:
+        return 0
+    return f(n - 1)
+a = f(64)
+def main():
+    pass  # Cut
+
+def f():
+    return f(1)
+def main():
+    f()  # TypeError
+
+def f():
+    return f()
+def main():
+    f()  # Cut
+
+def f(n):
+    if n == 0:
+        return 0
+    return f(n - 1)
+def main():
+    f(f(62))  # Done
+
+def f(n):
+    if n == 0:
+        return 0
+    return f(n - 1)
+def g(n):
+    if n == 0:
+        return f()
+    return g(n - 1)
+def main():
+    g(62)  # TypeError
+"#;
 
 /// The 65th open call of a function or method is cut off; `main` counts.
 #[test]
 fn open_calls(rt: HostRuntime) -> Result<(), Fail> {
-    use End::{Cut, Done, TypeError};
-    let cases: [(&str, &str, End); 12] = [
-        (
-            "def f(n):\n    if n == 0:\n        return 0\n    return f(n - 1)\n",
-            "f(62)",
-            Done,
-        ),
-        (
-            "def f(n):\n    if n == 0:\n        return 0\n    return f(n - 1)\n",
-            "f(63)",
-            Cut,
-        ),
-        (
-            "from dataclasses import dataclass\n@dataclass\nclass A:\n    def m(self, n):\n        if n == 0:\n            return 0\n        return self.m(n - 1)\n",
-            "A().m(62)",
-            Done,
-        ),
-        (
-            "from dataclasses import dataclass\n@dataclass\nclass A:\n    def m(self, n):\n        if n == 0:\n            return 0\n        return self.m(n - 1)\n",
-            "A().m(63)",
-            Cut,
-        ),
-        (
-            "from dataclasses import dataclass\n@dataclass\nclass A:\n    a: int\ndef f(n):\n    if n == 0:\n        A(1)\n        print(len(\"a\"))\n        [].append(1)\n        return 0\n    return f(n - 1)\n",
-            "f(62)",
-            Done,
-        ),
-        (
-            "def f(n):\n    if n == 0:\n        return 0\n    return f(n - 1)\n",
-            "f(62)\nf(62)",
-            Done,
-        ),
-        (
-            "def f(n):\n    if n == 0:\n        return 0\n    return f(n - 1)\na = f(63)\n",
-            "pass",
-            Done,
-        ),
-        (
-            "def f(n):\n    if n == 0:\n        return 0\n    return f(n - 1)\na = f(64)\n",
-            "pass",
-            Cut,
-        ),
-        ("def f():\n    return f(1)\n", "f()", TypeError),
-        ("def f():\n    return f()\n", "f()", Cut),
-        (
-            "def f(n):\n    if n == 0:\n        return 0\n    return f(n - 1)\n",
-            "f(f(62))",
-            Done,
-        ),
-        (
-            "def f(n):\n    if n == 0:\n        return 0\n    return f(n - 1)\ndef g(n):\n    if n == 0:\n        return f()\n    return g(n - 1)\n",
-            "g(62)",
-            TypeError,
-        ),
-    ];
-    for (before, statements, want) in cases {
-        assert_eq!(rt;
-            end_of(rt.alloc(), before, statements)?,
-            want,
-            "at {before} {statements}"
-        );
-    }
+    assert_eq!(rt; other_module_ends(rt.alloc(), OPEN_CALLS)?.as_str(), "");
     Ok(())
 }
 

@@ -1,237 +1,263 @@
 //! Worked examples, with every event.
-use crate::traces::{AMPLE, trace_of};
+use crate::traces::other_module_events;
 use std::test::Fail;
+
+const PLAIN_MODULES: &str = r#"
+def main():
+    pass  # end Done
+
+def main():
+    return 1 + "a"  # 58 59, 62 65, 58 65, end TypeError
+
+def f(x):
+    return x + 1
+def main():
+    f("a")  # 78 79, 80 83, 78 84, 56 57, 60 61, 56 61, end TypeError
+
+def f(x: int | None) -> int:
+    if x is None:
+        return 0
+    return x + 1
+def main():
+    f(None)  # 132 133, 134 138, 132 139, 71 72, 71 80, 97 98, end Done
+
+def f(x: int | None):
+    if x is None:
+        return
+    while True:
+        x + 1
+        x = None
+def main():
+    f(1)  # 153 154, 155 156, 153 157, 64 65, 64 73, 100 104, 114 115, 118 119, 114 119, 132 136, 100 104, 114 115, 118 119, 114 119, end TypeError
+
+from typing import Any
+def a(x: list[int | str]):
+    pass
+def b(x: list[Any]):
+    pass
+def c(x: Any):
+    pass
+def main():
+    v = [1]
+    a(v)
+    b(v)
+    c(v)  # 169 170, 168 171, 176 177, 178 179, 176 180, 185 186, 187 188, 185 189, 194 195, 196 197, 194 198, end Done
+
+from dataclasses import dataclass
+from typing import Any
+@dataclass
+class A:
+    def m(self, x: Any) -> int:
+        return 0
+@dataclass
+class B(A):
+    def m(self, x: int) -> int:
+        return x
+@dataclass
+class C(B):
+    def m(self, x: int) -> int:
+        return x + 1
+def f(a: A) -> int:
+    return a.m("s")
+def main():
+    f(C())  # 365 366, 367 368, 367 370, 365 371, 340 341, 340 343, 344 347, 340 348, 264 265, 303 304, 307 308, 303 308, end TypeError
+"#;
 
 #[test]
 fn plain_modules(rt: HostRuntime) -> Result<(), Fail> {
-    let cases: [(&str, u64, &str); 10] = [
-        (
-            "from __future__ import annotations\ndef main():\n    pass\nmain()",
-            AMPLE,
-            "end Done\n",
-        ),
-        (
-            "from __future__ import annotations\ndef main():\n    return 1 + \"a\"\nmain()\n",
-            4,
-            "58 59\n62 65\n58 65\nend TypeError\n",
-        ),
-        (
-            "from __future__ import annotations\ndef main():\n    return 1 + \"a\"\nmain()\n",
-            AMPLE,
-            "58 59\n62 65\n58 65\nend TypeError\n",
-        ),
-        (
-            "from __future__ import annotations\ndef main():\n    return 1 + \"a\"\nmain()\n",
-            3,
-            "58 59\nend Cut\n",
-        ),
-        (
-            "from __future__ import annotations\ndef main():\n    return 1 + \"a\"\nmain()\n",
-            0,
-            "end Cut\n",
-        ),
-        (
-            "from __future__ import annotations\ndef f(x):\n    return x + 1\ndef main():\n    f(\"a\")\nmain()\n",
-            AMPLE,
-            "78 79\n80 83\n78 84\n56 57\n60 61\n56 61\nend TypeError\n",
-        ),
-        (
-            "from __future__ import annotations\ndef f(x: int | None) -> int:\n    if x is None:\n        return 0\n    return x + 1\ndef main():\n    f(None)\nmain()\n",
-            AMPLE,
-            "132 133\n134 138\n132 139\n71 72\n71 80\n97 98\nend Done\n",
-        ),
-        (
-            "from __future__ import annotations\ndef f(x: int | None):\n    if x is None:\n        return\n    while True:\n        x + 1\n        x = None\ndef main():\n    f(1)\nmain()\n",
-            AMPLE,
-            "153 154\n155 156\n153 157\n64 65\n64 73\n100 104\n114 115\n118 119\n114 119\n132 136\n100 104\n114 115\n118 119\n114 119\nend TypeError\n",
-        ),
-        (
-            "from __future__ import annotations\nfrom typing import Any\ndef a(x: list[int | str]):\n    pass\ndef b(x: list[Any]):\n    pass\ndef c(x: Any):\n    pass\ndef main():\n    v = [1]\n    a(v)\n    b(v)\n    c(v)\nmain()\n",
-            AMPLE,
-            "169 170\n168 171\n176 177\n178 179\n176 180\n185 186\n187 188\n185 189\n194 195\n196 197\n194 198\nend Done\n",
-        ),
-        (
-            "from __future__ import annotations\nfrom dataclasses import dataclass\nfrom typing import Any\n@dataclass\nclass A:\n    def m(self, x: Any) -> int:\n        return 0\n@dataclass\nclass B(A):\n    def m(self, x: int) -> int:\n        return x\n@dataclass\nclass C(B):\n    def m(self, x: int) -> int:\n        return x + 1\ndef f(a: A) -> int:\n    return a.m(\"s\")\ndef main():\n    f(C())\nmain()\n",
-            AMPLE,
-            "365 366\n367 368\n367 370\n365 371\n340 341\n340 343\n344 347\n340 348\n264 265\n303 304\n307 308\n303 308\nend TypeError\n",
-        ),
-    ];
-    for (text, fuel, want) in cases {
-        let got = trace_of(rt.alloc(), text, fuel, &[])?;
-        assert_eq!(rt; got.as_str(), want, "at {text}");
-    }
+    assert_eq!(rt;
+        other_module_events(rt.alloc(), PLAIN_MODULES)?.as_str(),
+        ""
+    );
     Ok(())
 }
+
+const FUNCTIONS_AND_LOOPS: &str = r#"
+from typing import Any
+def f(x: Any, y: list[int] | None):
+    if isinstance(x, list):
+        x.append("a")
+    if isinstance(y, list):
+        y.append(1)
+def main():
+    f([1], None)  # 208 209, 211 212, 210 213, 215 219, 208 220, 101 111, 112 113, 101 120, 130 131, 130 138, 139 142, 130 143, 151 161, 162 163, 151 170, end Done
+
+def main():
+    xs: list[int] = []
+    for x in xs:
+        pass
+    print(x)  # 67 69, 83 85, 104 109, 110 111, end UnboundLocalError
+
+from dataclasses import dataclass
+@dataclass
+class A:
+    a: int = 0
+@dataclass
+class B(A):
+    b: int
+def main():
+    pass  # end TypeError
+
+def main():
+    café = 1
+    print(café)  # 59 60, 65 70, 71 77, 65 78, end Done
+
+from dataclasses import dataclass
+@dataclass
+class P:
+    a: int
+def main():
+    x = P(1)
+    x.new = 1  # 120 121, 122 123, 120 124, 137 138, 129 130, 129 134, end Outside
+
+def main():
+    return ((((((((((((((((((((((((((((((((((((((((((((((((((((((((((((((((1))))))))))))))))))))))))))))))))))))))))))))))))))))))))))))))))  # 122 123, end Done
+
+def main():
+    xs: list[int] = []
+    print(xs[0])  # 67 69, 74 79, 80 82, 83 84, 80 85, end Other
+
+def f(x):
+    return x.a
+def main():
+    f(None)  # 76 77, 78 82, 76 83, 56 57, 56 59, end AttributeError
+
+def main():
+    return
+    pass  # end Done
+
+def main():
+    return 1 + "a" + 2  # 58 59, 62 65, 58 65, end TypeError
+"#;
 
 #[test]
 fn functions_and_loops(rt: HostRuntime) -> Result<(), Fail> {
-    let cases: [(&str, u64, &str); 10] = [
-        (
-            "from __future__ import annotations\nfrom typing import Any\ndef f(x: Any, y: list[int] | None):\n    if isinstance(x, list):\n        x.append(\"a\")\n    if isinstance(y, list):\n        y.append(1)\ndef main():\n    f([1], None)\nmain()\n",
-            AMPLE,
-            "208 209\n211 212\n210 213\n215 219\n208 220\n101 111\n112 113\n101 120\n130 131\n130 138\n139 142\n130 143\n151 161\n162 163\n151 170\nend Done\n",
-        ),
-        (
-            "from __future__ import annotations\ndef main():\n    xs: list[int] = []\n    for x in xs:\n        pass\n    print(x)\nmain()\n",
-            AMPLE,
-            "67 69\n83 85\n104 109\n110 111\nend UnboundLocalError\n",
-        ),
-        (
-            "from __future__ import annotations\nfrom dataclasses import dataclass\n@dataclass\nclass A:\n    a: int = 0\n@dataclass\nclass B(A):\n    b: int\ndef main():\n    pass\nmain()\n",
-            AMPLE,
-            "end TypeError\n",
-        ),
-        (
-            "from __future__ import annotations\ndef main():\n    caf\u{e9} = 1\n    print(cafe\u{301})\nmain()\n",
-            AMPLE,
-            "59 60\n65 70\n71 77\n65 78\nend Done\n",
-        ),
-        (
-            "from __future__ import annotations\nfrom dataclasses import dataclass\n@dataclass\nclass P:\n    a: int\ndef main():\n    x = P(1)\n    x.new = 1\nmain()\n",
-            AMPLE,
-            "120 121\n122 123\n120 124\n137 138\n129 130\n129 134\nend Outside\n",
-        ),
-        (
-            "from __future__ import annotations\ndef main():\n    return ((((((((((((((((((((((((((((((((((((((((((((((((((((((((((((((((1))))))))))))))))))))))))))))))))))))))))))))))))))))))))))))))))\nmain()\n",
-            AMPLE,
-            "122 123\nend Done\n",
-        ),
-        (
-            "from __future__ import annotations\ndef main():\n    xs: list[int] = []\n    print(xs[0])\nmain()\n",
-            AMPLE,
-            "67 69\n74 79\n80 82\n83 84\n80 85\nend Other\n",
-        ),
-        (
-            "from __future__ import annotations\ndef f(x):\n    return x.a\ndef main():\n    f(None)\nmain()\n",
-            AMPLE,
-            "76 77\n78 82\n76 83\n56 57\n56 59\nend AttributeError\n",
-        ),
-        (
-            "from __future__ import annotations\ndef main():\n    return\n    pass\nmain()\n",
-            AMPLE,
-            "end Done\n",
-        ),
-        (
-            "from __future__ import annotations\ndef main():\n    return 1 + \"a\" + 2\nmain()\n",
-            AMPLE,
-            "58 59\n62 65\n58 65\nend TypeError\n",
-        ),
-    ];
-    for (text, fuel, want) in cases {
-        let got = trace_of(rt.alloc(), text, fuel, &[])?;
-        assert_eq!(rt; got.as_str(), want, "at {text}");
-    }
+    assert_eq!(rt;
+        other_module_events(rt.alloc(), FUNCTIONS_AND_LOOPS)?.as_str(),
+        ""
+    );
     Ok(())
 }
+
+const NAMES_AND_CONTAINERS: &str = r#"
+def main():
+    return 7 - 2 - 1  # 58 59, 62 63, 58 63, 66 67, 58 67, end Done
+
+def main():
+    x = 1  # 55 56, end Done
+
+a: int = b
+b: int = 1
+def main():
+    print(a)  # 44 45, end NameError
+
+def main():
+    if True:
+        x = 1
+    return x  # 54 58, 72 73, 85 86, end Done
+
+def main():
+    print(x)
+    x = 1  # 51 56, 57 58, end UnboundLocalError
+
+def main():
+    break  # end Outside
+
+def main():
+    d = {1: "a"}
+    s: str = d.get(2)  # 56 57, 59 62, 55 63, 77 78, 77 82, 83 84, 77 85, end Done
+
+def f(x):
+    return x(1)
+def main():
+    f(1)  # 77 78, 79 80, 77 81, 56 57, 58 59, 56 60, end TypeError
+
+def main():
+    xs: list[int | str] = [1]  # 74 75, 73 76, end Done
+
+from dataclasses import dataclass
+@dataclass
+class A:
+    a: int
+@dataclass
+class B(A):
+    b: str = "q"
+def main():
+    x = B(1)
+    print(x.b + x.a)  # 160 161, 162 163, 160 164, 169 174, 175 176, 175 178, 181 182, 181 184, 175 184, end TypeError
+"#;
 
 #[test]
 fn names_and_containers(rt: HostRuntime) -> Result<(), Fail> {
-    let cases: [(&str, u64, &str); 10] = [
-        (
-            "from __future__ import annotations\ndef main():\n    return 7 - 2 - 1\nmain()\n",
-            AMPLE,
-            "58 59\n62 63\n58 63\n66 67\n58 67\nend Done\n",
-        ),
-        (
-            "from __future__ import annotations\ndef main():\n    x = 1\nmain()\n",
-            AMPLE,
-            "55 56\nend Done\n",
-        ),
-        (
-            "from __future__ import annotations\na: int = b\nb: int = 1\ndef main():\n    print(a)\nmain()\n",
-            AMPLE,
-            "44 45\nend NameError\n",
-        ),
-        (
-            "from __future__ import annotations\ndef main():\n    if True:\n        x = 1\n    return x\nmain()\n",
-            AMPLE,
-            "54 58\n72 73\n85 86\nend Done\n",
-        ),
-        (
-            "from __future__ import annotations\ndef main():\n    print(x)\n    x = 1\nmain()\n",
-            AMPLE,
-            "51 56\n57 58\nend UnboundLocalError\n",
-        ),
-        (
-            "from __future__ import annotations\ndef main():\n    break\nmain()\n",
-            AMPLE,
-            "end Outside\n",
-        ),
-        (
-            "from __future__ import annotations\ndef main():\n    d = {1: \"a\"}\n    s: str = d.get(2)\nmain()\n",
-            AMPLE,
-            "56 57\n59 62\n55 63\n77 78\n77 82\n83 84\n77 85\nend Done\n",
-        ),
-        (
-            "from __future__ import annotations\ndef f(x):\n    return x(1)\ndef main():\n    f(1)\nmain()\n",
-            AMPLE,
-            "77 78\n79 80\n77 81\n56 57\n58 59\n56 60\nend TypeError\n",
-        ),
-        (
-            "from __future__ import annotations\ndef main():\n    xs: list[int | str] = [1]\nmain()\n",
-            AMPLE,
-            "74 75\n73 76\nend Done\n",
-        ),
-        (
-            "from __future__ import annotations\nfrom dataclasses import dataclass\n@dataclass\nclass A:\n    a: int\n@dataclass\nclass B(A):\n    b: str = \"q\"\ndef main():\n    x = B(1)\n    print(x.b + x.a)\nmain()\n",
-            AMPLE,
-            "160 161\n162 163\n160 164\n169 174\n175 176\n175 178\n181 182\n181 184\n175 184\nend TypeError\n",
-        ),
-    ];
-    for (text, fuel, want) in cases {
-        let got = trace_of(rt.alloc(), text, fuel, &[])?;
-        assert_eq!(rt; got.as_str(), want, "at {text}");
-    }
+    assert_eq!(rt;
+        other_module_events(rt.alloc(), NAMES_AND_CONTAINERS)?.as_str(),
+        ""
+    );
     Ok(())
 }
 
+const CLASSES_AND_NARROWING: &str = r#"
+from dataclasses import dataclass
+@dataclass
+class A:
+    a: int
+@dataclass
+class B(A):
+    a: str
+def main():
+    pass  # end Outside
+
+def f(x: int | None) -> int:
+    while x is None:
+        x = 1
+    return x + 1
+def main():
+    f(None)  # 132 133, 134 138, 132 139, 74 75, 74 83, 97 98, 74 75, 74 83, 110 111, 114 115, 110 115, end Done
+
+def f(a: int, b: int = 2) -> int:
+    return a - b
+def main():
+    f(b=1, a="x")  # 102 103, 106 107, 111 114, 102 115, 80 81, 84 85, 80 85, end TypeError
+
+def f(a: int, b: int = 2) -> int:
+    return a - b
+def main():
+    f()  # 102 103, 102 105, end TypeError
+
+def f(a: int, b: int = 2) -> int:
+    return a - b
+def main():
+    f(1, a=2)  # 102 103, 104 105, 109 110, 102 111, end TypeError
+
+def f(a: int = 1, b: int):
+    pass
+def main():
+    pass  # end Outside
+
+from dataclasses import dataclass
+@dataclass
+class A:
+    def m(self, x: int):
+        pass
+@dataclass
+class B(A):
+    def m(self, y: int):
+        pass
+def main():
+    pass  # end Done
+
+def f(x: int | None) -> int:
+    assert x is not None, "no"
+    return x + 1
+def main():
+    f(None)  # 128 129, 130 134, 128 135, 75 76, 75 88, 90 94, end Other
+"#;
+
 #[test]
 fn classes_and_narrowing(rt: HostRuntime) -> Result<(), Fail> {
-    let cases: [(&str, u64, &str); 8] = [
-        (
-            "from __future__ import annotations\nfrom dataclasses import dataclass\n@dataclass\nclass A:\n    a: int\n@dataclass\nclass B(A):\n    a: str\ndef main():\n    pass\nmain()\n",
-            AMPLE,
-            "end Outside\n",
-        ),
-        (
-            "from __future__ import annotations\ndef f(x: int | None) -> int:\n    while x is None:\n        x = 1\n    return x + 1\ndef main():\n    f(None)\nmain()\n",
-            AMPLE,
-            "132 133\n134 138\n132 139\n74 75\n74 83\n97 98\n74 75\n74 83\n110 111\n114 115\n110 115\nend Done\n",
-        ),
-        (
-            "from __future__ import annotations\ndef f(a: int, b: int = 2) -> int:\n    return a - b\ndef main():\n    f(b=1, a=\"x\")\nmain()\n",
-            AMPLE,
-            "102 103\n106 107\n111 114\n102 115\n80 81\n84 85\n80 85\nend TypeError\n",
-        ),
-        (
-            "from __future__ import annotations\ndef f(a: int, b: int = 2) -> int:\n    return a - b\ndef main():\n    f()\nmain()\n",
-            AMPLE,
-            "102 103\n102 105\nend TypeError\n",
-        ),
-        (
-            "from __future__ import annotations\ndef f(a: int, b: int = 2) -> int:\n    return a - b\ndef main():\n    f(1, a=2)\nmain()\n",
-            AMPLE,
-            "102 103\n104 105\n109 110\n102 111\nend TypeError\n",
-        ),
-        (
-            "from __future__ import annotations\ndef f(a: int = 1, b: int):\n    pass\ndef main():\n    pass\nmain()\n",
-            AMPLE,
-            "end Outside\n",
-        ),
-        (
-            "from __future__ import annotations\nfrom dataclasses import dataclass\n@dataclass\nclass A:\n    def m(self, x: int):\n        pass\n@dataclass\nclass B(A):\n    def m(self, y: int):\n        pass\ndef main():\n    pass\nmain()\n",
-            AMPLE,
-            "end Done\n",
-        ),
-        (
-            "from __future__ import annotations\ndef f(x: int | None) -> int:\n    assert x is not None, \"no\"\n    return x + 1\ndef main():\n    f(None)\nmain()\n",
-            AMPLE,
-            "128 129\n130 134\n128 135\n75 76\n75 88\n90 94\nend Other\n",
-        ),
-    ];
-    for (text, fuel, want) in cases {
-        let got = trace_of(rt.alloc(), text, fuel, &[])?;
-        assert_eq!(rt; got.as_str(), want, "at {text}");
-    }
+    assert_eq!(rt;
+        other_module_events(rt.alloc(), CLASSES_AND_NARROWING)?.as_str(),
+        ""
+    );
     Ok(())
 }

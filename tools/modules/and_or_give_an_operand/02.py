@@ -1,4 +1,0 @@
-from __future__ import annotations
-def main():
-    assert (3 or 5) == 3
-main()

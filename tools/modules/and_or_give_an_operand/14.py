@@ -1,4 +1,0 @@
-from __future__ import annotations
-def main():
-    assert (1 or 1 // 0 and 1 // 0) == 1
-main()

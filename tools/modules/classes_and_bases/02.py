@@ -1,7 +1,0 @@
-from __future__ import annotations
-@dataclass
-class A:
-    pass
-def main():
-    pass
-main()

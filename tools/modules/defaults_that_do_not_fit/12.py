@@ -1,8 +1,0 @@
-from __future__ import annotations
-from dataclasses import dataclass
-@dataclass
-class A(int):
-    a: int = 170141183460469231731687303715884105728
-def main():
-    pass
-main()

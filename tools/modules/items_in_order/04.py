@@ -1,7 +1,0 @@
-from __future__ import annotations
-def f():
-    return 1
-a = f()
-def main():
-    assert a == 1
-main()

@@ -1,5 +1,0 @@
-from __future__ import annotations
-a = main
-def main():
-    pass
-main()

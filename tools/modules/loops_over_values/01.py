@@ -1,5 +1,0 @@
-from __future__ import annotations
-def main():
-    for i in range(2):
-        i
-main()

@@ -1,4 +1,0 @@
-from __future__ import annotations
-def f():
-    pass
-main()

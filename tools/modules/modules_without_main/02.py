@@ -1,3 +1,0 @@
-from __future__ import annotations
-main = 1
-main()

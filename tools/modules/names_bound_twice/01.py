@@ -1,6 +1,0 @@
-from __future__ import annotations
-a = 1
-a = 2
-def main():
-    1 + 1
-main()

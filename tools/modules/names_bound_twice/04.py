@@ -1,9 +1,0 @@
-from __future__ import annotations
-from dataclasses import dataclass
-@dataclass
-class A:
-    a: int
-A = 1
-def main():
-    1 + 1
-main()

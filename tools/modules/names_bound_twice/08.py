@@ -1,9 +1,0 @@
-from __future__ import annotations
-from dataclasses import dataclass
-@dataclass
-class A:
-    def m(self, x, x):
-        pass
-def main():
-    1 + 1
-main()

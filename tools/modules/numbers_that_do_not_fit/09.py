@@ -1,4 +1,0 @@
-from __future__ import annotations
-def main():
-    x = (-170141183460469231731687303715884105727 - 1) // -1
-main()

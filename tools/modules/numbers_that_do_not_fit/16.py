@@ -1,5 +1,0 @@
-from __future__ import annotations
-def main():
-    if False:
-        x = 170141183460469231731687303715884105728
-main()

@@ -1,4 +1,0 @@
-from __future__ import annotations
-def main():
-    -"a" + y
-main()

@@ -1,4 +1,0 @@
-from __future__ import annotations
-def main():
-    assert 1 < 2
-main()

@@ -1,5 +1,0 @@
-from __future__ import annotations
-def main():
-    return 1
-    2
-main()

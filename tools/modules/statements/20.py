@@ -1,4 +1,0 @@
-from __future__ import annotations
-def main():
-    print(1).a = 2
-main()

@@ -1,6 +1,0 @@
-from __future__ import annotations
-def main():
-    while False:
-        pass
-    break
-main()
