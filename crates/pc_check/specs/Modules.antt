@@ -30,12 +30,13 @@ use Rattle.pc_check.specs.Statements.{Seen, LawfulSuite, SuiteFinds}
 
 -- ---- functions
 
--- the locals at a function's entry: `self`, of its class, and the parameters
+-- what a method is entered with before its parameters: `self`, of its class
 abbrev pub receiver_type : Owner → List Parameter
 receiver_type owners.Module = []
 receiver_type (owners.Func i) = []
 receiver_type (owners.Method c i) = record { name = codes "self"; type = tree.Class c; has_default = false } ∷ []
 
+-- what a function is entered with: `self` in a method, then its parameters
 abbrev pub entries_of : Module → Owner → FuncDef → List Parameter
 entries_of m owner f = receiver_type owner ++ parameters_of m f.params
 
@@ -49,6 +50,7 @@ abbrev pub DeclaredEntry : (declared : List Tree) → (first : Test) → Res →
 DeclaredEntry declared true (res.Local x) t = declared_type declared x ≡ t
 DeclaredEntry declared first r t = Unit {0}
 
+-- each parameter that binds a local has its type as declared type, behind the names bound so far
 abbrev pub LawfulEntry : (List ℕ → Res) → (declared : List Tree) → Seen → List Parameter → Type 0
 LawfulEntry resolve declared seen [] = Unit {0}
 LawfulEntry resolve declared seen (p ∷ ps) = DeclaredEntry declared (not (is_among p.name seen)) (resolve p.name) p.type × LawfulEntry resolve declared (p.name ∷ seen) ps
@@ -58,6 +60,7 @@ abbrev pub entered : (first : Test) → Res → Tree → Env → Env
 entered true (res.Local x) t env = assign env x t
 entered first r t env = env
 
+-- the environment after these parameters are assigned, behind the names bound so far
 abbrev pub entry_env : (List ℕ → Res) → Seen → List Parameter → Env → Env
 entry_env resolve seen [] env = env
 entry_env resolve seen (p ∷ ps) env = entry_env resolve (p.name ∷ seen) ps (entered (not (is_among p.name seen)) (resolve p.name) p.type env)
@@ -72,6 +75,7 @@ pub data ReturnsWell (bases : Bases) (returned : Tree) : Option Env → Option C
 abbrev pub FunctionMarks : FuncDef → Type 0
 FunctionMarks f = record { params : ParamsMarks f.params; declared : List Tree; body : SuiteMarks f.body; out : Option Env; completing : Option Code }
 
+-- the labels of a function are lawful: its defaults, its locals' declared types, its body and its E21
 abbrev pub LawfulFunction : Module → (constants : List Tree) → Owner → (f : FuncDef) → FunctionMarks f → Type 0
 LawfulFunction m constants owner f marks = record {
   params : LawfulParams m (receiver owner) f.params marks.params;
@@ -109,6 +113,7 @@ LawfulMembers m constants base c number before (method_member d ∷ ms) marks = 
   others : LawfulMembers m constants base c (suc number) (d.name.text ∷ before) ms marks.rest;
 }
 
+-- what is found in members: in annotations, at defaults, in methods, and at the names of overrides
 abbrev pub MembersFind : Module → (constants : List Tree) → (c number : ℕ) → (ms : List Member) → MembersMarks ms → Finding → Type 0
 MembersFind m constants c number [] marks f = ⊥
 MembersFind m constants c number (field_member d ∷ rest) marks f = AnnFinds m (bases_of m) d.annotation f ⊎ (DefaultFinds d.default marks.default f ⊎ MembersFind m constants c number rest marks.rest f)
@@ -123,6 +128,7 @@ ItemMarks (constant_item p c) = record { value : Marks c.value; flows : Flowing 
 ItemMarks (class_item p c) = MembersMarks c.members
 ItemMarks (def_item p f) = FunctionMarks f
 
+-- the labels of the items of a module, one after another
 abbrev pub ItemsMarks : List Item → Type 0
 ItemsMarks [] = Unit {0}
 ItemsMarks (i ∷ rest) = ItemMarks i × ItemsMarks rest
@@ -132,11 +138,13 @@ abbrev pub constant_type : Module → Option Ann → Tree → Tree
 constant_type m None from = from
 constant_type m (Some a) from = read_ann m (bases_of m) a
 
+-- the type of an item that is a constant, none for a class or a def
 abbrev pub item_constants : Module → (i : Item) → ItemMarks i → List Tree
 item_constants m (constant_item p c) marks = constant_type m c.annotation (type_of c.value marks.value) ∷ []
 item_constants m (class_item p c) marks = []
 item_constants m (def_item p f) marks = []
 
+-- the types of the constants among items, in text order
 abbrev pub constant_types : Module → (items : List Item) → ItemsMarks items → List Tree
 constant_types m [] marks = []
 constant_types m (i ∷ rest) marks = item_constants m i marks.0 ++ constant_types m rest marks.1
@@ -146,10 +154,12 @@ abbrev pub annotated_types : Module → (binds : Test) → Option Ann → List T
 annotated_types m true (Some a) = read_ann m (bases_of m) a ∷ []
 annotated_types m binds a = []
 
+-- the first of some types, if there is one
 abbrev pub first_of_types : List Tree → Option Tree
 first_of_types [] = None
 first_of_types (t ∷ ts) = Some t
 
+-- an item binds its name: not reserved, and no earlier item's
 abbrev pub binds_item : List (List ℕ) → Name → Test
 binds_item before n = not (is_reserved n.text || is_among n.text before)
 
@@ -160,14 +170,17 @@ pub record Before : Type 0 where
   pub functions : ℕ
   pub names : List (List ℕ)
 
+-- what stands before the first item: nothing
 abbrev pub nothing_before : Before
 nothing_before = record { constants = []; classes = 0; functions = 0; names = [] }
 
+-- what stands before the next item, this one included
 abbrev pub before_next : Module → Before → (i : Item) → ItemMarks i → Before
 before_next m b (constant_item p c) marks = record { constants = b.constants ++ item_constants m (constant_item p c) marks; classes = b.classes; functions = b.functions; names = c.name.text ∷ b.names }
 before_next m b (class_item p c) marks = record { constants = b.constants; classes = suc b.classes; functions = b.functions; names = c.name.text ∷ b.names }
 before_next m b (def_item p f) marks = record { constants = b.constants; classes = b.classes; functions = suc b.functions; names = f.name.text ∷ b.names }
 
+-- the labels of an item are lawful: of an initializer with its flow, of a class's members, of a function
 abbrev pub LawfulItem : Module → (constants : List Tree) → Before → (i : Item) → ItemMarks i → Type 0
 LawfulItem m constants b (constant_item p c) marks = record {
   value : Lawful (initializer_context m b.constants b.classes) [] [] (first_of_types (annotated_types m (binds_item b.names c.name) c.annotation)) c.value marks.value;
@@ -176,15 +189,18 @@ LawfulItem m constants b (constant_item p c) marks = record {
 LawfulItem m constants b (class_item p c) marks = LawfulMembers m constants (base_class m b.classes c) b.classes 0 [] c.members marks
 LawfulItem m constants b (def_item p f) marks = LawfulFunction m constants (owners.Func b.functions) f marks
 
+-- the labels of items are lawful, each behind what stands before it
 abbrev pub LawfulItems : Module → (constants : List Tree) → Before → (items : List Item) → ItemsMarks items → Type 0
 LawfulItems m constants b [] marks = Unit {0}
 LawfulItems m constants b (i ∷ rest) marks = LawfulItem m constants b i marks.0 × LawfulItems m constants (before_next m b i marks.0) rest marks.1
 
+-- what is found in an item: a constant, a class or a def
 abbrev pub ItemFinds : Module → (constants : List Tree) → Before → (i : Item) → ItemMarks i → Finding → Type 0
 ItemFinds m constants b (constant_item p c) marks f = OptionFinds m (bases_of m) c.annotation f ⊎ (IsFlowAt (place_of c.value) marks.flows f ⊎ Finds c.value marks.value f)
 ItemFinds m constants b (class_item p c) marks f = MembersFind m constants b.classes 0 c.members marks f
 ItemFinds m constants b (def_item p d) marks f = FunctionFinds m constants (owners.Func b.functions) d marks f
 
+-- what is found in items, each behind what stands before it
 abbrev pub ItemsFind : Module → (constants : List Tree) → Before → (items : List Item) → ItemsMarks items → Finding → Type 0
 ItemsFind m constants b [] marks f = ⊥
 ItemsFind m constants b (i ∷ rest) marks f = ItemFinds m constants b i marks.0 f ⊎ ItemsFind m constants (before_next m b i marks.0) rest marks.1 f
@@ -199,6 +215,7 @@ Labelling m = ItemsMarks m.items
 abbrev pub IsLawful : (m : Module) → Labelling m → Type 0
 IsLawful m marks = LawfulItems m (constant_types m m.items marks) nothing_before m.items marks
 
+-- a module has a lawful labelling
 pub record HasLabelling (m : Module) : Type 0 where
   pub marks : Labelling m
   pub lawful : IsLawful m marks

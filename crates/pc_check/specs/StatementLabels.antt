@@ -8,6 +8,7 @@ use Rattle.pc_flow.specs.Environment.{Env}
 use Rattle.pc_expr.specs.Labels.{Flowing, Marks}
 use Rattle.pc_expr.specs.Operations.{Mark}
 
+-- the labels of an expression that may be missing
 abbrev pub OptionMarks : Option Expr → Type 0
 OptionMarks None = Unit {0}
 OptionMarks (Some e) = Marks e
@@ -23,7 +24,9 @@ abbrev pub Behind : (completes : Test) → Type 0 → Type 0
 Behind true A = A
 Behind false A = Unit {0}
 
+-- the labels of statements, suites and branches
 abbrev mutual
+  -- of a statement: its expressions' labels, its flows' codes, and environments at `break`, loop heads, `else` and suite ends
   pub StmtMarks : Stmt → Type 0
   StmtMarks (pass p) = Unit {0}
   StmtMarks (breaks p) = Env
@@ -42,6 +45,7 @@ abbrev mutual
   SuiteMarks no_stmts = Unit {0}
   SuiteMarks (more_stmts s rest) = StmtMarks s × Behind (completes s) (Env × SuiteMarks rest)
 
+  -- of each branch its condition's labels, its body's, and the environment where the body ends, if it can complete
   pub BranchesMarks : Branches → Type 0
   BranchesMarks no_branches = Unit {0}
   BranchesMarks (more_branches c b rest) = record { condition : Marks c; body : SuiteMarks b; out : Option Env; rest : BranchesMarks rest }
@@ -51,6 +55,7 @@ abbrev pub BehindRule : {A : Type 0} (completes : Test) → Behind completes A �
 BehindRule true m P N = P m
 BehindRule false m P N = N
 
+-- a list made of what stands behind a statement, empty where the statement cannot complete
 abbrev pub behind_list : {A B : Type 0} (completes : Test) → Behind completes A → (A → List B) → List B
 behind_list true m f = f m
 behind_list false m f = []

@@ -37,14 +37,16 @@ only_code (c ∷ cs) = c
 abbrev pub Seen : Type 0
 Seen = List (List ℕ)
 
+-- the name is none of those bound so far
 abbrev pub is_first : Seen → Name → Test
 is_first seen n = not (is_among n.text seen)
 
--- whether some of these names is the local of a number
+-- a meaning is the local of this number
 abbrev pub is_number : ℕ → Res → Test
 is_number x (res.Local y) = nat_eq x y
 is_number x _ = false
 
+-- one of the names means the local of this number
 abbrev pub binds_number : (List ℕ → Res) → List Name → ℕ → Test
 binds_number resolve names x = list_any (λ n. is_number x (resolve n.text)) names
 
@@ -58,17 +60,21 @@ range_offers g = called g (builtin_signature (Int ∷ []) Object) ∷ []
 abbrev pub range_item : Given → Mark
 range_item g = if is_suited g (builtin_signature (Int ∷ []) Object) then clean Int else record { type = Any; codes = A5 ∷ [] }
 
+-- the name means the built-in `range`
 abbrev pub is_range : Res → Test
 is_range (res.Builtin builtin.Range) = true
 is_range _ = false
 
 module _ (m : Module) (ctx : Context) (declared : List Tree) where
+  -- an environment joined with others, from the left
   abbrev joined : Env → List Env → Env
   joined env envs = join_envs_onto ctx.bases declared env envs
 
+  -- the environment where a condition is true
   abbrev after_true : Expr → Env → Env
   after_true c env = narrow ctx.bases declared ctx.resolve true c env
 
+  -- the environment where a condition is false
   abbrev after_false : Expr → Env → Env
   after_false c env = narrow ctx.bases declared ctx.resolve false c env
 
@@ -88,10 +94,12 @@ module _ (m : Module) (ctx : Context) (declared : List Tree) where
   abbrev pub LawfulValues : Env → (e : Expr) → Marks e → Mark → Type 0
   LawfulValues env e marks item = Lawful ctx declared env None e marks × (item ≡ offers_mark ctx.bases (map (iterate_member ctx.bases) (members (type_of e marks))))
 
+  -- the rule for a call of `range`, or the rule for any other iterable
   abbrev pub RangeOrValues : (is_range : Test) → Type 0 → Type 0 → Type 0
   RangeOrValues true R V = R
   RangeOrValues false R V = V
 
+  -- the iterable of a `for` is lawful, and this is the label of its items
   abbrev pub LawfulIterable : Env → (e : Expr) → Marks e → Mark → Type 0
   LawfulIterable env (call p (name n) args kws) marks item =
       RangeOrValues (is_range (ctx.resolve n.text)) (LawfulRange env (name n) args kws p marks × (item ≡ range_item (given args kws))) (LawfulValues env (call p (name n) args kws) marks item)
@@ -147,18 +155,22 @@ module _ (m : Module) (ctx : Context) (declared : List Tree) where
   UndeclaredName true (res.Local x) = declared_type declared x ≡ Any
   UndeclaredName first r = Unit {0}
 
+  -- each of the names that is first bound where no run comes has Any as declared type
   abbrev pub Undeclared : Seen → List Name → Type 0
   Undeclared seen [] = Unit {0}
   Undeclared seen (n ∷ ns) = UndeclaredName (is_first seen n) (ctx.resolve n.text) × Undeclared (n.text ∷ seen) ns
 
   -- ---- targets that are no names
 
+  -- what storing to an attribute comes to on each member of the object's type
   abbrev pub attribute_offers : List ℕ → Tree → List Offer
   attribute_offers field t = map (store_attribute_member ctx.classes field) (members t)
 
+  -- what storing to an item comes to on each member of the object's type
   abbrev pub index_offers : Tree → List Offer
   index_offers t = map store_index_member (members t)
 
+  -- a store to an attribute or an item is lawful: its parts, the codes at the target, and the flows
   abbrev pub LawfulStore : Env → (t : Target) → TargetMarks t → (e : Expr) → Marks e → Flowing → Type 0
   LawfulStore env (to_name n) target e marks flows = ⊥
   LawfulStore env (to_attribute p o field) target e marks flows = record {
@@ -176,6 +188,7 @@ module _ (m : Module) (ctx : Context) (declared : List Tree) where
     flow : FlowsInto ctx.bases (mark_of e marks) (stored_types (index_offers (type_of o target.object))) flows;
   }
 
+  -- an assignment is lawful, with the environment after it: a name is bound, any other target is stored to
   abbrev pub LawfulAssignment : Env → Seen → (t : Target) → TargetMarks t → (e : Expr) → Marks e → Flowing → Env → Type 0
   LawfulAssignment env seen (to_name n) target e marks flows after = LawfulBinding env seen n (ctx.resolve n.text) None e marks flows after
   LawfulAssignment env seen t target e marks flows after = LawfulStore env t target e marks flows × (after ≡ env)
@@ -185,20 +198,24 @@ module _ (m : Module) (ctx : Context) (declared : List Tree) where
   annotation_at true t = Some t
   annotation_at false t = None
 
+  -- an annotated name is lawful, with or without a value, with the environment after it
   abbrev pub LawfulAnnotated : Env → Seen → Name → Ann → (e : Option Expr) → OptionMarks e → Flowing → Env → Type 0
   LawfulAnnotated env seen n a None marks flows after = LawfulDeclaration seen n (ctx.resolve n.text) (read_ann m ctx.bases a) × (flows ≡ []) × (after ≡ env)
   LawfulAnnotated env seen n a (Some e) marks flows after =
       LawfulBinding env seen n (ctx.resolve n.text) (annotation_at (is_first seen n) (read_ann m ctx.bases a)) e marks flows after
 
   module _ (returned : Tree) where
+    -- the value of a `return` is lawful and flows into the return type; without a value None does
     abbrev pub LawfulReturn : Env → (e : Option Expr) → OptionMarks e → Flowing → Type 0
     LawfulReturn env None marks flows = FlowsInto ctx.bases (clean NoneType) (returned ∷ []) flows
     LawfulReturn env (Some e) marks flows = Lawful ctx declared env (Some returned) e marks × FlowsInto ctx.bases (mark_of e marks) (returned ∷ []) flows
 
+    -- an expression that may be missing is lawful, with nothing expected of it
     abbrev pub LawfulOption : Env → (e : Option Expr) → OptionMarks e → Type 0
     LawfulOption env None marks = Unit {0}
     LawfulOption env (Some e) marks = Lawful ctx declared env None e marks
 
+    -- the labels of statements, suites and branches are lawful
     abbrev mutual
       -- a statement, behind the names bound so far, from the environment before it to the one after it, if it can complete
       pub LawfulStmt : Seen → Env → (s : Stmt) → StmtMarks s → Option Env → Type 0
@@ -246,6 +263,7 @@ module _ (m : Module) (ctx : Context) (declared : List Tree) where
         after : out ≡ join_ways ctx.bases declared (ways_in bs marks.branches ++ option_to_list marks.out);
       }
 
+      -- a suite, from the environment before it to the one after it, if it can complete
       pub LawfulSuite : Seen → Env → (b : Stmts) → SuiteMarks b → Option Env → Type 0
       LawfulSuite seen env no_stmts marks out = out ≡ Some env
       LawfulSuite seen env (more_stmts s rest) marks out =
@@ -265,14 +283,17 @@ module _ (m : Module) (ctx : Context) (declared : List Tree) where
 -- ---- what is found in statements
 
 module _ (m : Module) (ctx : Context) where
+  -- what is found in an expression that may be missing
   abbrev pub OptionFinds : (e : Option Expr) → OptionMarks e → Finding → Type 0
   OptionFinds None marks f = ⊥
   OptionFinds (Some e) marks f = Finds e marks f
 
+  -- the place of an expression, or this one where it is missing
   abbrev pub option_place : Place → Option Expr → Place
   option_place p None = p
   option_place p (Some e) = place_of e
 
+  -- what is found at a target and in its parts, nothing where it is a name
   abbrev pub TargetFinds : (t : Target) → TargetMarks t → Finding → Type 0
   TargetFinds (to_name n) marks f = ⊥
   TargetFinds (to_attribute p o field) marks f = IsFoundAt p marks.codes f ⊎ Finds o marks.object f
@@ -283,6 +304,7 @@ module _ (m : Module) (ctx : Context) where
   AnnotationFinds (res.Local x) false n a f = f ≡ finding n.place E24
   AnnotationFinds r first n a f = AnnFinds m ctx.bases a f
 
+  -- what is found in statements, suites and branches, behind the names bound so far
   abbrev mutual
     pub StmtFinds : Seen → (s : Stmt) → StmtMarks s → Finding → Type 0
     StmtFinds seen (pass p) marks f = ⊥

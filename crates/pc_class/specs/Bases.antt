@@ -13,6 +13,7 @@ abbrev pub earlier_class : ℕ → Res → Option ℕ
 earlier_class c (res.Class b) = if nat_lt b c then Some b else None
 earlier_class c _ = None
 
+-- the number of the earlier class that the name of a base means, if there is a name and it means one
 abbrev pub base_named : Module → ℕ → Option Name → Option ℕ
 base_named m c None = None
 base_named m c (Some n) = earlier_class c (resolve_in_module m n.text)

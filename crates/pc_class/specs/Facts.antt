@@ -31,6 +31,7 @@ pub record Class : Type 0 where
   pub fields : List Parameter
   pub methods : List Method
 
+-- a class without base, fields and methods
 abbrev pub empty_class : Class
 empty_class = record { base = None; fields = []; methods = [] }
 
@@ -38,17 +39,20 @@ empty_class = record { base = None; fields = []; methods = [] }
 abbrev pub field_of : List Parameter → List ℕ → Option Parameter
 field_of fields name = find (λ f. bytes_eq name f.name) fields
 
+-- the nearest method of a name, which stands first
 abbrev pub method_of : List Method → List ℕ → Option Method
 method_of methods name = find (λ f. bytes_eq name f.name) methods
 
--- the class of a number
+-- a class that was found, or an empty one
 abbrev pub class_in : Option Class → Class
 class_in None = empty_class
 class_in (Some c) = c
 
+-- the class of a number among classes, an empty one where there is none
 abbrev pub class_at : List Class → ℕ → Class
 class_at classes c = class_in (slice_get classes c)
 
+-- what a class inherits: its base among the earlier classes, or an empty class where it has none
 abbrev pub inherited : List Class → Option ℕ → Class
 inherited earlier None = empty_class
 inherited earlier (Some b) = class_at earlier b
@@ -62,12 +66,15 @@ binds_field base before name =
 abbrev pub binds_method : Class → List (List ℕ) → List ℕ → Bool
 binds_method base before name = not (is_reserved name) && (not (is_among name before) && not (is_some (field_of base.fields name)))
 
+-- a parameter with the type that its annotation says, Any without one
 abbrev pub parameter_of : Module → Param → Parameter
 parameter_of m p = record { name = p.name.text; type = read_option m (bases_of m) p.annotation; has_default = is_some p.default }
 
+-- parameters with the types that their annotations say
 abbrev pub parameters_of : Module → List Param → List Parameter
 parameters_of m params = map (parameter_of m) params
 
+-- the return type of a function, Any where it has no annotation
 abbrev pub returned : Module → FuncDef → Tree
 returned m f = read_option m (bases_of m) f.returns
 
@@ -100,6 +107,7 @@ class_behind m earlier c class =
       methods = own_methods m base c 0 [] class.members ++ base.methods;
     }
 
+-- the earlier classes and then these, the first of them of this number, each built on those before it
 abbrev pub classes_behind : Module → List Class → ℕ → List ClassDef → List Class
 classes_behind m earlier c [] = earlier
 classes_behind m earlier c (class ∷ rest) = classes_behind m (earlier ++ class_behind m earlier c class ∷ []) (suc c) rest

@@ -29,6 +29,7 @@ pub record Given : Type 0 where
   pub positional : ℕ
   pub named : List (List ℕ)
 
+-- how many expressions a list of them has
 abbrev pub count_exprs : Exprs → ℕ
 count_exprs no_exprs = zero
 count_exprs (more_exprs e rest) = suc (count_exprs rest)
@@ -38,6 +39,7 @@ abbrev pub once_each : List (List ℕ) → List Name → List (List ℕ)
 once_each before [] = []
 once_each before (n ∷ rest) = if is_among n.text before then once_each before rest else n.text ∷ once_each (n.text ∷ before) rest
 
+-- what the arguments of a call give, by position and by name
 abbrev pub given : Exprs → Keywords → Given
 given arguments keywords = record { positional = count_exprs arguments; named = once_each [] (keyword_names keywords) }
 
@@ -56,9 +58,11 @@ abbrev pub are_filled : List (List ℕ) → List (List ℕ) → List Parameter �
 are_filled named before [] = true
 are_filled named before (p ∷ ps) = (p.has_default || (is_among p.name named && not (is_among p.name before))) && are_filled named (p.name ∷ before) ps
 
+-- the names of parameters, in order
 abbrev pub parameter_names : List Parameter → List (List ℕ)
 parameter_names ps = map (λ p. p.name) ps
 
+-- the list is empty
 abbrev pub has_none : {A : Type 0} → List A → Test
 has_none [] = true
 has_none (x ∷ xs) = false
@@ -80,12 +84,15 @@ pub record CallOffer : Type 0 where
   pub gives : Tree
   pub calls : List Signature
 
+-- a call that gives this type, with nothing found, and whose arguments flow nowhere
 abbrev pub plain_call : Tree → CallOffer
 plain_call t = record { at_callee = []; at_call = []; gives = t; calls = [] }
 
+-- a call at which this code is found, and which gives Any
 abbrev pub fails_at_call : Code → CallOffer
 fails_at_call code = record { at_callee = []; at_call = code ∷ []; gives = Any; calls = [] }
 
+-- a call at whose callee this code is found, and which gives Any
 abbrev pub fails_at_callee : Code → CallOffer
 fails_at_callee code = record { at_callee = code ∷ []; at_call = []; gives = Any; calls = [] }
 
@@ -98,6 +105,7 @@ abbrev pub value_offer : Tree → CallOffer
 value_offer Any = fails_at_call A6
 value_offer _ = fails_at_call E14
 
+-- a value of this type called, member by member
 abbrev pub value_offers : Tree → List CallOffer
 value_offers t = map value_offer (members t)
 
@@ -105,6 +113,7 @@ value_offers t = map value_offer (members t)
 abbrev pub class_signature : List facts.Class → ℕ → Signature
 class_signature classes c = record { parameters = (class_at classes c).fields; returns = Class c; takes_names = true }
 
+-- a method as what is called: its parameters without `self`, and its return type
 abbrev pub method_signature : Method → Signature
 method_signature m = record { parameters = m.parameters; returns = m.returns; takes_names = true }
 
@@ -112,6 +121,7 @@ method_signature m = record { parameters = m.parameters; returns = m.returns; ta
 abbrev pub unnamed : Tree → Parameter
 unnamed t = record { name = []; type = t; has_default = false }
 
+-- what takes arguments of these types, by position alone, and returns this type
 abbrev pub builtin_signature : List Tree → Tree → Signature
 builtin_signature types returns = record { parameters = map unnamed types; returns = returns; takes_names = false }
 
@@ -158,6 +168,7 @@ builtin_offer g builtin.IsInstance = fails_at_call E14
 builtin_offer g builtin.Range = if is_one g then fails_at_call E27 else fails_at_call E14
 builtin_offer g _ = error_offer
 
+-- the built-in is one of those that may be called
 abbrev pub is_callable_builtin : Builtin → Test
 is_callable_builtin builtin.Print = true
 is_callable_builtin builtin.Str = true
@@ -171,16 +182,20 @@ pub record Callee : Type 0 where
   pub mark : Mark
   pub offers : List CallOffer
 
+-- a call of the function with this signature; without one it is called as a value of type Any
 abbrev pub function_offer : Given → Option Signature → CallOffer
 function_offer g None = error_offer
 function_offer g (Some s) = called g s
 
+-- a callee that is a value with this label, called on each member of its type
 abbrev pub value_callee : Mark → Callee
 value_callee m = record { mark = m; offers = value_offers m.type }
 
+-- a callee at which nothing is found, and what a call of it comes to
 abbrev pub good_callee : List CallOffer → Callee
 good_callee offers = record { mark = clean Any; offers = offers }
 
+-- what a name is as a callee: a function, a class or a built-in that may be called, and else what it is as a value
 abbrev pub name_callee : Context → Env → Given → Res → Callee
 name_callee ctx env g (res.Func i) = if ctx.in_body then good_callee (function_offer g (slice_get ctx.functions i) ∷ []) else value_callee (in_error E03)
 name_callee ctx env g (res.Class c) = if nat_lt c ctx.known then good_callee (called g (class_signature ctx.classes c) ∷ []) else value_callee (in_error E03)
@@ -199,9 +214,11 @@ method_callee ctx g word t =
 abbrev pub call_codes : List CallOffer → List Code
 call_codes offers = if has_none (flat_map (λ o. o.at_callee) offers) then flat_map (λ o. o.at_call) offers else []
 
+-- all codes of a call, at its callee and at the call itself
 abbrev pub all_codes : List CallOffer → List Code
 all_codes offers = flat_map (λ o. o.at_callee ++ o.at_call) offers
 
+-- the label of a call: the join of what the members give, Any where an error is found
 abbrev pub call_mark : Bases → List CallOffer → Mark
 call_mark bases offers = record {
   type = if has_error (all_codes offers) then Any else join_all bases (map (λ o. o.gives) offers);
@@ -217,14 +234,17 @@ pub record Seat : Type 0 where
   pub want : Option Tree
   pub into : List Tree
 
+-- exactly one member is called
 abbrev pub only_member : List CallOffer → Test
 only_member (o ∷ []) = true
 only_member _ = false
 
+-- what is expected of an argument: the type that it flows into, where one member is called and there is one such type
 abbrev pub wanted : Test → List Tree → Option Tree
 wanted true (t ∷ []) = Some t
 wanted _ _ = None
 
+-- the type of a parameter, if there is one
 abbrev pub type_at : Option Parameter → List Tree
 type_at None = []
 type_at (Some p) = p.type ∷ []
@@ -235,6 +255,7 @@ positional_seat offers k =
     let types = flat_map (λ s. type_at (slice_get s.parameters k)) (signatures offers) in
     record { want = wanted (only_member offers) types; into = types }
 
+-- the seat of an argument by name: the first parameter of that name of each member called
 abbrev pub named_seat : List CallOffer → List ℕ → Seat
 named_seat offers word =
     let types = flat_map (λ s. type_at (field_of s.parameters word)) (signatures offers) in
@@ -246,19 +267,23 @@ nowhere = record { want = None; into = [] }
 
 -- ---- `len`, and tests of instances
 
+-- the label of a call of `len` on arguments of these types
 abbrev pub length_mark : Bases → List Tree → Mark
 length_mark bases (t ∷ []) = offers_mark bases (map length_member (members t))
 length_mark bases _ = in_error E14
 
+-- the type is Any or object
 abbrev pub is_object_or_any : Tree → Test
 is_object_or_any Any = true
 is_object_or_any Object = true
 is_object_or_any _ = false
 
+-- A7 where a member of a local's current type is Any or object, else no code
 abbrev pub any_list_codes : Option Tree → List Code
 any_list_codes None = []
 any_list_codes (Some t) = if list_any is_object_or_any (members t) then A7 ∷ [] else []
 
+-- the current type of a local, if there is a local and it is assigned
 abbrev pub current_of : Env → Option ℕ → Option Tree
 current_of env None = None
 current_of env (Some x) = current env x

@@ -65,6 +65,7 @@ abbrev pub FlowUnless : (late : Test) → Bases → Tree → Tree → Option Cod
 FlowUnless true bases s t code = code ≡ None
 FlowUnless false bases s t code = Flows bases s t code
 
+-- the flow of an expression with this label into one type, with its code
 abbrev pub FlowAt : Bases → Mark → Tree → Option Code → Type 0
 FlowAt bases m t code = FlowUnless (is_late m.codes) bases m.type t code
 

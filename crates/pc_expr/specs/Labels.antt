@@ -14,7 +14,9 @@ use Rattle.pc_expr.specs.Operations.{Mark}
 abbrev pub Flowing : Type 0
 Flowing = List (Option Code)
 
+-- the labels of an expression, of items, of the entries of a dict and of arguments by name, by recursion on the tree
 abbrev mutual
+  -- of an expression: its own label, the labels of its parts, and the codes of their flows
   pub Marks : Expr → Type 0
   Marks (name n) = Mark
   Marks (number p digits) = Mark
@@ -36,14 +38,17 @@ abbrev mutual
   Marks (index p e i) = record { here : Mark; object : Marks e; key : Marks i; flows : Flowing }
   Marks (call p callee arguments keywords) = record { here : Mark; callee : Marks callee; second : Option Code; arguments : ItemsMarks arguments; keywords : KeywordsMarks keywords }
 
+  -- of items and of arguments by position: the labels of each, and the codes of its flows
   pub ItemsMarks : Exprs → Type 0
   ItemsMarks no_exprs = Unit {0}
   ItemsMarks (more_exprs e rest) = record { first : Marks e; flows : Flowing; rest : ItemsMarks rest }
 
+  -- of the entries of a dict: the labels of each key and value, and the codes of their flows
   pub EntriesMarks : Entries → Type 0
   EntriesMarks no_entries = Unit {0}
   EntriesMarks (more_entries key value rest) = record { key : Marks key; key_flows : Flowing; value : Marks value; value_flows : Flowing; rest : EntriesMarks rest }
 
+  -- of arguments by name: the labels of each value, and the codes of its flows
   pub KeywordsMarks : Keywords → Type 0
   KeywordsMarks no_keywords = Unit {0}
   KeywordsMarks (more_keywords parameter value rest) = record { first : Marks value; flows : Flowing; rest : KeywordsMarks rest }
@@ -101,10 +106,12 @@ abbrev pub item_types : (es : Exprs) → ItemsMarks es → List Tree
 item_types no_exprs m = []
 item_types (more_exprs e rest) m = type_of e m.first ∷ item_types rest m.rest
 
+-- the types of a dict's keys, in order
 abbrev pub key_types : (es : Entries) → EntriesMarks es → List Tree
 key_types no_entries m = []
 key_types (more_entries key value rest) m = type_of key m.key ∷ key_types rest m.rest
 
+-- the types of a dict's values, in order
 abbrev pub value_types : (es : Entries) → EntriesMarks es → List Tree
 value_types no_entries m = []
 value_types (more_entries key value rest) m = type_of value m.value ∷ value_types rest m.rest
@@ -123,6 +130,7 @@ pub record IsFlowAt (place : Place) (codes : Flowing) (f : Finding) : Type 0 whe
   pub among : Contains codes (Some code)
   pub is : f ≡ finding place code
 
+-- there is a code, and the finding is that code at this place
 abbrev pub IsCodeAt : Place → Option Code → Finding → Type 0
 IsCodeAt place None f = ⊥
 IsCodeAt place (Some code) f = f ≡ finding place code
@@ -133,6 +141,7 @@ second_place no_exprs p = p
 second_place (more_exprs e no_exprs) p = p
 second_place (more_exprs e (more_exprs f rest)) p = place_of f
 
+-- what is found under the labels of an expression, of items, of arguments, and of the entries of a dict
 abbrev mutual
   pub Finds : (e : Expr) → Marks e → Finding → Type 0
   Finds (name n) m f = IsFoundAt n.place m.codes f

@@ -23,26 +23,30 @@ use Rattle.pc_expr.specs.Labels.{Marks, ItemsMarks, EntriesMarks, KeywordsMarks,
 
 -- ---- what is expected of the parts of a display
 
--- of a type, the item of its list, the key and value of its dict, the parts of its tuple of a length
+-- the item type of the first list among members, if there is one
 abbrev pub list_item : List Tree → Option Tree
 list_item [] = None
 list_item (ListOf t ∷ ms) = Some t
 list_item (m ∷ ms) = list_item ms
 
+-- the types of a dict's keys and of its values
 pub record KeyValue : Type 0 where
   pub key : Tree
   pub value : Tree
 
+-- the key and value types of the first dict among members, if there is one
 abbrev pub dict_parts : List Tree → Option KeyValue
 dict_parts [] = None
 dict_parts (DictOf k v ∷ ms) = Some (record { key = k; value = v })
 dict_parts (m ∷ ms) = dict_parts ms
 
+-- the parts of the first tuple of this length among members, none where there is no such tuple
 abbrev pub tuple_parts : ℕ → List Tree → List Tree
 tuple_parts n [] = []
 tuple_parts n (TupleOf ts ∷ ms) = if nat_eq (count ts) n then listed ts else tuple_parts n ms
 tuple_parts n (m ∷ ms) = tuple_parts n ms
 
+-- the members of an expected type, none where nothing is expected
 abbrev pub members_of : Option Tree → List Tree
 members_of None = []
 members_of (Some t) = members t
@@ -69,14 +73,17 @@ pub data DictMark (bases : Bases) (values : List Tree) : List Tree → Mark → 
   str_keys : {k : Tree} {ks : List Tree} → ¬ (All (λ t. Static bases t Int) (k ∷ ks)) → All (λ t. Static bases t Str) (k ∷ ks) → DictMark bases values (k ∷ ks) (display_mark (DictOf Str (join_all bases values)))
   other_keys : {k : Tree} {ks : List Tree} → ¬ (All (λ t. Static bases t Int) (k ∷ ks)) → ¬ (All (λ t. Static bases t Str) (k ∷ ks)) → DictMark bases values (k ∷ ks) (in_error E22)
 
+-- the label of a dict display: the type of the expected dict, else what its own keys and values make
 abbrev pub DictRule : Bases → Option KeyValue → (keys values : List Tree) → Mark → Type 0
 DictRule bases (Some kv) keys values m = m ≡ clean (DictOf kv.key kv.value)
 DictRule bases None keys values m = DictMark bases values keys m
 
+-- the seat of a key of a dict display: the key type of the expected dict, or nowhere
 abbrev pub key_seat : Option KeyValue → Seat
 key_seat None = nowhere
 key_seat (Some kv) = item_seat (Some kv.key)
 
+-- the seat of a value of a dict display: the value type of the expected dict, or nowhere
 abbrev pub value_seat : Option KeyValue → Seat
 value_seat None = nowhere
 value_seat (Some kv) = item_seat (Some kv.value)
@@ -88,12 +95,14 @@ abbrev pub number_behind : ℕ → List ℕ → ℕ
 number_behind n [] = n
 number_behind n (d ∷ ds) = number_behind (10 * n + (d - 48)) ds
 
+-- the number of an int literal, none for any other expression
 abbrev pub int_literal : Expr → Option ℕ
 int_literal (number p digits) = Some (number_behind 0 digits)
 int_literal _ = None
 
 -- ---- comparisons
 
+-- what `in` comes to on each member of its right operand's type
 abbrev pub contain_offers : Tree → List Offer
 contain_offers t = map contain_member (members t)
 
@@ -105,6 +114,7 @@ compare_mark bases In s t = offers_mark bases (contain_offers t)
 compare_mark bases NotIn s t = offers_mark bases (contain_offers t)
 compare_mark bases _ s t = order_mark bases s t
 
+-- what the left operand of a comparison flows into: with `in` and `not in` what the right one takes, else nothing
 abbrev pub compare_types : ComparisonOperator → Tree → List Tree
 compare_types In t = operand_types (contain_offers t)
 compare_types NotIn t = operand_types (contain_offers t)
@@ -118,6 +128,7 @@ callee_of ctx env g (name n) m = name_callee ctx env g (ctx.resolve n.text)
 callee_of ctx env g (attribute p e field) m = if ctx.in_body then method_callee ctx g field.text (type_of e m.object) else value_callee (in_error E03)
 callee_of ctx env g e m = if ctx.in_body then value_callee (mark_of e m) else value_callee (in_error E03)
 
+-- the name means the built-in `len`
 abbrev pub is_length : Res → Test
 is_length (res.Builtin builtin.Len) = true
 is_length _ = false
@@ -127,6 +138,7 @@ abbrev pub is_length_of_one : Given → (List ℕ → Res) → Expr → Test
 is_length_of_one g resolve (name n) = is_length (resolve n.text) && is_one g
 is_length_of_one g resolve _ = false
 
+-- the label of a call: of a test of an instance, of `len` with one argument, or of any other call
 abbrev pub whole_call_mark : Context → Env → Expr → Exprs → Keywords → List CallOffer → List Tree → Mark
 whole_call_mark ctx env callee arguments keywords offers types =
     if is_instance_test callee arguments keywords
@@ -144,13 +156,16 @@ abbrev pub whole_second_code : Context → Expr → (arguments : Exprs) → Keyw
 whole_second_code ctx callee arguments keywords m =
     if is_instance_test callee arguments keywords then second_code (test_of_argument ctx.resolve (second_argument arguments)) (late_second arguments m) else None
 
+-- the seat of an argument by name, behind arguments of these names: nowhere where its own is among them
 abbrev pub keyword_seat : (List ℕ → Seat) → List (List ℕ) → Name → Seat
 keyword_seat seat before n = if is_among n.text before then nowhere else seat n.text
 
 -- ---- each form's rule
 
 module _ (ctx : Context) (declared : List Tree) where
+  -- the labels are lawful: of an expression, of items, of the entries of a dict, of arguments by name
   abbrev mutual
+    -- an expression obeys its form's rule, in an environment and with the type that is expected of it
     pub Lawful : Env → (want : Option Tree) → (e : Expr) → Marks e → Type 0
     Lawful env want (name n) m = m ≡ name_mark ctx env (ctx.resolve n.text)
     Lawful env want (number p digits) m = m ≡ clean Int
@@ -228,6 +243,7 @@ module _ (ctx : Context) (declared : List Tree) where
       second : m.second ≡ whole_second_code ctx c args kws m.arguments;
     }
 
+    -- items or arguments by position are lawful, each for the seat at its position
     pub LawfulItems : Env → (seat : ℕ → Seat) → (es : Exprs) → ItemsMarks es → Type 0
     LawfulItems env seat no_exprs m = Unit {0}
     LawfulItems env seat (more_exprs e rest) m = record {
@@ -236,6 +252,7 @@ module _ (ctx : Context) (declared : List Tree) where
       rest : LawfulItems env (λ i. seat (suc i)) rest m.rest;
     }
 
+    -- the entries of a dict are lawful, each key and each value for its seat
     pub LawfulEntries : Env → (key value : Seat) → (es : Entries) → EntriesMarks es → Type 0
     LawfulEntries env k v no_entries m = Unit {0}
     LawfulEntries env k v (more_entries a b rest) m = record {

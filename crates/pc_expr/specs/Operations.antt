@@ -20,6 +20,7 @@ pub record Mark : Type 0 where
   pub type : Tree
   pub codes : List Code
 
+-- a label of this type at which nothing is found
 abbrev pub clean : Tree → Mark
 clean t = record { type = t; codes = [] }
 
@@ -27,6 +28,7 @@ clean t = record { type = t; codes = [] }
 abbrev pub in_error : Code → Mark
 in_error code = record { type = Any; codes = code ∷ [] }
 
+-- one of the codes is an error
 abbrev pub has_error : List Code → Test
 has_error codes = list_any is_error codes
 
@@ -36,15 +38,19 @@ pub record Offer : Type 0 where
   pub gives : Tree
   pub takes : List Tree
 
+-- an operation that suits a member: it gives this type, and its operand flows into these
 abbrev pub suits : Tree → List Tree → Offer
 suits gives takes = record { found = []; gives = gives; takes = takes }
 
+-- an operation on Any: a dynamic place with this code, which gives this type
 abbrev pub unsure : Code → Tree → Offer
 unsure code gives = record { found = code ∷ []; gives = gives; takes = [] }
 
+-- an operation in error with this code, which gives Any
 abbrev pub suits_not : Code → Offer
 suits_not code = record { found = code ∷ []; gives = Any; takes = [] }
 
+-- the codes found on all members, in order
 abbrev pub found_of : List Offer → List Code
 found_of offers = flat_map (λ o. o.found) offers
 
@@ -77,6 +83,7 @@ index_member bases literal _ = suits_not E16
 
 -- ---- e.f
 
+-- what reading a name of an instance comes to: of a field, of a method, of neither
 abbrev pub attribute_found : Option Parameter → Option Method → Offer
 attribute_found (Some f) m = suits f.type []
 attribute_found None (Some m) = suits_not E20
@@ -90,11 +97,13 @@ attribute_member classes name _ = suits_not E15
 
 -- ---- e.f = v, e[i] = v
 
+-- what storing to a name of an instance comes to: of a field, of a method, of neither
 abbrev pub store_found : Option Parameter → Option Method → Offer
 store_found (Some f) m = suits f.type (f.type ∷ [])
 store_found None (Some m) = suits_not E23
 store_found None None = suits_not E15
 
+-- a field of an instance takes a value of its type; a method's name takes none
 abbrev pub store_attribute_member : List facts.Class → List ℕ → Tree → Offer
 store_attribute_member classes name (Class c) = store_found (field_of (class_at classes c).fields name) (method_of (class_at classes c).methods name)
 store_attribute_member classes name Any = unsure A4 Any
@@ -111,6 +120,7 @@ store_index_member _ = suits_not E17
 abbrev pub stored_type : Offer → List Tree
 stored_type o = if list_any (λ c. true) o.found then [] else o.gives ∷ []
 
+-- what a stored value flows into on all members, nothing where one of them is in error
 abbrev pub stored_types : List Offer → List Tree
 stored_types offers = if has_error (found_of offers) then [] else flat_map stored_type offers
 
@@ -143,6 +153,7 @@ contain_member _ = suits_not E19
 
 -- ---- len(e)
 
+-- a text, a list, a dict and a tuple have a length
 abbrev pub length_member : Tree → Offer
 length_member Str = suits Int []
 length_member (ListOf t) = suits Int []
@@ -164,6 +175,7 @@ negative_member _ = suits_not E13
 pub data Kind : Type 0 where
   whole_kind text_kind : Kind
 
+-- the kind of a type, if operators take it; bool counts as int
 abbrev pub kind_of : Tree → Option Kind
 kind_of Int = Some whole_kind
 kind_of Bool = Some whole_kind
@@ -176,15 +188,17 @@ takes_kind operator whole_kind = true
 takes_kind Add text_kind = true
 takes_kind operator text_kind = false
 
+-- the type of a kind
 abbrev pub kind_type : Kind → Tree
 kind_type whole_kind = Int
 kind_type text_kind = Str
 
--- a type has a row on its side
+-- there is a kind, and the operator takes it
 abbrev pub kind_taken : (Kind → Test) → Option Kind → Test
 kind_taken takes None = false
 kind_taken takes (Some k) = takes k
 
+-- a member is of a kind that the operator takes
 abbrev pub has_side : (Kind → Test) → Tree → Test
 has_side takes m = kind_taken takes (kind_of m)
 
@@ -199,13 +213,16 @@ abbrev pub pair_found : Option Tree → Offer
 pair_found (Some t) = suits t []
 pair_found None = suits_not E13
 
+-- what an operator comes to on each pair of a member of the left type and one of the right
 abbrev pub pair_offers : (Kind → Test) → (Kind → Tree) → List Tree → List Tree → List Offer
 pair_offers takes gives ms ns = flat_map (λ m. map (λ n. pair_found (row_of_kinds takes gives (kind_of m) (kind_of n))) ns) ms
 
+-- the type is Never
 abbrev pub is_never : Tree → Test
 is_never Never = true
 is_never _ = false
 
+-- the type is Any
 abbrev pub is_any : Tree → Test
 is_any Any = true
 is_any _ = false

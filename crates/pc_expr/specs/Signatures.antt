@@ -16,6 +16,7 @@ use Rattle.pc_class.specs.Facts.{parameters_of, returned, classes_of}
 use Rattle.pc_expr.specs.Context.{Context, Signature, Flows}
 use Rattle.pc_expr.specs.Labels.{IsCodeAt}
 
+-- a function of a module as what is called
 abbrev pub signature_of : Module → FuncDef → Signature
 signature_of m f = record { parameters = parameters_of m f.params; returns = returned m f; takes_names = true }
 
@@ -49,6 +50,7 @@ initializer_context m constants classes = record {
 
 -- ---- defaults
 
+-- the type of a default's literal
 abbrev pub literal_type : Literal → Tree
 literal_type (number_literal p digits) = Int
 literal_type (negative_literal p digits) = Int
@@ -56,6 +58,7 @@ literal_type (text_literal p characters) = Str
 literal_type (truth_literal p value) = Bool
 literal_type (none_literal p) = NoneType
 
+-- the place of a default's literal
 abbrev pub literal_place : Literal → Place
 literal_place (number_literal p digits) = p
 literal_place (negative_literal p digits) = p
@@ -69,6 +72,7 @@ LawfulDefault bases binds None t code = code ≡ None
 LawfulDefault bases false (Some l) t code = code ≡ None
 LawfulDefault bases true (Some l) t code = Flows bases (literal_type l) t code
 
+-- what is found at a default: the code of its flow, at the literal
 abbrev pub DefaultFinds : Option Literal → Option Code → Finding → Type 0
 DefaultFinds None code f = ⊥
 DefaultFinds (Some l) code f = IsCodeAt (literal_place l) code f
@@ -82,6 +86,7 @@ abbrev pub ParamsMarks : List Param → Type 0
 ParamsMarks [] = Unit {0}
 ParamsMarks (p ∷ ps) = record { default : Option Code; rest : ParamsMarks ps }
 
+-- the default of each parameter is lawful, behind parameters of these names
 abbrev pub LawfulParams : Module → (before : List (List ℕ)) → (ps : List Param) → ParamsMarks ps → Type 0
 LawfulParams m before [] marks = Unit {0}
 LawfulParams m before (p ∷ ps) marks = record {

@@ -37,6 +37,7 @@ abbrev pub join_onto : Bases → Tree → List Tree → Tree
 join_onto bases s [] = s
 join_onto bases s (t ∷ ts) = join_onto bases (join_or_object bases s t) ts
 
+-- the join of several types from the left; of no types Never
 abbrev pub join_all : Bases → List Tree → Tree
 join_all bases ts = join_onto bases Never ts
 
@@ -46,6 +47,7 @@ join_local bases d None t = None
 join_local bases d (Some s) None = None
 join_local bases d (Some s) (Some t) = Some (unwrap_or (join bases s t) d)
 
+-- two environments where their ways meet, local by local
 abbrev pub join_env : Bases → List Tree → Env → Env → Env
 join_env bases (d ∷ ds) (s ∷ ss) (t ∷ ts) = join_local bases d s t ∷ join_env bases ds ss ts
 join_env bases _ _ _ = []
@@ -60,11 +62,12 @@ abbrev pub join_ways : Bases → List Tree → List Env → Option Env
 join_ways bases ds [] = None
 join_ways bases ds (e ∷ es) = Some (join_envs_onto bases ds e es)
 
--- at the head of a loop each assigned local that the body binds has its declared type
+-- a local at the head of a loop: if it is assigned, its declared type where the loop binds it, else its current one
 abbrev pub head_local : Bool → Tree → Option Tree → Option Tree
 head_local bound d None = None
 head_local bound d (Some t) = Some (if bound then d else t)
 
+-- the environment at the head of a loop, from the one before it and the locals that the loop binds
 abbrev pub loop_head : (bound : ℕ → Bool) → List Tree → Env → Env
 loop_head bound (d ∷ ds) (s ∷ ss) = head_local (bound zero) d s ∷ loop_head (λ x. bound (suc x)) ds ss
 loop_head bound _ _ = []

@@ -55,9 +55,11 @@ member_failing bases _ m = Some m
 abbrev pub passing : Bases → Tested → Tree → Tree
 passing bases test t = union (filter_map (member_passing bases test) (members t))
 
+-- a type where a test of it is false
 abbrev pub failing : Bases → Tested → Tree → Tree
 failing bases test t = union (filter_map (member_failing bases test) (members t))
 
+-- a type where a test of it holds, or where it does not
 abbrev pub tested_as : Bases → (holds : Test) → Tested → Tree → Tree
 tested_as bases true test t = passing bases test t
 tested_as bases false test t = failing bases test t
@@ -67,20 +69,22 @@ abbrev pub narrow_current : Bases → (holds : Test) → Tested → ℕ → Env 
 narrow_current bases holds test x env None = env
 narrow_current bases holds test x env (Some t) = assign env x (tested_as bases holds test t)
 
+-- an environment as a test of a local leaves it; without a local it stays
 abbrev pub narrow_local : Bases → (holds : Test) → Tested → Option ℕ → Env → Env
 narrow_local bases holds test None env = env
 narrow_local bases holds test (Some x) env = narrow_current bases holds test x env (current env x)
 
--- the local that an expression is
+-- the local that a name means, if it means one
 abbrev pub as_local : Res → Option ℕ
 as_local (res.Local x) = Some x
 as_local _ = None
 
+-- the local that an expression names, if it is a name of one
 abbrev pub local_named : (List ℕ → Res) → Expr → Option ℕ
 local_named resolve (name n) = as_local (resolve n.text)
 local_named resolve _ = None
 
--- what the second argument of `isinstance` tests for: a class, `int`, `str`, `bool`, `list`
+-- what `isinstance` tests for by a name that means this: a class, `int`, `str`, `bool`, `list`, and else nothing
 abbrev pub test_named : Res → Option Tested
 test_named (res.Class c) = Some (for_type (Class c))
 test_named (res.Builtin builtin.Int) = Some (for_type Int)
@@ -89,6 +93,7 @@ test_named (res.Builtin builtin.Bool) = Some (for_type Bool)
 test_named (res.Builtin builtin.List) = Some for_list
 test_named _ = None
 
+-- what an expression that stands second in `isinstance` tests for, if it tests for anything
 abbrev pub test_of : (List ℕ → Res) → Expr → Option Tested
 test_of resolve (name n) = test_named (resolve n.text)
 test_of resolve _ = None
@@ -98,19 +103,23 @@ abbrev pub first_argument : Exprs → Option Expr
 first_argument no_exprs = None
 first_argument (more_exprs e rest) = Some e
 
+-- the second argument by position, if there is one
 abbrev pub second_argument : Exprs → Option Expr
 second_argument no_exprs = None
 second_argument (more_exprs e rest) = first_argument rest
 
+-- the local that an argument names, if there is such an argument
 abbrev pub local_of_argument : (List ℕ → Res) → Option Expr → Option ℕ
 local_of_argument resolve None = None
 local_of_argument resolve (Some e) = local_named resolve e
 
+-- what a second argument tests for, if there is one and it tests for anything
 abbrev pub test_of_argument : (List ℕ → Res) → Option Expr → Option Tested
 test_of_argument resolve None = None
 test_of_argument resolve (Some e) = test_of resolve e
 
 module _ (bases : Bases) (declared : List Tree) (resolve : List ℕ → Res) where
+  -- an environment as a test of an instance leaves it; a call that is no such test, or tests for nothing, changes nothing
   abbrev pub narrow_instance : (holds : Test) → (is_test : Test) → Option ℕ → Option Tested → Env → Env
   narrow_instance holds false x test env = env
   narrow_instance holds true x None env = env

@@ -44,10 +44,12 @@ abbrev pub method_among : List ℕ → List Function → Option Function
 method_among m [] = None
 method_among m (f ∷ rest) = if same_text f.name.text m then Some f else method_among m rest
 
+-- the method that a class has by a name, if there is a class and it has one
 abbrev pub method_of_class : List ℕ → Option Class → Option Function
 method_of_class m None = None
 method_of_class m (Some c) = method_among m c.methods
 
+-- the class that a number names among those made so far, if there is one
 abbrev pub class_at : List Class → Option ℕ → Option Class
 class_at classes None = None
 class_at classes (Some c) = slice_get classes c
@@ -56,11 +58,13 @@ class_at classes (Some c) = slice_get classes c
 abbrev pub method_of : State → Value → List ℕ → Option Function
 method_of s v m = method_of_class m (class_at s.classes (class_of s.heap v))
 
+-- the built-in method that a list or a dict has by a name
 abbrev pub builtin_method_of : Seen → List ℕ → Option BuiltinMethod
 builtin_method_of (a_list l items) m = if same_text m (codes "append") then Some list_append else if same_text m (codes "pop") then Some list_pop else None
 builtin_method_of (a_dict l entries) m = if same_text m (codes "get") then Some dict_get else None
 builtin_method_of v m = None
 
+-- an object's method as a callee: that of its class, else a built-in one
 abbrev pub callee_of_method : Value → Option Function → Option BuiltinMethod → Option Callee
 callee_of_method v (Some f) b = Some (calls_method v f)
 callee_of_method v None (Some b) = Some (calls_builtin_method v b)
@@ -75,10 +79,12 @@ pub record NamedValue : Type 0 where
   pub name : List ℕ
   pub value : Value
 
+-- the value of the first argument by this name, if there is one
 abbrev pub value_named : List ℕ → List NamedValue → Option Value
 value_named n [] = None
 value_named n (a ∷ rest) = if same_text a.name n then Some a.value else value_named n rest
 
+-- whether one of the parameters has this name
 abbrev pub is_parameter : List ℕ → List Parameter → Bool
 is_parameter n [] = false
 is_parameter n (p ∷ rest) = same_text p.name n || is_parameter n rest
@@ -88,6 +94,7 @@ abbrev pub are_parameters : List NamedValue → List Parameter → Bool
 are_parameters [] parameters = true
 are_parameters (a ∷ rest) parameters = is_parameter a.name parameters && are_parameters rest parameters
 
+-- the first of two values if it is there, else the second
 abbrev pub first_some : {A : Type 0} → Option A → Option A → Option A
 first_some (Some a) second = Some a
 first_some None second = second
@@ -120,11 +127,12 @@ abbrev pub suited : Option (List Local) → Out (List Local)
 suited None = Stops (Raised TypeError)
 suited (Some locals) = Gives locals
 
--- the fields of a new instance, from the values that its class's fields took
+-- a field with its value before others, where it has one
 abbrev pub slot_before : List ℕ → Option Value → List Slot → List Slot
 slot_before n None rest = rest
 slot_before n (Some v) rest = record { name = n; value = v } ∷ rest
 
+-- the fields of a new instance, one for each local that has a value
 abbrev pub slots_of : List Local → List Slot
 slots_of [] = []
 slots_of (l ∷ rest) = slot_before l.name l.value (slots_of rest)
@@ -143,14 +151,17 @@ pub data ReservedCall : Type 0 where
   prints : ReservedCall
   performs : (action : Action) → ReservedCall
 
+-- `len` of one argument; another count is TypeError
 abbrev pub length_call : List Value → Out ReservedCall
 length_call (v ∷ []) = Gives (performs (length_of v))
 length_call values = Stops (Raised TypeError)
 
+-- `str` of one argument; another count is out of the profile
 abbrev pub text_call : List Value → Out ReservedCall
 text_call (v ∷ []) = Gives (performs (text_of v))
 text_call values = Stops Outside
 
+-- a call of a reserved name with these arguments: what it does, or how it stops the run
 abbrev pub reserved_call : List ℕ → List Value → List NamedValue → Out ReservedCall
 reserved_call n values (a ∷ rest) = Stops Outside
 reserved_call n values [] = if same_text n (codes "print") then Gives prints else if same_text n (codes "len") then length_call values else if same_text n (codes "str") then text_call values else if same_text n (codes "isinstance") then Stops (Raised TypeError) else Stops Outside
@@ -169,19 +180,23 @@ pub data Test : Type 0 where
 abbrev pub test_of_reserved : List ℕ → Out Test
 test_of_reserved n = if same_text n (codes "int") then Gives tests_int else if same_text n (codes "str") then Gives tests_str else if same_text n (codes "bool") then Gives tests_bool else if same_text n (codes "list") then Gives tests_list else Stops Outside
 
+-- what a name as the second argument of `isinstance` tests for, by what the name means
 abbrev pub test_of_meaning : List ℕ → Meaning → Out Test
 test_of_meaning n (means_class c) = Gives (tests_class c)
 test_of_meaning n means_reserved = test_of_reserved n
 test_of_meaning n m = Stops Outside
 
+-- what the second argument of `isinstance` tests for; one that is no name is out of the profile
 abbrev pub test_of : Expr → State → Out Test
 test_of (name n) s = test_of_meaning n.text (meaning n.text s)
 test_of e s = Stops Outside
 
+-- whether this number is among those of a class and its ancestors
 abbrev pub is_ancestor : ℕ → List ℕ → Bool
 is_ancestor c [] = false
 is_ancestor c (d ∷ rest) = nat_eq d c || is_ancestor c rest
 
+-- whether a class, if there is one, is the class of this number or descends from it
 abbrev pub descends_from : ℕ → Option Class → Bool
 descends_from c None = false
 descends_from c (Some d) = is_ancestor c d.ancestors

@@ -32,6 +32,7 @@ pub data CallForm : Type 0 where
   instance_test : (callee : Name) (object test : Expr) → CallForm
   ordinary : CallForm
 
+-- the form of a call, by its callee and its arguments
 abbrev pub call_form : Expr → Exprs → Keywords → CallForm
 call_form (name n) (more_exprs e (more_exprs t no_exprs)) no_keywords = if same_text n.text (codes "isinstance") then instance_test n e t else ordinary
 call_form callee arguments by_name = ordinary
@@ -41,6 +42,7 @@ pub data IterableForm : Type 0 where
   range_call : (place : Place) (callee : Name) (arguments : Exprs) (keywords : Keywords) → IterableForm
   any_iterable : IterableForm
 
+-- the form of what a `for` goes over: a call of the name `range`, or any other expression
 abbrev pub iterable_form : Expr → IterableForm
 iterable_form (call p (name n) arguments keywords) = if same_text n.text (codes "range") then range_call p n arguments keywords else any_iterable
 iterable_form e = any_iterable
@@ -54,10 +56,12 @@ abbrev pub fields_of : Option Class → List Parameter
 fields_of None = []
 fields_of (Some c) = c.fields
 
+-- the methods of a class
 abbrev pub methods_of : Option Class → List Function
 methods_of None = []
 methods_of (Some c) = c.methods
 
+-- the numbers of a class and its ancestors
 abbrev pub ancestors_of : Option Class → List ℕ
 ancestors_of None = []
 ancestors_of (Some c) = c.ancestors
@@ -73,6 +77,7 @@ base_of_meaning (means_class c) = Gives (Some c)
 base_of_meaning means_nothing = Stops (Raised NameError)
 base_of_meaning m = Stops Outside
 
+-- the number of the base that a class names, if it names one
 abbrev pub base_of : Option Name → State → Out (Option ℕ)
 base_of None s = Gives None
 base_of (Some n) s = base_of_meaning (meaning n.text s)
@@ -104,9 +109,11 @@ class_behind base own n = record { ancestors = n ∷ ancestors_of base; fields =
 abbrev pub binds_local : List ℕ → Value → State → State
 binds_local n v s = record s { frame = with_local n v s.frame }
 
+-- the state after the module bound a name
 abbrev pub binds_global : List ℕ → Bound → State → State
 binds_global n b s = record s { globals = s.globals ++ record { name = n; is = b } ∷ [] }
 
+-- the state after a class was made and its name was bound to its number
 abbrev pub binds_class : List ℕ → Class → State → State
 binds_class n c s = record s { classes = s.classes ++ c ∷ []; globals = s.globals ++ record { name = n; is = a_class (length s.classes) } ∷ [] }
 
@@ -114,6 +121,7 @@ module _ {ℓ} (Step : Type 0 → Type ℓ) (reading : Reading Step) where
   infixl 20 ◌>>=◌ ◌>>◌
   open reading use {pure, ◌>>=◌, stop, charge, emit, look, change, act, enter}
 
+  -- one step and then another, whatever value the first one came to
   abbrev pub ◌>>◌ : {A B : Type 0} → Step A → Step B → Step B
   m >> n = m >>= λ a. n
 
@@ -201,6 +209,7 @@ module _ {ℓ} (Step : Type 0 → Type ℓ) (reading : Reading Step) where
     arguments ← answer (suited (bound_arguments fields values named))
     act value_out (action.new_instance c (slots_of arguments))
 
+  -- what a call of a reserved name gives: None for `print`, else what its action gives
   abbrev pub do_reserved : ReservedCall → Step Value
   do_reserved prints = pure value.none
   do_reserved (performs a) = act value_out a
@@ -363,6 +372,7 @@ module _ {ℓ} (Step : Type 0 → Type ℓ) (reading : Reading Step) where
     v ← parts.eval e
     act iteration_out (action.iterate v)
 
+  -- a statement: its expressions, what it binds or stores, its suites, and how it ends
   abbrev pub exec_node : Parts Step → Stmt → Step Flow
   exec_node parts (pass p) = pure next
   exec_node parts (breaks p) = pure breaking
@@ -438,6 +448,7 @@ module _ {ℓ} (Step : Type 0 → Type ℓ) (reading : Reading Step) where
     flow ← exec_body exec body
     after_turn flow more
 
+  -- a turn of a `for`, counted from 0: the action that gives its item, then the turn with it
   abbrev pub for_turn : (Stmts → Step Flow) → Step Flow → Iteration → ℕ → List ℕ → Stmts → Step Flow
   for_turn exec more over i n body = do
     item ← act item_out (action.turn over i)
@@ -445,12 +456,13 @@ module _ {ℓ} (Step : Type 0 → Type ℓ) (reading : Reading Step) where
 
   -- ---- nested steps
 
-  -- an expression, a suite and the turns of loops, over parts of one step less
+  -- an expression, whose parts take one nested step less: its charge, and then the node
   abbrev pub eval_over : Parts Step → Expr → Step Value
   eval_over parts e = do
     charge
     eval_node parts e
 
+  -- the parts that take one nested step more than these
   abbrev pub over_parts : Parts Step → Parts Step
   over_parts parts = record {
     eval = eval_over parts;
@@ -474,6 +486,7 @@ module _ {ℓ} (Step : Type 0 → Type ℓ) (reading : Reading Step) where
   make_literal (truth_literal p b) = pure (boolean b)
   make_literal (none_literal p) = pure value.none
 
+  -- the default of a parameter or a field, if it has one
   abbrev pub make_default : Option Literal → Step (Option Value)
   make_default None = pure None
   make_default (Some l) = do
@@ -488,6 +501,7 @@ module _ {ℓ} (Step : Type 0 → Type ℓ) (reading : Reading Step) where
     others ← make_parameters rest
     pure (record { name = p.name.text; default = default } ∷ others)
 
+  -- a def makes a function: its parameters with their defaults
   abbrev pub make_function : FuncDef → Step Function
   make_function f = do
     parameters ← make_parameters f.params
@@ -539,6 +553,7 @@ module _ {ℓ} (Step : Type 0 → Type ℓ) (reading : Reading Step) where
     called ← look (λ s. callee_of_meaning (codes "main") (meaning (codes "main") s))
     call_callee parts called [] []
 
+  -- a module runs: its items, then `main`
   abbrev pub exec_module : Parts Step → Module → Step Value
   exec_module parts m = do
     exec_items parts m.imports_dataclass m.items

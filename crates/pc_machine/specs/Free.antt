@@ -30,6 +30,7 @@ pub record StoppedIn {A B : Type 0} (first : Step A) (s : State) (events : List 
   pub is : out ≡ Stops stop
 
 infixl 20 ◌>>=◌
+-- one step and then another; where the first ends the run, that is the end of both
 abbrev pub ◌>>=◌ : {A B : Type 0} → Step A → (A → Step B) → Step B
 (first >>= next) s events out s' = WentOn first next s events out s' ⊎ StoppedIn first s events out s'
 
@@ -39,6 +40,7 @@ pub record Comes {A : Type 0} (to : Out A) (s : State) (events : List Place) (ou
   pub quiet : events ≡ []
   pub same : s' ≡ s
 
+-- a step that does nothing but come to this
 abbrev pub comes : {A : Type 0} → Out A → Step A
 comes to = Comes to
 
@@ -46,6 +48,7 @@ comes to = Comes to
 abbrev pub may_end : {A : Type 0} → Step A
 may_end s events out s' = Comes (Stops Other) s events out s' ⊎ Comes (Stops Cut) s events out s'
 
+-- it goes on and nothing changes; or it ends in another exception, or is cut off
 abbrev pub may_stop : Step (Unit {0})
 may_stop s events out s' = Comes (Gives tt) s events out s' ⊎ may_end s events out s'
 
@@ -62,11 +65,13 @@ pub record Emits (place : Place) (s : State) (events : List Place) (out : Out (U
   pub event : events ≡ place ∷ []
   pub same : s' ≡ s
 
+-- no place is evaluated, the state stays, and it comes to what the state says
 pub record Looks {A : Type 0} (f : State → Out A) (s : State) (events : List Place) (out : Out A) (s' : State) : Type 0 where
   pub is : out ≡ f s
   pub quiet : events ≡ []
   pub same : s' ≡ s
 
+-- no place is evaluated, and the state changes
 pub record Changes (f : State → State) (s : State) (events : List Place) (out : Out (Unit {0})) (s' : State) : Type 0 where
   pub is : out ≡ Gives tt
   pub quiet : events ≡ []
@@ -85,15 +90,19 @@ pub record Enters {A : Type 0} (frame : Frame) (body : Step A) (s : State) (even
   pub runs : body (record s { frame = frame }) events out left
   pub after : s' ≡ record left { frame = s.frame }
 
+-- what the state says; or it ends in another exception, or is cut off
 abbrev pub look : {A : Type 0} → (State → Out A) → Step A
 look f s events out s' = Looks f s events out s' ⊎ may_end s events out s'
 
+-- an action at any free answers; or it ends in another exception, or is cut off
 abbrev pub act : {A : Type 0} → (Outcome → Out A) → Action → Step A
 act want a s events out s' = Acts want a s events out s' ⊎ may_end s events out s'
 
+-- a body runs in a frame of its own; or it ends in another exception, or is cut off
 abbrev pub enter : {A : Type 0} → Frame → Step A → Step A
 enter frame body s events out s' = Enters frame body s events out s' ⊎ may_end s events out s'
 
+-- the text read as what may happen
 abbrev pub free : Reading Step
 free = record {
   pure = λ a. comes (Gives a);

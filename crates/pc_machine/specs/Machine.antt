@@ -59,6 +59,7 @@ literal_value (text_literal p bytes) = Some (string (chars bytes))
 literal_value (truth_literal p b) = Some (boolean b)
 literal_value (none_literal p) = Some none
 
+-- the value of a default, where there is a default and it has a value
 abbrev pub default_value : Option Literal → Option Value
 default_value None = None
 default_value (Some l) = literal_value l
@@ -73,49 +74,62 @@ function_of f = record { name = f.name; parameters = map parameter_of_param f.pa
 
 -- ---- what the program's states are
 
+-- the value of a default that the program holds, where there is one and it has a value
 abbrev pub default_of : Option (Bor RustLiteral) → Option Value
 default_of None = None
 default_of (Some l) = literal_value (literal_of l.now)
 
+-- a parameter or a field with the value of its default, as the program holds it
 abbrev pub parameter_of : RustParameter → Parameter
 parameter_of p = record { name = p.name.now; default = default_of p.default }
 
+-- the function or method that a def of the program makes
 abbrev pub method_of_def : Bor RustFuncDef → Function
 method_of_def f = function_of (func_of f.now)
 
+-- a class with its ancestors, fields and methods, as the program holds it
 abbrev pub class_of : RustClass → Class
 class_of c = record { ancestors = c.ancestors.items; fields = map parameter_of c.fields.items; methods = map method_of_def c.methods.items }
 
+-- what the module binds to a name, as the program holds it
 abbrev pub bound_of : RustBound → Bound
 bound_of (rust_bound.Value v) = a_value (value_of v)
 bound_of (rust_bound.Function f) = a_function (function_of (func_of f.now))
 bound_of (rust_bound.Class c) = a_class c
 
+-- a name that the module has bound, as the program holds it
 abbrev pub global_of : RustGlobal → Global
 global_of g = record { name = g.name.now; is = bound_of g.bound }
 
+-- a value that may be missing, as the program holds it
 abbrev pub item_of : Option RustValue → Option Value
 item_of None = None
 item_of (Some v) = Some (value_of v)
 
+-- a local with its value where it is bound, as the program holds it
 abbrev pub local_of : RustLocal → Local
 local_of l = record { name = l.name.now; value = item_of l.value }
 
+-- an argument by name, as the program holds it
 abbrev pub named_of : RustNamedValue → NamedValue
 named_of a = record { name = a.name.now; value = value_of a.value }
 
+-- how a statement ends, as the program tells it
 abbrev pub flow_of : RustFlow → Flow
 flow_of rust_flow.Next = next
 flow_of rust_flow.Breaking = breaking
 flow_of rust_flow.Continuing = continuing
 flow_of (rust_flow.Leaves v) = leaves (value_of v)
 
+-- the state of a run that a machine holds
 abbrev pub state_of : Machine → State
 state_of m = record { classes = map class_of m.classes.items; globals = map global_of m.globals.items; frame = map local_of m.frame.items; heap = heap_of m.heap }
 
+-- the plain run so far that a machine holds
 abbrev pub progress_of : Machine → Progress
 progress_of m = record { state = state_of m; events = m.events.items; fuel = m.fuel; choices = m.choices.now; depth = m.depth.calls }
 
+-- how a run stops before its time, as the program tells it
 abbrev pub stop_of : RustStop → Stop
 stop_of (rust_stop.Raised e) = Raised (exception_of e)
 stop_of rust_stop.Other = Other
@@ -145,10 +159,12 @@ pub record Performs (o : RustOutcome) (m : Machine) (a : Action) (w : Progress) 
 
 -- ---- names
 
+-- the local that the program found, if it found one, with its value if it is bound
 abbrev pub found_local : Option (Bor RustLocal) → Option (Option Value)
 found_local None = None
 found_local (Some l) = Some (item_of l.now.value)
 
+-- what the program found that the module has bound to a name, if anything
 abbrev pub found_global : Option (Bor RustBound) → Option Bound
 found_global None = None
 found_global (Some b) = Some (bound_of b.now)
@@ -164,22 +180,27 @@ meaning_seen rust_meaning.Nothing = means_nothing
 
 -- ---- calls
 
+-- the value that the program found, if it found one
 abbrev pub value_seen : Option (Bor RustValue) → Option Value
 value_seen None = None
 value_seen (Some v) = Some (value_of v.now)
 
+-- the parameters with their values that the program collected, where the arguments suited them
 abbrev pub locals_of : Option (Vec RustLocal Allocator) → Option (List Local)
 locals_of None = None
 locals_of (Some ls) = Some (map local_of ls.items)
 
+-- the locals of a frame, as the program holds them
 abbrev pub frame_of_vec : Vec RustLocal Allocator → Frame
 frame_of_vec ls = map local_of ls.items
 
+-- a built-in method, as the program tells it
 abbrev pub method_seen : RustBuiltinMethod → BuiltinMethod
 method_seen rust_method.ListAppend = list_append
 method_seen rust_method.ListPop = list_pop
 method_seen rust_method.DictGet = dict_get
 
+-- what a callee turns out to be, as the program tells it
 abbrev pub callee_seen : RustCallee → Callee
 callee_seen (rust_callee.Value v) = calls_value (value_of v)
 callee_seen (rust_callee.Function f) = calls_function (method_of_def f)
@@ -188,18 +209,22 @@ callee_seen (rust_callee.Reserved n) = calls_reserved n.now
 callee_seen (rust_callee.Method o f) = calls_method (value_of o) (method_of_def f)
 callee_seen (rust_callee.BuiltinMethod o m) = calls_builtin_method (value_of o) (method_seen m)
 
+-- the method that the program found, if it found one
 abbrev pub found_method : Option (Bor RustFuncDef) → Option Function
 found_method None = None
 found_method (Some f) = Some (method_of_def f)
 
+-- the class that the program found, if it found one
 abbrev pub found_class : Option (Bor RustClass) → Option Class
 found_class None = None
 found_class (Some c) = Some (class_of c.now)
 
+-- the built-in method that the program found, if it found one
 abbrev pub found_builtin : Option RustBuiltinMethod → Option BuiltinMethod
 found_builtin None = None
 found_builtin (Some m) = Some (method_seen m)
 
+-- what `isinstance` tests for, as the program tells it
 abbrev pub test_seen : RustTest → Test
 test_seen rust_test.Int = tests_int
 test_seen rust_test.Str = tests_str

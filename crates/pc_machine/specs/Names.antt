@@ -19,6 +19,7 @@ abbrev mutual
   names_bound no_stmts = []
   names_bound (more_stmts s rest) = names_bound_by s ++ names_bound rest
 
+  -- the names that one statement binds, with those of its suites
   pub names_bound_by : Stmt → List (List ℕ)
   names_bound_by (pass p) = []
   names_bound_by (breaks p) = []
@@ -32,6 +33,7 @@ abbrev mutual
   names_bound_by (for_loop p n e body) = n.text ∷ names_bound body
   names_bound_by (conditional p branches otherwise) = names_bound_in branches ++ names_bound otherwise
 
+  -- the names that the suites behind `if` and `elif` bind
   pub names_bound_in : Branches → List (List ℕ)
   names_bound_in no_branches = []
   names_bound_in (more_branches e body rest) = names_bound body ++ names_bound_in rest
@@ -68,6 +70,7 @@ pub data Meaning : Type 0 where
   means_reserved : Meaning
   means_nothing : Meaning
 
+-- what a name means that the module has bound to this
 abbrev pub meaning_of_bound : Bound → Meaning
 meaning_of_bound (a_value v) = means_value v
 meaning_of_bound (a_function f) = means_function f
@@ -79,6 +82,7 @@ meaning_of_global reserved (Some g) = meaning_of_bound g
 meaning_of_global true None = means_reserved
 meaning_of_global false None = means_nothing
 
+-- the local of a name, bound or not; where there is none, what the name means outside the function
 abbrev pub meaning_of_local : Meaning → Option (Option Value) → Meaning
 meaning_of_local outer None = outer
 meaning_of_local outer (Some None) = means_unbound

@@ -22,18 +22,23 @@ callee_in n e = text.eval_callee Step plain (plain_parts n) e
 abbrev pub callee_called : ℕ → Callee → List Value → List NamedValue → Step Value
 callee_called n callee values named = text.call_callee Step plain (plain_parts n) callee values named
 
+-- what `e.m` is as a callee, once e has its value and the event is left
 abbrev pub attribute_callee : Value → List ℕ → Step Callee
 attribute_callee v m w = text.callee_of_attribute Step plain v m (named_method w.state v m) w
 
+-- what `isinstance(e, T)` gives, once e has its value and the event is left
 abbrev pub instance_tested : Value → Expr → Step Value
 instance_tested v t w = and_then (comes (test_of t w.state) w) (λ test v'. Came (boolean (passes v'.state v test)) v')
 
+-- the store of `e.f = v`, once v and e have their values and the event is left
 abbrev pub attribute_stored : Value → List ℕ → Value → Step Flow
 attribute_stored o f v w = and_then (act value_out (action.store_attribute o f v) w) (λ stored w'. Came next w')
 
+-- the store of `e[i] = v`, once v, e and i have their values and the event is left
 abbrev pub item_stored : Value → Value → Value → Step Flow
 item_stored o k v w = and_then (act value_out (action.store_item o k v) w) (λ stored w'. Came next w')
 
+-- what a `for` goes over at `range(..)`, once the arguments have their values and the event is left
 abbrev pub range_begun : List Value → List NamedValue → Step Iteration
 range_begun values named w = and_then (comes (range_argument values named) w) (λ limit w'. act iteration_out (action.iterate_range limit) w')
 
@@ -47,6 +52,7 @@ abbrev pub entered_unless : Bool → Frame → Step Frame
 entered_unless true frame w = Ended Cut w
 entered_unless false frame w = Came w.state.frame (entered frame w)
 
+-- a function, or a method with its object, is entered with its arguments; what it comes to is the caller's frame
 abbrev pub opened : Function → Option Value → List Value → List NamedValue → Step Frame
 opened f None values named w = and_then (comes (suited (bound_arguments f.parameters values named)) w) (λ arguments w'. entered_unless (nat_eq w'.depth call_limit) (frame_of f arguments) w')
 opened f (Some object) values named w = and_then (comes (suited (bound_arguments f.parameters values named)) w) (λ arguments w'. and_then (entered_unless (nat_eq w'.depth call_limit) (frame_of f (self_local object ∷ arguments)) w') (λ caller w''. Came caller (emitted f.name.place w'')))

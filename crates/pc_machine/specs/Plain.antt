@@ -22,17 +22,21 @@ pub data After (A : Type 0) : Type 0 where
   Came : (value : A) (progress : Progress) → After A
   Ended : (stop : Stop) (progress : Progress) → After A
 
+-- what a plain run so far comes to by one step
 abbrev pub Step : Type 0 → Type 0
 Step A = Progress → After A
 
+-- the next step after one that came to a value; where the run has ended, its end
 abbrev pub and_then : {A B : Type 0} → After A → (A → Step B) → After B
 and_then (Came a w) next = next a w
 and_then (Ended stop w) next = Ended stop w
 
 infixl 20 ◌>>=◌
+-- one step and then another; where the first ends the run, that is the end of both
 abbrev pub ◌>>=◌ : {A B : Type 0} → Step A → (A → Step B) → Step B
 (first >>= next) w = and_then (first w) next
 
+-- a step that does nothing but come to this
 abbrev pub comes : {A : Type 0} → Out A → Step A
 comes (Gives a) w = Came a w
 comes (Stops stop) w = Ended stop w
@@ -42,21 +46,27 @@ abbrev pub charged : ℕ → Step (Unit {0})
 charged zero w = Ended Cut w
 charged (suc fuel) w = Came tt (record w { fuel = fuel })
 
+-- one of the fuel that is left is taken, or the run is cut off
 abbrev pub charge : Step (Unit {0})
 charge w = charged w.fuel w
 
+-- the progress after a place was evaluated
 abbrev pub emitted : Place → Progress → Progress
 emitted place w = record w { events = w.events ++ place ∷ [] }
 
+-- a place is evaluated
 abbrev pub emit : Place → Step (Unit {0})
 emit place w = Came tt (emitted place w)
 
+-- what the state says
 abbrev pub look : {A : Type 0} → (State → Out A) → Step A
 look f w = comes (f w.state) w
 
+-- the progress after the state changed
 abbrev pub changed : (State → State) → Progress → Progress
 changed f w = record w { state = f w.state }
 
+-- the state changes
 abbrev pub change : (State → State) → Step (Unit {0})
 change f w = Came tt (changed f w)
 
@@ -65,6 +75,7 @@ abbrev pub next_choice : List ℕ → ℕ
 next_choice [] = 0
 next_choice (byte ∷ rest) = byte
 
+-- the choice bytes that are left, without the next one if it was taken
 abbrev pub later_choices : Bool → List ℕ → List ℕ
 later_choices taken [] = []
 later_choices true (byte ∷ rest) = rest
@@ -74,6 +85,7 @@ later_choices false (byte ∷ rest) = byte ∷ rest
 abbrev pub after_action : Bool → Heap → Progress → Progress
 after_action taken heap w = record w { state = record w.state { heap = heap }; choices = later_choices taken w.choices }
 
+-- what is wanted of an action's outcome, with the heap and the choices after the action
 abbrev pub acted_to : {A : Type 0} → (Outcome → Out A) → Bool → Acted → Step A
 acted_to want taken a w = comes (want a.outcome) (after_action taken a.heap w)
 
@@ -85,6 +97,7 @@ act want a w = acted_to want (takes_choice w.state.heap a) (plainly_acted (next_
 abbrev pub call_limit : ℕ
 call_limit = 64
 
+-- the progress after a frame was entered, with one more open call
 abbrev pub entered : Frame → Progress → Progress
 entered frame w = record w { state = record w.state { frame = frame }; depth = suc w.depth }
 
@@ -92,6 +105,7 @@ entered frame w = record w { state = record w.state { frame = frame }; depth = s
 abbrev pub back_in : Progress → Progress → Progress
 back_in w v = record v { state = record v.state { frame = w.state.frame }; depth = w.depth }
 
+-- what a body came to, or how it ended the run, back in the caller's frame
 abbrev pub left_to : Progress → {A : Type 0} → After A → After A
 left_to w (Came a v) = Came a (back_in w v)
 left_to w (Ended stop v) = Ended stop (back_in w v)
@@ -101,9 +115,11 @@ abbrev pub entered_if : Bool → {A : Type 0} → Frame → Step A → Step A
 entered_if true frame body w = Ended Cut w
 entered_if false frame body w = left_to w (body (entered frame w))
 
+-- a body runs in a frame of its own, if a further call may be open
 abbrev pub enter : {A : Type 0} → Frame → Step A → Step A
 enter frame body w = entered_if (nat_eq w.depth call_limit) frame body w
 
+-- the text read as what happens in a plain run
 abbrev pub plain : Reading Step
 plain = record {
   pure = λ a w. Came a w;

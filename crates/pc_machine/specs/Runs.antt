@@ -17,6 +17,7 @@ pub data End : Type 0 where
   done : End
   stopped : (stop : Stop) → End
 
+-- how a run ends that came to this
 abbrev pub end_of : Out Value → End
 end_of (Gives v) = done
 end_of (Stops stop) = stopped stop
@@ -25,12 +26,15 @@ end_of (Stops stop) = stopped stop
 abbrev pub free_parts : ℕ → Parts free.Step
 free_parts n = steps free.Step free.free n
 
+-- what happens plainly, in at most n nested steps
 abbrev pub plain_parts : ℕ → Parts plain.Step
 plain_parts n = steps plain.Step plain.plain n
 
+-- what may happen as a module runs, in at most n nested steps
 abbrev pub free_module : ℕ → Module → free.Step Value
 free_module n m = exec_module free.Step free.free (free_parts n) m
 
+-- what happens plainly as a module runs, in at most n nested steps
 abbrev pub plain_module : ℕ → Module → plain.Step Value
 plain_module n m = exec_module plain.Step plain.plain (plain_parts n) m
 

@@ -29,10 +29,12 @@ pub data Bound : Type 0 where
   a_function : (function : Function) → Bound
   a_class : (class : ℕ) → Bound
 
+-- a name that the module has bound, with what it is bound to
 pub record Global : Type 0 where
   pub name : List ℕ
   pub is : Bound
 
+-- all that the module has bound so far, in that order
 abbrev pub Globals : Type 0
 Globals = List Global
 
@@ -41,9 +43,11 @@ pub record Local : Type 0 where
   pub name : List ℕ
   pub value : Option Value
 
+-- the locals of the function that runs
 abbrev pub Frame : Type 0
 Frame = List Local
 
+-- the state of a run: the classes made so far, what the module has bound, the frame and the heap
 pub record State : Type 0 where
   pub classes : List Class
   pub globals : Globals

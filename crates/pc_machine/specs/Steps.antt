@@ -8,6 +8,7 @@ use Rattle.pc_value.specs.Value.{Value, Stop, Other, Out, Gives, Stops}
 use Rattle.pc_value.specs.Actions.{Action, Iteration, Outcome, gives, iterates, finished, stops}
 use Rattle.pc_machine.specs.State.{State, Frame}
 
+-- one reading of the text: what each kind of step is
 pub record Reading {ℓ} (Step : Type 0 → Type ℓ) : Type (ℓ ⊔ 1) where
   -- it comes to a value at once
   pub pure : {A : Type 0} → A → Step A
@@ -48,12 +49,14 @@ value_out (iterates over) = Stops Other
 value_out finished = Stops Other
 value_out (stops stop) = Stops stop
 
+-- an outcome as what a `for` goes over
 abbrev pub iteration_out : Outcome → Out Iteration
 iteration_out (gives v) = Stops Other
 iteration_out (iterates over) = Gives over
 iteration_out finished = Stops Other
 iteration_out (stops stop) = Stops stop
 
+-- an outcome as the item of a turn, or none where there is no further turn
 abbrev pub item_out : Outcome → Out (Option Value)
 item_out (gives v) = Gives (Some v)
 item_out (iterates over) = Stops Other

@@ -26,6 +26,7 @@ pub record KeepsAnn (o : Annotation) (a : Ann) (ts : List Lexeme) : Type 0 where
   pub depth : o.depth ≡ min 65 (depth_of_ann a)
   pub kept : o.depth ≤ 64 → ann_of o.ann ≡ a
 
+-- the trees of a list of annotations
 abbrev pub anns_in : List RustAnn → Anns
 anns_in [] = no_anns
 anns_in (a ∷ rest) = more_anns (ann_of a) (anns_in rest)
@@ -53,6 +54,7 @@ module _ {X I : Type 0} (text : X → List ℕ) (steps : I → Option (Result (T
     pub later : left_in left b < left_in left a
     pub leads : (s : AnnStack) → Onward text steps a b (at (part_due no_anns [] s)) (at (part_read tree tokens no_anns [] s))
 
+  -- an annotation was read, or the refusal is that to which the tokens lead
   abbrev pub ReadsUnion : Reader X I → Reader X I → Result Annotation Fault → Type 0
   ReadsUnion a b r = MatchResult r (λ o. GivesUnion a b o) (λ e. Blames e (λ x. (s : AnnStack) → Came text steps a (at (part_due no_anns [] s)) x))
 
@@ -65,6 +67,7 @@ module _ {X I : Type 0} (text : X → List ℕ) (steps : I → Option (Result (T
     pub later : left_in left b < left_in left a
     pub leads : (parts : Anns) (before : List Lexeme) (s : AnnStack) → Onward text steps a b (at (part_due parts before s)) (at (part_read tree tokens parts before s))
 
+  -- a part was read, or the refusal is that to which the tokens lead
   abbrev pub ReadsPart : Reader X I → Reader X I → Result Annotation Fault → Type 0
   ReadsPart a b r = MatchResult r (λ o. GivesPart a b o)
       (λ e. Blames e (λ x. (parts : Anns) (before : List Lexeme) (s : AnnStack) → Came text steps a (at (part_due parts before s)) x))
@@ -76,11 +79,13 @@ module _ {X I : Type 0} (text : X → List ℕ) (steps : I → Option (Result (T
     pub keeps : KeepsAnn o tree tokens
     pub leads : (parts : Anns) (before : List Lexeme) (s : AnnStack) → Onward text steps a b (at (from head ts parts before s)) (at (part_read tree tokens parts before s))
 
+  -- what stands behind a name and its bracket was read, whatever tokens of the part begin with the name
   pub record GivesApplied (from : Opened) (a b : Reader X I) (head : RustName) (o : Annotation) : Type 0 where
     pub ready : IsReady can left b
     pub later : left_in left b < left_in left a
     pub applies : (ts : List Lexeme) → Starts ts head.place.start → AppliesOn from a b o (name_of head) ts
 
+  -- what stands behind a name and its bracket was read, or the refusal is that to which the tokens lead
   abbrev pub ReadsApplied : Opened → Reader X I → Reader X I → RustName → Result Annotation Fault → Type 0
   ReadsApplied from a b head r = MatchResult r (λ o. GivesApplied from a b head o)
       (λ e. Blames e (λ x. (ts : List Lexeme) → Starts ts head.place.start → (parts : Anns) (before : List Lexeme) (s : AnnStack) → Came text steps a (at (from (name_of head) ts parts before s)) x))

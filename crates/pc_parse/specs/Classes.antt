@@ -37,6 +37,7 @@ module _ {X I : Type 0} (text : X → List ℕ) (steps : I → Option (Result (T
     pub later : left_in left b ≤ left_in left a
     pub leads : (c : ClassStart) → c.base ≡ None → Onward text steps a b (at (class_named c)) (at (members (with_base c base) []))
 
+  -- what stands between a class's name and its members was read, or the refusal is that to which the tokens lead
   abbrev pub ReadsBase : Reader X I → Reader X I → Result (Option RustName) Fault → Type 0
   ReadsBase a b r = MatchResult r (λ n. GivesBase a b n) (λ e. Blames e (λ o. (c : ClassStart) → c.base ≡ None → Came text steps a (at (class_named c)) o))
 
@@ -48,6 +49,7 @@ module _ {X I : Type 0} (text : X → List ℕ) (steps : I → Option (Result (T
     pub later : left_in left b.reader < left_in left a.reader
     pub leads : (c : ClassStart) (ms : List Member) → Onward text steps a.reader b.reader (at (members c ms)) (at (members c (ms ++ (field_member field ∷ []))))
 
+  -- a field was read, or the refusal is that to which the tokens lead where neither `def` nor an end of the members is ahead
   abbrev pub ReadsField : Parser X I → Parser X I → Result RustField Fault → Type 0
   ReadsField a b r = MatchResult r (λ f. GivesField a b f)
       (λ e. Blames e (λ o. (c : ClassStart) (ms : List Member) → IsAhead (kind.Keyword word.Def) a.reader.ahead ≡ false → GoOn a.reader c ms → Came text steps a.reader (at (members c ms)) o))
@@ -60,6 +62,7 @@ module _ {X I : Type 0} (text : X → List ℕ) (steps : I → Option (Result (T
     pub later : left_in left b.reader < left_in left a.reader
     pub leads : (c : ClassStart) (ms : List Member) → Onward text steps a.reader b.reader (at (members c ms)) (at (members c (ms ++ (member ∷ []))))
 
+  -- a member was read, or the refusal is that to which the tokens lead where no end of the members is ahead
   abbrev pub ReadsMember : Parser X I → Parser X I → Result RustMember Fault → Type 0
   ReadsMember a b r = MatchResult r (λ m. GivesMember a b m)
       (λ e. Blames e (λ o. (c : ClassStart) (ms : List Member) → GoOn a.reader c ms → Came text steps a.reader (at (members c ms)) o))
@@ -72,6 +75,7 @@ module _ {X I : Type 0} (text : X → List ℕ) (steps : I → Option (Result (T
     pub later : left_in left b.reader ≤ left_in left a.reader
     pub leads : (c : ClassStart) → Onward text steps a.reader b.reader (at (members c [])) (at (after_class c all))
 
+  -- the members of a class and the end of its suite were read, or the refusal is that to which the tokens lead
   abbrev pub ReadsMembers : Parser X I → Parser X I → Result (Vec RustMember Global) Fault → Type 0
   ReadsMembers a b r = MatchResult r (λ v. GivesMembers a b v) (λ e. Blames e (λ o. (c : ClassStart) → Came text steps a.reader (at (members c [])) o))
 
@@ -90,5 +94,6 @@ module _ {X I : Type 0} (text : X → List ℕ) (steps : I → Option (Result (T
     pub later : left_in left b.reader < left_in left a.reader
     pub leads : (first : Place) (top : Top) → Onward text steps a.reader b.reader (at (decorator_due first top)) (at (items after_headers (add_item top (class_item first class))))
 
+  -- a class was read from behind its `@`, or the refusal is that to which the tokens lead
   abbrev pub ReadsClass : Parser X I → Parser X I → Result RustClassDef Fault → Type 0
   ReadsClass a b r = MatchResult r (λ c. GivesClass a b c) (λ e. Blames e (λ o. (first : Place) (top : Top) → Came text steps a.reader (at (decorator_due first top)) o))

@@ -45,6 +45,7 @@ module _ {X I : Type 0} (text : X → List ℕ) (steps : I → Option (Result (T
     pub later : left_in left b < left_in left a
     pub leads : Onward text steps a b (at start) (at (items after_headers (top_of h [])))
 
+  -- the headers were read, or the refusal is that to which the tokens lead
   abbrev pub ReadsHeaders : Reader X I → Reader X I → Result Headers Fault → Type 0
   ReadsHeaders a b r = MatchResult r (λ h. GivesHeaders a b h) (λ e. Blames e (λ o. Came text steps a (at start) o))
 
@@ -56,6 +57,7 @@ module _ {X I : Type 0} (text : X → List ℕ) (steps : I → Option (Result (T
     pub later : left_in left b.reader < left_in left a.reader
     pub leads : (top : Top) → Onward text steps a.reader b.reader (at (item_named n top)) (at (items after_headers (add_item top (constant_item n.place constant))))
 
+  -- where no last line goes on, a constant was read from behind its name, or the refusal is that to which the tokens lead
   abbrev pub ReadsConstant : Parser X I → Parser X I → Name → Result RustConstant Fault → Type 0
   ReadsConstant a b n r = IsNoLastLine a.reader n → MatchResult r (λ v. GivesConstant a b n v) (λ e. Blames e (λ o. (top : Top) → Came text steps a.reader (at (item_named n top)) o))
 
@@ -73,10 +75,12 @@ module _ {X I : Type 0} (text : X → List ℕ) (steps : I → Option (Result (T
     pub ready : IsReady can left b.reader
     pub leads : (top : Top) → Onward text steps a.reader b.reader (at (items after_headers top)) (at (ended (module_over top main)))
 
+  -- an item was read, or the last line
   abbrev pub GivesPiece : Parser X I → Parser X I → Piece → Type 0
   GivesPiece a b (piece.Item v) = GivesItem a b v
   GivesPiece a b (piece.Last main) = GivesLast a b main
 
+  -- an item or the last line was read, or the refusal is that to which the tokens lead
   abbrev pub ReadsPiece : Parser X I → Parser X I → Result Piece Fault → Type 0
   ReadsPiece a b r = MatchResult r (λ v. GivesPiece a b v) (λ e. Blames e (λ o. (top : Top) → Came text steps a.reader (at (items after_headers top)) o))
 
@@ -92,5 +96,6 @@ module _ {X I : Type 0} (text : X → List ℕ) (steps : I → Option (Result (T
     pub keeps : Kept module_of (λ m. wholes_of_items m.items) a.deep b.deep v tree
     pub comes : Came text steps a.reader (at start) (Ok tree)
 
+  -- a module was read, or the refusal is that to which the tokens lead
   abbrev pub ReadsModule : Parser X I → Parser X I → Result RustModule Fault → Type 0
   ReadsModule a b r = MatchResult r (λ v. GivesModule a b v) (λ e. Blames e (λ o. Came text steps a.reader (at start) o))

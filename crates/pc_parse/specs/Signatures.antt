@@ -33,6 +33,7 @@ abbrev pub or_ann : AnnContext → (TokenKind → Turn) → Option Ann → Token
 or_ann c other None k = other k
 or_ann c other (Some a) k = finish_ann c a k
 
+-- the function stands in a class
 abbrev pub is_method : Owner → Bool
 is_method (of_module top) = false
 is_method (of_class c ms) = true
@@ -46,6 +47,7 @@ module _ {X I : Type 0} (text : X → List ℕ) (steps : I → Option (Result (T
     pub later : left_in left b.reader ≤ left_in left a.reader
     pub leads : (st : State) (c : AnnContext) (other : TokenKind → Turn) → Stands text a.reader st (opens_ann opener c other) → Reached text steps a.reader b.reader st (or_ann c other annotation)
 
+  -- an annotation that may be left out was read, or the refusal is that to which the tokens lead
   abbrev pub ReadsOpened : Opener → Parser X I → Parser X I → Result (Option RustAnn) Fault → Type 0
   ReadsOpened opener a b r = MatchResult r (λ n. GivesOpened opener a b n)
       (λ e. Blames e (λ o. (st : State) (c : AnnContext) (other : TokenKind → Turn) → Stands text a.reader st (opens_ann opener c other) → Came text steps a.reader (at st) o))
@@ -58,6 +60,7 @@ module _ {X I : Type 0} (text : X → List ℕ) (steps : I → Option (Result (T
     pub later : left_in left b.reader < left_in left a.reader
     pub leads : (d : DefStart) (ps : List Param) → Reached text steps a.reader b.reader (param_due d ps) (param_end d ps parameter)
 
+  -- a parameter was read, or the refusal is that to which the tokens lead where no `)` is ahead
   abbrev pub ReadsParam : Parser X I → Parser X I → Result RustParam Fault → Type 0
   ReadsParam a b r = MatchResult r (λ p. GivesParam a b p)
       (λ e. Blames e (λ o. (d : DefStart) (ps : List Param) → IsAhead (kind.Operator sign.RightParenthesis) a.reader.ahead ≡ false → Came text steps a.reader (at (param_due d ps)) o))
@@ -70,9 +73,11 @@ module _ {X I : Type 0} (text : X → List ℕ) (steps : I → Option (Result (T
     pub later : left_in left b.reader < left_in left a.reader
     pub leads : (d : DefStart) → Onward text steps a.reader b.reader (at (from d)) (at (params_read d params))
 
+  -- parameters and `)` were read from such a state, or the refusal is that to which the tokens lead
   abbrev pub ReadsParamsFrom : (DefStart → State) → Parser X I → Parser X I → Result (Vec RustParam Global) Fault → Type 0
   ReadsParamsFrom from a b r = MatchResult r (λ v. GivesParams from a b v) (λ e. Blames e (λ o. (d : DefStart) → Came text steps a.reader (at (from d)) o))
 
+  -- so behind the opening parenthesis of a function
   abbrev pub ReadsParams : Parser X I → Parser X I → Result (Vec RustParam Global) Fault → Type 0
   ReadsParams a b r = ReadsParamsFrom (λ d. param_due d []) a b r
 
@@ -94,6 +99,7 @@ module _ {X I : Type 0} (text : X → List ℕ) (steps : I → Option (Result (T
     pub later : left_in left b.reader < left_in left a.reader
     pub leads : (owner : Owner) (d : DefStart) → is_method owner ≡ method → Onward text steps a.reader b.reader (at (params_of owner d)) (at (params_read d params))
 
+  -- the parameters of a function or method and their parentheses were read, or the refusal is that to which the tokens lead
   abbrev pub ReadsSignature : Bool → Parser X I → Parser X I → Result (Vec RustParam Global) Fault → Type 0
   ReadsSignature method a b r = MatchResult r (λ v. GivesSignature method a b v)
       (λ e. Blames e (λ o. (owner : Owner) (d : DefStart) → is_method owner ≡ method → Came text steps a.reader (at (params_of owner d)) o))
@@ -106,6 +112,7 @@ module _ {X I : Type 0} (text : X → List ℕ) (steps : I → Option (Result (T
     pub later : left_in left b.reader < left_in left a.reader
     pub leads : (owner : Owner) (first : Place) → is_method owner ≡ method → Onward text steps a.reader b.reader (at (def_due owner first)) (at (after_def owner first function))
 
+  -- a function or a method was read from behind its `def`, or the refusal is that to which the tokens lead
   abbrev pub ReadsFunction : Bool → Parser X I → Parser X I → Result RustFuncDef Fault → Type 0
   ReadsFunction method a b r = MatchResult r (λ f. GivesFunction method a b f)
       (λ e. Blames e (λ o. (owner : Owner) (first : Place) → is_method owner ≡ method → Came text steps a.reader (at (def_due owner first)) o))

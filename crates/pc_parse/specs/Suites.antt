@@ -81,6 +81,7 @@ module _ {X I : Type 0} (text : X → List ℕ) (steps : I → Option (Result (T
     pub later : left_in left b.reader < left_in left a.reader
     pub leads : (st next : State) → LineEnds text a st next → Onward text steps a.reader b.reader (at st) (at next)
 
+  -- a line end was read behind this statement, or the refusal is that to which the tokens lead
   abbrev pub ReadsLineEnd : Parser X I → Parser X I → RustStmt → Result RustStmt Fault → Type 0
   ReadsLineEnd a b s r = MatchResult r (λ s'. (s' ≡ s) × EndsLine a b) (λ e. Blames e (λ o. (st next : State) → LineEnds text a st next → Came text steps a.reader (at st) o))
 
@@ -92,6 +93,7 @@ module _ {X I : Type 0} (text : X → List ℕ) (steps : I → Option (Result (T
     pub later : left_in left b.reader < left_in left a.reader
     pub leads : (done : Stmts) (block : Block) → fits done → Onward text steps a.reader b.reader (at (start done block)) (at (stmts (add_stmt done statement) block))
 
+  -- a statement was read from such a state, or the refusal is that to which the tokens lead
   abbrev pub ReadsFrom : (Stmts → Block → State) → (Stmts → Type 0) → Parser X I → Parser X I → Result RustStmt Fault → Type 0
   ReadsFrom start fits a b r = MatchResult r (λ s. GivesStmt start fits a b s) (λ e. Blames e (λ o. (done : Stmts) (block : Block) → fits done → Came text steps a.reader (at (start done block)) o))
 
@@ -111,6 +113,7 @@ module _ {X I : Type 0} (text : X → List ℕ) (steps : I → Option (Result (T
     pub later : left_in left b.reader < left_in left a.reader
     pub leads : (block : Block) → Onward text steps a.reader b.reader (at (suite_of block)) (at (after_suite block statements))
 
+  -- the statements of a suite and its end were read, or the refusal is that to which the tokens lead
   abbrev pub ReadsSuite : Parser X I → Parser X I → Result (Vec RustStmt Global) Fault → Type 0
   ReadsSuite a b r = MatchResult r (λ v. GivesSuite a b v) (λ e. Blames e (λ o. (block : Block) → Came text steps a.reader (at (suite_of block)) o))
 
@@ -126,6 +129,7 @@ module _ {X I : Type 0} (text : X → List ℕ) (steps : I → Option (Result (T
     pub leads : (begun : Begun) (nest : Expr → Nest) (site : Site) → Heads begun nest
         → Onward text steps a.reader b.reader (at (operand (whole (in_statement begun site)))) (at (after_suite (nested_in site (nest head)) body))
 
+  -- an expression and a suite behind it were read, or the refusal is that to which the tokens lead
   abbrev pub ReadsHeaded : Parser X I → Parser X I → Result ((e : RustExpr) × Vec RustStmt Global) Fault → Type 0
   ReadsHeaded a b r = MatchResult r (λ h. GivesHeaded a b h.0 h.1.items)
       (λ e. Blames e (λ o. (begun : Begun) (nest : Expr → Nest) (site : Site) → Heads begun nest → Came text steps a.reader (at (operand (whole (in_statement begun site)))) o))
@@ -139,6 +143,7 @@ module _ {X I : Type 0} (text : X → List ℕ) (steps : I → Option (Result (T
     pub leads : (branches : Branches) (site : Site) → IsAhead (kind.Keyword word.Elif) a.reader.ahead ≡ false
         → Onward text steps a.reader b.reader (at (after_branch branches site)) (at (after_stmt site (conditional site.first branches statements)))
 
+  -- the suite of `else` was read, if there is one, or the refusal is that to which the tokens lead where no `elif` is ahead
   abbrev pub ReadsElse : Parser X I → Parser X I → Result (Vec RustStmt Global) Fault → Type 0
   ReadsElse a b r = MatchResult r (λ v. GivesElse a b v.items)
       (λ e. Blames e (λ o. (branches : Branches) (site : Site) → IsAhead (kind.Keyword word.Elif) a.reader.ahead ≡ false → Came text steps a.reader (at (after_branch branches site)) o))

@@ -41,6 +41,7 @@ abbrev pub ending_in : Follow → Ending
 ending_in (ends e) = e
 ending_in _ = no_ending
 
+-- what of a token of this kind may end a whole expression
 abbrev pub ending_of : TokenKind → Ending
 ending_of k = ending_in (follow_of k)
 
@@ -57,6 +58,7 @@ module _ {X I : Type 0} (text : X → List ℕ) (steps : I → Option (Result (T
     -- what comes behind it
     pub goes : (c : Context) (t : Token X) → b.reader.ahead ≡ Some t → turn (have o.level part (whole c)) (lexeme text t) t.kind ≡ finish c part (ending_of t.kind)
 
+  -- a whole expression was read, or the refusal is that to which the tokens lead
   abbrev pub ReadsWhole : Parser X I → Parser X I → Result Operand Fault → Type 0
   ReadsWhole a b r = MatchResult r (λ o. GivesWhole a b o) (λ e. Blames e (λ o. (c : Context) → Came text steps a.reader (at (operand (whole c))) o))
 
@@ -72,5 +74,6 @@ module _ {X I : Type 0} (text : X → List ℕ) (steps : I → Option (Result (T
     pub leads : (c : AnnContext) → Onward text steps a.reader b.reader (at (part_due no_anns [] (ann_whole c))) (at (behind c))
     pub goes : (c : AnnContext) (t : Token X) → b.reader.ahead ≡ Some t → turn (behind c) (lexeme text t) t.kind ≡ finish_ann c annotation t.kind
 
+  -- a whole annotation was read, or the refusal is that to which the tokens lead
   abbrev pub ReadsAnn : Parser X I → Parser X I → Result RustAnn Fault → Type 0
   ReadsAnn a b r = MatchResult r (λ n. GivesAnn a b n) (λ e. Blames e (λ o. (c : AnnContext) → Came text steps a.reader (at (part_due no_anns [] (ann_whole c))) o))

@@ -28,6 +28,7 @@ is_literal_kind (kind.Keyword word.False) = true
 is_literal_kind (kind.Keyword word.None) = true
 is_literal_kind _ = false
 
+-- the token ahead is a literal by itself
 abbrev pub literal_ahead : {X : Type 0} → Option (Token X) → Bool
 literal_ahead None = false
 literal_ahead (Some t) = is_literal_kind t.kind
@@ -52,9 +53,11 @@ module _ {X I : Type 0} (text : X → List ℕ) (steps : I → Option (Result (T
     pub later : left_in left b < left_in left a
     pub leads : (c : LiteralContext) → Onward text steps a b (at (from c)) (at (literal_read c (literal_of l)))
 
+  -- a literal was read from such a state, or the refusal is that to which the tokens lead
   abbrev pub ReadsLiteralFrom : (LiteralContext → State) → Reader X I → Reader X I → Result RustLiteral Fault → Type 0
   ReadsLiteralFrom from a b r = MatchResult r (λ l. GivesLiteral from a b l) (λ e. Blames e (λ o. (c : LiteralContext) → Came text steps a (at (from c)) o))
 
+  -- so where a literal is due
   abbrev pub ReadsLiteral : Reader X I → Reader X I → Result RustLiteral Fault → Type 0
   ReadsLiteral a b r = ReadsLiteralFrom (λ c. literal_due c) a b r
 
@@ -68,6 +71,7 @@ module _ {X I : Type 0} (text : X → List ℕ) (steps : I → Option (Result (T
     pub later : left_in left b ≤ left_in left a
     pub leads : (st : State) (c : LiteralContext) (other : TokenKind → Turn) → Stands text a st (opens_literal c other) → Reached text steps a b st (or_literal c other (option_literal_of l))
 
+  -- a default that may be left out was read, or the refusal is that to which the tokens lead
   abbrev pub ReadsDefault : Reader X I → Reader X I → Result (Option RustLiteral) Fault → Type 0
   ReadsDefault a b r = MatchResult r (λ l. GivesDefault a b l)
       (λ e. Blames e (λ o. (st : State) (c : LiteralContext) (other : TokenKind → Turn) → Stands text a st (opens_literal c other) → Came text steps a (at st) o))

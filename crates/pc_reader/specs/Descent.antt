@@ -57,6 +57,7 @@ pub record HasLink {X : Type 0} (need level : ℕ) (l : Joint) (a : Option (Toke
   pub binds : need ≤ own_of_link l
   pub goes : left_of_link l ≤ level
 
+-- the token of a sign before an operand: `-` or `not`
 abbrev pub sign_kind : Sign → TokenKind
 sign_kind minus = kind.Operator sign.Minus
 sign_kind denial = kind.Keyword word.Not
@@ -78,6 +79,7 @@ pub record IsSingle {X I : Type 0} (a : Reader X I) (s : Stack) : Type 0 where
   pub bracket : IsAhead (kind.Operator sign.LeftBracket) a.ahead ≡ false
   pub brace : IsAhead (kind.Operator sign.LeftBrace) a.ahead ≡ false
 
+-- the token is an operand by itself: a name, a number, a string, a truth value or `None`
 abbrev pub is_value_start : Start → Bool
 is_value_start a_name = true
 is_value_start a_number = true
@@ -86,6 +88,7 @@ is_value_start (a_truth b) = true
 is_value_start a_none = true
 is_value_start _ = false
 
+-- the token ahead is an operand by itself
 abbrev pub value_ahead : {X : Type 0} → Option (Token X) → Bool
 value_ahead None = false
 value_ahead (Some t) = is_value_start (start_of t.kind)
@@ -123,6 +126,7 @@ module _ {X I : Type 0} (text : X → List ℕ) (steps : I → Option (Result (T
     pub begins : (t : Token X) → a.ahead ≡ Some t → first_place part.tokens ≡ t.place
     pub leads : (s : Stack) → fits s → Onward text steps a b (at (operand s)) (at (have o.level part s))
 
+  -- an operand that binds at least as tightly as the level was read, or the refusal is that to which the tokens lead
   abbrev pub ReadsOperand : (Stack → Type 0) → ℕ → Reader X I → Reader X I → Result Operand Fault → Type 0
   ReadsOperand fits level a b r = MatchResult r (λ o. Gives fits level a b o) (λ e. Blames e (λ o. (s : Stack) → fits s → Came text steps a (at (operand s)) o))
 
@@ -146,6 +150,7 @@ module _ {X I : Type 0} (text : X → List ℕ) (steps : I → Option (Result (T
     pub later : left_in left b < left_in left a
     pub leads : IsLink l a → (level : ℕ) (p : Part) (s : Stack) → left_of_link l ≤ level → rank s ≤ own_of_link l → Onward text steps a b (at (have level p s)) (at (identified p (token ∷ []) s))
 
+  -- an operator between two operands, or `is`, was read, or the refusal is that to which the tokens lead
   abbrev pub ReadsInfix : Joint → Reader X I → Reader X I → Result (Option Infix) Fault → Type 0
   ReadsInfix l a b r = MatchResult r (λ i. MatchOption i (GivesIs l a b) (λ op. GivesInfix l a b (infix_of op)))
       (λ e. Blames e (λ o. IsLink l a → (level : ℕ) (p : Part) (s : Stack) → left_of_link l ≤ level → rank s ≤ own_of_link l → Came text steps a (at (have level p s)) o))
@@ -157,12 +162,14 @@ module _ {X I : Type 0} (text : X → List ℕ) (steps : I → Option (Result (T
     pub begins : first_place part.tokens ≡ first_place p.tokens
     pub leads : (s : Stack) → Onward text steps a b (at (st k p s)) (at (have level part s))
 
+  -- what goes on with an operand was read, and makes it one of this level
   pub record GivesOn {K : Type 0} (st : K → Part → Stack → State) (level : ℕ) (a b : Reader X I) (o o' : Operand) : Type 0 where
     pub level_is : o'.level ≡ level
     pub ready : IsReady can left b
     pub later : left_in left b < left_in left a
     pub goes : (k : K) (p : Part) → Keeps o p → GoesOn st level a b o o' k p
 
+  -- what goes on with an operand was read, or the refusal is that to which the tokens lead
   abbrev pub ReadsOn : {K : Type 0} (st : K → Part → Stack → State) → ℕ → Reader X I → Reader X I → Operand → Result Operand Fault → Type 0
   ReadsOn {K} st level a b o r = MatchResult r (λ o'. GivesOn st level a b o o') (λ e. Blames e (λ x. (k : K) (p : Part) (s : Stack) → Keeps o p → Came text steps a (at (st k p s)) x))
 
@@ -176,6 +183,7 @@ module _ {X I : Type 0} (text : X → List ℕ) (steps : I → Option (Result (T
     pub begins : (us : List Lexeme) → ((t : Token X) → b.ahead ≡ Some t → first_place us ≡ t.place) → (t : Token X) → a.ahead ≡ Some t → first_place (tokens ++ us) ≡ t.place
     pub leads : (s : Stack) → TakesSign x s → Onward text steps a b (at (operand s)) (at (operand (signs_on x tokens s)))
 
+  -- signs were read, or the refusal is that to which the tokens lead
   abbrev pub ReadsSigns : Sign → Reader X I → Reader X I → Result (Vec ℕ Global) Fault → Type 0
   ReadsSigns x a b r = MatchResult r (λ v. GivesSigns x a b v.items) (λ e. Blames e (λ o. (s : Stack) → TakesSign x s → Came text steps a (at (operand s)) o))
 
@@ -186,6 +194,7 @@ module _ {X I : Type 0} (text : X → List ℕ) (steps : I → Option (Result (T
     pub is : token.kind ≡ kind.Name
     pub name : name_of n ≡ name_at (lexeme text token)
 
+  -- a name was read, or the refusal is that to which the tokens lead from where one is due
   abbrev pub ReadsName : Reader X I → Reader X I → Result RustName Fault → Type 0
   ReadsName a b r = MatchResult r (λ n. GivesName a b n) (λ e. Blames e (λ o. (st : State) → NeedsKind text kind.Name st a → Came text steps a (at st) o))
 
@@ -197,11 +206,13 @@ module _ {X I : Type 0} (text : X → List ℕ) (steps : I → Option (Result (T
     pub ends : Ends more l.end
     pub leads : (s : Stack) → Onward text steps a b (at (item_due h xs ts s)) (at (have 7 (Rattle.pc_tree.specs.Machine.Expressions.part (head_tree h items) (ts ++ more)) s))
 
+  -- items were read after those already kept, up to this bracket
   pub record GivesItems (close : Bracket) (a b : Reader X I) (some : Items) (l : Listed) : Type 0 where
     pub ready : IsReady can left b
     pub later : left_in left b < left_in left a
     pub lists : (h : Head) (xs : Exprs) (ts : List Lexeme) → Closes h close → KeepsItems some xs → ListsOn a b l h xs ts
 
+  -- items were read up to this bracket, or the refusal is that to which the tokens lead
   abbrev pub ReadsItems : Bracket → Reader X I → Reader X I → Items → Result Listed Fault → Type 0
   ReadsItems close a b some r = MatchResult r (λ l. GivesItems close a b some l)
       (λ e. Blames e (λ o. (h : Head) (xs : Exprs) (ts : List Lexeme) (s : Stack) → Closes h close → Came text steps a (at (item_due h xs ts s)) o))
@@ -214,11 +225,13 @@ module _ {X I : Type 0} (text : X → List ℕ) (steps : I → Option (Result (T
     pub ends : Ends more l.end
     pub leads : (s : Stack) → Onward text steps a b (at (operand (naming e xs ks n ts s))) (at (have 7 (call_part e xs arguments (ts ++ more)) s))
 
+  -- arguments by name were read from behind the `=` of the first
   pub record GivesKeywords (a b : Reader X I) (first : RustName) (l : Arguments) : Type 0 where
     pub ready : IsReady can left b
     pub later : left_in left b < left_in left a
     pub names : (e : Expr) (xs : Exprs) (ts : List Lexeme) → NamesOn a b l e xs no_keywords (name_of first) ts
 
+  -- arguments by name were read up to the closing parenthesis, or the refusal is that to which the tokens lead
   abbrev pub ReadsKeywords : Reader X I → Reader X I → RustName → Result Arguments Fault → Type 0
   ReadsKeywords a b first r = MatchResult r (λ l. GivesKeywords a b first l)
       (λ e. Blames e (λ o. (f : Expr) (xs : Exprs) (ts : List Lexeme) (s : Stack) → Came text steps a (at (operand (naming f xs no_keywords (name_of first) ts s))) o))

@@ -5,11 +5,13 @@ use Rattle.pc_reader.specs.declared.link.Link.{Link}
 use Rattle.pc_reader.specs.declared.link.Link.TheVariants as rust
 use Rattle.pc_reader.specs.Operands.{infix_of}
 
+-- what begins an operator, as the token machine names it
 abbrev pub link_view : Link → Joint
 link_view (rust.Infix operator) = linking (infix_of operator)
 link_view rust.Not = denying
 link_view rust.Is = identifying
 
+-- the token behind an operand begins no operator
 abbrev pub IsNoLink : Follow → Type 0
 IsNoLink (link l) = ⊥
 IsNoLink _ = Unit {0}

@@ -14,12 +14,14 @@ use Rattle.pc_reader.specs.declared.operand.Infix.TheVariants as rust_infix
 use Rattle.pc_reader.specs.declared.operand.Prefix.{Prefix}
 use Rattle.pc_reader.specs.declared.operand.Prefix.TheVariants as rust_prefix
 
+-- an operator between two operands, as the token machine names it
 abbrev pub infix_of : Infix → Operator
 infix_of (rust_infix.Arithmetic o) = arithmetic o
 infix_of (rust_infix.Comparison o) = comparison o
 infix_of rust_infix.And = both
 infix_of rust_infix.Or = either
 
+-- a sign before an operand, as the token machine names it
 abbrev pub prefix_of : Prefix → Sign
 prefix_of rust_prefix.Minus = minus
 prefix_of rust_prefix.Not = denial
@@ -45,6 +47,7 @@ pub data Form : Type 0 where
   an_index : Form
   another : Form
 
+-- the form of an expression
 abbrev pub form_of : Expr → Form
 form_of (name n) = a_name n
 form_of (attribute p e f) = an_attribute
@@ -61,6 +64,7 @@ pub record Keeps (o : Operand) (p : Part) : Type 0 where
   pub kept : o.depth ≤ 64 → expr_of o.expr ≡ p.tree
   pub form : form_of (expr_of o.expr) ≡ form_of p.tree
 
+-- the operand of an expression at its place, in no parentheses
 abbrev pub node_of : RustExpr → Place → ℕ → ℕ → Operand
 node_of expr place level depth = record { expr = expr; start = place.start; end = place.end; first = place.start; plain = true; level = level; depth = depth }
 
@@ -73,10 +77,12 @@ abbrev pub applied_all : Sign → List Lexeme → Part → Part
 applied_all x [] p = p
 applied_all x (t ∷ ts) p = applied x (t ∷ []) (applied_all x ts p)
 
+-- a stack with these signs open on it, the last of them on top
 abbrev pub signs_on : Sign → List Lexeme → Stack → Stack
 signs_on x [] s = s
 signs_on x (t ∷ ts) s = signs_on x ts (applying x (t ∷ []) s)
 
+-- the bytes at which the tokens begin
 abbrev pub starts_of : List Lexeme → List ℕ
 starts_of ts = map (λ t. t.place.start) ts
 

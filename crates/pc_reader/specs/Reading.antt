@@ -35,6 +35,7 @@ abbrev pub IsAhead : {X : Type 0} → TokenKind → Option (Token X) → Bool
 IsAhead kind None = false
 IsAhead kind (Some t) = same_kind t.kind kind
 
+-- the kind of the token ahead
 abbrev pub kind_ahead : {X : Type 0} → Option (Token X) → Option TokenKind
 kind_ahead None = None
 kind_ahead (Some t) = Some t.kind
@@ -45,6 +46,7 @@ place_ahead None = None
 place_ahead (Some t) = Some t.place
 
 module _ {X : Type 0} (text : X → List ℕ) where
+  -- a token as a lexeme, with the bytes of its text
   abbrev pub lexeme : Token X → Lexeme
   lexeme t = record { kind = t.kind; place = t.place; text = text t.text; form = form_of (text t.text) t.form }
 
@@ -59,6 +61,7 @@ module _ {X I : Type 0} (text : X → List ℕ) (steps : I → Option (Result (T
   abbrev pub Comes : I → ℕ → Reading → Result Module Fault → Type 0
   Comes it end r o = (xs : List (Result (Token X) Fault)) × stream.Comes steps it xs × (run_items text end r xs ≡ o)
 
+  -- so for this token ahead, if there is one, and the items behind it
   abbrev pub came : Option (Token X) → I → ℕ → Reading → Result Module Fault → Type 0
   came None it end r o = run_items text end r [] ≡ o
   came (Some t) it end r o = (xs : List (Result (Token X) Fault)) × stream.Comes steps it xs × (run_items text end r (Ok t ∷ xs) ≡ o)
@@ -72,6 +75,7 @@ module _ {X I : Type 0} (text : X → List ℕ) (steps : I → Option (Result (T
   Onward a b r r' = (o : Result Module Fault) → Came b r' o → Came a r o
 
 module _ {X I : Type 0} (can : I → Type 0) (left : I → Count) where
+  -- where there is this token ahead, the iterator behind it may be asked, and it ends
   abbrev pub ready : Option (Token X) → I → Type 0
   ready None it = Unit {0}
   ready (Some t) it = can it × IsFinite (left it)
@@ -81,6 +85,7 @@ module _ {X I : Type 0} (can : I → Type 0) (left : I → Count) where
   IsReady a = ready a.ahead a.tokens
 
 module _ {X I : Type 0} (left : I → Count) where
+  -- at most how many tokens come: this one ahead and those behind it, none where none is ahead
   abbrev pub left_behind : Option (Token X) → I → ℕ
   left_behind None it = 0
   left_behind (Some t) it = size (left it) + 1

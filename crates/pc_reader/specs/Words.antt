@@ -32,6 +32,7 @@ module _ {X I : Type 0} (text : X → List ℕ) (steps : I → Option (Result (T
     pub takes : Takes text steps can left a b t
     pub is : is_fixed (a_form form) (lexeme text t) t.kind ≡ true
 
+  -- a name of this form was taken, or the refusal is that to which the tokens lead from where one is due
   abbrev pub ReadsForm : List ℕ → Reader X I → Reader X I → Result (Token X) Fault → Type 0
   ReadsForm form a b r = MatchResult r (λ t. TakesForm form a b t) (λ e. Blames e (λ o. (st : State) → NeedsForm text form st a → Came text steps a (at st) o))
 
@@ -41,5 +42,6 @@ module _ {X I : Type 0} (text : X → List ℕ) (steps : I → Option (Result (T
     pub later : left_in left b ≤ left_in left a
     pub leads : (next : State) → Onward text steps a b (at (due ws next)) (at next)
 
+  -- these words were read, or the refusal is that to which the tokens lead
   abbrev pub ReadsFixed : {U : Type 0} → List Fixed → Reader X I → Reader X I → Result U Fault → Type 0
   ReadsFixed ws a b r = MatchResult r (λ _. GivesFixed ws a b) (λ e. Blames e (λ o. (next : State) → Came text steps a (at (due ws next)) o))

@@ -16,6 +16,7 @@ abbrev pub form_seen : Option (Bor RustName × Bor RustExpr × Bor RustExpr) →
 form_seen None = ordinary
 form_seen (Some f) = instance_test (name_of f.0.now) (expr_of f.1.now) (expr_of f.2.now)
 
+-- what a `for` goes over, as the program tells it: a call of `range` by its parts, or another expression
 abbrev pub range_seen : Option (Place × Bor RustName × Bor (List RustExpr) × Bor (List RustKeyword)) → IterableForm
 range_seen None = any_iterable
 range_seen (Some f) = range_call f.0 (name_of f.1.now) (exprs_of_list f.2.now) (keywords_of_list f.3.now)

@@ -32,6 +32,7 @@ abbrev pub is_name : Expr → Bool
 is_name (name n) = true
 is_name _ = false
 
+-- the expression is a name of this text
 abbrev pub is_named : List ℕ → Expr → Bool
 is_named word (name n) = bytes_eq word n.text
 is_named word _ = false
@@ -91,7 +92,7 @@ abbrev mutual
   parts_in_keywords j no_keywords = []
   parts_in_keywords j (more_keywords parameter value rest) = parts_in j value ++ parts_in_keywords j rest
 
--- the names among expressions
+-- the name that an expression is, if it is one
 abbrev pub as_name : Expr → Option Name
 as_name (name n) = Some n
 as_name _ = None
@@ -106,11 +107,13 @@ abbrev pub other_callee : Expr → Option Place
 other_callee (call p callee arguments by_name) = if is_name callee then None else Some (place_of callee)
 other_callee _ = None
 
+-- the expressions that stand in a target
 abbrev pub target_exprs : Target → List Expr
 target_exprs (to_name n) = []
 target_exprs (to_attribute p e field) = e ∷ []
 target_exprs (to_index p e i) = e ∷ i ∷ []
 
+-- an expression that may be missing, as a list of at most one
 abbrev pub option_exprs : Option Expr → List Expr
 option_exprs None = []
 option_exprs (Some e) = e ∷ []

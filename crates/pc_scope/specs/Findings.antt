@@ -46,6 +46,7 @@ IsLate k c (res.Const i) = k ≤ i
 IsLate k c (res.Class i) = c ≤ i
 IsLate k c _ = ⊥
 
+-- a name in an initializer means what it may not name behind so many constants and classes
 pub record IsLateName (m : Module) (constants classes : ℕ) (e : Expr) (f : Finding) : Type 0 where
   pub n : Name
   pub named : Contains (filter_map as_name (parts_in false e)) n

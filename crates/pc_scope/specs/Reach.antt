@@ -18,6 +18,7 @@ first_of (while_loop p condition body) = p
 first_of (for_loop p n iterable body) = p
 first_of (conditional p arms otherwise) = p
 
+-- the suite has no statement, as that of a missing `else`
 abbrev pub is_empty : Stmts → Bool
 is_empty no_stmts = true
 is_empty (more_stmts s rest) = false

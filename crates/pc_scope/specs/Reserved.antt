@@ -32,8 +32,10 @@ beside (entry ∷ rest) text = if bytes_eq entry.0 text then Some entry.1 else b
 unfoldable pub builtin_of : List ℕ → Option Builtin
 builtin_of text = beside reserved text
 
+-- whether a text is a reserved name
 abbrev pub is_reserved : List ℕ → Bool
 is_reserved text = is_some (builtin_of text)
 
+-- the text is a reserved name, as a proposition
 abbrev pub IsReserved : List ℕ → Type 0
 IsReserved text = IsTrue (is_reserved text)

@@ -18,6 +18,7 @@ abbrev pub index_of : List ℕ → List (List ℕ) → Option ℕ
 index_of text [] = None
 index_of text (t ∷ ts) = if bytes_eq text t then Some 0 else option_map suc (index_of text ts)
 
+-- the text is one of these
 abbrev pub is_among : List ℕ → List (List ℕ) → Bool
 is_among text names = list_any (bytes_eq text) names
 
@@ -26,12 +27,13 @@ abbrev pub first_of_each : List (List ℕ) → List (List ℕ) → List (List �
 first_of_each before [] = []
 first_of_each before (t ∷ ts) = if is_reserved t || is_among t before then first_of_each before ts else t ∷ first_of_each (t ∷ before) ts
 
--- the texts that stand before a function's body: `self` of a method, and the parameters
+-- the text of what a method is entered with before its parameters: `self`
 abbrev pub receiver : Owner → List (List ℕ)
 receiver owners.Module = []
 receiver (owners.Func i) = []
 receiver (owners.Method c i) = codes "self" ∷ []
 
+-- the texts that a function is entered with: `self` in a method, then the names of its parameters
 abbrev pub entry_texts : Owner → FuncDef → List (List ℕ)
 entry_texts owner f = receiver owner ++ texts (param_names f.params)
 
@@ -39,20 +41,23 @@ entry_texts owner f = receiver owner ++ texts (param_names f.params)
 abbrev pub locals : Owner → FuncDef → List (List ℕ)
 locals owner f = first_of_each [] (entry_texts owner f ++ texts (bound_by f.body))
 
--- the function that an owner is
+-- the method of a number in a class, if there is a class and it has that many
 abbrev pub method_at : Option ClassDef → ℕ → Option FuncDef
 method_at None i = None
 method_at (Some c) i = slice_get (methods_in c.members) i
 
+-- the function or method of the module that an owner is, none for the module itself
 abbrev pub function_of : Module → Owner → Option FuncDef
 function_of m owners.Module = None
 function_of m (owners.Func i) = slice_get (functions_in m.items) i
 function_of m (owners.Method c i) = method_at (slice_get (classes_in m.items) c) i
 
+-- the locals of an owner's function, none where there is no function
 abbrev pub locals_of_function : Owner → Option FuncDef → List (List ℕ)
 locals_of_function owner None = []
 locals_of_function owner (Some f) = locals owner f
 
+-- the locals of an owner, none for the module itself
 abbrev pub locals_of : Module → Owner → List (List ℕ)
 locals_of m owner = locals_of_function owner (function_of m owner)
 
@@ -68,10 +73,12 @@ abbrev pub or_else : Option Res → Res → Res
 or_else None next = next
 or_else (Some r) next = r
 
+-- the local of a number as the meaning of a name, if there is one
 abbrev pub local_of : Option ℕ → Option Res
 local_of None = None
 local_of (Some n) = Some (res.Local n)
 
+-- a built-in as the meaning of a name, if there is one
 abbrev pub builtin_res : Option Builtin → Option Res
 builtin_res None = None
 builtin_res (Some b) = Some (res.Builtin b)

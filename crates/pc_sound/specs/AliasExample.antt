@@ -22,6 +22,7 @@ use Rattle.pc_tree.specs.Tree.{Ann, FuncDef, Module, name, number, list, call, n
 use Rattle.pc_machine.specs.Runs.{End, done}
 use Rattle.pc_sound.specs.Examples.{at, word}
 
+-- `int | str`
 abbrev pub int_or_str : Ann
 int_or_str = union (at 72 81) (more_anns (named (word 72 (codes "int"))) (more_anns (named (word 78 (codes "str"))) no_anns))
 
@@ -52,6 +53,7 @@ c = record {
   body = more_stmts (pass (at 143 147)) no_stmts;
 }
 
+-- `main`, which makes a list and passes it to each of the three
 abbrev pub main : FuncDef
 main = record {
   name = word 152 (codes "main");
@@ -63,6 +65,7 @@ main = record {
       (more_stmts (evaluates (at 194 195) (call (at 194 198) (name (word 194 (codes "c"))) (more_exprs (name (word 196 (codes "v"))) no_exprs) no_keywords)) no_stmts)));
 }
 
+-- the tree of the text above
 abbrev pub program : Module
 program = record {
   imports_dataclass = false;
@@ -82,5 +85,6 @@ events = at 169 170 ∷ at 168 171
     ∷ at 185 186 ∷ at 187 188 ∷ at 185 189
     ∷ at 194 195 ∷ at 196 197 ∷ at 194 198 ∷ []
 
+-- how it ends
 abbrev pub end : End
 end = done

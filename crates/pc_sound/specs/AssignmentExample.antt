@@ -16,9 +16,11 @@ use Rattle.pc_value.specs.Value.{Raised, UnboundLocalError}
 use Rattle.pc_machine.specs.Runs.{End, stopped}
 use Rattle.pc_sound.specs.Examples.{at, word}
 
+-- `list[int]`
 abbrev pub list_of_int : Ann
 list_of_int = applied (at 55 64) (word 55 (codes "list")) (more_anns (named (word 60 (codes "int"))) no_anns)
 
+-- `main`, with an empty list, the loop over it, and the name behind the loop
 abbrev pub main : FuncDef
 main = record {
   name = word 39 (codes "main");
@@ -29,6 +31,7 @@ main = record {
       (more_stmts (evaluates (at 104 109) (call (at 104 112) (name (word 104 (codes "print"))) (more_exprs (name (word 110 (codes "x"))) no_exprs) no_keywords)) no_stmts));
 }
 
+-- the tree of the text above
 abbrev pub program : Module
 program = record { imports_dataclass = false; imports_any = false; items = def_item (at 35 38) main ∷ []; main = at 113 117 }
 
@@ -40,5 +43,6 @@ findings = finding (at 110 111) E04 ∷ []
 abbrev pub events : List Place
 events = at 67 69 ∷ at 83 85 ∷ at 104 109 ∷ at 110 111 ∷ []
 
+-- how it ends: the name is unbound
 abbrev pub end : End
 end = stopped (Raised UnboundLocalError)

@@ -27,14 +27,17 @@ pub record HasLocals (bases : Bases) (k : HeapTyping) (names : List (List ℕ)) 
 
 -- ---- tests
 
+-- the value is None
 abbrev pub IsNoneValue : Value → Type 0
 IsNoneValue none = Unit {0}
 IsNoneValue _ = ⊥
 
+-- a location is recorded as a list, of any type of items
 pub record IsRecordedList (k : HeapTyping) (l : ℕ) : Type 0 where
   pub item : Tree
   pub is : slice_get k l ≡ Some (a_list item)
 
+-- the value is a location that is recorded as a list
 abbrev pub IsListValue : HeapTyping → Value → Type 0
 IsListValue k (location l) = IsRecordedList k l
 IsListValue k _ = ⊥

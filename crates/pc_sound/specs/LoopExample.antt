@@ -20,13 +20,16 @@ use Rattle.pc_value.specs.Value.{Raised, TypeError}
 use Rattle.pc_machine.specs.Runs.{End, stopped}
 use Rattle.pc_sound.specs.Examples.{at, word}
 
+-- `int | None`
 abbrev pub int_or_none : Ann
 int_or_none = union (at 44 54) (more_anns (named (word 44 (codes "int"))) (more_anns (none_type (at 50 54)) no_anns))
 
+-- the body of the loop: `x + 1`, then `x = None`
 abbrev pub turn : Stmts
 turn = more_stmts (evaluates (at 114 115) (binary (at 114 119) Add (name (word 114 (codes "x"))) (number (at 118 119) (codes "1"))))
     (more_stmts (assigns (at 128 129) (to_name (word 128 (codes "x"))) (nothing (at 132 136))) no_stmts)
 
+-- `f`, which returns where `x` is None, and else runs the loop
 abbrev pub f : FuncDef
 f = record {
   name = word 39 (codes "f");
@@ -36,6 +39,7 @@ f = record {
       (more_stmts (while_loop (at 94 99) (truth (at 100 104) true) turn) no_stmts);
 }
 
+-- `main`, which calls `f` with 1
 abbrev pub main : FuncDef
 main = record {
   name = word 141 (codes "main");
@@ -44,6 +48,7 @@ main = record {
   body = more_stmts (evaluates (at 153 154) (call (at 153 157) (name (word 153 (codes "f"))) (more_exprs (number (at 155 156) (codes "1")) no_exprs) no_keywords)) no_stmts;
 }
 
+-- the tree of the text above
 abbrev pub program : Module
 program = record { imports_dataclass = false; imports_any = false; items = def_item (at 35 38) f ∷ def_item (at 137 140) main ∷ []; main = at 158 162 }
 

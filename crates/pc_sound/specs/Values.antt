@@ -32,6 +32,7 @@ pub record IsList (bases : Bases) (k : HeapTyping) (l : ℕ) (t : Tree) : Type 0
   pub is : slice_get k l ≡ Some (a_list item)
   pub equal : Equal bases item t
 
+-- a location is recorded as a dict whose key type and value type are equal to these
 pub record IsDict (bases : Bases) (k : HeapTyping) (l : ℕ) (key value : Tree) : Type 0 where
   pub keys : Tree
   pub values : Tree
@@ -70,10 +71,12 @@ abbrev mutual
 
 -- ---- well-typed heaps
 
+-- each of the values is of the type
 abbrev pub AllHave : Bases → HeapTyping → Tree → List Value → Type 0
 AllHave bases k t [] = Unit {0}
 AllHave bases k t (v ∷ vs) = HasType bases k t v × AllHave bases k t vs
 
+-- each entry has a key of the key type and a value of the value type
 abbrev pub EntriesHave : Bases → HeapTyping → (key value : Tree) → List Entry → Type 0
 EntriesHave bases k s t [] = Unit {0}
 EntriesHave bases k s t (e ∷ es) = HasType bases k s e.key × HasType bases k t e.value × EntriesHave bases k s t es
@@ -91,6 +94,7 @@ CellHas bases classes k (a_dict s t) (dict_cell entries) = EntriesHave bases k s
 CellHas bases classes k (a_class c) (instance_cell d slots) = (d ≡ c) × SlotsHave bases k (class_at classes c).fields slots
 CellHas bases classes k _ _ = ⊥
 
+-- a cell lies at the location, and it is of what is recorded of it
 pub record CellAt (bases : Bases) (classes : List facts.Class) (k : HeapTyping) (heap : Heap) (l : ℕ) (r : Recorded) : Type 0 where
   pub cell : Cell
   pub is : slice_get heap l ≡ Some cell

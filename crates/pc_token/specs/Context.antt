@@ -49,6 +49,7 @@ brackets_by_role Opens o brackets = brackets ++ o ∷ []
 brackets_by_role (Closes _) o brackets = take (length brackets - 1) brackets
 brackets_by_role Plain o brackets = brackets
 
+-- the brackets that are open after a token
 abbrev pub brackets_after : TokenKind → List Operator → List Operator
 brackets_after (t.Operator o) brackets = brackets_by_role (role_of o) o brackets
 brackets_after _ brackets = brackets

@@ -24,8 +24,10 @@ abbrev pub form_of : List ℕ → Option (String Global) → List ℕ
 form_of text None = text
 form_of text (Some form) = string_bytes form
 
+-- a token, without where its bytes lie in memory
 abbrev pub lexeme_of : Token (Bor (List ℕ)) → Lexeme
 lexeme_of t = record { kind = t.kind; place = t.place; text = t.text.now; form = form_of t.text.now t.form }
 
+-- a logical line, without where its tokens lie in memory
 abbrev pub line_of : Line → LogicalLine
 line_of l = record { column = l.column; lexemes = map lexeme_of l.tokens.items }

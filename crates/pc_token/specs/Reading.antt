@@ -16,6 +16,7 @@ use Rattle.pc_token.specs.Faults.{IsFault, innermost, bracket_limit}
 use Rattle.pc_token.specs.Lexeme.{LogicalLine, form_of, lexeme_of}
 use Rattle.pc_token.specs.Splitting.{Sort, Blanks, Comment, LineEnd, Lexical, FitsBySort, GoesOn, close_line}
 
+-- the context that the reading of a line stands for
 abbrev pub context_of : Reading → Context
 context_of r = record { at = r.at; start = r.start; brackets = r.brackets.items; done = map lexeme_of r.tokens.items; last = r.last; ended = r.ended }
 

@@ -52,6 +52,7 @@ FitsBySort c Comment bytes rest = IsComment bytes rest
 FitsBySort c LineEnd bytes rest = IsLineEnd bytes
 FitsBySort c (Lexical kind) bytes rest = IsLongest kind bytes rest × IsAllowed c kind bytes rest
 
+-- a piece may stand here, before this rest
 abbrev pub Fits : Context → Piece → List ℕ → Type 0
 Fits c p rest = FitsBySort c p.sort p.bytes rest
 
@@ -62,6 +63,7 @@ after_sort c Comment bytes = after_gap c bytes
 after_sort c LineEnd bytes = after_line_end c.brackets c bytes
 after_sort c (Lexical kind) bytes = after_token c kind bytes
 
+-- the context after a piece of the text
 abbrev pub after : Context → Piece → Context
 after c p = after_sort c p.sort p.bytes
 
@@ -86,6 +88,7 @@ abbrev pub at_line_end : List Operator → Context → List (Result LogicalLine 
 at_line_end [] c others = close_line c.start c.done others
 at_line_end (_ ∷ _) c others = others
 
+-- the logical line that ends at a piece of this sort, if one does, before the others
 abbrev pub at_sort : Sort → Context → List (Result LogicalLine Refusal) → List (Result LogicalLine Refusal)
 at_sort LineEnd c others = at_line_end c.brackets c others
 at_sort _ c others = others

@@ -43,6 +43,7 @@ type_in (int p digits) = Int
 type_in (str p characters) = Str
 type_in (binary p op l r) = type_of op (type_in l) (type_in r)
 
+-- the finding of a code at a place, where there is a code
 abbrev pub found_at : Place → Option Code → List Finding
 found_at p None = []
 found_at p (Some code) = finding p code ∷ []
@@ -53,18 +54,21 @@ found_in (int p digits) = []
 found_in (str p characters) = []
 found_in (binary p op l r) = (found_in l ++ found_in r) ++ found_at p (code_of op (type_in l) (type_in r))
 
+-- the findings of the expression of a statement, none where it has none
 abbrev pub found_in_stmt : Stmt → List Finding
 found_in_stmt (pass p) = []
 found_in_stmt (returns p) = []
 found_in_stmt (returns_value p e) = found_in e
 found_in_stmt (evaluates p e) = found_in e
 
+-- the statement is a `return`, with or without a value
 abbrev pub is_return : Stmt → Bool
 is_return (pass p) = false
 is_return (returns p) = true
 is_return (returns_value p e) = true
 is_return (evaluates p e) = false
 
+-- E30 at the first of these statements, which stand behind a `return`, if there is one
 abbrev pub unreachable_at : List Stmt → List Finding
 unreachable_at [] = []
 unreachable_at (s ∷ ss) = finding (first_of s) E30 ∷ []

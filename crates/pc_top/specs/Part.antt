@@ -12,11 +12,13 @@ use Rattle.pc_top.specs.Fragment.{Operator, Add, Sub, Expr, int, str, binary, St
 
 -- ---- the modules of the part
 
+-- the operators of the part: `+` and `-`
 abbrev pub part_operator : BinaryOperator → Option Operator
 part_operator sign.Add = Some Add
 part_operator sign.Sub = Some Sub
 part_operator _ = None
 
+-- an operator between two operands, where all three are of the part
 abbrev pub operated : Place → Option Operator → Option Expr → Option Expr → Option Expr
 operated p (Some op) (Some l) (Some r) = Some (binary p op l r)
 operated p _ _ _ = None
@@ -28,6 +30,7 @@ part_expr (tree.text p characters) = Some (str p characters)
 part_expr (tree.binary p op l r) = operated p (part_operator op) (part_expr l) (part_expr r)
 part_expr _ = None
 
+-- a statement with a value, where that is of the part
 abbrev pub with_value : (Expr → Stmt) → Option Expr → Option Stmt
 with_value f None = None
 with_value f (Some e) = Some (f e)
@@ -40,18 +43,22 @@ part_stmt (tree.returns p (Some e)) = with_value (returns_value p) (part_expr e)
 part_stmt (tree.evaluates p e) = with_value (evaluates p) (part_expr e)
 part_stmt _ = None
 
+-- a statement before others, where all are of the part
 abbrev pub before_body : Option Stmt → Option (List Stmt) → Option (List Stmt)
 before_body (Some s) (Some ss) = Some (s ∷ ss)
 before_body _ _ = None
 
+-- the statements of a body, where all are of the part
 abbrev pub part_body : tree.Stmts → Option (List Stmt)
 part_body tree.no_stmts = Some []
 part_body (tree.more_stmts s ss) = before_body (part_stmt s) (part_body ss)
 
+-- the module of a body, where that is of the part
 abbrev pub module_with : Option (List Stmt) → Option Module
 module_with None = None
 module_with (Some ss) = Some (record { body = ss })
 
+-- a module, where its function is `main`
 abbrev pub when_main : Bool → Option Module → Option Module
 when_main Bool.true m = m
 when_main Bool.false m = None
@@ -61,6 +68,7 @@ abbrev pub part_def : (name : tree.Name) → List tree.Param → Option tree.Ann
 part_def n [] None body = when_main (bytes_eq n.text (codes "main")) (module_with (part_body body))
 part_def n _ _ body = None
 
+-- one function that is of the part, and no other item
 abbrev pub part_items : List tree.Item → Option Module
 part_items (tree.def_item first f ∷ []) = part_def f.name f.params f.returns f.body
 part_items _ = None
@@ -77,6 +85,7 @@ least None b = b
 least (Some a) None = Some a
 least (Some a) (Some b) = Some (min a b)
 
+-- where a node with an operator begins if that is not of the part, else where the operands first go beyond it
 abbrev pub other_operator : Place → Option Operator → Option ℕ → Option ℕ
 other_operator p None inside = Some p.start
 other_operator p (Some op) inside = inside
@@ -136,6 +145,7 @@ other_in_item (tree.constant_item first c) = Some first.start
 other_in_item (tree.class_item first c) = Some first.start
 other_in_item (tree.def_item first f) = other_in_def first f
 
+-- the place of an item's first token
 abbrev pub first_of_item : tree.Item → Place
 first_of_item (tree.constant_item first c) = first
 first_of_item (tree.class_item first c) = first

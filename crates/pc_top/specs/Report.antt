@@ -22,6 +22,7 @@ IsInOrder [] = Unit {0}
 IsInOrder (f ∷ []) = Unit {0}
 IsInOrder (f ∷ g ∷ fs) = IsBefore f g × IsInOrder (g ∷ fs)
 
+-- the findings of the rows, in their order
 abbrev pub findings_of : List Row → List Finding
 findings_of rows = map (λ row. row.finding) rows
 

@@ -89,6 +89,7 @@ label_of E29 = codes "reserved"
 label_of E30 = codes "unreachable"
 label_of E31 = codes "default-order"
 
+-- whether a code is that of an error: the codes with `E` are, those with `A` are not
 abbrev pub is_error : Code → Bool
 is_error A1 = false
 is_error A2 = false

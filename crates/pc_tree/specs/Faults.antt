@@ -8,7 +8,7 @@ use Rattle.pc_tree.specs.Grammar.{last_place}
 use Rattle.pc_tree.specs.Grammar.Modules.{SpellsModule, IsFront}
 use Rattle.pc_tree.specs.Depth.{too_deep_at}
 
--- the tokens spell the module, and none of its whole expressions and annotations is too deep
+-- the tokens spell the module, and none of its whole expressions, targets and annotations is too deep
 pub record IsModule (ts : List Lexeme) (m : Module) : Type 0 where
   pub spelled : SpellsModule m ts
   pub shallow : too_deep_at m ≡ None

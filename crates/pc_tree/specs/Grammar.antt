@@ -22,6 +22,7 @@ Spelling = List Lexeme → Type 0
 
 -- ---- places
 
+-- the empty place at byte 0, where there is no token
 abbrev pub no_place : Place
 no_place = record { start = 0; end = 0 }
 
@@ -58,6 +59,7 @@ pub record Sequence (A B : Spelling) (ts : List Lexeme) : Type 0 where
   pub left : A front
   pub right : B back
 
+-- `A ⟫ B` is tokens of A, and then tokens of B
 abbrev pub ◌⟫◌ : Spelling → Spelling → Spelling
 ◌⟫◌ A B ts = Sequence A B ts
 
@@ -80,9 +82,11 @@ Rest last A ts = A ts ⊎ (last × Nothing ts)
 abbrev pub Just : TokenKind → Spelling
 Just k ts = (t : Lexeme) × (t.kind ≡ k) × (ts ≡ t ∷ [])
 
+-- one token, this operator
 abbrev pub Sign : Operator → Spelling
 Sign o = Just (kind.Operator o)
 
+-- one token, this keyword
 abbrev pub Word : Keyword → Spelling
 Word w = Just (kind.Keyword w)
 
@@ -90,6 +94,7 @@ Word w = Just (kind.Keyword w)
 abbrev pub name_at : Lexeme → Name
 name_at t = record { place = t.place; text = t.form }
 
+-- one token, this name at its place
 abbrev pub IsName : Name → Spelling
 IsName n ts = (t : Lexeme) × (t.kind ≡ kind.Name) × (n ≡ name_at t) × (ts ≡ t ∷ [])
 
@@ -136,8 +141,10 @@ unclosed (b ∷ c ∷ text) = b ∷ unclosed (c ∷ text)
 abbrev pub characters_of : List ℕ → List ℕ
 characters_of text = decoded false (unclosed (unopened text))
 
+-- one token, a number of these digits
 abbrev pub IsNumber : List ℕ → Spelling
 IsNumber digits ts = (t : Lexeme) × (t.kind ≡ kind.Int) × (digits ≡ digits_of t.text) × (ts ≡ t ∷ [])
 
+-- one token, a string of these characters
 abbrev pub IsString : List ℕ → Spelling
 IsString characters ts = (t : Lexeme) × (t.kind ≡ kind.Str) × (characters ≡ characters_of t.text) × (ts ≡ t ∷ [])

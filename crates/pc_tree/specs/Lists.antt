@@ -21,10 +21,11 @@ abbrev pub keywords_of_list : List RustKeyword → Keywords
 keywords_of_list [] = no_keywords
 keywords_of_list (a ∷ rest) = more_keywords (name_of a.name) (expr_of a.value) (keywords_of_list rest)
 
--- a list of conditions, each with its suite
+-- a condition and its suite before other branches
 abbrev pub with_branch : RustBranch → Branches → Branches
 with_branch (Branch' condition shape body) rest = more_branches (expr_of condition) (stmts_of body) rest
 
+-- a list of branches
 abbrev pub branches_of_list : List RustBranch → Branches
 branches_of_list [] = no_branches
 branches_of_list (b ∷ rest) = with_branch b (branches_of_list rest)

@@ -62,10 +62,12 @@ pub data Reading : Type 0 where
   at : (s : State) → Reading
   lost : (byte : ℕ) → Reading
 
+-- the reading that a turn at this token leads to: the turn's state, or lost at the token's first byte
 abbrev pub arrive : Turn → Lexeme → Reading
 arrive (go s) t = at s
 arrive stuck t = lost t.place.start
 
+-- the reading one token later; one that is lost stays lost at its byte
 abbrev pub step : Reading → Lexeme → Reading
 step (at s) t = arrive (turn s t t.kind) t
 step (lost byte) t = lost byte
@@ -76,10 +78,12 @@ pub data Outcome : Type 0 where
   refuses : (byte : ℕ) → Outcome
   short : Outcome
 
+-- what comes of tokens that end in this state: the module where the text has ended, else they end too early
 abbrev pub stop_at : State → Outcome
 stop_at (ended m) = reads m
 stop_at _ = short
 
+-- what comes of a reading that no token follows
 abbrev pub stop : Reading → Outcome
 stop (at s) = stop_at s
 stop (lost byte) = refuses byte

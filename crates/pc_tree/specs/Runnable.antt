@@ -39,6 +39,7 @@ all_defs function method is = list_all (def_is function method) is
 abbrev pub is_held : (fields_only : Bool) → List ℕ → Held → Bool
 is_held fields_only sought h = (if fields_only then h.is_field else true) && bytes_eq h.text sought
 
+-- one of these members has this name, and is a field where only fields are asked for
 abbrev pub has_member : (fields_only : Bool) → List ℕ → List Member → Bool
 has_member fields_only sought ms = list_any (λ m. is_held fields_only sought (held_by m)) ms
 
@@ -48,6 +49,7 @@ class_named n (constant_item first c) = None
 class_named n (def_item first f) = None
 class_named n (class_item first c) = if bytes_eq c.name.text n then Some c else None
 
+-- this class or an ancestor of it has such a member; without a class here, the nearest one of the name before does
 abbrev pub held_in : (fields_only : Bool) → List ℕ → Option ClassDef → (before : Option (List ℕ) → Bool) → List ℕ → Bool
 held_in fields_only sought None before n = before (Some n)
 held_in fields_only sought (Some c) before n = has_member fields_only sought c.members || before (option_text c.base)
@@ -64,6 +66,7 @@ are_apart before base names [] = true
 are_apart before base names (m ∷ ms) = not (is_among names (name_of_member m).text || holds (not (is_field m)) (name_of_member m).text before base)
     && are_apart before base ((name_of_member m).text ∷ names) ms
 
+-- an item that is no class, or a class whose members are apart from each other and from its ancestors'
 abbrev pub is_apart : List Item → Item → Bool
 is_apart before (constant_item first c) = true
 is_apart before (def_item first f) = true
@@ -76,15 +79,19 @@ all_apart before (i ∷ is) = is_apart before i && all_apart (i ∷ before) is
 
 -- ---- the names of the program's trees
 
+-- the text of the name of an item
 abbrev pub item_text : RustItem → List ℕ
 item_text i = (name_of_item (item_of i)).text
 
+-- the text of the name of a parameter
 abbrev pub param_text : RustParam → List ℕ
 param_text p = (param_of p).name.text
 
+-- the text of the name of a member
 abbrev pub member_text : RustMember → List ℕ
 member_text m = (name_of_member (member_of m)).text
 
+-- the text of the name of an argument
 abbrev pub keyword_text : RustKeyword → List ℕ
 keyword_text a = (name_seen a.name).text
 
@@ -98,6 +105,7 @@ abbrev pub base_text : Option (Bor RustName) → Option (List ℕ)
 base_text None = None
 base_text (Some n) = Some (name_seen n.now).text
 
+-- the tree of a class that was found, if one was
 abbrev pub found_class : Option (Bor RustClassDef) → Option ClassDef
 found_class None = None
 found_class (Some c) = Some (class_of c.now)

@@ -9,6 +9,7 @@ use Rattle.pc_tree.specs.Tree.{Name, Expr, name, number, text, truth, nothing, t
 
 -- ---- names
 
+-- the text is one of these
 abbrev pub is_among : List (List ℕ) → List ℕ → Bool
 is_among texts sought = list_any (λ x. bytes_eq x sought) texts
 
@@ -17,43 +18,52 @@ abbrev pub reserved_names : List (List ℕ)
 reserved_names = codes "Any" ∷ codes "annotations" ∷ codes "bool" ∷ codes "dataclass" ∷ codes "dict" ∷ codes "int" ∷ codes "isinstance"
     ∷ codes "len" ∷ codes "list" ∷ codes "object" ∷ codes "print" ∷ codes "range" ∷ codes "str" ∷ codes "tuple" ∷ []
 
+-- the text is a reserved name
 abbrev pub is_reserved : List ℕ → Bool
 is_reserved sought = is_among reserved_names sought
 
+-- a place where a test holds, else no place
 abbrev pub one_if : Bool → Place → List Place
 one_if test place = if test then place ∷ [] else []
 
+-- the text of a name
 abbrev pub text_of : Name → List ℕ
 text_of n = n.text
 
+-- the name that an item of the module binds
 abbrev pub name_of_item : Item → Name
 name_of_item (constant_item first c) = c.name
 name_of_item (class_item first c) = c.name
 name_of_item (def_item first f) = f.name
 
+-- the name of a member of a class
 abbrev pub name_of_member : Member → Name
 name_of_member (field_member f) = f.name
 name_of_member (method_member f) = f.name
 
+-- the name of a parameter
 abbrev pub name_of_param : Param → Name
 name_of_param p = p.name
 
+-- the text of a name, where there is one
 abbrev pub option_text : Option Name → Option (List ℕ)
 option_text None = None
 option_text (Some n) = Some n.text
 
+-- the list is empty
 abbrev pub has_none : {X : Type 0} → List X → Bool
 has_none [] = true
 has_none (x ∷ xs) = false
 
 -- ---- all functions, and what stands in them
 
--- what a list of places has for each function of the module, methods among them
+-- what a rule gives for each method of these members, one after another
 abbrev pub of_members : (method : FuncDef → List Place) → List Member → List Place
 of_members method [] = []
 of_members method (field_member f ∷ ms) = of_members method ms
 of_members method (method_member f ∷ ms) = method f ++ of_members method ms
 
+-- so for each function and method of these items, by one rule for functions and one for methods
 abbrev pub of_defs : (function method : FuncDef → List Place) → List Item → List Place
 of_defs function method [] = []
 of_defs function method (constant_item first c ∷ is) = of_defs function method is
@@ -72,6 +82,7 @@ abbrev pub given_again : List (List ℕ) → Keywords → List Place
 given_again before no_keywords = []
 given_again before (more_keywords n e ks) = one_if (is_among before n.text) n.place ++ given_again (n.text ∷ before) ks
 
+-- the names that are given again in the calls of expressions
 abbrev mutual
   -- in the calls of an expression
   pub given_in : Expr → List Place
@@ -95,27 +106,33 @@ abbrev mutual
   given_in (index p e i) = given_in e ++ given_in i
   given_in (call p e xs ks) = given_in e ++ (given_in_all xs ++ (given_again [] ks ++ given_in_keywords ks))
 
+  -- in those of several expressions
   pub given_in_all : Exprs → List Place
   given_in_all no_exprs = []
   given_in_all (more_exprs x xs) = given_in x ++ given_in_all xs
 
+  -- in those of the keys and values of a dict display
   pub given_in_entries : Entries → List Place
   given_in_entries no_entries = []
   given_in_entries (more_entries x y es) = given_in x ++ (given_in y ++ given_in_entries es)
 
+  -- in those of the values of arguments by name
   pub given_in_keywords : Keywords → List Place
   given_in_keywords no_keywords = []
   given_in_keywords (more_keywords n e ks) = given_in e ++ given_in_keywords ks
 
+-- in the calls of an expression that may be missing
 abbrev pub given_in_optional : Option Expr → List Place
 given_in_optional None = []
 given_in_optional (Some e) = given_in e
 
+-- in the calls of a target
 abbrev pub given_in_target : Target → List Place
 given_in_target (to_name n) = []
 given_in_target (to_attribute p e f) = given_in e
 given_in_target (to_index p e i) = given_in e ++ given_in i
 
+-- the names that are given again in the calls of statements
 abbrev mutual
   -- in the calls of a statement
   pub given_in_stmt : Stmt → List Place
@@ -131,14 +148,17 @@ abbrev mutual
   given_in_stmt (for_loop p target iterable body) = given_in iterable ++ given_in_stmts body
   given_in_stmt (conditional p branches otherwise) = given_in_branches branches ++ given_in_stmts otherwise
 
+  -- in those of the statements of a suite
   pub given_in_stmts : Stmts → List Place
   given_in_stmts no_stmts = []
   given_in_stmts (more_stmts s rest) = given_in_stmt s ++ given_in_stmts rest
 
+  -- in those of conditions and their suites
   pub given_in_branches : Branches → List Place
   given_in_branches no_branches = []
   given_in_branches (more_branches condition body rest) = given_in condition ++ (given_in_stmts body ++ given_in_branches rest)
 
+-- in the calls of the values of constants
 abbrev pub given_in_constants : List Item → List Place
 given_in_constants [] = []
 given_in_constants (constant_item first c ∷ is) = given_in c.value ++ given_in_constants is
@@ -149,6 +169,7 @@ given_in_constants (def_item first f ∷ is) = given_in_constants is
 abbrev pub params_again : (before : List (List ℕ)) → FuncDef → List Place
 params_again before f = bound_again before (map name_of_param f.params)
 
+-- in the calls of the body of a function
 abbrev pub given_in_def : FuncDef → List Place
 given_in_def f = given_in_stmts f.body
 
@@ -159,21 +180,26 @@ twice m = bound_again [] (map name_of_item m.items) ++ (of_defs (params_again []
 
 -- ---- E05: `break` or `continue` outside a loop
 
+-- each `break` and `continue` outside a loop
 abbrev mutual
+  -- in a statement: itself, or in the suites of an `if`, for a suite of a loop is inside one
   pub loose_in_stmt : Stmt → List Place
   loose_in_stmt (breaks p) = p ∷ []
   loose_in_stmt (continues p) = p ∷ []
   loose_in_stmt (conditional p branches otherwise) = loose_in_branches branches ++ loose_in otherwise
   loose_in_stmt _ = []
 
+  -- in the statements of a suite
   pub loose_in : Stmts → List Place
   loose_in no_stmts = []
   loose_in (more_stmts s rest) = loose_in_stmt s ++ loose_in rest
 
+  -- in the suites of conditions
   pub loose_in_branches : Branches → List Place
   loose_in_branches no_branches = []
   loose_in_branches (more_branches condition body rest) = loose_in body ++ loose_in_branches rest
 
+-- in the body of a function
 abbrev pub loose_in_def : FuncDef → List Place
 loose_in_def f = loose_in f.body
 
@@ -188,11 +214,13 @@ abbrev pub is_reserved_member : Member → Bool
 is_reserved_member (field_member f) = is_reserved f.name.text || bytes_eq f.name.text (codes "mro")
 is_reserved_member (method_member f) = is_reserved f.name.text
 
+-- the name that a target binds: none for an attribute or an item
 abbrev pub name_of_target : Target → List Name
 name_of_target (to_name n) = n ∷ []
 name_of_target (to_attribute p e f) = []
 name_of_target (to_index p e i) = []
 
+-- the names at binding positions, in text order
 abbrev mutual
   -- the names at the binding positions of a statement
   pub bound_by_stmt : Stmt → List Name
@@ -203,25 +231,31 @@ abbrev mutual
   bound_by_stmt (conditional p branches otherwise) = bound_by_branches branches ++ bound_by otherwise
   bound_by_stmt _ = []
 
+  -- at those of the statements of a suite
   pub bound_by : Stmts → List Name
   bound_by no_stmts = []
   bound_by (more_stmts s rest) = bound_by_stmt s ++ bound_by rest
 
+  -- at those of the suites of conditions
   pub bound_by_branches : Branches → List Name
   bound_by_branches no_branches = []
   bound_by_branches (more_branches condition body rest) = bound_by body ++ bound_by_branches rest
 
+-- the reserved ones among these names
 abbrev pub reserved_among : List Name → List Place
 reserved_among [] = []
 reserved_among (n ∷ ns) = one_if (is_reserved n.text) n.place ++ reserved_among ns
 
+-- the reserved names that a function binds, as parameters and in its body
 abbrev pub reserved_in_def : FuncDef → List Place
 reserved_in_def f = reserved_among (map name_of_param f.params ++ bound_by f.body)
 
+-- the members of a class that have a reserved name, and its fields named `mro`
 abbrev pub reserved_members : List Member → List Place
 reserved_members [] = []
 reserved_members (m ∷ ms) = one_if (is_reserved_member m) (name_of_member m).place ++ reserved_members ms
 
+-- such members of each class
 abbrev pub reserved_in_classes : List Item → List Place
 reserved_in_classes [] = []
 reserved_in_classes (constant_item first c ∷ is) = reserved_in_classes is
@@ -239,9 +273,11 @@ pub record Held : Type 0 where
   pub text : List ℕ
   pub is_field : Bool
 
+-- the name of a member that a class has
 abbrev pub held_text : Held → List ℕ
 held_text h = h.text
 
+-- the member is a field of this name
 abbrev pub is_field_of : List ℕ → Held → Bool
 is_field_of sought h = h.is_field && bytes_eq h.text sought
 
@@ -254,10 +290,12 @@ clashes inherited (method_member f) = list_any (is_field_of f.name.text) inherit
 abbrev pub is_clash : List (List ℕ) → List Held → Member → Bool
 is_clash before inherited m = is_among before (name_of_member m).text || clashes inherited m
 
+-- the member is a field
 abbrev pub is_field : Member → Bool
 is_field (field_member f) = true
 is_field (method_member f) = false
 
+-- a member as its class has it
 abbrev pub held_by : Member → Held
 held_by m = record { text = (name_of_member m).text; is_field = is_field m }
 
@@ -286,6 +324,7 @@ abbrev pub clashing : List (List ℕ) → List Held → List Member → List Pla
 clashing before inherited [] = []
 clashing before inherited (m ∷ ms) = one_if (is_clash before inherited m) (name_of_member m).place ++ clashing ((name_of_member m).text ∷ before) inherited ms
 
+-- the clashing members of each class, with the items before it, the nearest first
 abbrev pub clashing_in : (before : List Item) → List Item → List Place
 clashing_in before [] = []
 clashing_in before (constant_item first c ∷ is) = clashing_in (constant_item first c ∷ before) is
@@ -311,10 +350,12 @@ no_main m = one_if (not (is_plain_def (codes "main") m.items)) m.main
 
 -- ---- E31: a parameter without default after one with default
 
+-- the parameters without default that stand after one with default; `defaulted` says that one came before these
 abbrev pub late_plain : (defaulted : Bool) → List Param → List Place
 late_plain defaulted [] = []
 late_plain defaulted (p ∷ ps) = one_if (defaulted && is_none p.default) p.name.place ++ late_plain (defaulted || is_some p.default) ps
 
+-- the parameters of a function without default that stand after one with default
 abbrev pub late_plain_in : FuncDef → List Place
 late_plain_in f = late_plain false f.params
 
@@ -338,6 +379,7 @@ stopping_places m _ = []
 abbrev pub IsStopping : Module → Place → Code → Type 0
 IsStopping m place code = Contains (stopping_places m code) place
 
+-- all places where a code stops a run
 abbrev pub all_stopping_places : Module → List Place
 all_stopping_places m = twice m ++ (outside_loop m ++ (clashing_members m ++ (no_main m ++ (reserved_bound m ++ default_order m))))
 

@@ -35,6 +35,7 @@ pub record Name : Type 0 where
   pub place : Place
   pub text : List ℕ
 
+-- expressions, and the lists of their parts
 mutual
   -- an expression with its place
   pub data Expr : Type 0 where
@@ -58,6 +59,7 @@ mutual
     index : (place : Place) (object key : Expr) → Expr
     call : (place : Place) (callee : Expr) (arguments : Exprs) (keywords : Keywords) → Expr
 
+  -- a list of expressions
   pub data Exprs : Type 0 where
     no_exprs : Exprs
     more_exprs : (first : Expr) (rest : Exprs) → Exprs
@@ -72,6 +74,7 @@ mutual
     no_keywords : Keywords
     more_keywords : (parameter : Name) (value : Expr) (rest : Keywords) → Keywords
 
+-- annotations, and lists of them
 mutual
   -- an annotation with its place: a name, `None`, `N[A, ..]`, `N[()]`, or parts with `|` between them
   pub data Ann : Type 0 where
@@ -81,6 +84,7 @@ mutual
     applied_empty : (place : Place) (head : Name) → Ann
     union : (place : Place) (parts : Anns) → Ann
 
+  -- a list of annotations
   pub data Anns : Type 0 where
     no_anns : Anns
     more_anns : (first : Ann) (rest : Anns) → Anns
@@ -99,6 +103,7 @@ pub data Literal : Type 0 where
   truth_literal : (place : Place) (value : Bool) → Literal
   none_literal : (place : Place) → Literal
 
+-- statements, suites and branches
 mutual
   -- a statement, with the place of its first token
   pub data Stmt : Type 0 where
@@ -115,6 +120,7 @@ mutual
     -- `if`, each `elif`, and the suite of `else`, which is empty where there is none
     conditional : (first : Place) (branches : Branches) (otherwise : Stmts) → Stmt
 
+  -- the statements of a suite
   pub data Stmts : Type 0 where
     no_stmts : Stmts
     more_stmts : (first : Stmt) (rest : Stmts) → Stmts
@@ -137,11 +143,13 @@ pub record FuncDef : Type 0 where
   pub returns : Option Ann
   pub body : Stmts
 
+-- a field: its name, its annotation, and its default if it has one
 pub record Field : Type 0 where
   pub name : Name
   pub annotation : Ann
   pub default : Option Literal
 
+-- a member of a class: a field or a method
 pub data Member : Type 0 where
   field_member : (f : Field) → Member
   method_member : (f : FuncDef) → Member
@@ -153,6 +161,7 @@ pub record ClassDef : Type 0 where
   pub base : Option Name
   pub members : List Member
 
+-- a constant: its name, its annotation if it has one, and its value
 pub record Constant : Type 0 where
   pub name : Name
   pub annotation : Option Ann
@@ -173,10 +182,13 @@ pub record Module : Type 0 where
 
 -- ---- what values of the program are
 
+-- a name of the program, as trees have it
 abbrev pub name_of : RustName → Name
 name_of n = record { place = n.place; text = string_bytes n.text }
 
+-- the trees of expressions of the program, and of rows of their parts
 abbrev mutual
+  -- the tree of an expression
   pub expr_of : RustExpr → Expr
   expr_of (rust.Name n) = name (name_of n)
   expr_of (rust.Int p digits) = number p (string_bytes digits)
@@ -199,19 +211,24 @@ abbrev mutual
   expr_of (rust.Index' p q e s i) = index p (expr_of e) (expr_of i)
   expr_of (rust.Call' p q e shape arguments shape' keywords) = call p (expr_of e) (exprs_of arguments) (keywords_of keywords)
 
+  -- the trees of a row of expressions
   pub exprs_of : {m : _} → Row_of-Expr m → Exprs
   exprs_of end_of-Expr = no_exprs
   exprs_of (more_of-Expr e rest) = more_exprs (expr_of e) (exprs_of rest)
 
+  -- the trees of a row of keys and values
   pub entries_of : {m : _} → Row_of-Entry m → Entries
   entries_of end_of-Entry = no_entries
   entries_of (more_of-Entry key value rest) = more_entries (expr_of key) (expr_of value) (entries_of rest)
 
+  -- the trees of a row of arguments by name
   pub keywords_of : {m : _} → Row_of-KeywordArgument m → Keywords
   keywords_of end_of-KeywordArgument = no_keywords
   keywords_of (more_of-KeywordArgument parameter value rest) = more_keywords (name_of parameter) (expr_of value) (keywords_of rest)
 
+-- the trees of annotations of the program, and of rows of them
 abbrev mutual
+  -- the tree of an annotation
   pub ann_of : RustAnn → Ann
   ann_of (rust_ann.Name n) = named (name_of n)
   ann_of (rust_ann.NoneValue p) = none_type p
@@ -219,27 +236,33 @@ abbrev mutual
   ann_of (rust_ann.ApplyEmpty p head) = applied_empty p (name_of head)
   ann_of (rust_ann.Union' p shape parts) = union p (anns_of parts)
 
+  -- the trees of a row of annotations
   pub anns_of : {m : _} → Row_of-Ann m → Anns
   anns_of end_of-Ann = no_anns
   anns_of (more_of-Ann a rest) = more_anns (ann_of a) (anns_of rest)
 
+-- the tree of a target
 abbrev pub target_of : RustTarget → Target
 target_of (rust_target.Name n) = to_name (name_of n)
 target_of (rust_target.Attribute p e field) = to_attribute p (expr_of e) (name_of field)
 target_of (rust_target.Index p e i) = to_index p (expr_of e) (expr_of i)
 
+-- the tree of an expression, where there is one
 abbrev pub option_expr_of : Option RustExpr → Option Expr
 option_expr_of None = None
 option_expr_of (Some e) = Some (expr_of e)
 
+-- the tree of an annotation, where there is one
 abbrev pub option_ann_of : Option RustAnn → Option Ann
 option_ann_of None = None
 option_ann_of (Some a) = Some (ann_of a)
 
+-- a name as trees have it, where there is one
 abbrev pub option_name_of : Option RustName → Option Name
 option_name_of None = None
 option_name_of (Some n) = Some (name_of n)
 
+-- the tree of a literal of this kind at this place
 abbrev pub literal_of_kind : Place → LiteralKind → Literal
 literal_of_kind p (rust_literal.Int digits) = number_literal p (string_bytes digits)
 literal_of_kind p (rust_literal.NegativeInt digits) = negative_literal p (string_bytes digits)
@@ -248,14 +271,18 @@ literal_of_kind p rust_literal.True = truth_literal p true
 literal_of_kind p rust_literal.False = truth_literal p false
 literal_of_kind p rust_literal.NoneValue = none_literal p
 
+-- the tree of a literal
 abbrev pub literal_of : RustLiteral → Literal
 literal_of l = literal_of_kind l.place l.kind
 
+-- the tree of a literal, where there is one
 abbrev pub option_literal_of : Option RustLiteral → Option Literal
 option_literal_of None = None
 option_literal_of (Some l) = Some (literal_of l)
 
+-- the trees of statements of the program, and of rows of statements and branches
 abbrev mutual
+  -- the tree of a statement of this kind, with the place of its first token
   pub stmt_of_kind : Place → StmtKind → Stmt
   stmt_of_kind p rust_stmt.Pass = pass p
   stmt_of_kind p rust_stmt.Break = breaks p
@@ -269,14 +296,17 @@ abbrev mutual
   stmt_of_kind p (rust_stmt.For' target iterable shape body) = for_loop p (name_of target) (expr_of iterable) (stmts_of body)
   stmt_of_kind p (rust_stmt.If' shape branches shape' otherwise) = conditional p (branches_of branches) (stmts_of otherwise)
 
+  -- the trees of a row of statements
   pub stmts_of : {m : _} → Row_of-Stmt m → Stmts
   stmts_of end_of-Stmt = no_stmts
   stmts_of (more_of-Stmt first kind rest) = more_stmts (stmt_of_kind first kind) (stmts_of rest)
 
+  -- the trees of a row of branches
   pub branches_of : {m : _} → Row_of-Branch m → Branches
   branches_of end_of-Branch = no_branches
   branches_of (more_of-Branch (Branch' condition shape body) rest) = more_branches (expr_of condition) (stmts_of body) (branches_of rest)
 
+-- the tree of a statement
 abbrev pub stmt_of : RustStmt → Stmt
 stmt_of s = stmt_of_kind s.first s.kind
 
@@ -285,32 +315,41 @@ abbrev pub stmts_of_list : List RustStmt → Stmts
 stmts_of_list [] = no_stmts
 stmts_of_list (s ∷ rest) = more_stmts (stmt_of s) (stmts_of_list rest)
 
+-- the tree of a parameter
 abbrev pub param_of : RustParam → Param
 param_of p = record { name = name_of p.name; annotation = option_ann_of p.annotation; default = option_literal_of p.default }
 
+-- the tree of a function
 abbrev pub func_of : RustFuncDef → FuncDef
 func_of f = record { name = name_of f.name; params = map param_of f.params.items; returns = option_ann_of f.returns; body = stmts_of_list f.body.items }
 
+-- the tree of a field
 abbrev pub field_of : RustField → Field
 field_of f = record { name = name_of f.name; annotation = ann_of f.annotation; default = option_literal_of f.default }
 
+-- the tree of a member of a class
 abbrev pub member_of : RustMember → Member
 member_of (rust_member.Field f) = field_member (field_of f)
 member_of (rust_member.Method f) = method_member (func_of f)
 
+-- the tree of a class
 abbrev pub class_of : RustClassDef → ClassDef
 class_of c = record { decorator = c.decorator; name = name_of c.name; base = option_name_of c.base; members = map member_of c.members.items }
 
+-- the tree of a constant
 abbrev pub constant_of : RustConstant → Constant
 constant_of c = record { name = name_of c.name; annotation = option_ann_of c.annotation; value = expr_of c.value }
 
+-- the tree of an item of this kind, with the place of its first token
 abbrev pub item_of_kind : Place → ItemKind → Item
 item_of_kind p (rust_item.Constant c) = constant_item p (constant_of c)
 item_of_kind p (rust_item.Class c) = class_item p (class_of c)
 item_of_kind p (rust_item.Def f) = def_item p (func_of f)
 
+-- the tree of an item of the module
 abbrev pub item_of : RustItem → Item
 item_of i = item_of_kind i.first i.kind
 
+-- the tree of a module
 abbrev pub module_of : RustModule → Module
 module_of m = record { imports_dataclass = m.imports_dataclass; imports_any = m.imports_any; items = map item_of m.items.items; main = m.main }

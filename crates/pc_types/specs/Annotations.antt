@@ -19,6 +19,7 @@ use Rattle.pc_types.specs.Shape.{nodes, limit, trees, union}
 use Rattle.pc_types.specs.Normal.{rank}
 use Rattle.pc_types.specs.Join.{absorbs, is_before}
 
+-- the place of an annotation
 abbrev pub ann_place : Ann → Place
 ann_place (named n) = n.place
 ann_place (none_type p) = p
@@ -54,6 +55,7 @@ built_type builtin.Dict (k ∷ v ∷ []) = dict_type k v
 built_type builtin.Tuple (t ∷ ts) = Some (TupleOf (trees (t ∷ ts)))
 built_type _ _ = None
 
+-- what a name makes of its arguments: a type where it means a built-in that takes them, else none
 abbrev pub applied_type : Res → List Tree → Option Tree
 applied_type (res.Builtin b) arguments = built_type b arguments
 applied_type _ arguments = None
@@ -71,6 +73,7 @@ is_member Never = false
 is_member (Union a b) = false
 is_member _ = true
 
+-- two members have the same head, and so one place among the members of a union
 abbrev pub has_same_head : Tree → Tree → Test
 has_same_head m n = ((rank m).0 == (rank n).0) && ((rank m).1 == (rank n).1)
 
@@ -78,6 +81,7 @@ has_same_head m n = ((rank m).0 == (rank n).0) && ((rank m).1 == (rank n).1)
 abbrev pub are_apart : Bases → Tree → Tree → Test
 are_apart bases m n = not (has_same_head m n) && (not (absorbs bases m n) && not (absorbs bases n m))
 
+-- the parts make a union: each may stand in one, and any two are apart
 abbrev pub is_union : Bases → List Tree → Test
 is_union bases [] = true
 is_union bases (m ∷ ms) = is_member m && (list_all (are_apart bases m) ms && is_union bases ms)
@@ -87,6 +91,7 @@ abbrev pub placed : Tree → List Tree → List Tree
 placed m [] = m ∷ []
 placed m (n ∷ ns) = if is_before m n then m ∷ n ∷ ns else n ∷ placed m ns
 
+-- members in the order of a union
 abbrev pub in_order : List Tree → List Tree
 in_order [] = []
 in_order (m ∷ ms) = placed m (in_order ms)
@@ -96,6 +101,7 @@ abbrev pub union_type : Bases → List Tree → Option Tree
 union_type bases parts = if is_union bases parts then Some (union (in_order parts)) else None
 
 module _ (m : Module) (bases : Bases) where
+  -- what a name in an annotation means in the module
   abbrev meaning : Name → Res
   meaning n = resolve_in_module m n.text
 
@@ -108,6 +114,7 @@ module _ (m : Module) (bases : Bases) where
     reading (applied_empty p head) = unwrap_or (empty_type (meaning head)) Any
     reading (tree.union p parts) = unwrap_or (union_type bases (readings parts)) Any
 
+    -- the types of several annotations
     pub readings : Anns → List Tree
     readings no_anns = []
     readings (more_anns a rest) = reading a ∷ readings rest
@@ -121,6 +128,7 @@ module _ (m : Module) (bases : Bases) where
     PartFinds (applied_empty p head) f = MatchOption (empty_type (meaning head)) (f ≡ finding p E09) (λ t. ⊥)
     PartFinds (tree.union p parts) f = MatchOption (union_type bases (readings parts)) (f ≡ finding p E10) (λ t. ⊥) ⊎ PartsFind parts f
 
+    -- what is found in several annotations
     pub PartsFind : Anns → Finding → Type 0
     PartsFind no_anns f = ⊥
     PartsFind (more_anns a rest) f = PartFinds a f ⊎ PartsFind rest f
@@ -143,6 +151,7 @@ module _ (m : Module) (bases : Bases) where
   read_option None = Any
   read_option (Some a) = read_ann a
 
+  -- the findings of an annotation, none where there is none
   abbrev pub OptionFinds : Option Ann → Finding → Type 0
   OptionFinds None f = ⊥
   OptionFinds (Some a) f = AnnFinds a f

@@ -14,10 +14,12 @@ abbrev mutual
   IsPlain (Union a b) = IsPlain a × IsPlain b
   IsPlain _ = Unit {0}
 
+  -- the parts of a tuple, each without Any
   pub ArePlain : Trees → Type 0
   ArePlain end = Unit {0}
   ArePlain (more t ts) = IsPlain t × ArePlain ts
 
+-- replacement of each Any, in types and in the parts of tuples
 mutual
   -- the second is the first with each Any replaced by a tree without Any, each occurrence by itself
   pub data Fills : Tree → Tree → Type 0 where
@@ -34,6 +36,7 @@ mutual
     tuple : {ts us : Trees} → FillsEach ts us → Fills (TupleOf ts) (TupleOf us)
     union : {a b c d : Tree} → Fills a c → Fills b d → Fills (Union a b) (Union c d)
 
+  -- so for the parts of two tuples of one length, one by one
   pub data FillsEach : Trees → Trees → Type 0 where
     none : FillsEach end end
     one : {t u : Tree} {ts us : Trees} → Fills t u → FillsEach ts us → FillsEach (more t ts) (more u us)

@@ -15,6 +15,7 @@ base_of bases c = slice_index_or bases c None
 abbrev pub AreSmaller : Bases → Type 0
 AreSmaller bases = (c b : ℕ) → base_of bases c ≡ Some b → b < c
 
+-- subtyping, of types and of the parts of tuples
 mutual
   -- the first is below the second: the least relation with these rules
   pub data Below (bases : Bases) : Tree → Tree → Type 0 where

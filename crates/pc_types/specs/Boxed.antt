@@ -7,6 +7,7 @@ use Rattle.pc_types.specs.Normal.{IsNormal}
 use Rattle.pc_types.specs.declared.boxed.BoxType.{BoxType, Row_of-BoxType, end_of-BoxType, more_of-BoxType}
 use Rattle.pc_types.specs.declared.boxed.BoxType.TheVariants.{Any, Object, Never, Int, Bool, Str, NoneType, Class, List', Dict', Tuple', Union'}
 
+-- the trees of types in boxes, and of their parts
 abbrev mutual
   -- what a type in boxes means
   pub tree_of : BoxType → Tree
@@ -23,6 +24,7 @@ abbrev mutual
   tree_of (Tuple' shape parts) = TupleOf (trees_of parts)
   tree_of (Union' p a q b) = tree.Union (tree_of a) (tree_of b)
 
+  -- what a row of types means, as the parts of a tuple
   pub trees_of : {m : _} → Row_of-BoxType m → Trees
   trees_of end_of-BoxType = end
   trees_of (more_of-BoxType t rest) = more (tree_of t) (trees_of rest)

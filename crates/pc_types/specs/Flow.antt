@@ -28,8 +28,9 @@ abbrev pub CoversBack : Bases → Test → Tree → Tree → Type 0
 CoversBack bases true s t = Covers bases t s
 CoversBack bases false s t = Unit {0}
 
+-- flows of types, and of the parts of tuples
 mutual
-  -- the first flows into the second; where both directions are wanted, so do tuples of one length the other way
+  -- the first flows into the second; where both directions are wanted, the parts of tuples are covered back
   pub data Flow (bases : Bases) : Test → Tree → Tree → Type 0 where
     w_from_any : {both : Test} {t : Tree} → Flow bases both Any t
     w_to_any : {both : Test} {s : Tree} → Flow bases both s Any
@@ -73,6 +74,7 @@ abbrev mutual
   seen gradual (TupleOf ts) = TupleOf (seen_each gradual ts)
   seen gradual (Union a b) = Union (seen gradual a) (seen gradual b)
 
+  -- the parts of a tuple as a test sees them
   pub seen_each : Test → Trees → Trees
   seen_each gradual end = end
   seen_each gradual (more t ts) = more (seen gradual t) (seen_each gradual ts)

@@ -25,6 +25,7 @@ abbrev mutual
   same_tree (Union a b) (Union c d) = same_tree a c && same_tree b d
   same_tree _ _ = false
 
+  -- whether two tuples have equal parts
   pub same_trees : Trees → Trees → Test
   same_trees end end = true
   same_trees (more s ss) (more t ts) = same_tree s t && same_trees ss ts
@@ -83,9 +84,11 @@ by_rule Object t joined = Some Object
 by_rule s Object joined = Some Object
 by_rule s t joined = joined
 
+-- the join of two types, given their members put together: equal types give themselves, others go by the rule
 abbrev pub settled : Tree → Tree → Option (List Tree) → Option Tree
 settled s t together = if same_tree s t then Some s else by_rule s t (option_map union together)
 
+-- the members of two types put together, and the parts of two tuples joined
 abbrev mutual
   -- the members of a type, but for those that the other type absorbs, put among others;
   -- lists and dicts of one head must be equal, tuples are joined part by part

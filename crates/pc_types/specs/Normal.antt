@@ -49,6 +49,7 @@ abbrev mutual
   IsNormal (Union a b) = IsMember a × IsNormal a × IsNormal b × IsAfter a b
   IsNormal _ = Unit {0}
 
+  -- the parts of a tuple, each in normal form
   pub AreNormal : Trees → Type 0
   AreNormal end = Unit {0}
   AreNormal (more t ts) = IsNormal t × AreNormal ts
@@ -75,6 +76,7 @@ abbrev mutual
   IsReduced bases (Union a b) = IsReduced bases a × IsReduced bases b × IsApart bases a b
   IsReduced bases _ = Unit {0}
 
+  -- the parts of a tuple, each without an absorbed member
   pub AreReduced : Bases → Trees → Type 0
   AreReduced bases end = Unit {0}
   AreReduced bases (more t ts) = IsReduced bases t × AreReduced bases ts

@@ -16,6 +16,7 @@ abbrev mutual
   nodes (Union a b) = 1 + nodes a + nodes b
   nodes _ = 1
 
+  -- the nodes of the parts of a tuple together
   pub nodes_of : Trees → ℕ
   nodes_of end = 0
   nodes_of (more t ts) = nodes t + nodes_of ts

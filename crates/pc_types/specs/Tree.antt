@@ -2,6 +2,7 @@
 -- Typing specification, "Type system concepts" and "Type annotations"; PEP 484, PEP 604.
 use Rattle.std.specs.Prelude.{ℕ}
 
+-- types, and the parts of tuple types
 mutual
   -- a type: a class is told by its place in the module, a union is one of two
   pub data Tree : Type 0 where
@@ -33,6 +34,7 @@ abbrev mutual
   erase (TupleOf ts) = TupleOf (erase_each ts)
   erase (Union a b) = Union (erase a) (erase b)
 
+  -- the parts of a tuple with each Any replaced by object
   pub erase_each : Trees → Trees
   erase_each end = end
   erase_each (more t ts) = more (erase t) (erase_each ts)

@@ -14,6 +14,7 @@ pub data Iteration : Type 0 where
   over_tuple : (items : Values) → Iteration
   over_range : (limit : ℤ) → Iteration
 
+-- an action on values, with its operands
 pub data Action : Type 0 where
   -- a whole number as it is written
   number : (n : ℤ) → Action
@@ -76,5 +77,6 @@ pub record Free : Type 0 where
 abbrev pub keeps : Heap → Outcome → Acted
 keeps heap outcome = record { outcome = outcome; heap = heap }
 
+-- the outcome that ends the run in one of the four exceptions
 abbrev pub raises : Exception → Outcome
 raises exception = stops (Raised exception)

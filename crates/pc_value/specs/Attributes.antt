@@ -28,6 +28,7 @@ attribute_outcome (an_instance l class fields) name is_method = field_outcome (f
 attribute_outcome a_none name is_method = raises AttributeError
 attribute_outcome v name is_method = stops Outside
 
+-- the store of a field, if the instance has it; a name that is no field is out of the profile
 abbrev pub store_field : Heap → ℕ → ℕ → List Slot → List ℕ → Value → Option Value → Acted
 store_field heap l class fields name v (Some old) = written heap l (instance_cell class (with_field name v fields))
 store_field heap l class fields name v None = keeps heap (stops Outside)

@@ -17,6 +17,7 @@ pub data Change : Type 0 where
   sets_key : (key value : Value) → Change
   sets_field : (name : List ℕ) (value : Value) → Change
 
+-- a change of what lies at a location, as the program holds it
 abbrev pub change_of : RustChange → Change
 change_of (rust.Append v) = appends (value_of v)
 change_of rust.Pop = pops
@@ -29,13 +30,16 @@ pub record Changed : Type 0 where
   pub outcome : Outcome
   pub cell : Cell
 
+-- a change after which this lies there, and which gives None
 abbrev pub to_cell : Cell → Changed
 to_cell cell = record { outcome = gives none; cell = cell }
 
+-- a list without its last item, which the change gives; another exception where there is none
 abbrev pub popped : List Value → Option Value → Changed
 popped items None = record { outcome = stops Other; cell = list_cell items }
 popped items (Some v) = record { outcome = gives v; cell = list_cell (take (length items - 1) items) }
 
+-- what a change makes of what lies there; where it does not suit that kind, it is out of the profile
 abbrev pub changed : Change → Cell → Changed
 changed (appends v) (list_cell items) = to_cell (list_cell (items ++ v ∷ []))
 changed pops (list_cell items) = popped items (last_of items)
@@ -49,6 +53,7 @@ abbrev pub changed_at : Heap → ℕ → Change → Option Cell → Acted
 changed_at heap l change None = keeps heap (stops Outside)
 changed_at heap l change (Some cell) = record { outcome = (changed change cell).outcome; heap = slice_set heap l (changed change cell).cell }
 
+-- a change of what the heap has at a location; where nothing lies there, it is out of the profile
 abbrev pub heap_changed : Heap → ℕ → Change → Acted
 heap_changed heap l change = changed_at heap l change (slice_get heap l)
 
@@ -67,6 +72,7 @@ abbrev pub stored_at : Heap → ℕ → Option ℕ → Value → Acted
 stored_at heap l None v = keeps heap (stops Other)
 stored_at heap l (Some i) v = heap_changed heap l (sets_item i v)
 
+-- `e[k] = v` on the dict at a location, by the kind of the key
 abbrev pub stored_key : Heap → ℕ → Seen → Value → Value → Acted
 stored_key heap l (a_number n) key v = heap_changed heap l (sets_key key v)
 stored_key heap l (a_text cs) key v = heap_changed heap l (sets_key key v)

@@ -12,6 +12,7 @@ abbrev pub index_among : ℕ → ℤ → Option ℕ
 index_among n (pos i) = if nat_lt i n then Some i else None
 index_among n (negsuc i) = if nat_lt i n then Some (n - suc i) else None
 
+-- the item at an index, if there is an index and an item at it
 abbrev pub at_index : {A : Type 0} → List A → Option ℕ → Option A
 at_index items None = None
 at_index items (Some i) = slice_get items i
@@ -25,6 +26,7 @@ abbrev pub gives_item : Option Value → Outcome
 gives_item None = stops Other
 gives_item (Some v) = gives v
 
+-- a character as a text of its own, or another exception where there is none
 abbrev pub gives_character : Option ℕ → Outcome
 gives_character None = stops Other
 gives_character (Some c) = gives (string (c ∷ []))
@@ -69,6 +71,7 @@ dict_item a_none entries = stops Other
 dict_item (a_tuple items) entries = stops Outside
 dict_item v entries = raises TypeError
 
+-- the value that was found, else the value None
 abbrev pub value_or_none : Option Value → Value
 value_or_none None = none
 value_or_none (Some v) = v
@@ -124,6 +127,7 @@ key_fault a_none = Some Outside
 key_fault (a_tuple items) = Some Outside
 key_fault k = Some (Raised TypeError)
 
+-- the first stop if there is one, else the second
 abbrev pub or_else : Option Stop → Option Stop → Option Stop
 or_else None second = second
 or_else (Some stop) second = Some stop
@@ -133,6 +137,7 @@ abbrev pub first_key_fault : Heap → List Entry → Option Stop
 first_key_fault heap [] = None
 first_key_fault heap (e ∷ rest) = or_else (key_fault (seen heap e.key)) (first_key_fault heap rest)
 
+-- a dict display, by how a key ends it: a new dict with its entries where none does, else that stop
 abbrev pub dict_display : Heap → List Entry → Option Stop → Acted
 dict_display heap entries None = placed heap (dict_cell (with_entries [] entries))
 dict_display heap entries (Some stop) = keeps heap (stops stop)
@@ -142,9 +147,11 @@ abbrev pub append_outcome : Heap → Seen → Value → Acted
 append_outcome heap (a_list l items) v = written heap l (list_cell (items ++ v ∷ []))
 append_outcome heap o v = keeps heap (stops Outside)
 
+-- the last item of a list, if it has one
 abbrev pub last_of : {A : Type 0} → List A → Option A
 last_of items = slice_get items (length items - 1)
 
+-- the list at a location loses its last item and gives it; another exception where it has none
 abbrev pub pop_from : Heap → ℕ → List Value → Option Value → Acted
 pop_from heap l items None = keeps heap (stops Other)
 pop_from heap l items (Some v) = record { outcome = gives v; heap = slice_set heap l (list_cell (take (length items - 1) items)) }

@@ -15,12 +15,14 @@ use Rattle.pc_source.specs.declared.fault.OutOfMemory.{OutOfMemory}
 use Rattle.pc_value.specs.declared.value.Heap.{Heap as RustHeap}
 use Rattle.pc_value.specs.Meaning.{value_of, entry_of, slot_of, heap_of}
 
+-- one of the four exceptions, as the program tells it
 abbrev pub exception_of : RustException → Exception
 exception_of rust_exception.TypeError = TypeError
 exception_of rust_exception.AttributeError = AttributeError
 exception_of rust_exception.NameError = NameError
 exception_of rust_exception.UnboundLocalError = UnboundLocalError
 
+-- what a `for` goes over, as the program holds it
 abbrev pub iteration_of : RustIteration → Iteration
 iteration_of (rust_iteration.List l) = over_list l
 iteration_of (rust_iteration.Dict l size) = over_dict l size
@@ -28,6 +30,7 @@ iteration_of (rust_iteration.Text cs) = over_text cs.items
 iteration_of (rust_iteration.Tuple items) = over_tuple (values_of (map value_of items.items))
 iteration_of (rust_iteration.Range n) = over_range n
 
+-- what an action comes to, as the program tells it
 abbrev pub outcome_of : RustOutcome → Outcome
 outcome_of (rust_outcome.Gives v) = gives (value_of v)
 outcome_of (rust_outcome.Iterates over) = iterates (iteration_of over)
@@ -42,6 +45,7 @@ abbrev pub written_number : Bool → List ℕ → ℤ
 written_number false digits = number_of_digits digits
 written_number true digits = negative_of_digits digits
 
+-- an action with its operands, as the program holds it
 abbrev pub action_of : RustAction → Action
 action_of (rust.Number below digits) = number (written_number below (string_bytes digits))
 action_of (rust.Binary operator v w) = binary operator (value_of v) (value_of w)

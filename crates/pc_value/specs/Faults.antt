@@ -4,6 +4,7 @@ use Rattle.pc_value.specs.declared.actions.KeyFault.{KeyFault}
 use Rattle.pc_value.specs.declared.actions.KeyFault.TheVariants as rust
 use Rattle.pc_value.specs.Value.{Stop, Raised, TypeError, Outside}
 
+-- how a faulty key that the program found stops the run, if it found one
 abbrev pub fault_of : Option KeyFault → Option Stop
 fault_of None = None
 fault_of (Some rust.Outside) = Some Outside

@@ -23,6 +23,7 @@ abbrev pub turn_item : Option Value → Outcome
 turn_item None = finished
 turn_item (Some v) = gives v
 
+-- a character as a text of its own, or the end
 abbrev pub turn_character : Option ℕ → Outcome
 turn_character None = finished
 turn_character (Some c) = gives (string (c ∷ []))

@@ -11,6 +11,7 @@ number_behind n (d ∷ ds) = number_behind (10 * n + (d - 48)) ds
 abbrev pub number_of_digits : List ℕ → ℤ
 number_of_digits digits = pos (number_behind 0 digits)
 
+-- the number of a run of digits with `-` before it
 abbrev pub negative_of_digits : List ℕ → ℤ
 negative_of_digits digits = neg_ℤ (number_of_digits digits)
 
@@ -19,6 +20,7 @@ abbrev pub floor_div_by : ℤ → ℕ → ℤ
 floor_div_by (pos a) n = pos (a / n)
 floor_div_by (negsuc a) n = negsuc (a / n)
 
+-- what floor division by a number above zero leaves: at least zero, and less than the divisor
 abbrev pub floor_mod_by : ℤ → ℕ → ℤ
 floor_mod_by (pos a) n = pos (a % n)
 floor_mod_by (negsuc a) n = pos (n - 1 - a % n)
@@ -33,17 +35,20 @@ abbrev pub floor_mod : ℤ → ℤ → ℤ
 floor_mod x (pos n) = floor_mod_by x n
 floor_mod x (negsuc n) = neg_ℤ (floor_mod_by (neg_ℤ x) (suc n))
 
+-- whether a number is zero
 abbrev pub is_zero : ℤ → Bool
 is_zero (pos zero) = true
 is_zero (pos (suc n)) = false
 is_zero (negsuc n) = false
 
+-- whether two numbers are equal
 abbrev pub same_number : ℤ → ℤ → Bool
 same_number (pos a) (pos b) = nat_eq a b
 same_number (pos a) (negsuc b) = false
 same_number (negsuc a) (pos b) = false
 same_number (negsuc a) (negsuc b) = nat_eq a b
 
+-- whether the first number is less than the second
 abbrev pub number_below : ℤ → ℤ → Bool
 number_below (pos a) (pos b) = nat_lt a b
 number_below (pos a) (negsuc b) = false

@@ -47,6 +47,7 @@ remainder_of (a_number x) (a_number y) = if is_zero y then stops Other else give
 remainder_of (a_text s) w = stops Outside
 remainder_of v w = raises TypeError
 
+-- what a binary operator makes of its operands, by their kinds
 abbrev pub binary_outcome : BinaryOperator → Seen → Seen → Outcome
 binary_outcome Add v w = sum_of v w
 binary_outcome Sub v w = difference_of v w
@@ -74,6 +75,7 @@ is_same (a_text s) (a_text t) = same_text s t
 is_same a_none a_none = true
 is_same v w = false
 
+-- `==`: the free answer where there is one, else the exact one
 abbrev pub is_equal : Free → Seen → Seen → Bool
 is_equal free v w = if is_equality_free v w then free.truth else is_same v w
 
@@ -104,6 +106,7 @@ member_of free v (a_tuple ws) = gives (boolean free.truth)
 member_of free v (a_dict l entries) = contains_key v entries
 member_of free v w = raises TypeError
 
+-- what a comparison makes of its operands by their kinds, where the free answers are given
 abbrev pub compare_outcome : Free → ComparisonOperator → Seen → Seen → Outcome
 compare_outcome free Equal v w = gives (boolean (is_equal free v w))
 compare_outcome free NotEqual v w = gives (boolean (not (is_equal free v w)))

@@ -7,6 +7,7 @@ use Rattle.pc_value.specs.Containers.{item_outcome, store_outcome, placed, dict_
 use Rattle.pc_value.specs.Attributes.{attribute_outcome, store_attribute_outcome}
 use Rattle.pc_value.specs.Iteration.{iterate_outcome, range_outcome, turn_outcome}
 
+-- what an action on a heap comes to, and the heap after it, where the free answers are given
 abbrev pub acted : Free → Action → Heap → Acted
 acted free (number n) heap = keeps heap (gives (whole n))
 acted free (binary operator v w) heap = keeps heap (binary_outcome operator (seen heap v) (seen heap w))

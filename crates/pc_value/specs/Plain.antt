@@ -15,6 +15,7 @@ abbrev pub limited_value : Value → Outcome
 limited_value (whole n) = if fits n then gives (whole n) else stops Cut
 limited_value v = gives v
 
+-- an outcome, but that the run is cut off where it gives a whole number that does not fit
 abbrev pub limited : Outcome → Outcome
 limited (gives v) = limited_value v
 limited (iterates over) = iterates over
@@ -29,6 +30,7 @@ makes_number (negative v) = true
 makes_number (length_of v) = true
 makes_number a = false
 
+-- an outcome with that limit where it applies, else as it is
 abbrev pub limited_if : Bool → Outcome → Outcome
 limited_if true o = limited o
 limited_if false o = o

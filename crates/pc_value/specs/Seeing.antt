@@ -5,6 +5,7 @@ use Rattle.pc_value.specs.declared.seen.Seen.TheVariants as rust
 use Rattle.pc_value.specs.Value.{Seen, a_number, a_text, a_none, a_tuple, a_list, a_dict, an_instance, a_stray, values_of}
 use Rattle.pc_value.specs.Meaning.{value_of, entry_of, slot_of}
 
+-- a value by its kind, as the program tells it
 abbrev pub seen_of : RustSeen → Seen
 seen_of (rust.Number n) = a_number n
 seen_of (rust.Text cs) = a_text cs.now

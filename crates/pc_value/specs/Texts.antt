@@ -11,12 +11,13 @@ use Rattle.std.specs.declared.cmp.Ordering.TheVariants.{Less, Equal, Greater}
 abbrev pub same_text : List ℕ → List ℕ → Bool
 same_text = bytes_eq
 
--- one text comes before another: the first characters that differ decide, and else the shorter one comes first
+-- whether this is the order of what comes before something
 abbrev pub is_less : Ordering → Bool
 is_less Less = true
 is_less Equal = false
 is_less Greater = false
 
+-- whether one text comes before another: the first characters that differ decide, and else the shorter one comes first
 abbrev pub text_below : List ℕ → List ℕ → Bool
 text_below s t = is_less (slice_cmp nat_cmp s t)
 

@@ -2,6 +2,7 @@
 -- Language Reference 3.1 "Objects, values and types"; what the profile has of them: own rule of the profile.
 use Rattle.std.specs.Prelude.{ℕ, zero, Bool, true, false, List, [], ◌∷◌, ℤ, pos, Option, Some, None, slice_get}
 
+-- values, and the rows of values that tuples hold
 mutual
   -- a whole number without bound, a truth value, a text as its characters, None, a tuple, or the location of
   -- something in the heap
@@ -23,6 +24,7 @@ abbrev pub list_of : Values → List Value
 list_of no_values = []
 list_of (more_values v rest) = v ∷ list_of rest
 
+-- a list of values as the items of a tuple
 abbrev pub values_of : List Value → Values
 values_of [] = no_values
 values_of (v ∷ rest) = more_values v (values_of rest)
@@ -79,12 +81,14 @@ pub data Seen : Type 0 where
   -- a location at which nothing lies; no run meets one
   a_stray : Seen
 
+-- what lies at a location by its kind, or that nothing does
 abbrev pub seen_cell : ℕ → Option Cell → Seen
 seen_cell l None = a_stray
 seen_cell l (Some (list_cell items)) = a_list l items
 seen_cell l (Some (dict_cell entries)) = a_dict l entries
 seen_cell l (Some (instance_cell class fields)) = an_instance l class fields
 
+-- a value by its kind; a location by what lies there in the heap
 abbrev pub seen : Heap → Value → Seen
 seen heap (whole n) = a_number n
 seen heap (boolean b) = a_number (number_of_truth b)
@@ -104,6 +108,7 @@ class_seen (a_dict l entries) = None
 class_seen (an_instance l class fields) = Some class
 class_seen a_stray = None
 
+-- the number of the class of a value that is an instance
 abbrev pub class_of : Heap → Value → Option ℕ
 class_of heap v = class_seen (seen heap v)
 
@@ -123,5 +128,6 @@ is_true_seen (a_list l []) = false
 is_true_seen (a_dict l []) = false
 is_true_seen v = true
 
+-- whether a value is true; a location by what lies there in the heap
 abbrev pub is_true : Heap → Value → Bool
 is_true heap v = is_true_seen (seen heap v)

@@ -6,6 +6,7 @@ use Rattle.pc_value.specs.Value.{whole, Cut}
 use Rattle.pc_value.specs.Actions.{Outcome, gives, stops}
 use Rattle.pc_value.specs.Numbers.{fits}
 
+-- the number that a sign and a count stand for: up from 0, or down from -1
 abbrev pub whole_of : Whole → ℤ
 whole_of (AtLeastZero n) = pos n
 whole_of (BelowZero n) = negsuc n

@@ -20,6 +20,7 @@ SpellsInfix (comparison o) = SpellsComparison o
 SpellsInfix both = Word word.And
 SpellsInfix either = Word word.Or
 
+-- the kind of the token of a prefix
 abbrev pub prefix_kind : Prefix → TokenKind
 prefix_kind minus = kind.Operator sign.Minus
 prefix_kind denial = kind.Keyword word.Not
@@ -35,10 +36,12 @@ abbrev pub EachItem : Exprs → Spelling
 EachItem no_exprs = Nothing
 EachItem (more_exprs x xs) = Expression x ⟫ Sign sign.Comma ⟫ EachItem xs
 
+-- arguments by name with a comma behind each
 abbrev pub EachKeyword : Keywords → Spelling
 EachKeyword no_keywords = Nothing
 EachKeyword (more_keywords n e ks) = IsName n ⟫ Sign sign.Equal ⟫ Expression e ⟫ Sign sign.Comma ⟫ EachKeyword ks
 
+-- entries of a dict with a comma behind each
 abbrev pub EachEntry : Entries → Spelling
 EachEntry no_entries = Nothing
 EachEntry (more_entries x y es) = Expression x ⟫ Sign sign.Colon ⟫ Expression y ⟫ Sign sign.Comma ⟫ EachEntry es
@@ -47,6 +50,7 @@ EachEntry (more_entries x y es) = Expression x ⟫ Sign sign.Colon ⟫ Expressio
 abbrev pub Callee : Expr → Spelling
 Callee e = Operand 7 (own_level e) (λ x. Spells e x) ⟫ Sign sign.LeftParenthesis
 
+-- there is one expression at least
 abbrev pub IsMoreExprs : Exprs → Type 0
 IsMoreExprs no_exprs = ⊥
 IsMoreExprs (more_exprs x xs) = Unit {0}
@@ -57,9 +61,11 @@ ItemsBefore in_list xs = Sign sign.LeftBracket ⟫ EachItem xs
 ItemsBefore in_tuple xs = λ ts. IsMoreExprs xs × (Sign sign.LeftParenthesis ⟫ EachItem xs) ts
 ItemsBefore (in_call e) xs = Callee e ⟫ EachItem xs
 
+-- a callee and its bracket, and its arguments so far by position and by name, with a comma behind each
 abbrev pub KeywordsBefore : Expr → Exprs → Keywords → Spelling
 KeywordsBefore e xs ks = (Callee e ⟫ EachItem xs) ⟫ EachKeyword ks
 
+-- the open brace of a dict, and its entries so far, with a comma behind each
 abbrev pub EntriesBefore : Entries → Spelling
 EntriesBefore es = Sign sign.LeftBrace ⟫ EachEntry es
 

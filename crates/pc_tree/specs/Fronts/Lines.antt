@@ -22,9 +22,11 @@ use Rattle.pc_tree.specs.Machine.States.{Stage, after_future, after_dataclasses,
 abbrev pub JustAt : TokenKind → Place → Spelling
 JustAt k place ts = (t : Lexeme) × (t.kind ≡ k) × (place ≡ t.place) × (ts ≡ t ∷ [])
 
+-- this keyword, at this place
 abbrev pub WordAt : Keyword → Place → Spelling
 WordAt w = JustAt (kind.Keyword w)
 
+-- this operator, at this place
 abbrev pub SignAt : Operator → Place → Spelling
 SignAt o = JustAt (kind.Operator o)
 
@@ -38,9 +40,11 @@ Opening = (Sign sign.Colon ⟫ Just kind.Newline) ⟫ Just kind.Indent
 
 -- ---- the module
 
+-- the headers of a module: that of `annotations`, and those of `dataclass` and `Any` where it has them
 abbrev pub Headers : Bool → Bool → Spelling
 Headers dataclass any = Header (codes "__future__") (codes "annotations") ⟫ OptionalHeader dataclass (codes "dataclasses") (codes "dataclass") ⟫ OptionalHeader any (codes "typing") (codes "Any")
 
+-- the headers of a module, and its items so far
 abbrev pub BeforeItems : Top → Spelling
 BeforeItems top = Headers top.imports_dataclass top.imports_any ⟫ SpellsItems top.items
 
@@ -52,20 +56,25 @@ AtStage after_headers top = Unit {0}
 
 -- ---- classes
 
+-- the line `@dataclass`, of which the places of both tokens are kept, and `class`
 abbrev pub ClassWord : Place → Place → Spelling
 ClassWord first decorator = ((SignAt sign.At first ⟫ NamedAt (codes "dataclass") decorator) ⟫ Just kind.Newline) ⟫ Word word.Class
 
+-- a class up to its name
 abbrev pub ClassName : ClassStart → Spelling
 ClassName c = ClassWord c.first c.decorator ⟫ IsName c.name
 
+-- a class up to the indent of its suite
 abbrev pub ClassHead : ClassStart → Spelling
 ClassHead c = (ClassName c ⟫ Maybe (λ b. Sign sign.LeftParenthesis ⟫ IsName b ⟫ Sign sign.RightParenthesis) c.base) ⟫ Opening
 
+-- the module before a class, the class up to its suite, and its members so far
 abbrev pub BeforeMembers : ClassStart → List Member → Spelling
 BeforeMembers c ms = (BeforeItems c.top ⟫ ClassHead c) ⟫ SpellsMembers ms
 
 -- ---- functions
 
+-- what comes before a function of the module, or before a method of a class
 abbrev pub BeforeOwner : Owner → Spelling
 BeforeOwner (of_module top) = BeforeItems top
 BeforeOwner (of_class c ms) = BeforeMembers c ms
@@ -75,6 +84,7 @@ abbrev pub DefWord : Owner → Place → Spelling
 DefWord (of_module top) first = WordAt word.Def first
 DefWord (of_class c ms) first = Word word.Def
 
+-- a function up to the `(` before its parameters
 abbrev pub DefName : DefStart → Spelling
 DefName d = (DefWord d.owner d.first ⟫ IsName d.name) ⟫ Sign sign.LeftParenthesis
 
@@ -88,20 +98,25 @@ abbrev pub ParamsOf : Owner → List Param → Spelling
 ParamsOf (of_module top) ps = EachParam ps
 ParamsOf (of_class c ms) ps = Named (codes "self") ⟫ Sign sign.Comma ⟫ EachParam ps
 
+-- whether a function stands in a class
 abbrev pub is_method : Owner → Bool
 is_method (of_module top) = false
 is_method (of_class c ms) = true
 
+-- what comes before a parameter: all up to the `(`, and the parameters so far, `self` too, with a comma behind each
 abbrev pub BeforeParams : DefStart → List Param → Spelling
 BeforeParams d ps = BeforeOwner d.owner ⟫ (DefName d ⟫ ParamsOf d.owner ps)
 
+-- what comes up to the `self` of a method, which a function of the module doesn't have
 abbrev pub SelfRead : DefStart → Owner → Spelling
 SelfRead d (of_module top) = λ ts. ⊥
 SelfRead d (of_class c ms) = BeforeOwner d.owner ⟫ (DefName d ⟫ Named (codes "self"))
 
+-- what comes up to the `)` behind the parameters of a function
 abbrev pub ParamsRead : DefStart → List Param → Spelling
 ParamsRead d ps = BeforeOwner d.owner ⟫ (DefName d ⟫ (Parameters (is_method d.owner) ps ⟫ Sign sign.RightParenthesis))
 
+-- what comes before the first statement of a function
 abbrev pub BeforeBody : DefHead → Spelling
 BeforeBody h = ParamsRead h.start h.params ⟫ (Maybe (λ a. Sign sign.Arrow ⟫ Annotation a) h.returns ⟫ Opening)
 
@@ -109,6 +124,7 @@ BeforeBody h = ParamsRead h.start h.params ⟫ (Maybe (λ a. Sign sign.Arrow ⟫
 abbrev pub BeforeParam : Name → Option Ann → Spelling
 BeforeParam n a = IsName n ⟫ Maybe (λ x. Sign sign.Colon ⟫ Annotation x) a
 
+-- what comes before a default, up to its `=`
 abbrev pub BeforeLiteral : LiteralContext → Spelling
 BeforeLiteral (default_of_param d ps n a) = BeforeParams d ps ⟫ (BeforeParam n a ⟫ Sign sign.Equal)
 BeforeLiteral (default_of_field c ms n a) = BeforeMembers c ms ⟫ (((IsName n ⟫ Sign sign.Colon) ⟫ Annotation a) ⟫ Sign sign.Equal)
@@ -137,10 +153,12 @@ BeforeNest first (for_body target iterable) = ((WordAt word.For first ⟫ IsName
 BeforeNest first (branch_body bs condition) = BranchWord first bs ⟫ Expression condition
 BeforeNest first (else_body bs) = IfBranches first bs ⟫ Word word.Else
 
+-- what comes before the first statement of a suite
 abbrev pub BeforeBlock : Block → Spelling
 BeforeBlock (def_body h) = BeforeBody h
 BeforeBlock (nested first of done outer) = (BeforeBlock outer ⟫ EachStmt done) ⟫ (BeforeNest first of ⟫ Opening)
 
+-- what comes before the next statement of a suite
 abbrev pub BeforeStmts : Stmts → Block → Spelling
 BeforeStmts done b = BeforeBlock b ⟫ EachStmt done
 
@@ -163,6 +181,7 @@ BeforeContext (in_constant n a top) = BeforeItems top ⟫ (BeforeParam n a ⟫ S
 
 -- ---- annotations
 
+-- what comes before a whole annotation, up to its `:` or `->`
 abbrev pub BeforeAnnContext : AnnContext → Spelling
 BeforeAnnContext (of_constant n top) = BeforeItems top ⟫ (IsName n ⟫ Sign sign.Colon)
 BeforeAnnContext (of_field c ms n) = BeforeMembers c ms ⟫ (IsName n ⟫ Sign sign.Colon)
@@ -175,6 +194,7 @@ abbrev pub EachAnn : Anns → Operator → Bool → Spelling
 EachAnn no_anns o whole = Nothing
 EachAnn (more_anns a rest) o whole = SpellsAnn a whole ⟫ Sign o ⟫ EachAnn rest o whole
 
+-- what comes before an annotation, be it a whole one or an argument of another
 abbrev pub BeforeAnn : AnnStack → Spelling
 BeforeAnn (ann_whole c) = BeforeAnnContext c
 BeforeAnn (ann_inside head done us parts before s) = (BeforeAnn s ⟫ Kept before (EachAnn parts sign.Bar false)) ⟫ Kept us ((IsName head ⟫ Sign sign.LeftBracket) ⟫ EachAnn done sign.Comma true)

@@ -11,6 +11,7 @@ abbrev pub AreSeveral : Anns → Type 0
 AreSeveral (more_anns a (more_anns b rest)) = Unit {0}
 AreSeveral _ = ⊥
 
+-- the tokens of annotations, and of several with a sign between them
 abbrev mutual
   -- an annotation; a part of a union is no union itself
   pub SpellsAnn : Ann → Bool → Spelling
@@ -25,5 +26,6 @@ abbrev mutual
   Separated no_anns o whole = λ ts. ⊥
   Separated (more_anns a rest) o whole = (λ ts. SpellsAnn a whole ts) ⟫ Rest (rest ≡ no_anns) (Sign o ⟫ (λ ts. Separated rest o whole ts))
 
+-- a whole annotation, which may be a union
 abbrev pub Annotation : Ann → Spelling
 Annotation a = SpellsAnn a true

@@ -12,8 +12,7 @@ use Rattle.pc_tree.specs.declared.tree.ComparisonOperator.TheVariants as compari
 use Rattle.pc_tree.specs.Tree.{Expr, name, number, text, truth, nothing, tuple, list, dict, negative, negation, binary, compare, is_none, is_not_none, conjunction, disjunction, attribute, index, call, Exprs, no_exprs, more_exprs, Entries, no_entries, more_entries, Keywords, no_keywords, more_keywords, Target, to_name, to_attribute, to_index}
 use Rattle.pc_tree.specs.Grammar.{Spelling, At, ◌⟫◌, Nothing, Sign, Word, IsName, AfterComma, IsNumber, IsString}
 
--- How tightly a node binds that stands in no parentheses: from `or`, 0, over `and`, `not`, the comparisons, the sums,
--- the products and the unary minus, to 7 for what has dots, brackets or calls behind it, and for a single token.
+-- how tightly an arithmetic operator binds: the sums, then the products
 abbrev pub level_of : BinaryOperator → ℕ
 level_of Add = 4
 level_of Sub = 4
@@ -21,6 +20,7 @@ level_of Mul = 5
 level_of FloorDiv = 5
 level_of Mod = 5
 
+-- how tightly a node binds without parentheses: `or`, 0, then `and`, `not`, comparisons, sums, products, unary minus, primaries
 abbrev pub own_level : Expr → ℕ
 own_level (disjunction p l r) = 0
 own_level (conjunction p l r) = 1
@@ -32,6 +32,7 @@ own_level (binary p o l r) = level_of o
 own_level (negative p e) = 6
 own_level _ = 7
 
+-- the sign of an arithmetic operator
 abbrev pub sign_of : BinaryOperator → Operator
 sign_of Add = sign.Plus
 sign_of Sub = sign.Minus
@@ -50,6 +51,7 @@ SpellsComparison comparison.GreaterEqual = Sign sign.GreaterEqual
 SpellsComparison comparison.In = Word word.In
 SpellsComparison comparison.NotIn = Word word.Not ⟫ Word word.In
 
+-- the keyword of a truth value
 abbrev pub truth_word : Bool → Keyword
 truth_word true = word.True
 truth_word false = word.False
@@ -63,6 +65,7 @@ Wrapped (suc n) A = Sign sign.LeftParenthesis ⟫ Wrapped n A ⟫ Sign sign.Righ
 abbrev pub Operand : ℕ → ℕ → Spelling → Spelling
 Operand level own A ts = (n : ℕ) × ((level ≤ own) ⊎ (0 < n)) × Wrapped n A ts
 
+-- the tokens of expressions, and of the parts in their brackets
 abbrev mutual
   -- the tokens of a node, without parentheses around it
   pub Spells : Expr → Spelling

@@ -22,6 +22,7 @@ SpellsLiteral (none_literal p) = At p (Word word.None)
 
 -- ---- functions
 
+-- a parameter: its name, then its annotation and its default, if it has them
 abbrev pub SpellsParam : Param → Spelling
 SpellsParam p = IsName p.name ⟫ Maybe (λ a. Sign sign.Colon ⟫ Annotation a) p.annotation ⟫ Maybe (λ l. Sign sign.Equal ⟫ SpellsLiteral l) p.default
 
@@ -35,16 +36,19 @@ abbrev pub Parameters : (method : Bool) → List Param → Spelling
 Parameters true ps = Named (codes "self") ⟫ AfterComma (ps ≡ []) (SpellsParams ps)
 Parameters false ps = SpellsParams ps
 
+-- a function or a method, from `def` to the end of its suite
 abbrev pub SpellsDef : (method : Bool) → FuncDef → Spelling
 SpellsDef method f = Word word.Def ⟫ IsName f.name ⟫ Sign sign.LeftParenthesis ⟫ Parameters method f.params ⟫ Sign sign.RightParenthesis
     ⟫ Maybe (λ a. Sign sign.Arrow ⟫ Annotation a) f.returns ⟫ Suite (SpellsStmts f.body)
 
 -- ---- classes
 
+-- a member of a class: a field on its line, or a method
 abbrev pub SpellsMember : Member → Spelling
 SpellsMember (field_member f) = IsName f.name ⟫ Sign sign.Colon ⟫ Annotation f.annotation ⟫ Maybe (λ l. Sign sign.Equal ⟫ SpellsLiteral l) f.default ⟫ Just kind.Newline
 SpellsMember (method_member f) = SpellsDef true f
 
+-- members, one after the other
 abbrev pub SpellsMembers : List Member → Spelling
 SpellsMembers [] = Nothing
 SpellsMembers (m ∷ ms) = SpellsMember m ⟫ SpellsMembers ms
@@ -54,17 +58,20 @@ abbrev pub ClassBody : List Member → Spelling
 ClassBody [] = Word word.Pass ⟫ Just kind.Newline
 ClassBody (m ∷ ms) = SpellsMembers (m ∷ ms)
 
+-- a class, from `@dataclass` on its own line to the end of its suite
 abbrev pub SpellsClass : ClassDef → Spelling
 SpellsClass c = Sign sign.At ⟫ NamedAt (codes "dataclass") c.decorator ⟫ Just kind.Newline ⟫ Word word.Class ⟫ IsName c.name
     ⟫ Maybe (λ b. Sign sign.LeftParenthesis ⟫ IsName b ⟫ Sign sign.RightParenthesis) c.base ⟫ Suite (ClassBody c.members)
 
 -- ---- the module
 
+-- an item of the module: a constant on its line, a class or a function, with the place of its first token
 abbrev pub SpellsItem : Item → Spelling
 SpellsItem (constant_item first c) = Begins first (IsName c.name ⟫ Maybe (λ a. Sign sign.Colon ⟫ Annotation a) c.annotation ⟫ Sign sign.Equal ⟫ Expression c.value ⟫ Just kind.Newline)
 SpellsItem (class_item first c) = Begins first (SpellsClass c)
 SpellsItem (def_item first f) = Begins first (SpellsDef false f)
 
+-- items, one after the other
 abbrev pub SpellsItems : List Item → Spelling
 SpellsItems [] = Nothing
 SpellsItems (i ∷ is) = SpellsItem i ⟫ SpellsItems is
@@ -73,6 +80,7 @@ SpellsItems (i ∷ is) = SpellsItem i ⟫ SpellsItems is
 abbrev pub Header : List ℕ → List ℕ → Spelling
 Header source imported = Word word.From ⟫ Named source ⟫ Word word.Import ⟫ Named imported ⟫ Just kind.Newline
 
+-- a header where the module has it, else no token
 abbrev pub OptionalHeader : Bool → List ℕ → List ℕ → Spelling
 OptionalHeader true source imported = Header source imported
 OptionalHeader false source imported = Nothing

@@ -12,6 +12,7 @@ use Rattle.pc_tree.specs.Grammar.Annotations.{Annotation}
 abbrev pub Suite : Spelling → Spelling
 Suite A = Sign sign.Colon ⟫ Just kind.Newline ⟫ Just kind.Indent ⟫ A ⟫ Just kind.Dedent
 
+-- the tokens of statements, suites and branches
 abbrev mutual
   -- a statement, with the end of its line or its suites
   pub SpellsStmt : Stmt → Spelling

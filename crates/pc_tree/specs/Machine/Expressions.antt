@@ -16,30 +16,34 @@ use Rattle.pc_tree.specs.Machine.Finishing.{add_expr, add_entry, add_keyword, na
 
 -- ---- levels
 
--- the level of the node that an operator makes, and those of its operands
+-- how tightly the node binds that an operator makes
 abbrev pub own_of : Infix → ℕ
 own_of (arithmetic o) = level_of o
 own_of (comparison o) = 3
 own_of both = 1
 own_of either = 0
 
+-- how tightly the left operand of an operator must bind
 abbrev pub left_of : Infix → ℕ
 left_of (arithmetic o) = level_of o
 left_of (comparison o) = 4
 left_of both = 1
 left_of either = 0
 
+-- how tightly the right operand of an operator must bind
 abbrev pub right_of : Infix → ℕ
 right_of (arithmetic o) = level_of o + 1
 right_of (comparison o) = 4
 right_of both = 2
 right_of either = 1
 
+-- the level of the node of an operator that begins so: `not in`, `is None` and `is not None` are comparisons
 abbrev pub own_of_link : Link → ℕ
 own_of_link (linking op) = own_of op
 own_of_link denying = 3
 own_of_link identifying = 3
 
+-- how tightly the operand before an operator that begins so must bind
 abbrev pub left_of_link : Link → ℕ
 left_of_link (linking op) = left_of op
 left_of_link denying = 4
@@ -64,6 +68,7 @@ follow_tightness calls = 8
 follow_tightness indexes = 8
 follow_tightness (ends e) = 0
 
+-- how tightly a token of this kind binds to the operand before it
 abbrev pub tightness : TokenKind → ℕ
 tightness k = follow_tightness (follow_of k)
 
@@ -78,22 +83,27 @@ Stops level (t ∷ ts) = tightness t.kind ≤ level
 abbrev pub part : (Place → Expr) → List Lexeme → Part
 part make ts = record { tree = make (span ts); tokens = ts; plain = true }
 
+-- the node that an operator makes of its two operands, at this place
 abbrev pub infix_tree : Infix → Expr → Expr → Place → Expr
 infix_tree (arithmetic o) l r p = binary p o l r
 infix_tree (comparison o) l r p = compare p o l r
 infix_tree both l r p = conjunction p l r
 infix_tree either l r p = disjunction p l r
 
+-- the node that a unary minus or a `not` makes of its operand, at this place
 abbrev pub prefix_tree : Prefix → Expr → Place → Expr
 prefix_tree minus e p = negative p e
 prefix_tree denial e p = negation p e
 
+-- the part that two operands make with the tokens of the operator between them
 abbrev pub joined : Infix → Part → List Lexeme → Part → Part
 joined op l o r = part (infix_tree op l.tree r.tree) (l.tokens ++ (o ++ r.tokens))
 
+-- the part that an operand makes with the tokens of the prefix before it
 abbrev pub applied : Prefix → List Lexeme → Part → Part
 applied x o p = part (prefix_tree x p.tree) (o ++ p.tokens)
 
+-- the part that is a single name
 abbrev pub name_part : Lexeme → Part
 name_part t = record { tree = name (name_at t); tokens = t ∷ []; plain = true }
 
@@ -101,11 +111,13 @@ name_part t = record { tree = name (name_at t); tokens = t ∷ []; plain = true 
 abbrev pub grouped : List Lexeme → Part → Lexeme → Part
 grouped o p t = record { tree = p.tree; tokens = o ++ (p.tokens ++ (t ∷ [])); plain = false }
 
+-- the tuple, the list, or the call without arguments by name that these items make, at this place
 abbrev pub head_tree : Head → Exprs → Place → Expr
 head_tree in_tuple xs p = tuple p xs
 head_tree in_list xs p = list p xs
 head_tree (in_call e) xs p = call p e xs no_keywords
 
+-- the part that is a call with these arguments by position and by name
 abbrev pub call_part : Expr → Exprs → Keywords → List Lexeme → Part
 call_part e xs ks ts = part (λ p. call p e xs ks) ts
 
@@ -123,6 +135,7 @@ reduce level p (naming e xs ks n ts s) = (p, naming e xs ks n ts s)
 reduce level p (keying es ts s) = (p, keying es ts s)
 reduce level p (valuing es k ts s) = (p, valuing es k ts s)
 
+-- the turn where an operand is due: a single token, an opening bracket, a `-`, or a `not` unless what is open binds more tightly
 abbrev pub operand_turn : Stack → Lexeme → Start → Turn
 operand_turn s t a_name = go (have 7 (name_part t) s)
 operand_turn s t a_number = go (have 7 (part (λ p. number p (digits_of t.text)) (t ∷ [])) s)
@@ -136,54 +149,67 @@ operand_turn s t a_minus = go (operand (applying minus (t ∷ []) s))
 operand_turn s t a_not = on (nat_le (rank s) 2) (operand (applying denial (t ∷ []) s)) stuck
 operand_turn s t no_start = stuck
 
+-- the bracket that closes the items: `]` for a list, `)` for a tuple or a call
 abbrev pub closer : Head → TokenKind
 closer in_list = kind.Operator sign.RightBracket
 closer in_tuple = kind.Operator sign.RightParenthesis
 closer (in_call e) = kind.Operator sign.RightParenthesis
 
+-- the turn behind `(` at the start of an operand: the `)` of the empty tuple, or the first token of an expression
 abbrev pub group_turn : List Lexeme → Stack → Lexeme → TokenKind → Turn
 group_turn o s t k = on (same_kind k (kind.Operator sign.RightParenthesis)) (have 7 (part (λ p. tuple p no_exprs) (o ++ (t ∷ []))) s)
     (operand_turn (grouping o s) t (start_of k))
 
+-- the turn where an item is due: its first token, or the bracket that closes the items
 abbrev pub item_turn : Head → Exprs → List Lexeme → Stack → Lexeme → TokenKind → Turn
 item_turn h xs ts s t k = on (same_kind k (closer h)) (have 7 (part (head_tree h xs) (ts ++ (t ∷ []))) s)
     (operand_turn (listing h xs ts s) t (start_of k))
 
+-- the turn where only an argument by name is due: its name, or the `)` of the call
 abbrev pub keyword_turn : Expr → Exprs → Keywords → List Lexeme → Stack → Lexeme → TokenKind → Turn
 keyword_turn e xs ks ts s t k = on (same_kind k kind.Name) (keyword_named e xs ks (name_at t) (ts ++ (t ∷ [])) s)
     (on (same_kind k (kind.Operator sign.RightParenthesis)) (have 7 (call_part e xs ks (ts ++ (t ∷ []))) s) stuck)
 
+-- the turn behind the name of an argument, where only `=` can stand
 abbrev pub named_turn : Expr → Exprs → Keywords → Name → List Lexeme → Stack → Lexeme → TokenKind → Turn
 named_turn e xs ks n ts s t k = on (same_kind k (kind.Operator sign.Equal)) (operand (naming e xs ks n (ts ++ (t ∷ [])) s)) stuck
 
+-- the turn where a key is due: its first token, or the `}` of the dict
 abbrev pub key_turn : Entries → List Lexeme → Stack → Lexeme → TokenKind → Turn
 key_turn es ts s t k = on (same_kind k (kind.Operator sign.RightBrace)) (have 7 (part (λ p. dict p es) (ts ++ (t ∷ []))) s)
     (operand_turn (keying es ts s) t (start_of k))
 
+-- the turn behind a dot, where only the name of an attribute can stand
 abbrev pub dotted_turn : Part → List Lexeme → Stack → Lexeme → TokenKind → Turn
 dotted_turn p d s t k = on (same_kind k kind.Name) (have 7 (part (λ q. attribute q p.tree (name_at t)) (p.tokens ++ (d ++ (t ∷ [])))) s) stuck
 
+-- the turn behind `e not`, where only `in` can stand
 abbrev pub denied_turn : Part → List Lexeme → Stack → Lexeme → TokenKind → Turn
 denied_turn p d s t k = on (same_kind k (kind.Keyword word.In)) (operand (joining (comparison cmp.NotIn) p (d ++ (t ∷ [])) s)) stuck
 
+-- the turn behind `e is`: the `None` of `is None`, or the `not` of `is not None`
 abbrev pub identified_turn : Part → List Lexeme → Stack → Lexeme → TokenKind → Turn
 identified_turn p d s t k = on (same_kind k (kind.Keyword word.None)) (have 3 (part (λ q. is_none q p.tree) (p.tokens ++ (d ++ (t ∷ [])))) s)
     (on (same_kind k (kind.Keyword word.Not)) (unidentified p (d ++ (t ∷ [])) s) stuck)
 
+-- the turn behind `e is not`, where only `None` can stand
 abbrev pub unidentified_turn : Part → List Lexeme → Stack → Lexeme → TokenKind → Turn
 unidentified_turn p d s t k = on (same_kind k (kind.Keyword word.None)) (have 3 (part (λ q. is_not_none q p.tree) (p.tokens ++ (d ++ (t ∷ [])))) s) stuck
 
 -- ---- what ends an expression in brackets
 
+-- the turn behind the first expression in parentheses: the `)`, or the comma that makes them a tuple
 abbrev pub close_group : List Lexeme → Stack → Part → Lexeme → Ending → Turn
 close_group o s p t closes_parenthesis = go (have 7 (grouped o p t) s)
 close_group o s p t a_comma = go (item_due in_tuple (more_exprs p.tree no_exprs) (o ++ (p.tokens ++ (t ∷ []))) s)
 close_group o s p t _ = stuck
 
+-- the turn at the `=` of the first argument by name in a call: its value is due, unless no name stands before the `=`
 abbrev pub begin_keyword : Option Name → Expr → Exprs → List Lexeme → Stack → Turn
 begin_keyword (Some n) e xs ts s = go (operand (naming e xs no_keywords n ts s))
 begin_keyword None e xs ts s = stuck
 
+-- the turn behind an item: a comma, the bracket that closes the items, or in a call the `=` of the first argument by name
 abbrev pub close_item : Head → Exprs → List Lexeme → Stack → Part → Lexeme → Ending → Turn
 close_item h xs ts s p t a_comma = go (item_due h (add_expr xs p.tree) (ts ++ (p.tokens ++ (t ∷ []))) s)
 close_item in_list xs ts s p t closes_bracket = go (have 7 (part (head_tree in_list (add_expr xs p.tree)) (ts ++ (p.tokens ++ (t ∷ [])))) s)
@@ -192,19 +218,23 @@ close_item (in_call e) xs ts s p t closes_parenthesis = go (have 7 (part (head_t
 close_item (in_call e) xs ts s p t an_equal = begin_keyword (if_plain p.plain (name_of_tree p.tree)) e xs (ts ++ (p.tokens ++ (t ∷ []))) s
 close_item h xs ts s p t _ = stuck
 
+-- the turn behind the key of `e[i]`, where only `]` can stand
 abbrev pub close_index : Expr → List Lexeme → Stack → Part → Lexeme → Ending → Turn
 close_index e ts s p t closes_bracket = go (have 7 (part (λ q. index q e p.tree) (ts ++ (p.tokens ++ (t ∷ [])))) s)
 close_index e ts s p t _ = stuck
 
+-- the turn behind the value of an argument by name: a comma, or the `)` of the call
 abbrev pub close_keyword : Expr → Exprs → Keywords → Name → List Lexeme → Stack → Part → Lexeme → Ending → Turn
 close_keyword e xs ks n ts s p t a_comma = go (keyword_due e xs (add_keyword ks n p.tree) (ts ++ (p.tokens ++ (t ∷ []))) s)
 close_keyword e xs ks n ts s p t closes_parenthesis = go (have 7 (call_part e xs (add_keyword ks n p.tree) (ts ++ (p.tokens ++ (t ∷ [])))) s)
 close_keyword e xs ks n ts s p t _ = stuck
 
+-- the turn behind the key of an entry, where only `:` can stand
 abbrev pub close_key : Entries → List Lexeme → Stack → Part → Lexeme → Ending → Turn
 close_key es ts s p t a_colon = go (operand (valuing es p.tree (ts ++ (p.tokens ++ (t ∷ []))) s))
 close_key es ts s p t _ = stuck
 
+-- the turn behind the value of an entry: a comma, or the `}` of the dict
 abbrev pub close_value : Entries → Expr → List Lexeme → Stack → Part → Lexeme → Ending → Turn
 close_value es key ts s p t a_comma = go (key_due (add_entry es key p.tree) (ts ++ (p.tokens ++ (t ∷ []))) s)
 close_value es key ts s p t closes_brace = go (have 7 (part (λ q. dict q (add_entry es key p.tree)) (ts ++ (p.tokens ++ (t ∷ [])))) s)
@@ -224,11 +254,13 @@ close p (applying x u s) t e = stuck
 
 -- ---- after an operand
 
+-- the state behind a token that begins an operator: its right operand is due, or the rest of `not in` or `is None`
 abbrev pub linked : Link → Lexeme → Part → Stack → State
 linked (linking op) t p s = operand (joining op p (t ∷ []) s)
 linked denying t p s = denied p (t ∷ []) s
 linked identifying t p s = identified p (t ∷ []) s
 
+-- the turn at a token that begins an operator, whose node must bind tightly enough for what is still open
 abbrev pub after_link : Link → Lexeme → (p : Part) × Stack → Turn
 after_link l t r = on (nat_le (rank r.1) (own_of_link l)) (linked l t r.0 r.1) stuck
 
@@ -236,6 +268,7 @@ after_link l t r = on (nat_le (rank r.1) (own_of_link l)) (linked l t r.0 r.1) s
 abbrev pub if_tight : ℕ → ℕ → Turn → Turn
 if_tight low level turn = if nat_le low level then turn else stuck
 
+-- the turn behind an operand of this level: an operator, a dot, an opening bracket, or what ends the expression
 abbrev pub have_turn : ℕ → Part → Stack → Lexeme → Follow → Turn
 have_turn level p s t (link l) = if_tight (left_of_link l) level (after_link l t (reduce (left_of_link l) p s))
 have_turn level p s t a_dot = if_tight 7 level (go (dotted p (t ∷ []) s))

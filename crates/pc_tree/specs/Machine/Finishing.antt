@@ -11,30 +11,37 @@ use Rattle.pc_tree.specs.Machine.States.{after_headers, Top, ClassStart, Owner, 
 
 -- ---- lists that grow at their end
 
+-- expressions with one more at their end
 abbrev pub add_expr : Exprs → Expr → Exprs
 add_expr no_exprs e = more_exprs e no_exprs
 add_expr (more_exprs x xs) e = more_exprs x (add_expr xs e)
 
+-- the entries of a dict with one more at their end
 abbrev pub add_entry : Entries → Expr → Expr → Entries
 add_entry no_entries k v = more_entries k v no_entries
 add_entry (more_entries x y es) k v = more_entries x y (add_entry es k v)
 
+-- arguments by name with one more at their end
 abbrev pub add_keyword : Keywords → Name → Expr → Keywords
 add_keyword no_keywords n e = more_keywords n e no_keywords
 add_keyword (more_keywords m x ks) n e = more_keywords m x (add_keyword ks n e)
 
+-- annotations with one more at their end
 abbrev pub add_ann : Anns → Ann → Anns
 add_ann no_anns a = more_anns a no_anns
 add_ann (more_anns x xs) a = more_anns x (add_ann xs a)
 
+-- statements with one more at their end
 abbrev pub add_stmt : Stmts → Stmt → Stmts
 add_stmt no_stmts s = more_stmts s no_stmts
 add_stmt (more_stmts x xs) s = more_stmts x (add_stmt xs s)
 
+-- branches with one more at their end: a condition and its suite
 abbrev pub add_branch : Branches → Expr → Stmts → Branches
 add_branch no_branches c b = more_branches c b no_branches
 add_branch (more_branches x y bs) c b = more_branches x y (add_branch bs c b)
 
+-- the module so far with one more item at its end
 abbrev pub add_item : Top → Item → Top
 add_item top i = record top { items = top.items ++ (i ∷ []) }
 
@@ -48,22 +55,28 @@ suite_of b = fixed (a_kind kind.Newline) (a_kind kind.Indent ∷ []) (stmts no_s
 abbrev pub after_stmt : Site → Stmt → State
 after_stmt site s = stmts (add_stmt site.done s) site.block
 
+-- the block of a suite that belongs to this begun statement
 abbrev pub nested_in : Site → Nest → Block
 nested_in site n = nested site.first n site.done site.block
 
+-- the function with this head and this body
 abbrev pub function_of : DefHead → Stmts → FuncDef
 function_of h body = record { name = h.start.name; params = h.params; returns = h.returns; body = body }
 
+-- the state behind a function, which is one more item of the module or one more member of its class
 abbrev pub after_def : Owner → Place → FuncDef → State
 after_def (of_module top) first f = items after_headers (add_item top (def_item first f))
 after_def (of_class c ms) first f = members c (ms ++ (method_member f ∷ []))
 
+-- the class that was begun so, with these members
 abbrev pub class_def_of : ClassStart → List Member → ClassDef
 class_def_of c ms = record { decorator = c.decorator; name = c.name; base = c.base; members = ms }
 
+-- the state behind a class, which is one more item of the module
 abbrev pub after_class : ClassStart → List Member → State
 after_class c ms = items after_headers (add_item c.top (class_item c.first (class_def_of c ms)))
 
+-- the state behind a suite inside a suite: a whole statement was read, or a branch that others may follow
 abbrev pub after_nested : Nest → Stmts → Site → State
 after_nested (while_body condition) body site = after_stmt site (while_loop site.first condition body)
 after_nested (for_body target iterable) body site = after_stmt site (for_loop site.first target iterable body)
@@ -77,10 +90,12 @@ after_suite (nested first n done outer) body = after_nested n body (record { fir
 
 -- ---- whole expressions
 
+-- the name that an expression is, if it is one
 abbrev pub name_of_tree : Expr → Option Name
 name_of_tree (name n) = Some n
 name_of_tree _ = None
 
+-- the target that an expression is, if it is a name, `e.f` or `e[i]`
 abbrev pub target_of_tree : Expr → Option Target
 target_of_tree (name n) = Some (to_name n)
 target_of_tree (attribute p e f) = Some (to_attribute p e f)
@@ -92,10 +107,12 @@ abbrev pub if_plain : {X : Type 0} → Bool → Option X → Option X
 if_plain true x = x
 if_plain false x = None
 
+-- the turn at the `=` of an assignment: its value is due, unless no target stands before the `=`
 abbrev pub begin_value : Option Target → Site → Turn
 begin_value (Some target) site = go (operand (whole (in_statement (assigned target) site)))
 begin_value None site = stuck
 
+-- the turn at the `:` behind a local name: its annotation is due, unless no name stands before the `:`
 abbrev pub begin_annotation : Option Name → Site → Turn
 begin_annotation (Some n) site = go (part_due no_anns [] (ann_whole (of_local n site)))
 begin_annotation None site = stuck
@@ -104,25 +121,30 @@ begin_annotation None site = stuck
 abbrev pub line_site : Stmts → Block → Part → Site
 line_site done block p = record { first = first_place p.tokens; done = done; block = block }
 
+-- the turn behind the expression that begins a line: the line's end, the `=` of an assignment, or the `:` of an annotation
 abbrev pub finish_line : Part → Site → Ending → Turn
 finish_line p site a_line_end = go (after_stmt site (evaluates site.first p.tree))
 finish_line p site an_equal = begin_value (if_plain p.plain (target_of_tree p.tree)) site
 finish_line p site a_colon = begin_annotation (if_plain p.plain (name_of_tree p.tree)) site
 finish_line p site _ = stuck
 
+-- the turn to this state at the end of the line, where nothing else can stand
 abbrev pub at_line_end : State → Ending → Turn
 at_line_end s a_line_end = go s
 at_line_end s _ = stuck
 
+-- the turn to this state at a `:`, where nothing else can stand
 abbrev pub at_colon : State → Ending → Turn
 at_colon s a_colon = go s
 at_colon s _ = stuck
 
+-- the turn behind the condition of an `assert`: the end of the line, or the comma before its message
 abbrev pub finish_condition : Expr → Site → Ending → Turn
 finish_condition e site a_line_end = go (after_stmt site (asserts site.first e None))
 finish_condition e site a_comma = go (operand (whole (in_statement (asserted_with e) site)))
 finish_condition e site _ = stuck
 
+-- the turn behind an expression of a begun statement: the end of the line, the `:` of a suite, or the comma of an `assert`
 abbrev pub finish_stmt : Begun → Part → Site → Ending → Turn
 finish_stmt (assigned target) p site e = at_line_end (after_stmt site (assigns site.first target p.tree)) e
 finish_stmt (annotated_value n a) p site e = at_line_end (after_stmt site (annotated site.first n a (Some p.tree))) e
@@ -142,6 +164,7 @@ finish (in_constant n annotation top) p e =
 
 -- ---- whole annotations and literals
 
+-- the parameter of this name, with its annotation and its default if it has them
 abbrev pub param : Name → Option Ann → Option Literal → Param
 param n annotation default = record { name = n; annotation = annotation; default = default }
 
@@ -155,6 +178,7 @@ abbrev pub param_more : DefStart → List Param → Name → Option Ann → Toke
 param_more d ps n annotation k = on (same_kind k (kind.Operator sign.Equal)) (literal_due (default_of_param d ps n annotation))
     (param_end d ps (param n annotation None) k)
 
+-- the member that is a field of this name and annotation, with its default if it has one
 abbrev pub field : Name → Ann → Option Literal → Member
 field n annotation default = field_member (record { name = n; annotation = annotation; default = default })
 

@@ -115,6 +115,7 @@ kind_number kind.Indent = 204
 kind_number kind.Dedent = 205
 kind_number kind.End = 206
 
+-- whether two kinds of tokens are the same
 abbrev pub same_kind : TokenKind → TokenKind → Bool
 same_kind a b = kind_number a == kind_number b
 
@@ -125,20 +126,24 @@ pub data Fixed : Type 0 where
   a_kind : (k : TokenKind) → Fixed
   a_form : (form : List ℕ) → Fixed
 
+-- whether a token of this kind is the fixed word
 abbrev pub is_fixed : Fixed → Lexeme → TokenKind → Bool
 is_fixed (a_kind k) t is = same_kind is k
 is_fixed (a_form form) t is = same_kind is kind.Name && bytes_eq t.form form
 
+-- the tokens are this fixed word alone
 abbrev pub SpellsFixed : Fixed → Spelling
 SpellsFixed (a_kind k) = Just k
 SpellsFixed (a_form form) = Named form
 
+-- the tokens are these fixed words, one after the other
 abbrev pub SpellsAllFixed : List Fixed → Spelling
 SpellsAllFixed [] = Nothing
 SpellsAllFixed (w ∷ ws) = SpellsFixed w ⟫ SpellsAllFixed ws
 
 -- ---- what may begin an operand
 
+-- how a token begins an operand, or that it begins none
 pub data Start : Type 0 where
   a_name : Start
   a_number : Start
@@ -152,6 +157,7 @@ pub data Start : Type 0 where
   a_not : Start
   no_start : Start
 
+-- how a token of this kind begins an operand, if it does
 abbrev pub start_of : TokenKind → Start
 start_of kind.Name = a_name
 start_of kind.Int = a_number
@@ -192,6 +198,7 @@ pub data Ending : Type 0 where
   a_line_end : Ending
   no_ending : Ending
 
+-- what a token does behind an operand: it begins an operator, an attribute, a call or an index, or can only end the expression
 pub data Follow : Type 0 where
   link : (l : Link) → Follow
   a_dot : Follow
@@ -199,6 +206,7 @@ pub data Follow : Type 0 where
   indexes : Follow
   ends : (e : Ending) → Follow
 
+-- what a token of this kind does behind an operand
 abbrev pub follow_of : TokenKind → Follow
 follow_of (kind.Operator sign.Plus) = link (linking (arithmetic Add))
 follow_of (kind.Operator sign.Minus) = link (linking (arithmetic Sub))
@@ -230,6 +238,7 @@ follow_of _ = ends no_ending
 
 -- ---- what may begin a statement, or end a suite
 
+-- how a token begins a statement, or that it ends the suite
 pub data Lead : Type 0 where
   leads_pass : Lead
   leads_break : Lead
@@ -242,6 +251,7 @@ pub data Lead : Type 0 where
   leads_out : Lead
   leads_other : Lead
 
+-- how a token of this kind begins a statement or ends the suite
 abbrev pub lead_of : TokenKind → Lead
 lead_of (kind.Keyword word.Pass) = leads_pass
 lead_of (kind.Keyword word.Break) = leads_break

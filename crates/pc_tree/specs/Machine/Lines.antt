@@ -18,14 +18,17 @@ abbrev pub due : List Fixed → State → State
 due [] next = next
 due (w ∷ ws) next = fixed w ws next
 
+-- the turn where this fixed word is due, then these others, and then the next state
 abbrev pub fixed_turn : Fixed → List Fixed → State → Lexeme → TokenKind → Turn
 fixed_turn w ws next t k = on (is_fixed w t k) (due ws next) stuck
 
 -- ---- the module
 
+-- the module of the headers and items so far, with this place of `main`
 abbrev pub module_of : Top → Place → Module
 module_of top main = record { imports_dataclass = top.imports_dataclass; imports_any = top.imports_any; items = top.items; main = main }
 
+-- a module of which no item and no optional header was read yet
 abbrev pub no_top : Top
 no_top = record { imports_dataclass = false; imports_any = false; items = [] }
 
@@ -39,16 +42,19 @@ abbrev pub takes_header : Stage → Bool
 takes_header after_headers = false
 takes_header _ = true
 
+-- whether the header of `dataclasses` may still come
 abbrev pub takes_dataclasses : Stage → Bool
 takes_dataclasses after_future = true
 takes_dataclasses _ = false
 
+-- the turn where an item of the module is due: a name, `@`, `def`, or `from` where another header may come
 abbrev pub items_turn : Stage → Top → Lexeme → TokenKind → Turn
 items_turn stage top t k = on (same_kind k kind.Name) (item_named (name_at t) top)
     (on (same_kind k (kind.Operator sign.At)) (decorator_due t.place top)
     (on (same_kind k (kind.Keyword word.Def)) (def_due (of_module top) t.place)
     (on (same_kind k (kind.Keyword word.From) && takes_header stage) (importing stage top) stuck)))
 
+-- the turn behind the `from` of a header: `dataclasses` where its header may come, or `typing`
 abbrev pub importing_turn : Stage → Top → Lexeme → TokenKind → Turn
 importing_turn stage top t k =
     on ((same_kind k kind.Name && bytes_eq t.form (codes "dataclasses")) && takes_dataclasses stage)
@@ -56,6 +62,7 @@ importing_turn stage top t k =
     (on (same_kind k kind.Name && bytes_eq t.form (codes "typing"))
     (fixed (a_kind (kind.Keyword word.Import)) (a_form (codes "Any") ∷ a_kind kind.Newline ∷ []) (items after_headers (record top { imports_any = true }))) stuck)
 
+-- the turn behind a name that begins a line of the module: the `:` or `=` of a constant, or the `(` of the line `main()`
 abbrev pub item_named_turn : Name → Top → Lexeme → TokenKind → Turn
 item_named_turn n top t k = on (same_kind k (kind.Operator sign.Colon)) (part_due no_anns [] (ann_whole (of_constant n top)))
     (on (same_kind k (kind.Operator sign.Equal)) (operand (whole (in_constant n None top)))
@@ -64,18 +71,22 @@ item_named_turn n top t k = on (same_kind k (kind.Operator sign.Colon)) (part_du
 
 -- ---- classes
 
+-- the turn behind `@`, where only `dataclass` can stand
 abbrev pub decorator_turn : Place → Top → Lexeme → TokenKind → Turn
 decorator_turn first top t k = on (same_kind k kind.Name && bytes_eq t.form (codes "dataclass"))
     (fixed (a_kind kind.Newline) (a_kind (kind.Keyword word.Class) ∷ []) (class_due first t.place top)) stuck
 
+-- the turn behind `class`, where only the name of the class can stand
 abbrev pub class_turn : Place → Place → Top → Lexeme → TokenKind → Turn
 class_turn first decorator top t k =
     on (same_kind k kind.Name) (class_named (record { top = top; first = first; decorator = decorator; name = name_at t; base = None })) stuck
 
+-- the turn behind the name of a class: the `(` before its base, or the `:` of its suite
 abbrev pub class_named_turn : ClassStart → Lexeme → TokenKind → Turn
 class_named_turn c t k = on (same_kind k (kind.Operator sign.LeftParenthesis)) (base_due c)
     (on (same_kind k (kind.Operator sign.Colon)) (fixed (a_kind kind.Newline) (a_kind kind.Indent ∷ []) (members c [])) stuck)
 
+-- the turn behind the `(` of a class, where only the name of its base can stand
 abbrev pub base_turn : ClassStart → Lexeme → TokenKind → Turn
 base_turn c t k = on (same_kind k kind.Name)
     (fixed (a_kind (kind.Operator sign.RightParenthesis)) (a_kind (kind.Operator sign.Colon) ∷ a_kind kind.Newline ∷ a_kind kind.Indent ∷ [])
@@ -86,6 +97,7 @@ abbrev pub members_end : ClassStart → List Member → TokenKind → Turn
 members_end c [] k = on (same_kind k (kind.Keyword word.Pass)) (fixed (a_kind kind.Newline) (a_kind kind.Dedent ∷ []) (after_class c [])) stuck
 members_end c (m ∷ ms) k = on (same_kind k kind.Dedent) (after_class c (m ∷ ms)) stuck
 
+-- the turn where a member of a class is due: the name of a field, the `def` of a method, or what may end the members
 abbrev pub members_turn : ClassStart → List Member → Lexeme → TokenKind → Turn
 members_turn c ms t k = on (same_kind k kind.Name) (fixed (a_kind (kind.Operator sign.Colon)) [] (part_due no_anns [] (ann_whole (of_field c ms (name_at t)))))
     (on (same_kind k (kind.Keyword word.Def)) (def_due (of_class c ms) t.place) (members_end c ms k))
@@ -97,24 +109,30 @@ abbrev pub params_of : Owner → DefStart → State
 params_of (of_module top) d = fixed (a_kind (kind.Operator sign.LeftParenthesis)) [] (param_due d [])
 params_of (of_class c ms) d = fixed (a_kind (kind.Operator sign.LeftParenthesis)) (a_form (codes "self") ∷ []) (self_read d)
 
+-- the turn behind `def`, where only the name of the function can stand
 abbrev pub def_turn : Owner → Place → Lexeme → TokenKind → Turn
 def_turn owner first t k = on (same_kind k kind.Name) (params_of owner (record { owner = owner; first = first; name = name_at t })) stuck
 
+-- the turn behind `self`: a comma, or the `)` of the parameters
 abbrev pub self_turn : DefStart → Lexeme → TokenKind → Turn
 self_turn d t k = on (same_kind k (kind.Operator sign.Comma)) (param_due d [])
     (on (same_kind k (kind.Operator sign.RightParenthesis)) (params_read d []) stuck)
 
+-- the turn where a parameter is due: its name, or the `)` of the parameters
 abbrev pub param_turn : DefStart → List Param → Lexeme → TokenKind → Turn
 param_turn d ps t k = on (same_kind k kind.Name) (param_named d ps (name_at t))
     (on (same_kind k (kind.Operator sign.RightParenthesis)) (params_read d ps) stuck)
 
+-- the turn behind the name of a parameter: the `:` of its annotation, or what may come without one
 abbrev pub param_named_turn : DefStart → List Param → Name → Lexeme → TokenKind → Turn
 param_named_turn d ps n t k = on (same_kind k (kind.Operator sign.Colon)) (part_due no_anns [] (ann_whole (of_param d ps n))) (param_more d ps n None k)
 
+-- the turn behind the `)` of the parameters: the `->` of the return annotation, or the `:` of the suite
 abbrev pub params_read_turn : DefStart → List Param → Lexeme → TokenKind → Turn
 params_read_turn d ps t k = on (same_kind k (kind.Operator sign.Arrow)) (part_due no_anns [] (ann_whole (of_return d ps)))
     (on (same_kind k (kind.Operator sign.Colon)) (suite_of (def_body (record { start = d; params = ps; returns = None }))) stuck)
 
+-- the turn where a literal is due: a number, a string, `True`, `False`, `None`, or the `-` of a negative number
 abbrev pub literal_turn : LiteralContext → Lexeme → TokenKind → Turn
 literal_turn c t k = on (same_kind k kind.Int) (literal_read c (number_literal (span (t ∷ [])) (digits_of t.text)))
     (on (same_kind k kind.Str) (literal_read c (text_literal (span (t ∷ [])) (characters_of t.text)))
@@ -123,21 +141,26 @@ literal_turn c t k = on (same_kind k kind.Int) (literal_read c (number_literal (
     (on (same_kind k (kind.Keyword word.None)) (literal_read c (none_literal (span (t ∷ []))))
     (on (same_kind k (kind.Operator sign.Minus)) (minus_read c (t ∷ [])) stuck)))))
 
+-- the turn behind the `-` of a literal, where only a number can stand
 abbrev pub minus_turn : LiteralContext → List Lexeme → Lexeme → TokenKind → Turn
 minus_turn c m t k = on (same_kind k kind.Int) (literal_read c (negative_literal (span (m ++ (t ∷ []))) (digits_of t.text))) stuck
 
+-- the turn behind a literal that is a default
 abbrev pub literal_read_turn : LiteralContext → Literal → Lexeme → TokenKind → Turn
 literal_read_turn c l t k = finish_literal c l k
 
 -- ---- statements
 
+-- the turn at the end of a suite, which can't be without a statement
 abbrev pub end_suite : Stmts → Block → Turn
 end_suite no_stmts b = stuck
 end_suite (more_stmts s ss) b = go (after_suite b (more_stmts s ss))
 
+-- the state where the end of the line is due, and after it this next state
 abbrev pub line_ends : State → State
 line_ends next = fixed (a_kind kind.Newline) [] next
 
+-- the turn at a token that begins a statement, or ends the suite, in this way
 abbrev pub lead_turn : Site → Lexeme → TokenKind → Lead → Turn
 lead_turn site t k leads_pass = go (line_ends (after_stmt site (pass site.first)))
 lead_turn site t k leads_break = go (line_ends (after_stmt site (breaks site.first)))
@@ -150,13 +173,16 @@ lead_turn site t k leads_if = go (operand (whole (in_statement (branching no_bra
 lead_turn site t k leads_out = end_suite site.done site.block
 lead_turn site t k leads_other = operand_turn (whole (in_line site.done site.block)) t (start_of k)
 
+-- the turn where a statement or the end of the suite is due
 abbrev pub stmts_turn : Stmts → Block → Lexeme → TokenKind → Turn
 stmts_turn done b t k = lead_turn (record { first = t.place; done = done; block = b }) t k (lead_of k)
 
+-- the turn behind `return`: the end of the line, or the first token of the value
 abbrev pub return_turn : Site → Lexeme → TokenKind → Turn
 return_turn site t k = on (same_kind k kind.Newline) (after_stmt site (returns site.first None))
     (operand_turn (whole (in_statement returned site)) t (start_of k))
 
+-- the turn behind `for`, where only a name as the target can stand
 abbrev pub target_turn : Site → Lexeme → TokenKind → Turn
 target_turn site t k = on (same_kind k kind.Name) (fixed (a_kind (kind.Keyword word.In)) [] (operand (whole (in_statement (iterating (name_at t)) site)))) stuck
 
@@ -164,6 +190,7 @@ target_turn site t k = on (same_kind k kind.Name) (fixed (a_kind (kind.Keyword w
 abbrev pub closed_branches : Branches → Site → Stmts
 closed_branches bs site = add_stmt site.done (conditional site.first bs no_stmts)
 
+-- the turn behind a suite of `if` or `elif`: `elif`, `else`, or what may come behind the whole statement
 abbrev pub branch_turn : Branches → Site → Lexeme → TokenKind → Turn
 branch_turn bs site t k = on (same_kind k (kind.Keyword word.Elif)) (operand (whole (in_statement (branching bs) site)))
     (on (same_kind k (kind.Keyword word.Else)) (fixed (a_kind (kind.Operator sign.Colon)) (a_kind kind.Newline ∷ a_kind kind.Indent ∷ []) (stmts no_stmts (nested_in site (else_body bs))))

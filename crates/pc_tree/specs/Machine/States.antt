@@ -77,12 +77,14 @@ pub data Begun : Type 0 where
   iterating : (target : Name) → Begun
   branching : (branches : Branches) → Begun
 
+-- where a whole expression stands: first in a line, behind what begins a statement, or as the value of a constant
 pub data Context : Type 0 where
   -- the first of a line, of which it is not known yet what it is
   in_line : (done : Stmts) (block : Block) → Context
   in_statement : (begun : Begun) (site : Site) → Context
   in_constant : (n : Name) (annotation : Option Ann) (top : Top) → Context
 
+-- what a whole annotation belongs to: a constant, a field, a parameter, what a function returns, or a local name
 pub data AnnContext : Type 0 where
   of_constant : (n : Name) (top : Top) → AnnContext
   of_field : (c : ClassStart) (members : List Member) (n : Name) → AnnContext
@@ -90,6 +92,7 @@ pub data AnnContext : Type 0 where
   of_return : (d : DefStart) (params : List Param) → AnnContext
   of_local : (n : Name) (site : Site) → AnnContext
 
+-- what a literal is the default of: a parameter or a field
 pub data LiteralContext : Type 0 where
   default_of_param : (d : DefStart) (params : List Param) (n : Name) (annotation : Option Ann) → LiteralContext
   default_of_field : (c : ClassStart) (members : List Member) (n : Name) (annotation : Ann) → LiteralContext
@@ -102,6 +105,7 @@ pub record Part : Type 0 where
   pub tokens : List Lexeme
   pub plain : Bool
 
+-- an operator before its only operand: the unary minus, or `not`
 pub data Prefix : Type 0 where
   minus : Prefix
   denial : Prefix
@@ -143,6 +147,7 @@ pub data AnnStack : Type 0 where
 
 -- ---- states
 
+-- where the machine stands: what is due or was just read, with what is still open
 pub data State : Type 0 where
   -- these words are due, and then what comes next
   fixed : (w : Fixed) (ws : List Fixed) (next : State) → State
