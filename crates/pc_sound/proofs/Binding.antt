@@ -1,5 +1,5 @@
 -- Values that are bound to locals, and that are returned.
-use Rattle.std.proofs.Common.{◌≡◌, List, [], ◌∷◌, refl, sym, subst, inl, inr, arith}
+use Rattle.std.proofs.Common.{◌≡◌, List, [], ◌∷◌, refl, sym, subst, inl, inr}
 use Rattle.std.specs.Prelude.{◌⊎◌, Bool as Test, true, false, Option, Some, None}
 use Rattle.pc_source.specs.declared.place.Place.{Place}
 use Rattle.pc_tree.specs.declared.code.Code.{Code}
@@ -17,17 +17,16 @@ use Rattle.pc_expr.specs.Operations.{Mark}
 use Rattle.pc_expr.specs.Context.{Context, Flows, static, dynamic, wrong, FlowUnless, FlowAt, FlowsInto, is_late}
 use Rattle.pc_expr.specs.Labels.{Flowing, Marks, mark_of, type_of, Finds, IsFlowAt}
 use Rattle.pc_expr.specs.Lawful.{Lawful}
-use Rattle.pc_value.specs.Value.{Value, Stop, Out, Gives, Stops}
+use Rattle.pc_value.specs.Value.{Value, Out, Gives, Stops}
 use Rattle.pc_machine.specs.State.{State}
 use Rattle.pc_machine.specs.Free.{Step}
 use Rattle.pc_sound.specs.Values.{HeapTyping, HasType}
 use Rattle.pc_sound.specs.Judgment.{HasListed, IsAllowed, Around, Stands, Keeps, IsSafe}
 use Rattle.pc_sound.proofs.ValuesFlow.{of_static}
-use Rattle.pc_sound.proofs.Steps.{weaken}
+use Rattle.pc_sound.proofs.Steps.{weaken, stopped_as}
 use Rattle.pc_sound.proofs.Expressions.{Covered, GoodEval}
 use Rattle.pc_sound.proofs.Keys.{Keyed}
 use Rattle.pc_sound.proofs.Flows.{Evaluates, found_here, late_code, flow_safe}
-use Rattle.pc_sound.proofs.Leading.{stopped_as}
 
 -- ---- types of literals
 
@@ -75,9 +74,6 @@ atom_flow bases s t c a (dynamic n h) clean = atom_static bases s t a h
 atom_flow bases s t c a (wrong n) clean = absurd (clean E12 refl refl)
 
 -- ---- evaluated places
-
-not_gives : {A : Type 0} {a : A} {stop : Stop} → Stops stop ≡ Gives a → ⊥
-not_gives e = grind arith
 
 -- where a step ended in a value, no code is found at a place that it evaluates
 pub evaluated_safe : {A : Type 0} (around : Around) (env : Env) (known : HeapTyping → Type 0) (p : Place) (m : Step A) (P : HeapTyping → A → Type 0) (codes : List Code) → IsAllowed around.listed p codes → Evaluates p m → IsSafe around env known m P → IsSafe around env known m (λ k a. P k a × (codes ≡ []))

@@ -1,6 +1,6 @@
 -- The names of a module, item by item: what each means, and what is bound after it.
-use Rattle.std.proofs.Common.{◌≡◌, ℕ, zero, suc, ◌+◌, List, [], ◌∷◌, ◌++◌, length, refl, sym, ap, ◌∙◌, inl, inr, arith}
-use Rattle.std.specs.Prelude.{◌⊎◌, Bool as Test, true, false, if◌then◌else◌, Option, Some, None, slice_get, bytes_eq}
+use Rattle.std.proofs.Common.{◌≡◌, ℕ, suc, ◌+◌, List, [], ◌∷◌, ◌++◌, refl, sym, ap, ◌∙◌, arith}
+use Rattle.std.specs.Prelude.{Bool as Test, true, false, if◌then◌else◌, Option, Some, None, slice_get, bytes_eq}
 use Rattle.std.proofs.lemmas.Slice.Eq.{bytes_eq-Decides}
 use Rattle.pc_tree.specs.Tree.{Constant, ClassDef, FuncDef, Item, constant_item, class_item, def_item, Module}
 use Rattle.pc_scope.specs.declared.resolution.Builtin.{Builtin}
@@ -12,9 +12,6 @@ use Rattle.pc_scope.specs.Resolution.{bound_first, or_else, builtin_res, resolve
 use Rattle.pc_value.specs.Texts.{same_text}
 use Rattle.pc_machine.specs.State.{Global, Globals, Bound}
 use Rattle.pc_machine.specs.Names.{global_of}
-
-some_inj : {A : Type 0} {x y : A} → Some x ≡ Some y → x ≡ y
-some_inj e = grind arith
 
 -- ---- what is bound
 
@@ -43,16 +40,6 @@ bound_other word (h ∷ rest) g e n = go (same_text h.name word) e (λ f. bound_
     go false e others = others e
 
 -- ---- lists
-
-pub get_at_end : {A : Type 0} (xs : List A) (y : A) (ys : List A) → slice_get (xs ++ y ∷ ys) (length xs) ≡ Some y
-get_at_end [] y ys = refl
-get_at_end (x ∷ xs) y ys = get_at_end xs y ys
-
-pub get_one_more : {A : Type 0} (xs : List A) (y : A) (i : ℕ) (z : A) → slice_get (xs ++ y ∷ []) i ≡ Some z → (slice_get xs i ≡ Some z) ⊎ ((i ≡ length xs) × (y ≡ z))
-get_one_more [] y zero z e = inr (refl, some_inj e)
-get_one_more [] y (suc i) z e = inl e
-get_one_more (x ∷ xs) y zero z e = inl e
-get_one_more (x ∷ xs) y (suc i) z e = elim (get_one_more xs y i z e) [ inl a ↦ inl a | inr b ↦ inr (ap suc b.0, b.1) ]
 
 pub constants_append : (xs ys : List Item) → constants_in (xs ++ ys) ≡ constants_in xs ++ constants_in ys
 constants_append [] ys = refl

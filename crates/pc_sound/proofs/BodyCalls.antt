@@ -1,6 +1,8 @@
 -- Calls in bodies, whatever is called.
-use Rattle.std.proofs.Common.{◌≡◌, ℕ, zero, suc, List, [], ◌∷◌, map, refl, sym, ap, ◌∙◌, subst, inl, inr, arith}
+use Rattle.std.proofs.Common.{◌≡◌, ℕ, List, [], ◌∷◌, refl, sym, ap, ◌∙◌, subst, inl, inr, arith}
 use Rattle.std.specs.Prelude.{Bool as Test, true, false, ◌&&◌, if◌then◌else◌, nat_lt, Option, Some, None, slice_get}
+use Rattle.std.specs.Option.{option_map}
+use Rattle.std.proofs.lemmas.Option.{slice_get-map}
 use Rattle.pc_source.specs.declared.place.Place.{Place}
 use Rattle.pc_tree.specs.declared.code.Code.TheVariants.{E03}
 use Rattle.pc_tree.specs.Tree.{Name, Expr, name, number, text, truth, nothing, tuple, list, dict, negative, negation, binary, compare, is_none, is_not_none, conjunction, disjunction, attribute, index, call, Exprs, Keywords, FuncDef, Module}
@@ -53,21 +55,14 @@ outside_func : (o : Option ℕ) (r : Res) (i : ℕ) → or_else (local_of o) r �
 outside_func None r i e = e
 outside_func (Some x) r i e = absurd (grind (arith, e))
 
-outside_class : (o : Option ℕ) (r : Res) (i : ℕ) → or_else (local_of o) r ≡ res.Class i → r ≡ res.Class i
+-- so does one that is a class
+pub outside_class : (o : Option ℕ) (r : Res) (i : ℕ) → or_else (local_of o) r ≡ res.Class i → r ≡ res.Class i
 outside_class None r i e = e
 outside_class (Some x) r i e = absurd (grind (arith, e))
 
-mapped_at : {A B : Type 0} (f : A → B) (xs : List A) (i : ℕ) (x : A) → slice_get xs i ≡ Some x → slice_get (map f xs) i ≡ Some (f x)
-mapped_at f [] i x e = absurd (grind (arith, e))
-mapped_at f (y ∷ ys) zero x e = ap (λ z. Some (f z)) (some_inj e)
-  where
-    some_inj : Some y ≡ Some x → y ≡ x
-    some_inj e = grind arith
-mapped_at f (y ∷ ys) (suc i) x e = mapped_at f ys i x e
-
 signature_at : (m : Module) (i : ℕ) (d : FuncDef) → slice_get (functions_in m.items) i ≡ Some d → slice_get (signatures_of m) i ≡ Some (signature_of m d)
 unfolding signatures_of
-signature_at m i d e = mapped_at (signature_of m) (functions_in m.items) i d e
+signature_at m i d e = slice_get-map (signature_of m) (functions_in m.items) i ∙ ap (option_map (signature_of m)) e
 
 -- what is known of a module whose labels are lawful and without errors, as calls need it
 pub record Facts (m : Module) (constants : List Tree) (listed : Place → Type 0) : Type 0 where

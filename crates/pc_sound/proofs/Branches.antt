@@ -1,7 +1,7 @@
 -- `if`, `elif`, `else`: whichever branch runs, the join of the ways holds.
 use Rattle.std.proofs.Common.{◌≡◌, List, [], ◌∷◌, ◌++◌, refl, sym, ◌∙◌, subst, inl, inr, arith, Contains}
-use Rattle.std.specs.Prelude.{◌⊎◌, true, false, Option, Some, option_to_list}
-use Rattle.std.proofs.lemmas.List.Elements.{Contains-append_left, Contains-append_right, Contains-append_cases, Contains-push_cases}
+use Rattle.std.specs.Prelude.{true, false, Option, Some, option_to_list}
+use Rattle.std.proofs.lemmas.List.Elements.{Contains-append_left, Contains-append_right}
 use Rattle.pc_source.specs.declared.place.Place.{Place}
 use Rattle.pc_tree.specs.Tree.{conditional, Stmts, Branches, no_branches, more_branches, Module}
 use Rattle.pc_tree.specs.Stopping.{bound_by, bound_by_branches, loose_in, loose_in_branches}
@@ -19,6 +19,7 @@ use Rattle.pc_machine.specs.Evaluation.{exec_node, exec_branches}
 use Rattle.pc_sound.specs.Values.{HeapTyping}
 use Rattle.pc_sound.specs.Kept.{HasLocals}
 use Rattle.pc_sound.specs.Judgment.{Around, Stands, Fits, Leads, At, Ways, Reaches, FlowEnds, Lasts}
+use Rattle.pc_sound.proofs.Lists.{among_first, none_among}
 use Rattle.pc_sound.proofs.Expressions.{Covered}
 use Rattle.pc_sound.proofs.KeyedStatements.{StmtKeyed, SuiteKeyed, BranchesKeyed}
 use Rattle.pc_sound.proofs.Conditions.{Decides}
@@ -27,16 +28,6 @@ use Rattle.pc_sound.proofs.Leading.{leads_from, leads_to}
 use Rattle.pc_sound.proofs.Statements.{Runs, lasts_left, lasts_right, flow_wider, ways_out, GoodExec, GoodStmt}
 use Rattle.pc_sound.proofs.Simple.{decided}
 
--- a list holds its first element, or one of the others
-pub among_first : {A : Type 0} (x : A) (xs : List A) (y : A) → Contains (x ∷ xs) y → (x ≡ y) ⊎ Contains xs y
-among_first x xs y h = elim (Contains-append_cases (x ∷ []) xs y h) [
-  | inl a ↦ elim (Contains-push_cases [] x y a) [ inl b ↦ absurd (none_among b) | inr c ↦ inl c ]
-  | inr b ↦ inr b
-]
-  where
-    none_among : Contains [] y → ⊥
-    none_among c = let lt = c.1 in absurd (grind (arith, lt))
-
 -- the environment of a way that can complete is among them
 pub option_among : (out : Option Env) (env : Env) → out ≡ Some env → Contains (option_to_list out) env
 option_among out env e = subst (λ o. Contains (option_to_list o) env) (sym e) (0, omega arith, refl)
@@ -44,10 +35,7 @@ option_among out env e = subst (λ o. Contains (option_to_list o) env) (sym e) (
 module _ (around : Around) (ctx : Context) (fits : Fits around ctx) where
   -- one of the environments holds
   pub some_holds : (k : HeapTyping) (s : State) (ways : List Env) (env : Env) → Contains ways env → HasLocals around.bases k around.names around.declared env s.frame → SomeHolds around.bases fits.smaller k around.names around.declared s.frame ways
-  some_holds k s [] env among h = absurd (none_among among)
-    where
-      none_among : Contains [] env → ⊥
-      none_among c = let lt = c.1 in absurd (grind (arith, lt))
+  some_holds k s [] env among h = absurd (none_among env among)
   some_holds k s (e ∷ es) env among h = elim (among_first e es env among) [
     | inl is ↦ inl (subst (λ x. HasLocals around.bases k around.names around.declared x s.frame) (sym is) h)
     | inr others ↦ inr (some_holds k s es env others h)

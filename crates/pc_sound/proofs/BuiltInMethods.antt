@@ -2,6 +2,8 @@
 use Rattle.std.proofs.Common.{◌≡◌, ℕ, zero, suc, List, [], ◌∷◌, ◌-◌, take, length, refl, sym, ap, ◌∙◌, subst, arith}
 use Rattle.std.specs.Prelude.{Bool as Test, true, false, ◌&&◌, nat_le, if◌then◌else◌, flat_map, Option, Some, None, slice_get, codes, bytes_eq}
 use Rattle.std.proofs.lemmas.Bool.Decides.{nat_tests}
+use Rattle.std.proofs.lemmas.Option.{same_Some}
+use Rattle.std.proofs.lemmas.Bool.{false≢true}
 use Rattle.pc_tree.specs.declared.code.Code.{Code}
 use Rattle.pc_tree.specs.declared.code.Code.TheVariants.{E15}
 use Rattle.pc_tree.specs.Tree.{Exprs, Keywords, no_exprs, more_exprs, no_keywords, more_keywords}
@@ -14,25 +16,26 @@ use Rattle.pc_expr.specs.Context.{Signature}
 use Rattle.pc_expr.specs.Calls.{Given, given, count_exprs, is_suited, CallOffer, called, fails_at_callee, builtin_signature, type_at, list_offers, dict_offers, Seat}
 use Rattle.pc_expr.specs.Labels.{ItemsMarks, KeywordsMarks}
 use Rattle.pc_value.specs.Value as value
-use Rattle.pc_value.specs.Value.{Value, Gives, location, list_cell, Heap, seen, class_of, class_seen}
+use Rattle.pc_value.specs.Value.{Value, Gives, location, list_cell, Heap, seen, class_seen}
 use Rattle.pc_value.specs.Actions as action
 use Rattle.pc_value.specs.Containers.{last_of, pop_from, pop_outcome}
 use Rattle.pc_machine.specs.State.{State}
 use Rattle.pc_machine.specs.Calls as run
-use Rattle.pc_machine.specs.Calls.{Callee, calls_builtin_method, BuiltinMethod, list_append, list_pop, dict_get, builtin_method_of, callee_of_method, method_of_class, class_at, named_method, NamedValue}
+use Rattle.pc_machine.specs.Calls.{calls_builtin_method, BuiltinMethod, list_append, list_pop, dict_get, builtin_method_of, callee_of_method, method_of_class, class_at, named_method, NamedValue}
 use Rattle.pc_machine.specs.Steps.{Parts, value_out}
 use Rattle.pc_machine.specs.Evaluation.{call_callee}
 use Rattle.pc_machine.specs.Free.{Step, free, act}
 use Rattle.pc_sound.specs.Values.{HeapTyping, HasType, Extends, a_list, AllHave, IsWell}
 use Rattle.pc_sound.specs.Kept.{OutcomeHas, ActsWell}
 use Rattle.pc_sound.specs.Judgment.{Around, EndsWell, IsSafe}
+use Rattle.pc_sound.proofs.Lists.{not_empty}
 use Rattle.pc_sound.proofs.ValuesFlow.{later, of_static, extends_refl}
 use Rattle.pc_sound.proofs.Steps.{Stays, bind_safe, looks_safe, weaken}
 use Rattle.pc_sound.proofs.Heaps.{write_keeps, append_keeps}
 use Rattle.pc_sound.proofs.Joins.{either_holds}
 use Rattle.pc_sound.proofs.Dicts.{dict_get_has}
 use Rattle.pc_sound.proofs.Seen.{SeesList, SeesDict, sees_list, sees_dict}
-use Rattle.pc_sound.proofs.Members.{no_codes, HasEach}
+use Rattle.pc_sound.proofs.Members.{HasEach}
 use Rattle.pc_sound.proofs.Acting.{acting_safe}
 use Rattle.pc_sound.proofs.Arguments.{ArgumentsHave, KeywordsHave}
 use Rattle.pc_sound.proofs.OrdinaryCalls.{equal_safe, impossible_safe}
@@ -98,7 +101,7 @@ module _ (bases : Bases) (classes : List facts.Class) (k : HeapTyping) (s : Stat
         offered = ap (λ x. if x then called g (builtin_signature (t ∷ []) NoneType) ∷ [] else popping) is_append ∙ ap (λ x. if x then called g (builtin_signature [] t) ∷ [] else fails_at_callee E15 ∷ []) is_pop;
         calls = pops t h;
       }
-      go false false is_append is_pop none = absurd (no_codes none)
+      go false false is_append is_pop none = absurd (not_empty none)
   list_named g word t _ h none = absurd h
 
   pub dict_named : (g : Given) (word : List ℕ) (a b : Tree) (v : Value) → IsKey a → HasType bases k (DictOf a b) v → CalleeCodes (dict_offers bases g word a b) ≡ [] → NamedBuiltin bases k s v word g (dict_offers bases g word a b)
@@ -115,7 +118,7 @@ module _ (bases : Bases) (classes : List facts.Class) (k : HeapTyping) (s : Stat
         offered = ap (λ x. if x then called g (builtin_signature (a ∷ []) (join_or_object bases b NoneType)) ∷ [] else fails_at_callee E15 ∷ []) is;
         calls = gets a b key h;
       }
-      go false is none = absurd (no_codes none)
+      go false is none = absurd (not_empty none)
   dict_named g word a b _ key h none = absurd h
 
 -- ---- what a method does
@@ -123,10 +126,7 @@ module _ (bases : Bases) (classes : List facts.Class) (k : HeapTyping) (s : Stat
 module _ (bases : Bases) (k : HeapTyping) where
   all_get : (t : Tree) (vs : List Value) (i : ℕ) (v : Value) → AllHave bases k t vs → slice_get vs i ≡ Some v → HasType bases k t v
   all_get t [] i v h e = absurd (grind (arith, e))
-  all_get t (w ∷ vs) zero v h e = subst (λ x. HasType bases k t x) (some_inj e) h.0
-    where
-      some_inj : {A : Type 0} {x y : A} → Some x ≡ Some y → x ≡ y
-      some_inj e = grind arith
+  all_get t (w ∷ vs) zero v h e = subst (λ x. HasType bases k t x) (same_Some _ _ e) h.0
   all_get t (w ∷ vs) (suc i) v h e = all_get t vs i v h.1 e
 
   all_take : (t : Tree) (vs : List Value) (n : ℕ) → AllHave bases k t vs → AllHave bases k t (take n vs)
@@ -191,14 +191,11 @@ abbrev IsNoArgument : Exprs → Keywords → Type 0
 IsNoArgument no_exprs no_keywords = Unit {0}
 IsNoArgument _ _ = ⊥
 
-no_truth : false ≡ true → ⊥
-no_truth e = absurd (grind (arith, e))
-
 pub one_suits : (t r : Tree) (args : Exprs) (kws : Keywords) → is_suited (given args kws) (builtin_signature (t ∷ []) r) ≡ true → IsOneArgument args kws
 one_suits t r (more_exprs e no_exprs) no_keywords is = tt
-one_suits t r no_exprs no_keywords is = no_truth is
-one_suits t r no_exprs (more_keywords w e rest) is = no_truth is
-one_suits t r (more_exprs e no_exprs) (more_keywords w f rest) is = no_truth is
+one_suits t r no_exprs no_keywords is = false≢true is
+one_suits t r no_exprs (more_keywords w e rest) is = false≢true is
+one_suits t r (more_exprs e no_exprs) (more_keywords w f rest) is = false≢true is
 one_suits t r (more_exprs e (more_exprs f rest)) kws is = absurd (too_many (count_exprs rest) _ is)
   where
     too_many : (c : ℕ) (x : Test) → (nat_le (suc (suc c)) 1 && x) ≡ true → ⊥
@@ -206,7 +203,7 @@ one_suits t r (more_exprs e (more_exprs f rest)) kws is = absurd (too_many (coun
 
 none_suits : (r : Tree) (args : Exprs) (kws : Keywords) → is_suited (given args kws) (builtin_signature [] r) ≡ true → IsNoArgument args kws
 none_suits r no_exprs no_keywords is = tt
-none_suits r no_exprs (more_keywords w e rest) is = no_truth is
+none_suits r no_exprs (more_keywords w e rest) is = false≢true is
 none_suits r (more_exprs e rest) kws is = absurd (too_many (count_exprs rest) _ is)
   where
     too_many : (c : ℕ) (x : Test) → (nat_le (suc c) 0 && x) ≡ true → ⊥

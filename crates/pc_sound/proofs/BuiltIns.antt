@@ -22,7 +22,7 @@ use Rattle.pc_expr.specs.Calls.{Given, given, count_exprs, has_none, is_one, pla
 use Rattle.pc_expr.specs.Labels.{Marks, type_of, item_types, ItemsMarks, KeywordsMarks, Finds, ItemsFind, ArgumentsFind, IsFoundAt}
 use Rattle.pc_expr.specs.Lawful.{Lawful, callee_of, whole_call_mark, is_length, is_length_of_one}
 use Rattle.pc_value.specs.Value as value
-use Rattle.pc_value.specs.Value.{Value, Out, Gives, whole, boolean, string, tuple_of, location, Heap, seen}
+use Rattle.pc_value.specs.Value.{Value, Gives, whole, boolean, string, tuple_of, location, Heap, seen}
 use Rattle.pc_value.specs.Actions as action
 use Rattle.pc_value.specs.Actions.{Free}
 use Rattle.pc_value.specs.Containers.{length_outcome}
@@ -34,13 +34,14 @@ use Rattle.pc_machine.specs.Evaluation.{instance_test, ordinary, call_form, eval
 use Rattle.pc_machine.specs.Free.{Step, free}
 use Rattle.pc_sound.specs.Values.{HeapTyping, HasType, IsWell}
 use Rattle.pc_sound.specs.Judgment.{Around, EndsWell, IsSafe, Fits}
+use Rattle.pc_sound.proofs.Lists.{not_empty}
 use Rattle.pc_sound.proofs.Steps.{Stays, bind_safe, comes_safe, looks_safe, act_safe, may_stop_safe, emits_safe, weaken}
 use Rattle.pc_sound.proofs.Keys.{Keyed}
 use Rattle.pc_sound.proofs.Expressions.{Covered, GoodEval, allowed}
 use Rattle.pc_sound.proofs.Flows.{Evaluates}
 use Rattle.pc_sound.proofs.Joins.{all_hold}
 use Rattle.pc_sound.proofs.Seen.{sees_list, sees_dict}
-use Rattle.pc_sound.proofs.Members.{no_codes, ends_more, offers_end}
+use Rattle.pc_sound.proofs.Members.{ends_more, offers_end}
 use Rattle.pc_sound.proofs.Arguments.{ArgumentsHave, KeywordsHave, arguments_later, keywords_later, found_in_arguments}
 use Rattle.pc_sound.proofs.Globals.{KnowsNames, builtin_text, means_a_builtin, reserved_is, no_error_at}
 use Rattle.pc_sound.proofs.OrdinaryCalls.{equal_safe, impossible_safe, ordinary_safe}
@@ -57,7 +58,7 @@ module _ (bases : Bases) (k : HeapTyping) (heap : Heap) where
   length_ends classes well (ListOf t) _ h e = absurd h
   length_ends classes well (DictOf s t) _ h e = absurd h
   length_ends classes well (TupleOf ts) _ h e = absurd h
-  length_ends classes well _ v h e = absurd (no_codes e)
+  length_ends classes well _ v h e = absurd (not_empty e)
 
   text_ends : (answers : Free) (v : Value) → EndsWell (λ w. HasType bases k Str w) (value_out (text_outcome answers v))
   text_ends answers (whole n) = tt

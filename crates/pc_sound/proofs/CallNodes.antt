@@ -1,6 +1,6 @@
 -- Calls whose callee is the name of a function or of a class, as whole nodes.
-use Rattle.std.proofs.Common.{◌≡◌, ℕ, List, [], ◌∷◌, ◌++◌, refl, sym, ap, ◌∙◌, subst, inl, arith}
-use Rattle.std.specs.Prelude.{Bool as Test, true, false, if◌then◌else◌, Some}
+use Rattle.std.proofs.Common.{◌≡◌, ℕ, List, [], ◌∷◌, ◌++◌, refl, sym, ap, ◌∙◌, subst, inl}
+use Rattle.std.specs.Prelude.{Bool as Test, true, false, if◌then◌else◌}
 use Rattle.pc_source.specs.declared.place.Place.{Place}
 use Rattle.pc_tree.specs.declared.code.Code.{Code}
 use Rattle.pc_tree.specs.declared.code.Code.TheVariants.{E14}
@@ -28,6 +28,7 @@ use Rattle.pc_machine.specs.Free.{Step, ◌>>=◌, Emits, free}
 use Rattle.pc_machine.specs.Evaluation.{eval_callee, eval_all, eval_keywords, call_callee, call_class}
 use Rattle.pc_sound.specs.Values.{HeapTyping, HasType, Extends}
 use Rattle.pc_sound.specs.Judgment.{EndsWell, Around, Stands, IsSafe, Fits}
+use Rattle.pc_sound.proofs.Lists.{not_empty}
 use Rattle.pc_sound.proofs.Steps.{Stays, bind_safe, looks_safe, emits_safe, may_stop_safe, weaken}
 use Rattle.pc_sound.proofs.Keys.{ItemsKeyed, KeywordsKeyed}
 use Rattle.pc_sound.proofs.Expressions.{Covered, GoodEval}
@@ -52,12 +53,6 @@ callee_quiet g s = go (is_suited g s) refl
 -- one signature that is called: nothing is found at its callee, and at the call nothing where no code stands there
 one_quiet : (g : Given) (s : Signature) (bases : Bases) (here : Mark) → here ≡ call_mark bases (called g s ∷ []) → here.codes ≡ [] → all_codes (called g s ∷ []) ≡ []
 one_quiet g s bases here is none = all_quiet (called g s ∷ []) (λ i. callee_quiet g s i ++ []) (ap (λ x. x.codes) (sym is) ∙ none)
-
-some_inj : {A : Type 0} {x y : A} → Some x ≡ Some y → x ≡ y
-some_inj e = grind arith
-
-full : {A : Type 0} {x : A} {xs : List A} → x ∷ xs ≡ [] → ⊥
-full e = grind (arith, e)
 
 module _ (m : Module) (inherits : Inherits (bases_of m) (classes_of m)) (listed : Place → Type 0) (names : List (List ℕ)) (declared : List Tree) (outside : HeapTyping → List Class → Globals → Type 0) (outside_stays : (k k' : HeapTyping) (made : List Class) (globals : Globals) → Extends k k' → outside k made globals → outside k' made globals) where
   abbrev Here : Around
@@ -85,7 +80,7 @@ module _ (m : Module) (inherits : Inherits (bases_of m) (classes_of m)) (listed 
         (λ c values more. go c values more here.codes refl)
       where
         go : (c : Callee) (values : List Value) (more : List NamedValue) (codes : List Code) → here.codes ≡ codes → IsSafe Here env (KnownCall Here ctx fits parts good evaluates env Q (positional_seat (called (given args kws) s ∷ [])) (named_seat (called (given args kws) s ∷ [])) args im kws km here c values more) (call_callee Step free parts c values more) (λ k v. HasType (bases_of m) k here.type v)
-        go c values more (x ∷ xs) e = impossible_safe Here env _ _ _ λ k h. full (sym e ∙ h.1)
+        go c values more (x ∷ xs) e = impossible_safe Here env _ _ _ λ k h. not_empty (sym e ∙ h.1)
         go c values more [] e =
             let quiet = one_quiet (given args kws) s (bases_of m) here is e in
             let suited = suited_where_quiet (given args kws) s (offer_quiet (called (given args kws) s) (called (given args kws) s ∷ []) (inl refl) quiet).1 in

@@ -1,5 +1,5 @@
 -- Where nothing is found at a call, each signature that it offers is suited, what it gives is of the call's type, and the arguments flow into it.
-use Rattle.std.proofs.Common.{◌≡◌, List, [], ◌∷◌, ◌++◌, map, refl, sym, ap, ◌∙◌, subst, inl, inr, arith}
+use Rattle.std.proofs.Common.{◌≡◌, List, [], ◌∷◌, ◌++◌, map, refl, sym, ap, ◌∙◌, subst, inl, inr}
 use Rattle.std.specs.Prelude.{◌⊎◌, Bool as Test, true, false, if◌then◌else◌, flat_map}
 use Rattle.pc_tree.specs.declared.code.Code.TheVariants.{E14}
 use Rattle.pc_types.specs.Tree.{Any}
@@ -10,9 +10,9 @@ use Rattle.pc_expr.specs.Context.{Signature}
 use Rattle.pc_expr.specs.Calls.{Given, has_none, is_suited, CallOffer, called, fails_at_call, call_codes, all_codes, call_mark, signatures}
 use Rattle.pc_value.specs.Value.{Value}
 use Rattle.pc_sound.specs.Values.{HeapTyping, HasType}
+use Rattle.pc_sound.proofs.Lists.{front_empty, not_empty, rest_empty}
 use Rattle.pc_sound.proofs.Narrowing.{HasSome}
 use Rattle.pc_sound.proofs.Joins.{all_hold}
-use Rattle.pc_sound.proofs.Members.{front_empty, rest_empty}
 use Rattle.pc_sound.proofs.Suiting.{IsOneOf}
 
 -- an offer is one of several
@@ -52,16 +52,13 @@ offer_quiet o (p ∷ ps) h e = elim h [
   | inr r ↦ offer_quiet o ps r (rest_empty (p.at_callee ++ p.at_call) (all_codes ps) e)
 ]
 
-full : {A : Type 0} {x : A} {xs : List A} → x ∷ xs ≡ [] → ⊥
-full e = grind (arith, e)
-
 -- a signature that is offered is suited where nothing is found
 pub suited_where_quiet : (g : Given) (s : Signature) → (called g s).at_call ≡ [] → is_suited g s ≡ true
 suited_where_quiet g s e = go (is_suited g s) refl
   where
     go : (b : Test) → is_suited g s ≡ b → is_suited g s ≡ true
     go true t = t
-    go false t = absurd (full (sym (ap (λ b. (if b then record { at_callee = []; at_call = []; gives = s.returns; calls = s ∷ [] } else fails_at_call E14).at_call) t) ∙ e))
+    go false t = absurd (not_empty (sym (ap (λ b. (if b then record { at_callee = []; at_call = []; gives = s.returns; calls = s ∷ [] } else fails_at_call E14).at_call) t) ∙ e))
 
 one_left : (s : Signature) (xs ys : List Signature) → IsOneOf s xs → IsOneOf s (xs ++ ys)
 one_left s [] ys h = absurd h

@@ -2,6 +2,7 @@
 use Rattle.std.proofs.Common.{◌≡◌, ℕ, List, [], ◌∷◌, ◌++◌, map, refl, sym, ap, subst, inl, inr, arith, Contains}
 use Rattle.std.specs.Prelude.{◌⊎◌, Option, Some, None}
 use Rattle.std.proofs.lemmas.List.Elements.{Contains-append_left}
+use Rattle.std.proofs.lemmas.Option.{same_Some}
 use Rattle.pc_source.specs.declared.place.Place.{Place}
 use Rattle.pc_tree.specs.Tree.{Param, FuncDef, Module}
 use Rattle.pc_scope.specs.declared.resolution.Owner.TheVariants as owners
@@ -13,7 +14,7 @@ use Rattle.pc_types.specs.Below.{Bases}
 use Rattle.pc_class.specs.Bases.{bases_of}
 use Rattle.pc_class.specs.Facts.{Parameter, parameters_of, returned, classes_of, class_at}
 use Rattle.pc_flow.specs.Environment.{Env}
-use Rattle.pc_value.specs.Value.{Value, Stop, Out, Gives, Stops}
+use Rattle.pc_value.specs.Value.{Value, Out, Gives}
 use Rattle.pc_value.specs.Actions as action
 use Rattle.pc_machine.specs.State.{State, Frame, Local, Function, Class, Globals}
 use Rattle.pc_machine.specs.Names.{frame_of}
@@ -52,12 +53,9 @@ slots_have bases k [] (l ∷ ls) h = absurd h
 slots_have bases k (p ∷ ps) [] h = absurd h
 slots_have bases k (p ∷ ps) (l ∷ ls) h = go l.value h.0.is (slots_have bases k ps ls h.1)
   where
-    some_inj : {x y : Value} → Some x ≡ Some y → x ≡ y
-    some_inj e = grind arith
-
     go : (o : Option Value) → o ≡ Some h.0.value → SlotsHave bases k ps (slots_of ls) → SlotsHave bases k (p ∷ ps) (slot_before l.name o (slots_of ls))
     go None e others = absurd (grind (arith, e))
-    go (Some v) e others = (h.0.same, subst (λ x. HasType bases k p.type x) (sym (some_inj e)) h.0.has, others)
+    go (Some v) e others = (h.0.same, subst (λ x. HasType bases k p.type x) (sym (same_Some _ _ e)) h.0.has, others)
 
 parameter_texts : (m : Module) (ps : List Param) → map (λ (p : Parameter). p.name) (parameters_of m ps) ≡ texts (param_names ps)
 parameter_texts m [] = refl
@@ -75,9 +73,6 @@ leads_emits around before p = record {
     ends = goes_well (λ u. before k s') out r.goes_on (subst (λ x. before k x) (sym r.same) b);
   });
 }
-
-not_stopped : {A : Type 0} {a : A} {stop : Stop} → Stops stop ≡ Gives a → ⊥
-not_stopped e = grind arith
 
 -- a body that begins with a listed place evaluates it
 pub enter_listed : (around : Around) (env : Env) (known : HeapTyping → Type 0) (frame : Frame) (p : Place) (body : Step Flow) (P : HeapTyping → Flow → Type 0) → around.listed p → IsSafe around env known (enter frame (Emits p >>= λ u. body)) P

@@ -3,6 +3,7 @@ use Rattle.std.proofs.Common.{◌≡◌, ℕ, zero, suc, ◌+◌, List, [], ◌�
 use Rattle.std.specs.Prelude.{◌⊎◌, Bool as Test, true, false, ◌&&◌, not, take, Option, Some, None, is_some, slice_get}
 use Rattle.std.specs.List.{AllByRecursion}
 use Rattle.std.proofs.lemmas.List.Elements.{All-contains, All-from_recursion, Contains-append_left, Contains-append_right}
+use Rattle.std.proofs.lemmas.Option.{same_Some}
 use Rattle.pc_tree.specs.declared.code.Code.{Code}
 use Rattle.pc_tree.specs.declared.code.Code.TheVariants.{A8, E06, E07, E08}
 use Rattle.pc_tree.specs.declared.code.Finding.{Finding}
@@ -14,11 +15,12 @@ use Rattle.pc_types.specs.Below.{Bases}
 use Rattle.pc_class.specs.Bases.{base_named}
 use Rattle.pc_class.specs.Facts.{Method, binds_field}
 use Rattle.pc_class.specs.Overrides.{Judges, IsGood, IsStatic, dynamic, wrong}
-use Rattle.pc_class.specs.Findings.{ClassNumbered, HasNoBase, IsFieldBehind, IsOverride, ClassFinds, base_class, member_texts, has_default_before}
+use Rattle.pc_class.specs.Findings.{HasNoBase, IsFieldBehind, IsOverride, ClassFinds, base_class, member_texts, has_default_before}
 use Rattle.pc_class.specs.Findings as class
 use Rattle.pc_expr.proofs.One.{static_assignable}
 use Rattle.pc_sound.specs.Examples.{FindsJust}
-use Rattle.pc_sound.proofs.Listings.{Listing, none_in, equal_into}
+use Rattle.pc_sound.proofs.Lists.{none_among}
+use Rattle.pc_sound.proofs.Listings.{Listing, equal_into}
 use Rattle.pc_sound.proofs.ExampleFindings.{none_stops}
 
 -- ---- what each element of a list has, by its place
@@ -29,11 +31,8 @@ each_from g n (x ∷ xs) = g n x ++ each_from g (suc n) xs
 
 among_each : {A : Type 0} (g : ℕ → A → List Finding) (n : ℕ) (xs : List A) (i : ℕ) (x : A) (f : Finding) → slice_get xs i ≡ Some x → Contains (g (n + i) x) f → Contains (each_from g n xs) f
 among_each g n [] i x f e c = absurd (grind (arith, e))
-among_each g n (y ∷ ys) zero x f e c = Contains-append_left (g n y) (each_from g (suc n) ys) f (subst (λ k. Contains (g k y) f) none_more (subst (λ z. Contains (g (n + 0) z) f) (sym (some_is e)) c))
+among_each g n (y ∷ ys) zero x f e c = Contains-append_left (g n y) (each_from g (suc n) ys) f (subst (λ k. Contains (g k y) f) none_more (subst (λ z. Contains (g (n + 0) z) f) (sym (same_Some _ _ e)) c))
   where
-    some_is : {A : Type 0} {x y : A} → Some x ≡ Some y → x ≡ y
-    some_is e = cc
-
     none_more : n + 0 ≡ n
     none_more = omega arith
 among_each g n (y ∷ ys) (suc i) x f e c = Contains-append_right (g n y) (each_from g (suc n) ys) f (among_each g (suc n) ys i x f e (subst (λ k. Contains (g k x) f) one_more c))
@@ -112,7 +111,7 @@ module _ (m : Module) where
     class_found f (class.override c d numbered h) = inl (record { number = c; class = d; is = numbered.is; override = h })
 
     pub only_overrides : of_classes ≡ [] → (f : Finding) → ClassFinds m f → Overrides f
-    only_overrides none f h = elim (class_found f h) [ inl o ↦ o | inr c ↦ absurd (none_in f (subst (λ fs. Contains fs f) none c)) ]
+    only_overrides none f h = elim (class_found f h) [ inl o ↦ o | inr c ↦ absurd (none_among f (subst (λ fs. Contains fs f) none c)) ]
 
     pub override_found : (f : Finding) → Overrides f → ClassFinds m f
     override_found f h = class.override h.number h.class (record { is = h.is }) h.override

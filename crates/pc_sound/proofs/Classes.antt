@@ -1,7 +1,9 @@
 -- A class that is made has the fields, the methods and the ancestors that its facts say.
-use Rattle.std.proofs.Common.{◌≡◌, ℕ, zero, suc, ◌+◌, List, [], ◌∷◌, ◌++◌, length, refl, sym, ap, ◌∙◌, subst, inl, inr, arith, length-append}
-use Rattle.std.specs.Prelude.{◌⊎◌, Bool as Test, true, false, ◌||◌, not, if◌then◌else◌, is_some, nat_lt, nat_eq, codes, Option, Some, None, slice_get}
+use Rattle.std.proofs.Common.{◌≡◌, ℕ, suc, ◌+◌, List, [], ◌∷◌, ◌++◌, length, refl, sym, ap, ◌∙◌, subst, inl, inr, arith, length-append, eq-eqb}
+use Rattle.std.specs.Prelude.{Bool as Test, true, false, if◌then◌else◌, is_some, nat_lt, nat_eq, codes, Option, Some, None, slice_get}
 use Rattle.std.proofs.lemmas.Bool.Decides.{nat_tests}
+use Rattle.std.proofs.lemmas.Option.{same_Some}
+use Rattle.std.proofs.lemmas.Bool.{false≢true, or_cases, or_left, or_right}
 use Rattle.pc_source.specs.declared.place.Place.{Place}
 use Rattle.pc_tree.specs.Tree.{Name, FuncDef, Member, field_member, method_member, ClassDef, class_item, Module}
 use Rattle.pc_scope.specs.declared.resolution.Owner.TheVariants as owners
@@ -14,7 +16,7 @@ use Rattle.pc_types.specs.Tree.{Tree}
 use Rattle.pc_types.specs.Annotations.{read_ann}
 use Rattle.pc_types.specs.Tree as tree
 use Rattle.pc_types.specs.Below as subtyping
-use Rattle.pc_types.specs.Below.{Bases, Below, base_of, same, through}
+use Rattle.pc_types.specs.Below.{Bases, Below, same, through}
 use Rattle.pc_types.proofs.Structural.{Chain, here, up, Sub, s_class, sub_of}
 use Rattle.pc_class.specs.Bases.{bases_of, base_named, earlier_class}
 use Rattle.pc_class.specs.Facts as facts
@@ -35,6 +37,8 @@ use Rattle.pc_expr.specs.Signatures.{LawfulDefault}
 use Rattle.pc_check.specs.Modules.{MembersMarks, LawfulMembers, MembersFind, Before, ItemMarks, LawfulItem, ItemFinds}
 use Rattle.pc_sound.specs.Values.{HeapTyping}
 use Rattle.pc_sound.specs.Judgment.{EndsWell}
+use Rattle.pc_sound.proofs.TruthValues.{neither}
+use Rattle.pc_sound.proofs.Lists.{get_at_end, get_left}
 use Rattle.pc_sound.proofs.Leading.{Known}
 use Rattle.pc_sound.proofs.Proceeding.{Proceeds, proceeds_bind, proceeds_comes, proceeds_looks, proceeds_changes}
 use Rattle.pc_sound.proofs.Binds.{class_named}
@@ -42,12 +46,6 @@ use Rattle.pc_sound.proofs.ModuleOrder.{BoundSoFar, bound_class, Between, Listed
 use Rattle.pc_sound.proofs.Items.{ItemReady, GoodClasses}
 use Rattle.pc_sound.proofs.World.{AncestorsAre, DefaultHas, DefaultsHave, MadeOf, MethodsAre, ClassIs}
 use Rattle.pc_sound.proofs.Inheritance.{has_base, base_known, class_is}
-
-some_inj : {A : Type 0} {x y : A} → Some x ≡ Some y → x ≡ y
-some_inj e = grind arith
-
-no_truth : false ≡ true → ⊥
-no_truth e = absurd (grind (arith, e))
 
 -- ---- the order of fields
 
@@ -108,7 +106,7 @@ pub earlier_is : (c b : ℕ) (r : Res) → earlier_class c r ≡ Some b → Earl
 earlier_is c b (res.Class d) e = go (nat_lt d c) refl e
   where
     go : (x : Test) → nat_lt d c ≡ x → (if x then Some d else None) ≡ Some b → EarlierClass c b (res.Class d)
-    go true is e = record { is = ap res.Class (some_inj e); before = ap (λ n. nat_lt n c) (sym (some_inj e)) ∙ is }
+    go true is e = record { is = ap res.Class (same_Some _ _ e); before = ap (λ n. nat_lt n c) (sym (same_Some _ _ e)) ∙ is }
     go false is e = absurd (grind (arith, e))
 earlier_is c b (res.Local n) e = absurd (grind (arith, e))
 earlier_is c b (res.Const n) e = absurd (grind (arith, e))
@@ -125,17 +123,6 @@ chain_of {bases} {c} {d} below = go (sub_of below)
   where
     go : Sub bases (tree.Class c) (tree.Class d) → Chain bases c d
     go (s_class p) = p
-
-either_true : (x y : Test) → (x || y) ≡ true → (x ≡ true) ⊎ (y ≡ true)
-either_true true y e = inl refl
-either_true false y e = inr e
-
-or_first : (x y : Test) → x ≡ true → (x || y) ≡ true
-or_first x y e = ap (λ z. z || y) e
-
-or_second : (x y : Test) → y ≡ true → (x || y) ≡ true
-or_second true y e = refl
-or_second false y e = e
 
 module _ (m : Module) where
   -- a class is above the base
@@ -158,14 +145,14 @@ module _ (m : Module) where
     reached : (b e : ℕ) → base ≡ Some b → Below (bases_of m) (tree.Class b) (tree.Class e) → is_ancestor e (ancestors_of made) ≡ true
 
   base_made : (k : HeapTyping) (all : List Class) (base : Option ℕ) → ((b : ℕ) → base ≡ Some b → ClassIs m k all b) → BaseMade k base (run.class_at all base)
-  base_made k all None is = record { fields = tt; methods = tt; below = λ e h. absurd (no_truth h); reached = λ b e h below. absurd (grind (arith, h)) }
+  base_made k all None is = record { fields = tt; methods = tt; below = λ e h. absurd (false≢true h); reached = λ b e h below. absurd (grind (arith, h)) }
   base_made k all (Some b) is =
       let c = is b refl in
       subst (λ o. BaseMade k (Some b) o) (sym c.is) (record {
         fields = c.fields;
         methods = c.methods;
         below = λ e h. record { number = b; is = refl; below = c.ancestors.below e h };
-        reached = λ d e h below. c.ancestors.reached e (subst (λ x. Below (bases_of m) (tree.Class x) (tree.Class e)) (sym (some_inj h)) below);
+        reached = λ d e h below. c.ancestors.reached e (subst (λ x. Below (bases_of m) (tree.Class x) (tree.Class e)) (sym (same_Some _ _ h)) below);
       })
 
   -- a new class over what a run has of its base
@@ -179,37 +166,20 @@ module _ (m : Module) where
   }
     where
       below : (e : ℕ) → is_ancestor e (n ∷ ancestors_of made) ≡ true → Below (bases_of m) (tree.Class n) (tree.Class e)
-      below e h = elim (either_true (nat_eq n e) (is_ancestor e (ancestors_of made)) h) [
+      below e h = elim (or_cases (nat_eq n e) (is_ancestor e (ancestors_of made)) h) [
         | inl a ↦ let same_number : n ≡ e = grind (arith, nat_tests, a) in subst (λ x. Below (bases_of m) (tree.Class n) (tree.Class x)) same_number same
         | inr b ↦ let r = base.below e b in through (subtyping.base (base_known m n r.number class is r.is)) r.below
       ]
 
       by_chain : (e : ℕ) → Chain (bases_of m) n e → is_ancestor e (n ∷ ancestors_of made) ≡ true
-      by_chain e here = or_first (nat_eq n n) (is_ancestor n (ancestors_of made)) (itself n)
-        where
-          itself : (x : ℕ) → nat_eq x x ≡ true
-          itself x = grind (arith, nat_tests)
+      by_chain e here = or_left (nat_eq n n) (is_ancestor n (ancestors_of made)) (eq-eqb n n refl)
       by_chain e (up {b = b} up_is p) =
           let r = has_base m n b up_is in
-          let named : base_named m n class.base ≡ Some b = ap (λ x. base_named m n x.base) (some_inj (sym is ∙ r.is)) ∙ r.base in
-          or_second (nat_eq n e) (is_ancestor e (ancestors_of made)) (base.reached b e named (chain_below p))
+          let named : base_named m n class.base ≡ Some b = ap (λ x. base_named m n x.base) (same_Some _ _ (sym is ∙ r.is)) ∙ r.base in
+          or_right (nat_eq n e) (is_ancestor e (ancestors_of made)) (base.reached b e named (chain_below p))
 
       reached : (e : ℕ) → Below (bases_of m) (tree.Class n) (tree.Class e) → is_ancestor e (n ∷ ancestors_of made) ≡ true
       reached e h = by_chain e (chain_of h)
-
-get_kept : {A : Type 0} (xs : List A) (y : A) (i : ℕ) (x : A) → slice_get xs i ≡ Some x → slice_get (xs ++ y ∷ []) i ≡ Some x
-get_kept [] y i x e = absurd (grind (arith, e))
-get_kept (z ∷ xs) y zero x e = e
-get_kept (z ∷ xs) y (suc i) x e = get_kept xs y i x e
-
-get_last : {A : Type 0} (xs : List A) (y : A) → slice_get (xs ++ y ∷ []) (length xs) ≡ Some y
-get_last [] y = refl
-get_last (x ∷ xs) y = get_last xs y
-
-free_name : (x y : Test) → not (x || y) ≡ true → (x ≡ false) × (y ≡ false)
-free_name false false e = (refl, refl)
-free_name true y e = absurd (no_truth e)
-free_name false true e = absurd (no_truth e)
 
 -- ---- members
 
@@ -313,7 +283,7 @@ module _ (m : Module) (constants : List Tree) (listed : Place → Type 0) where
               let x = class_named m word n r in
               let behind = x.behind in
               let at : x.at ≡ n = omega arith in
-              let same_class : x.class ≡ c = some_inj (sym x.is ∙ ap (slice_get (classes_in m.items)) at ∙ is) in
+              let same_class : x.class ≡ c = same_Some _ _ (sym x.is ∙ ap (slice_get (classes_in m.items)) at ∙ is) in
               ap (λ y. y.name.text) (sym same_class) ∙ x.named
 
           all_made : (k : HeapTyping) (s : State) (x : Class) → Now k s → NewClass m k n x → (d : ℕ) (t : ClassDef) → nat_lt d (suc n) ≡ true → slice_get (classes_in m.items) d ≡ Some t → ClassIs m k (s.classes ++ x ∷ []) d
@@ -323,10 +293,10 @@ module _ (m : Module) (constants : List Tree) (listed : Place → Type 0) where
               last f = grind (arith, nat_tests, less, f)
 
               by_place : (y : Test) → nat_lt d n ≡ y → ClassIs m k (s.classes ++ x ∷ []) d
-              by_place true l = let r = h.bound.classes d t l e in record { class = r.class; is = get_kept s.classes x d r.class r.is; fields = r.fields; methods = r.methods; ancestors = r.ancestors }
+              by_place true l = let r = h.bound.classes d t l e in record { class = r.class; is = get_left s.classes (x ∷ []) d r.class r.is; fields = r.fields; methods = r.methods; ancestors = r.ancestors }
               by_place false l = subst (λ i. ClassIs m k (s.classes ++ x ∷ []) i) (sym (last l)) (record {
                 class = x;
-                is = ap (slice_get (s.classes ++ x ∷ [])) (sym h.bound.count) ∙ get_last s.classes x;
+                is = ap (slice_get (s.classes ++ x ∷ [])) (sym h.bound.count) ∙ get_at_end s.classes x [];
                 fields = new.fields;
                 methods = new.methods;
                 ancestors = new.ancestors;
@@ -334,5 +304,5 @@ module _ (m : Module) (constants : List Tree) (listed : Place → Type 0) where
 
           bound_now : (k : HeapTyping) (s : State) (x : Class) → Now k s → NewClass m k n x → BoundSoFar m b.constants defs (suc n) (c.name.text ∷ b.names) k (s.classes ++ x ∷ []) (s.globals ++ record { name = c.name.text; is = a_class (length s.classes) } ∷ [])
           bound_now k s x h new =
-              let free = free_name (is_reserved_name c.name.text) (is_among c.name.text b.names) binds in
+              let free = neither (is_reserved_name c.name.text) (is_among c.name.text b.names) binds in
               bound_class m b.constants defs n b.names k s.classes s.globals c.name.text x named free.1 free.0 (all_made k s x h new) (length-append s.classes (x ∷ []) ∙ ap (λ l. l + 1) h.bound.count ∙ omega arith) h.bound

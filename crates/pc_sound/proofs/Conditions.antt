@@ -1,8 +1,9 @@
 -- Conditions: their values, and what their truth tells of the locals.
-use Rattle.std.proofs.Common.{◌≡◌, ℕ, zero, suc, List, [], ◌∷◌, refl, sym, ap, ◌∙◌, subst, inl, inr, arith}
-use Rattle.std.specs.Prelude.{◌⊎◌, Bool as Truth, true, false, not, ◌&&◌, ◌||◌, if◌then◌else◌, codes, bytes_eq, Option, Some, None}
+use Rattle.std.proofs.Common.{◌≡◌, ℕ, zero, suc, List, [], ◌∷◌, refl, sym, ap, ◌∙◌, subst, inl, inr}
+use Rattle.std.specs.Prelude.{◌⊎◌, Bool as Truth, true, false, not, if◌then◌else◌, codes, bytes_eq, Option, Some, None}
 use Rattle.std.specs.List.{list_any}
 use Rattle.std.proofs.lemmas.Slice.Eq.{bytes_eq-Decides}
+use Rattle.std.proofs.lemmas.Bool.{and_parts, or_parts}
 use Rattle.pc_source.specs.declared.place.Place.{Place}
 use Rattle.pc_tree.specs.declared.code.Code.{Code}
 use Rattle.pc_tree.specs.declared.code.Code.TheVariants.{A7}
@@ -22,7 +23,7 @@ use Rattle.pc_expr.specs.Lawful.{Lawful}
 use Rattle.pc_expr.specs.Lawful.{callee_of, is_length_of_one}
 use Rattle.pc_expr.specs.Calls.{given, length_mark, call_mark, is_object_or_any, any_list_codes, current_of, test_codes, test_mark}
 use Rattle.pc_value.specs.Value as value
-use Rattle.pc_value.specs.Value.{Value, boolean, Stop, Out, Gives, Stops, Cut, Heap, is_true}
+use Rattle.pc_value.specs.Value.{Value, boolean, Out, Gives, Stops, Cut, Heap, is_true}
 use Rattle.pc_value.specs.Actions as action
 use Rattle.pc_machine.specs.State.{State, Frame, Class}
 use Rattle.pc_machine.specs.Names.{meaning, meaning_of_local, meaning_of_global, global_of, local_of}
@@ -34,11 +35,13 @@ use Rattle.pc_machine.specs.Free.{Step, WentOn, ◌>>=◌, comes, may_stop, Emit
 use Rattle.pc_sound.specs.Values.{HeapTyping, HasType, IsWell}
 use Rattle.pc_sound.specs.Kept.{HasLocals, Passes, IsTestedType, CanFollow, CanFollowAll}
 use Rattle.pc_sound.specs.Judgment.{HasListed, IsAllowed, Around, Stands, Keeps, IsSafe, Fits, Tells, Leads}
+use Rattle.pc_sound.proofs.TruthValues.{not_both}
+use Rattle.pc_sound.proofs.Lists.{not_empty}
 use Rattle.pc_sound.proofs.Narrowing.{passing_keeps, failing_keeps}
 use Rattle.pc_sound.proofs.Joins.{either_holds}
 use Rattle.pc_sound.proofs.JoinedLocals.{meet_holds}
-use Rattle.pc_sound.proofs.Steps.{stands_after}
-use Rattle.pc_sound.proofs.Leading.{Known, Promised, stopped_as}
+use Rattle.pc_sound.proofs.Steps.{stands_after, gives_injective, gives_not_stops, stopped_as}
+use Rattle.pc_sound.proofs.Leading.{Known, Promised}
 use Rattle.pc_sound.proofs.Frames.{narrowed_holds}
 use Rattle.pc_sound.proofs.Expressions.{Covered, GoodEval, allowed}
 use Rattle.pc_sound.proofs.Keys.{Keyed}
@@ -56,25 +59,19 @@ pub record Reads (eval : Expr → Step Value) : Type 0 where
 
 -- ---- what a run that came to a value says of its steps
 
-no_stop : {A : Type 0} {a : A} {stop : Stop} → Gives a ≡ Stops stop → ⊥
-no_stop e = grind arith
-
-gives_inj : {A : Type 0} {a b : A} → Gives a ≡ Gives b → a ≡ b
-gives_inj e = grind arith
-
 pub went_on : {A B : Type 0} (m : Step A) (f : A → Step B) (s s' : State) (events : List Place) (b : B) → (m >>= f) s events (Gives b) s' → WentOn m f s events (Gives b) s'
-went_on m f s s' events b r = elim r [ inl w ↦ w | inr w ↦ absurd (no_stop w.is) ]
+went_on m f s s' events b r = elim r [ inl w ↦ w | inr w ↦ absurd (gives_not_stops w.is) ]
 
 pub charged : (s s' : State) (events : List Place) (u : Unit {0}) → may_stop s events (Gives u) s' → s' ≡ s
-charged s s' events u r = elim r [ inl g ↦ g.same | inr e ↦ elim e [ inl x ↦ absurd (no_stop x.is) | inr x ↦ absurd (no_stop x.is) ] ]
+charged s s' events u r = elim r [ inl g ↦ g.same | inr e ↦ elim e [ inl x ↦ absurd (gives_not_stops x.is) | inr x ↦ absurd (gives_not_stops x.is) ] ]
 
 -- what the state said, where it came to a value
 looked : {A : Type 0} (f : State → Out A) (s s' : State) (events : List Place) (a : A) → look f s events (Gives a) s' → Looks f s events (Gives a) s'
-looked f s s' events a r = elim r [ inl l ↦ l | inr e ↦ elim e [ inl x ↦ absurd (no_stop x.is) | inr x ↦ absurd (no_stop x.is) ] ]
+looked f s s' events a r = elim r [ inl l ↦ l | inr e ↦ elim e [ inl x ↦ absurd (gives_not_stops x.is) | inr x ↦ absurd (gives_not_stops x.is) ] ]
 
 -- nested steps read names
 pub steps_read : (n : ℕ) → Reads (steps Step free n).eval
-steps_read zero = record { read = λ n s s' events v r. absurd (no_stop r.is) }
+steps_read zero = record { read = λ n s s' events v r. absurd (gives_not_stops r.is) }
 steps_read (suc i) = record { read = go }
   where
     go : (n : Name) (s s' : State) (events : List Place) (v : Value) → eval_over Step free (steps Step free i) (name n) s events (Gives v) s' → (value_of_meaning (meaning n.text s) ≡ Gives v) × (s' ≡ s)
@@ -95,20 +92,6 @@ not_back : (a b : Truth) → not a ≡ b → a ≡ not b
 not_back true b e = ap not e
 not_back false b e = ap not e
 
-not_same : {b : Truth} → b ≡ true → b ≡ false → ⊥
-not_same e e' = grind (arith, e, e')
-
-both_true : (x y : Truth) → (x && y) ≡ true → (x ≡ true) × (y ≡ true)
-both_true true y e = (refl, e)
-both_true false y e = absurd (not_same e refl)
-
-neither : (x y : Truth) → (x || y) ≡ false → (x ≡ false) × (y ≡ false)
-neither true y e = absurd (not_same refl e)
-neither false y e = (refl, e)
-
-some_code : {c : Code} {cs : List Code} → c ∷ cs ≡ [] → ⊥
-some_code e = grind arith
-
 -- ---- locals
 
 -- a value passes a test, or fails it
@@ -118,8 +101,8 @@ Answers around false k test v = ¬ (Passes around.bases k test v)
 
 nothing_answers : (around : Around) (k : HeapTyping) (v : Value) (holds : Truth) → is_nothing v ≡ holds → Answers around holds k for_none v
 nothing_answers around k value.none true e = tt
-nothing_answers around k value.none false e = absurd (not_same refl e)
-nothing_answers around k _ true e = absurd (not_same e refl)
+nothing_answers around k value.none false e = absurd (not_both refl e)
+nothing_answers around k _ true e = absurd (not_both e refl)
 nothing_answers around k _ false e = λ h. h
 
 none_follows : (ms : List Tree) → CanFollowAll for_none ms
@@ -144,7 +127,7 @@ module _ (around : Around) (ctx : Context) (fits : Fits around ctx) where
   tested_holds env k s n x v test holds st local reads can answers = go (current env x) refl holds answers
     where
       is_it : (w : Value) → local_of n.text s.frame ≡ Some (Some w) → v ≡ w
-      is_it w e = gives_inj (sym reads ∙ ap (λ m. value_of_meaning (meaning_of_local (meaning_of_global (is_reserved n.text) (global_of n.text s.globals)) m)) e)
+      is_it w e = gives_injective (sym reads ∙ ap (λ m. value_of_meaning (meaning_of_local (meaning_of_global (is_reserved n.text) (global_of n.text s.globals)) m)) e)
 
       go : (o : Option Tree) → current env x ≡ o → (holds : Truth) → Answers around holds k test v → Hold (narrow_current around.bases holds test x env o) k s
       go None e b a = st.locals
@@ -212,7 +195,7 @@ module _ (around : Around) (ctx : Context) (fits : Fits around ctx) (parts : Par
       let a = went_on _ _ s s' events v r in
       let b = went_on _ _ a.middle s' a.late v a.after in
       let same : s' ≡ a.middle = b.after.same ∙ b.before.same in
-      record { operand = a.value; came = subst (λ x. IsReadAs e a.value x) (sym same) (read_as e s a.middle a.early a.value a.before); is = gives_inj b.after.is }
+      record { operand = a.value; came = subst (λ x. IsReadAs e a.value x) (sym same) (read_as e s a.middle a.early a.value a.before); is = gives_injective b.after.is }
 
   none_tells : (p : Place) (e : Expr) (k : HeapTyping) (v : Value) (s : State) → Stands around env k s → CameTo e (λ w. boolean (is_nothing w)) v s → Tells around ctx env (is_none p e) k v s
   none_tells p e k v s st c = record {
@@ -262,7 +245,7 @@ module _ (around : Around) (ctx : Context) (fits : Fits around ctx) (parts : Par
     and_false k v x side = (either_holds around.bases fits.smaller k s t v (inl side.0.1.0), record { by = by })
       where
         by : (holds : Truth) → is_true x.heap v ≡ holds → HasLocals around.bases k around.names around.declared (narrow around.bases around.declared ctx.resolve holds (conjunction p l r) env) x.frame
-        by true is = absurd (not_same is side.1)
+        by true is = absurd (not_both is side.1)
         by false is = meet_holds around.bases fits.smaller k around.names around.declared x.frame _ _ (inl (side.0.1.1.by false is))
 
     or_true : (k : HeapTyping) (v : Value) (x : State) → Side l s v true k x → HasType around.bases k (join_or_object around.bases s t) v × Tells around ctx env (disjunction p l r) k v x
@@ -270,7 +253,7 @@ module _ (around : Around) (ctx : Context) (fits : Fits around ctx) (parts : Par
       where
         by : (holds : Truth) → is_true x.heap v ≡ holds → HasLocals around.bases k around.names around.declared (narrow around.bases around.declared ctx.resolve holds (disjunction p l r) env) x.frame
         by true is = meet_holds around.bases fits.smaller k around.names around.declared x.frame _ _ (inl (side.0.1.1.by true is))
-        by false is = absurd (not_same side.1 is)
+        by false is = absurd (not_both side.1 is)
 
     or_false : (k : HeapTyping) (w : Value) (x : State) → Stands around env k x → HasType around.bases k t w → Tells around ctx (narrow around.bases around.declared ctx.resolve false l env) r k w x → HasType around.bases k (join_or_object around.bases s t) w × Tells around ctx env (disjunction p l r) k w x
     or_false k w x st has tells = (either_holds around.bases fits.smaller k s t w (inr has), record { by = by })
@@ -354,7 +337,7 @@ module _ (around : Around) (ctx : Context) (fits : Fits around ctx) (parts : Par
       came = subst (λ x. IsReadAs e w x) (sym (late ∙ early)) came;
       test = test;
       tested = subst (λ x. test_of t x ≡ Gives test) (sym (late ∙ early)) tested;
-      is = subst (λ x. v ≡ boolean (passes x w test)) (sym late) (gives_inj is);
+      is = subst (λ x. v ≡ boolean (passes x w test)) (sym late) (gives_injective is);
     }
 
     tried_look : (e t : Expr) (w v : Value) (s s' : State) (events : List Place) → IsReadAs e w s → Looking t w s events (Gives v) s' → Tried e t v s'
@@ -385,11 +368,11 @@ module _ (around : Around) (ctx : Context) (fits : Fits around ctx) (parts : Par
     -- no member is Any or object
     no_object : (ms : List Tree) → list_any is_object_or_any ms ≡ false → CanFollowAll for_list ms
     no_object [] e = tt
-    no_object (m ∷ ms) e = let h = neither (is_object_or_any m) (list_any is_object_or_any ms) e in (one m h.0, no_object ms h.1)
+    no_object (m ∷ ms) e = let h = or_parts (is_object_or_any m) (list_any is_object_or_any ms) e in (one m h.0, no_object ms h.1)
       where
         one : (m : Tree) → is_object_or_any m ≡ false → CanFollow for_list m
-        one Any e = absurd (not_same refl e)
-        one Object e = absurd (not_same refl e)
+        one Any e = absurd (not_both refl e)
+        one Object e = absurd (not_both refl e)
         one _ e = tt
 
     type_follows : (c : Tree) → IsTestedType c → (ms : List Tree) → CanFollowAll (for_type c) ms
@@ -408,7 +391,7 @@ module _ (around : Around) (ctx : Context) (fits : Fits around ctx) (parts : Par
     list_follows o x t named e found = no_object (members t) (go (list_any is_object_or_any (members t)) refl (sym (ap (λ y. any_list_codes (current_of env y)) named ∙ ap any_list_codes e) ∙ found))
       where
         go : (b : Truth) → list_any is_object_or_any (members t) ≡ b → any_list_codes (Some t) ≡ [] → list_any is_object_or_any (members t) ≡ false
-        go true is found = absurd (some_code (ap (λ b. if b then A7 ∷ [] else []) (sym is) ∙ found))
+        go true is found = absurd (not_empty (ap (λ b. if b then A7 ∷ [] else []) (sym is) ∙ found))
         go false is found = is
 
     follows : (made : List Class) (test : Tested) (r : Test) → IsRight around.bases made test r → (o : Option ℕ) (x : ℕ) (t : Tree) → o ≡ Some x → current env x ≡ Some t → test_codes env o (Some test) ≡ [] → CanFollowAll test (members t)
@@ -440,7 +423,7 @@ module _ (around : Around) (ctx : Context) (fits : Fits around ctx) (parts : Par
     name_run p n (more_exprs e (more_exprs t no_exprs)) no_keywords found allow codes_are is k s s' events v st r = go found allow codes_are
       where
         text_is : codes "isinstance" ≡ n.text
-        text_is = (bytes_eq-Decides (codes "isinstance") n.text).0 (both_true (bytes_eq (codes "isinstance") n.text) true is).0
+        text_is = (bytes_eq-Decides (codes "isinstance") n.text).0 (and_parts (bytes_eq (codes "isinstance") n.text) true is).0
 
         form : call_form (name n) (more_exprs e (more_exprs t no_exprs)) no_keywords ≡ instance_test n e t
         form = ap (λ b. if b then instance_test n e t else ordinary) ((bytes_eq-Decides n.text (codes "isinstance")).1 (sym text_is))
@@ -451,11 +434,11 @@ module _ (around : Around) (ctx : Context) (fits : Fits around ctx) (parts : Par
         go : (found : List Code) → IsAllowed around.listed p found → found ≡ (test_mark ctx env (more_exprs e (more_exprs t no_exprs))).codes → HasListed around.listed events ⊎ Tells around ctx env (call p (name n) (more_exprs e (more_exprs t no_exprs)) no_keywords) k v s'
         go (c ∷ cs) allow codes_are = inl (record { place = p; is = allow; event = (trying_evaluates p n e t).place s s' events v run })
         go [] allow codes_are = inr (record { by = λ holds h. subst (λ b. Narrowed holds b (local_named ctx.resolve e) (narrowing.test_of ctx.resolve t) k s') (sym is) (instance_tells e t k v s' st (tried p n e t v s s' events run) (sym codes_are) holds h) })
-    name_run p n _ _ found allow codes_are is k s s' events v st r = absurd (not_same (both_true _ _ is).1 refl)
+    name_run p n _ _ found allow codes_are is k s s' events v st r = absurd (not_both (and_parts _ _ is).1 refl)
 
     instance_run : (p : Place) (c : Expr) (args : Exprs) (kws : Keywords) (found : List Code) → IsAllowed around.listed p found → found ≡ (test_mark ctx env args).codes → is_instance_test c args kws ≡ true → (k : HeapTyping) (s s' : State) (events : List Place) (v : Value) → Stands around env k s' → Node (call p c args kws) s events (Gives v) s' → HasListed around.listed events ⊎ Tells around ctx env (call p c args kws) k v s'
     instance_run p (name n) args kws found allow codes_are is k s s' events v st r = name_run p n args kws found allow codes_are is k s s' events v st r
-    instance_run p _ args kws found allow codes_are is k s s' events v st r = absurd (not_same is refl)
+    instance_run p _ args kws found allow codes_are is k s s' events v st r = absurd (not_both is refl)
 
     pub call_told : (want : Option Tree) (p : Place) (c : Expr) (args : Exprs) (kws : Keywords) (m : Marks (call p c args kws)) → Lawful ctx around.declared env want (call p c args kws) m → Covered around (Finds (call p c args kws) m) → (t : Tree) → IsSafe around env (λ k. Unit {0}) (Node (call p c args kws)) (λ k v. HasType around.bases k t v) → TellsSafely env (call p c args kws) t (Node (call p c args kws))
     call_told want p c args kws m law covered t safe = told (Node (call p c args kws)) (λ k v. HasType around.bases k t v) (λ k v s. Tells around ctx env (call p c args kws) k v s) safe λ k s s' events v st r. go (is_instance_test c args kws) refl k s s' events v st r

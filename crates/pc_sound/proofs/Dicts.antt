@@ -1,20 +1,19 @@
 -- Dicts: a new dict, a read and a store of a key keep the heap well typed under every name of the dict.
 use Rattle.std.proofs.Common.{◌≡◌, ℕ, zero, suc, List, [], ◌∷◌, ◌++◌, refl, sym, ap, ◌∙◌, subst, inl, inr, arith}
 use Rattle.std.specs.Prelude.{Bool as Test, true, false, if◌then◌else◌, Option, Some, None, slice_get, map}
+use Rattle.std.proofs.lemmas.Option.{same_Some}
 use Rattle.pc_types.specs.Tree.{Tree, Int, Str, NoneType, DictOf, Union}
 use Rattle.pc_types.specs.Below.{Bases, same}
 use Rattle.pc_types.specs.Normal.{IsKey}
 use Rattle.pc_class.specs.Facts.{Class}
 use Rattle.pc_value.specs.Value as value
-use Rattle.pc_value.specs.Value.{Value, whole, boolean, string, tuple_of, location, Cell, list_cell, dict_cell, instance_cell, Heap, Entry, Stop, seen, seen_cell}
+use Rattle.pc_value.specs.Value.{Value, whole, boolean, string, location, Cell, list_cell, dict_cell, instance_cell, Heap, Entry, seen, seen_cell}
 use Rattle.pc_value.specs.Containers.{same_key, value_at, with_entry, with_entries, gives_item, value_or_none, item_outcome, written, store_outcome, key_fault, or_else, first_key_fault, dict_display, get_outcome}
 use Rattle.pc_sound.specs.Values.{HeapTyping, a_dict, HasType, EntriesHave, CellHas, CellAt, IsWell, IsDict}
 use Rattle.pc_sound.specs.Kept.{OutcomeHas, ActsWell}
+use Rattle.pc_sound.proofs.Lists.{get_at_end}
 use Rattle.pc_sound.proofs.ValuesFlow.{of_static, extends_refl}
-use Rattle.pc_sound.proofs.Heaps.{write_keeps, place_keeps, grown, last_is}
-
-some_inj : {A : Type 0} {x y : A} → Some x ≡ Some y → x ≡ y
-some_inj e = grind arith
+use Rattle.pc_sound.proofs.Heaps.{write_keeps, place_keeps, grown}
 
 -- what a key is whose type is int or str
 abbrev IsKeyValue : Value → Type 0
@@ -74,7 +73,7 @@ module _ (bases : Bases) (k : HeapTyping) where
   -- the key at a place of the order
   pub key_at : (s t : Tree) (es : List Entry) (i : ℕ) (v : Value) → EntriesHave bases k s t es → slice_get (map (λ (e : Entry). e.key) es) i ≡ Some v → HasType bases k s v
   key_at s t [] i v h e = absurd (grind (arith, e))
-  key_at s t (x ∷ es) zero v h e = subst (λ y. HasType bases k s y) (some_inj e) h.0
+  key_at s t (x ∷ es) zero v h e = subst (λ y. HasType bases k s y) (same_Some _ _ e) h.0
   key_at s t (x ∷ es) (suc i) v h e = key_at s t es i v h.2 e
 
   no_fault : (heap : Heap) (s t : Tree) → IsKey s → (es : List Entry) → EntriesHave bases k s t es → first_key_fault heap es ≡ None
@@ -113,7 +112,7 @@ module _ (bases : Bases) (classes : List Class) (k : HeapTyping) (heap : Heap) w
     typing = k ++ a_dict s t ∷ [];
     grows = grown bases classes k (a_dict s t);
     well = place_keeps bases classes k heap (a_dict s t) (dict_cell (with_entries [] es)) (entries_set bases k s t [] es tt h) well;
-    has = record { keys = s; values = t; is = subst (λ n. slice_get (k ++ a_dict s t ∷ []) n ≡ Some (a_dict s t)) well.long (last_is k (a_dict s t)); equal_keys = record { to = same; fro = same }; equal_values = record { to = same; fro = same } };
+    has = record { keys = s; values = t; is = subst (λ n. slice_get (k ++ a_dict s t ∷ []) n ≡ Some (a_dict s t)) well.long (get_at_end k (a_dict s t) []); equal_keys = record { to = same; fro = same }; equal_values = record { to = same; fro = same } };
   })
 
   values_back : (s t : Tree) (l : ℕ) (h : IsDict bases k l s t) (key : Value) (es : List Entry) → EntriesHave bases k h.keys h.values es → FoundHas bases k t (value_at key es)

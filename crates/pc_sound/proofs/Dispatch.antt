@@ -5,12 +5,14 @@ use Rattle.std.specs.Option.{option_or}
 use Rattle.std.proofs.lemmas.List.Elements.{All-cons}
 use Rattle.std.proofs.lemmas.List.Folds.{find-append}
 use Rattle.std.proofs.lemmas.Slice.Eq.{bytes_eq-Decides}
+use Rattle.std.proofs.lemmas.Option.{same_Some}
+use Rattle.std.proofs.lemmas.Bool.{false≢true}
+use Rattle.std.proofs.Math.Bool.{not-or_self}
 use Rattle.pc_source.specs.declared.place.Place.{Place}
 use Rattle.pc_tree.specs.declared.code.Code.{Code}
 use Rattle.pc_tree.specs.declared.code.Code.TheVariants.{A8}
 use Rattle.pc_tree.specs.Tree.{Member, field_member, method_member, FuncDef, ClassDef, Module}
 use Rattle.pc_scope.specs.Bindings.{classes_in}
-use Rattle.pc_types.specs.Tree.{Tree}
 use Rattle.pc_types.specs.Tree as tree
 use Rattle.pc_types.specs.Below as subtyping
 use Rattle.pc_types.specs.Below.{Bases, Below, Static, same, through}
@@ -20,12 +22,6 @@ use Rattle.pc_class.specs.Facts.{Parameter, Method, Class, class_in, class_at, i
 use Rattle.pc_class.specs.Findings.{OverrideRule, base_class, method_made}
 use Rattle.pc_class.specs.Overrides.{has_shape_of, Flow, parameter_flows, IsGood, IsStatic, Judges, static, dynamic, wrong, overridden}
 use Rattle.pc_sound.proofs.Inheritance.{HasBase, has_base, base_known, below_class, class_over, class_is, class_over_base, no_class_past}
-
-no_truth : false ≡ true → ⊥
-no_truth e = absurd (grind (arith, e))
-
-some_inj : {A : Type 0} {x y : A} → Some x ≡ Some y → x ≡ y
-some_inj e = grind arith
 
 -- ---- all elements
 
@@ -40,7 +36,8 @@ abbrev pub IsIn : List Method → Method → Type 0
 IsIn [] q = ⊥
 IsIn (p ∷ ps) q = (p ≡ q) ⊎ IsIn ps q
 
-in_either : (ps qs : List Method) (q : Method) → IsIn (ps ++ qs) q → IsIn ps q ⊎ IsIn qs q
+-- a method of two lists one behind the other is in one of them
+pub in_either : (ps qs : List Method) (q : Method) → IsIn (ps ++ qs) q → IsIn ps q ⊎ IsIn qs q
 in_either [] qs q h = inr h
 in_either (p ∷ ps) qs q h = elim h [ inl a ↦ inl (inl a) | inr b ↦ elim (in_either ps qs q b) [ inl c ↦ inl (inr c) | inr d ↦ inr d ] ]
 
@@ -54,7 +51,7 @@ found_in [] word q e = absurd (grind (arith, e))
 found_in (p ∷ ps) word q e = go (bytes_eq word p.name) refl e (λ e'. found_in ps word q e')
   where
     go : (x : Test) → bytes_eq word p.name ≡ x → cond x (Some p) (method_of ps word) ≡ Some q → (method_of ps word ≡ Some q → IsIn ps q × (bytes_eq word q.name ≡ true)) → IsIn (p ∷ ps) q × (bytes_eq word q.name ≡ true)
-    go true is e rest = (inl (some_inj e), subst (λ r. bytes_eq word r.name ≡ true) (some_inj e) is)
+    go true is e rest = (inl (same_Some _ _ e), subst (λ r. bytes_eq word r.name ≡ true) (same_Some _ _ e) is)
     go false is e rest = let r = rest e in (inr r.0, r.1)
 
 -- what holds of all that pass a test holds of one that does
@@ -64,17 +61,13 @@ all_passing P test (p ∷ ps) q all h e = go (test p) refl all (λ all' h'. all_
   where
     go : (x : Test) → test p ≡ x → All P (cond x (p ∷ filter test ps) (filter test ps)) → (All P (filter test ps) → IsIn ps q → P q) → P q
     go true is all rest = elim h [ inl a ↦ subst P a (all_first P p (filter test ps) all) | inr b ↦ rest (all_rest P p (filter test ps) all) b ]
-    go false is all rest = elim h [ inl a ↦ absurd (no_truth (sym is ∙ (ap test a ∙ e))) | inr b ↦ rest all b ]
+    go false is all rest = elim h [ inl a ↦ absurd (false≢true (sym is ∙ (ap test a ∙ e))) | inr b ↦ rest all b ]
 
 -- ---- a method against itself
 
 same_shape : (ps : List Parameter) → has_shape_of ps ps ≡ true
 same_shape [] = refl
-same_shape (p ∷ ps) = ap (λ x. x && ((not p.has_default || p.has_default) && has_shape_of ps ps)) ((bytes_eq-Decides p.name p.name).1 refl) ∙ ap (λ x. x && has_shape_of ps ps) (excluded p.has_default) ∙ same_shape ps
-  where
-    excluded : (b : Test) → (not b || b) ≡ true
-    excluded true = refl
-    excluded false = refl
+same_shape (p ∷ ps) = ap (λ x. x && ((not p.has_default || p.has_default) && has_shape_of ps ps)) ((bytes_eq-Decides p.name p.name).1 refl) ∙ ap (λ x. x && has_shape_of ps ps) (not-or_self p.has_default) ∙ same_shape ps
 
 module _ (bases : Bases) where
   same_flows : (ps : List Parameter) → All (λ (f : Flow). Static bases f.from f.into) (parameter_flows ps ps)
@@ -116,7 +109,7 @@ module _ (m : Module) (listed : Place → Type 0) where
       of_rule : binds_method base before f.name.text ≡ true → OwnJudged base (method_made m c number f)
       of_rule binds = elim all.0.rule [
         | inl r ↦ record { code = all.0.code; judged = r.1; allowed = all.0.allowed }
-        | inr r ↦ absurd (no_truth (sym r.0 ∙ binds))
+        | inr r ↦ absurd (false≢true (sym r.0 ∙ binds))
       ]
 
       go : (x : Test) → binds_method base before f.name.text ≡ x → IsIn ((if x then method_made m c number f ∷ [] else []) ++ own_methods m base c (suc number) (f.name.text ∷ before) rest) q → (IsIn (own_methods m base c (suc number) (f.name.text ∷ before) rest) q → OwnJudged base q) → OwnJudged base q

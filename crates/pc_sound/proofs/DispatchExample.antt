@@ -3,6 +3,7 @@ use Rattle.std.proofs.Common.{◌≡◌, ℕ, zero, suc, List, [], ◌∷◌, Al
 use Rattle.std.specs.Prelude.{false, take, Some, None, slice_get}
 use Rattle.std.specs.List.{AllByRecursion}
 use Rattle.std.proofs.lemmas.List.Elements.{All-from_recursion, All-nil}
+use Rattle.std.proofs.lemmas.Option.{none-some, same_Some}
 use Rattle.pc_source.specs.declared.place.Place.{Place}
 use Rattle.pc_tree.specs.declared.code.Code.{Code}
 use Rattle.pc_tree.specs.declared.code.Code.TheVariants.{A8, E20}
@@ -18,7 +19,7 @@ use Rattle.pc_types.proofs.Structural.{sub_of}
 use Rattle.pc_class.specs.Bases.{bases_of}
 use Rattle.pc_class.specs.Facts as facts
 use Rattle.pc_class.specs.Facts.{Method, classes_of}
-use Rattle.pc_class.specs.Overrides.{Flow, override_flows, IsGood, IsStatic, Judges, dynamic}
+use Rattle.pc_class.specs.Overrides.{Flow, override_flows, IsGood, IsStatic, dynamic}
 use Rattle.pc_class.specs.Overrides as overrides
 use Rattle.pc_class.specs.Findings.{OverrideRule, IsOverride, ClassFinds, base_class, member_texts}
 use Rattle.pc_expr.specs.Operations.{clean, in_error}
@@ -257,12 +258,6 @@ record Judged (m : Module) (base : facts.Class) (c : ℕ) (d : FuncDef) (f : Fin
   rule : OverrideRule m base c [] number d (Some code)
   is : f ≡ finding d.name.place code
 
-some_is : {A : Type 0} {x y : A} → Some x ≡ Some y → x ≡ y
-some_is e = cc
-
-none_some : {A : Type 0} {x : A} → Some x ≡ None → ⊥
-none_some e = cc
-
 member_is : {d k : FuncDef} → method_member d ≡ method_member k → d ≡ k
 member_is e = cc
 
@@ -273,45 +268,45 @@ only_method m class c d f one h =
   where
     go : (at : ℕ) (k : FuncDef) → slice_get (method_member d ∷ []) at ≡ Some (method_member k) → OverrideRule m (base_class m c class) c (member_texts (take at (method_member d ∷ []))) h.number k (Some h.code) → f ≡ finding k.name.place h.code → Judged m (base_class m c class) c d f
     go zero k e rule is =
-        let same : d ≡ k = member_is (some_is e) in
+        let same : d ≡ k = member_is (same_Some _ _ e) in
         record {
           number = h.number;
           code = h.code;
           rule = subst (λ x. OverrideRule m (base_class m c class) c [] h.number x (Some h.code)) (sym same) rule;
           is = subst (λ (x : FuncDef). f ≡ finding x.name.place h.code) (sym same) is;
         }
-    go (suc at) k e rule is = absurd (none_some (sym e))
+    go (suc at) k e rule is = absurd (none-some _ e)
 
 -- of A nothing is judged, of B and C no other code than A8
 none_of_a : (f : Finding) → Judged program (base_class program 0 class_a) 0 m_of_a f → Contains findings f
 unfolding builtin_of bases_of classes_of
 none_of_a f j = elim j.rule [
   | inl r ↦ absurd (judged_static (All-nil (IsStatic (bases_of program) (method 0 j.number m_of_a.name.place Any))) r.1)
-  | inr r ↦ absurd (none_some r.1)
+  | inr r ↦ absurd (none-some _ (sym r.1))
 ]
 
 that_of_b : (f : Finding) → Judged program (base_class program 1 class_b) 1 m_of_b f → Contains findings f
 unfolding builtin_of bases_of classes_of
 that_of_b f j = elim j.rule [
   | inl r ↦ (0, omega arith, sym (j.is ∙ ap (finding m_of_b.name.place) (judged_dynamic (b_is_good (bases_of program) j.number) r.1)))
-  | inr r ↦ absurd (none_some r.1)
+  | inr r ↦ absurd (none-some _ (sym r.1))
 ]
 
 that_of_c : (f : Finding) → Judged program (base_class program 2 class_c) 2 m_of_c f → Contains findings f
 unfolding builtin_of bases_of classes_of
 that_of_c f j = elim j.rule [
   | inl r ↦ (1, omega arith, sym (j.is ∙ ap (finding m_of_c.name.place) (judged_dynamic (c_is_good (bases_of program) j.number) r.1)))
-  | inr r ↦ absurd (none_some r.1)
+  | inr r ↦ absurd (none-some _ (sym r.1))
 ]
 
 overrides_into : (f : Finding) → Overrides program f → Contains findings f
 overrides_into f h = go h.number h.class h.is h.override
   where
     go : (c : ℕ) (class : ClassDef) → slice_get (classes_in program.items) c ≡ Some class → IsOverride program class c f → Contains findings f
-    go zero class e h = none_of_a f (only_method program class_a 0 m_of_a f refl (subst (λ x. IsOverride program x 0 f) (sym (some_is e)) h))
-    go (suc zero) class e h = that_of_b f (only_method program class_b 1 m_of_b f refl (subst (λ x. IsOverride program x 1 f) (sym (some_is e)) h))
-    go (suc (suc zero)) class e h = that_of_c f (only_method program class_c 2 m_of_c f refl (subst (λ x. IsOverride program x 2 f) (sym (some_is e)) h))
-    go (suc (suc (suc c))) class e h = absurd (none_some (sym e))
+    go zero class e h = none_of_a f (only_method program class_a 0 m_of_a f refl (subst (λ x. IsOverride program x 0 f) (sym (same_Some _ _ e)) h))
+    go (suc zero) class e h = that_of_b f (only_method program class_b 1 m_of_b f refl (subst (λ x. IsOverride program x 1 f) (sym (same_Some _ _ e)) h))
+    go (suc (suc zero)) class e h = that_of_c f (only_method program class_c 2 m_of_c f refl (subst (λ x. IsOverride program x 2 f) (sym (same_Some _ _ e)) h))
+    go (suc (suc (suc c))) class e h = absurd (none-some _ e)
 
 each_overrides : AllByRecursion (Overrides program) findings
 unfolding builtin_of bases_of classes_of

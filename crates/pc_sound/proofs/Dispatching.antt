@@ -2,7 +2,7 @@
 use Rattle.std.proofs.Common.{◌≡◌, ℕ, List, [], ◌∷◌, map, refl, sym, ap, ◌∙◌, subst, inl, inr, arith}
 use Rattle.std.specs.Prelude.{◌⊎◌, Bool as Test, true, false, if◌then◌else◌, Option, Some, None, All, IsTrue, slice_get, bytes_eq}
 use Rattle.std.proofs.lemmas.List.Elements.{All-head, All-tail}
-use Rattle.std.proofs.lemmas.Slice.Eq.{bytes_eq-Decides}
+use Rattle.std.proofs.lemmas.Option.{none-some, same_Some}
 use Rattle.pc_source.specs.declared.place.Place.{Place}
 use Rattle.pc_tree.specs.Tree.{FuncDef, ClassDef, Module}
 use Rattle.pc_scope.specs.declared.resolution.Owner.TheVariants as owners
@@ -24,6 +24,7 @@ use Rattle.pc_machine.specs.Free.{Step, free}
 use Rattle.pc_machine.specs.Evaluation.{call_method}
 use Rattle.pc_sound.specs.Values.{HeapTyping, HasType, Extends, IsWell}
 use Rattle.pc_sound.specs.Judgment.{IsSafe}
+use Rattle.pc_sound.proofs.Lists.{same_text_back}
 use Rattle.pc_sound.proofs.ValuesFlow.{of_static}
 use Rattle.pc_sound.proofs.Steps.{Stays, weaken}
 use Rattle.pc_sound.proofs.Seen.{sees_instance}
@@ -47,20 +48,6 @@ module _ (m : Module) where
     found : method_among word fs ≡ Some function
     is : MethodIs m k function q
 
-  some_inj : {A : Type 0} {x y : A} → Some x ≡ Some y → x ≡ y
-  some_inj e = grind arith
-
-  flipped : (u w : List ℕ) (b : Test) → bytes_eq u w ≡ b → bytes_eq w u ≡ b
-  flipped u w true e = (bytes_eq-Decides w u).1 (sym ((bytes_eq-Decides u w).0 e))
-  flipped u w false e = go (bytes_eq w u) refl
-    where
-      clash : {b : Test} → b ≡ true → b ≡ false → ⊥
-      clash e f = grind (arith, sym e ∙ f)
-
-      go : (c : Test) → bytes_eq w u ≡ c → bytes_eq w u ≡ false
-      go true f = absurd (clash ((bytes_eq-Decides u w).1 (sym ((bytes_eq-Decides w u).0 f))) e)
-      go false f = f
-
   -- what the facts find by a name was made of the def that they say
   method_made : (k : HeapTyping) (word : List ℕ) (fs : List Function) (qs : List Method) (q : Method) → MethodsAre m k fs qs → method_of qs word ≡ Some q → Among k word fs q
   method_made k word [] [] q are e = absurd (grind (arith, e))
@@ -72,10 +59,10 @@ module _ (m : Module) where
       same_name = ap (λ n. n.text) are.0.made.name ∙ sym are.0.name
 
       test : (b : Test) → bytes_eq word p.name ≡ b → same_text f.name.text word ≡ b
-      test b t = ap (λ n. bytes_eq n word) same_name ∙ flipped word p.name b t
+      test b t = ap (λ n. bytes_eq n word) same_name ∙ same_text_back p.name word ∙ t
 
       go : (b : Test) → bytes_eq word p.name ≡ b → (if b then Some p else method_of qs word) ≡ Some q → (method_of qs word ≡ Some q → Among k word fs q) → Among k word (f ∷ fs) q
-      go true t e others = record { function = f; found = ap (λ b. if b then Some f else method_among word fs) (test true t); is = subst (λ x. MethodIs m k f x) (some_inj e) are.0 }
+      go true t e others = record { function = f; found = ap (λ b. if b then Some f else method_among word fs) (test true t); is = subst (λ x. MethodIs m k f x) (same_Some _ _ e) are.0 }
       go false t e others = let o = others e in record { function = o.function; found = ap (λ b. if b then Some f else method_among word fs) (test false t) ∙ o.found; is = o.is }
 
   -- the method that an object's class has, where its type names one
@@ -90,10 +77,7 @@ module _ (m : Module) where
   module _ (constants : List Tree) (listed : Place → Type 0) (dispatched : (d c : ℕ) → Below (bases_of m) (tree.Class d) (tree.Class c) → (word : List ℕ) (old : Method) → method_of (class_at (classes_of m) c).methods word ≡ Some old → Dispatched m listed d word old) (owner_above : (c : ℕ) (q : Method) → IsIn (class_at (classes_of m) c).methods q → Below (bases_of m) (tree.Class c) (tree.Class q.owner)) where
     class_known : (d : ℕ) (word : List ℕ) (q : Method) → method_of (class_at (classes_of m) d).methods word ≡ Some q → (o : Option ClassDef) → slice_get (classes_in m.items) d ≡ o → (t : ClassDef) × (slice_get (classes_in m.items) d ≡ Some t)
     class_known d word q e (Some t) is = (t, is)
-    class_known d word q e None is = absurd (nothing (sym (ap (λ c. method_of (class_in c).methods word) (no_class_past m d is)) ∙ e))
-      where
-        nothing : None ≡ Some q → ⊥
-        nothing e = grind arith
+    class_known d word q e None is = absurd (none-some _ (sym (ap (λ c. method_of (class_in c).methods word) (no_class_past m d is)) ∙ e))
 
     -- an object whose type names a method has one by that name
     pub method_found : (k : HeapTyping) (s : State) (c : ℕ) (v : Value) (word : List ℕ) (old : Method) → IsWell (bases_of m) (classes_of m) k s.heap → World m constants k s.classes s.globals → HasType (bases_of m) k (tree.Class c) v → method_of (class_at (classes_of m) c).methods word ≡ Some old → FoundMethod listed k s v word old

@@ -2,7 +2,6 @@
 use Rattle.std.proofs.Common.{◌≡◌, ℕ, suc, List, [], ◌∷◌, refl, sym, ap, ◌∙◌, subst, inl, inr, arith}
 use Rattle.std.specs.Prelude.{Bool as Test, true, false, if◌then◌else◌, nat_le, Option, Some, None, All}
 use Rattle.pc_source.specs.declared.place.Place.{Place}
-use Rattle.pc_tree.specs.declared.code.Code.{Code}
 use Rattle.pc_tree.specs.declared.code.Code.TheVariants.{E26}
 use Rattle.pc_tree.specs.Tree.{Expr, Exprs, Entries, tuple, list, dict, no_exprs, more_exprs, no_entries, more_entries}
 use Rattle.pc_scope.specs.Expressions.{place_of}
@@ -25,6 +24,7 @@ use Rattle.pc_machine.specs.Free.{Step, free}
 use Rattle.pc_sound.specs.Values.{HeapTyping, HasType, HaveTypes, AllHave, EntriesHave, Extends}
 use Rattle.pc_sound.specs.Kept.{ActsWell}
 use Rattle.pc_sound.specs.Judgment.{Around, IsSafe, Fits}
+use Rattle.pc_sound.proofs.Lists.{not_empty}
 use Rattle.pc_sound.proofs.ValuesFlow.{of_static, later}
 use Rattle.pc_sound.proofs.Narrowing.{HasSome}
 use Rattle.pc_sound.proofs.Joins.{all_hold}
@@ -39,16 +39,13 @@ use Rattle.pc_sound.proofs.SeveralFlows.{flows_safe}
 use Rattle.pc_sound.proofs.Arguments.{ArgumentsHave, arguments_later, arguments_safe}
 use Rattle.pc_sound.proofs.Acting.{acting_safe}
 
-no_code : {c : Code} {cs : List Code} → c ∷ cs ≡ [] → ⊥
-no_code e = grind arith
-
 -- a display at which nothing is found has its type
 display_type : (t : Tree) (m : Mark) → m ≡ display_mark t → m.codes ≡ [] → m.type ≡ t
 display_type t m law found = go (nat_le (nodes t) limit) law
   where
     go : (b : Test) → m ≡ (if b then clean t else in_error E26) → m.type ≡ t
     go true e = ap (λ x. x.type) e
-    go false e = absurd (no_code (sym (ap (λ x. x.codes) e) ∙ found))
+    go false e = absurd (not_empty (sym (ap (λ x. x.codes) e) ∙ found))
 
 -- ---- items
 
@@ -176,8 +173,8 @@ module _ (around : Around) (ctx : Context) (fits : Fits around ctx) (parts : Par
     have : EntriesHave around.bases k key_type value_type made
 
   by_keys : (es : Entries) (m : EntriesMarks es) (keys : List Tree) (here : Mark) → DictMark around.bases (value_types es m) keys here → keys ≡ key_types es m → here.codes ≡ [] → (k : HeapTyping) (made : List Entry) → EntriesMade around.bases k nowhere nowhere es m made → DictMade here k made
-  by_keys es m _ _ no_keys is found k made h = absurd (no_code found)
-  by_keys es m _ _ (other_keys no_int no_str) is found k made h = absurd (no_code found)
+  by_keys es m _ _ no_keys is found k made h = absurd (not_empty found)
+  by_keys es m _ _ (other_keys no_int no_str) is found k made h = absurd (not_empty found)
   by_keys es m ks _ (int_keys all) is found k made h = record {
     key_type = Int;
     value_type = join_all around.bases (value_types es m);

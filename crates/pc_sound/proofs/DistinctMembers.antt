@@ -1,6 +1,7 @@
 -- In a module without errors no two fields of a class, and no two parameters of a method, have one name.
 use Rattle.std.proofs.Common.{◌≡◌, ℕ, zero, suc, ◌<◌, List, [], ◌∷◌, ◌++◌, refl, sym, ap, ◌∙◌, subst, inl, inr, arith}
-use Rattle.std.specs.Prelude.{◌⊎◌, Bool as Test, true, false, ◌&&◌, ◌||◌, not, is_some, if◌then◌else◌, Option, Some, None, slice_get, bytes_eq, codes}
+use Rattle.std.specs.Prelude.{Bool as Test, true, false, ◌&&◌, ◌||◌, not, is_some, if◌then◌else◌, Option, Some, None, slice_get, bytes_eq, codes}
+use Rattle.std.proofs.lemmas.Bool.{and_parts, not-true, or_parts}
 use Rattle.pc_tree.specs.Tree.{FuncDef, Member, field_member, method_member, ClassDef, Module}
 use Rattle.pc_scope.specs.declared.resolution.Owner.TheVariants as owners
 use Rattle.pc_scope.specs.Reserved.{is_reserved}
@@ -14,17 +15,10 @@ use Rattle.pc_class.specs.Findings.{method_made}
 use Rattle.pc_check.specs.Modules.{Labelling, IsLawful}
 use Rattle.pc_sound.specs.Sound.{HasNoError}
 use Rattle.pc_sound.proofs.Inheritance.{no_class_past, class_is, class_over, below_class}
-use Rattle.pc_sound.proofs.Dispatch.{IsIn, found_in}
+use Rattle.pc_sound.proofs.Dispatch.{IsIn, found_in, in_either}
 use Rattle.pc_sound.proofs.Filling.{Distinct}
 use Rattle.pc_sound.proofs.MembersBind.{BindAll, members_bind}
 use Rattle.pc_sound.proofs.UniqueNames.{parameters_distinct, function_binds}
-
-some_inj : {A : Type 0} {x y : A} → Some x ≡ Some y → x ≡ y
-some_inj e = grind arith
-
-in_one : (ps qs : List Method) (q : Method) → IsIn (ps ++ qs) q → IsIn ps q ⊎ IsIn qs q
-in_one [] qs q h = inr h
-in_one (p ∷ ps) qs q h = elim h [ inl a ↦ inl (inl a) | inr b ↦ elim (in_one ps qs q b) [ inl c ↦ inl (inr c) | inr d ↦ inr d ] ]
 
 -- ---- fields, one after another
 
@@ -46,18 +40,6 @@ none_behind acc (x ∷ xs) word e n = go (bytes_eq word x.name) refl n (λ f g. 
     go true t n others = absurd (grind (arith, n))
     go false t n others = others (ap (λ b. b || is_among word acc) t ∙ e) n
 
-both : (a b : Test) → (a && b) ≡ true → (a ≡ true) × (b ≡ true)
-both true b e = (refl, e)
-both false b e = absurd (grind (arith, e))
-
-not_true : (b : Test) → not b ≡ true → b ≡ false
-not_true true e = absurd (grind (arith, e))
-not_true false e = refl
-
-left_false : (a b : Test) → (a || b) ≡ false → a ≡ false
-left_false true b e = absurd (grind (arith, e))
-left_false false b e = refl
-
 no_some : {A : Type 0} (o : Option A) → is_some o ≡ false → o ≡ None
 no_some None e = refl
 no_some (Some x) e = absurd (grind (arith, e))
@@ -65,19 +47,15 @@ no_some (Some x) e = absurd (grind (arith, e))
 -- a field that binds its name is new among the members before it, and among the fields of the base
 field_new : (base : facts.Class) (before : List (List ℕ)) (name : List ℕ) → binds_field base before name ≡ true → (is_among name before ≡ false) × (field_of base.fields name ≡ None)
 field_new base before name e =
-    let a = both (not (is_reserved name || bytes_eq name (codes "mro"))) (not (is_among name before) && not (is_some (field_of base.fields name) || is_some (method_of base.methods name))) e in
-    let b = both (not (is_among name before)) (not (is_some (field_of base.fields name) || is_some (method_of base.methods name))) a.1 in
-    (not_true (is_among name before) b.0, no_some (field_of base.fields name) (left_false (is_some (field_of base.fields name)) (is_some (method_of base.methods name)) (not_true (is_some (field_of base.fields name) || is_some (method_of base.methods name)) b.1)))
+    let a = and_parts (not (is_reserved name || bytes_eq name (codes "mro"))) (not (is_among name before) && not (is_some (field_of base.fields name) || is_some (method_of base.methods name))) e in
+    let b = and_parts (not (is_among name before)) (not (is_some (field_of base.fields name) || is_some (method_of base.methods name))) a.1 in
+    (not-true (is_among name before) b.0, no_some (field_of base.fields name) (or_parts (is_some (field_of base.fields name)) (is_some (method_of base.methods name)) (not-true (is_some (field_of base.fields name) || is_some (method_of base.methods name)) b.1)).0)
 
 module _ (m : Module) where
   -- own fields behind those of the base
   own_distinct : (base : facts.Class) (before acc : List (List ℕ)) (ms : List Member) → BindAll m base before ms → ((word : List ℕ) → is_among word before ≡ false → field_of base.fields word ≡ None → is_among word acc ≡ false) → Distinct acc (own_fields m base before ms)
   own_distinct base before acc [] binds new = tt
-  own_distinct base before acc (method_member f ∷ ms) binds new = own_distinct base (f.name.text ∷ before) acc ms binds.1 (λ word e n. new word (right (bytes_eq word f.name.text) (is_among word before) e) n)
-    where
-      right : (a b : Test) → (a || b) ≡ false → b ≡ false
-      right true b e = absurd (grind (arith, e))
-      right false b e = e
+  own_distinct base before acc (method_member f ∷ ms) binds new = own_distinct base (f.name.text ∷ before) acc ms binds.1 (λ word e n. new word (or_parts (bytes_eq word f.name.text) (is_among word before) e).1 n)
   own_distinct base before acc (field_member f ∷ ms) binds new =
       subst (λ b. Distinct acc ((if b then record { name = f.name.text; type = read_ann m (bases_of m) f.annotation; has_default = is_some f.default } ∷ [] else []) ++ own_fields m base (f.name.text ∷ before) ms)) (sym binds.0)
       (let h = field_new base before f.name.text binds.0 in (new f.name.text h.0 h.1, own_distinct base (f.name.text ∷ before) (f.name.text ∷ acc) ms binds.1 wider))
@@ -118,7 +96,7 @@ module _ (m : Module) where
     over_base : (c : ℕ) (class : ClassDef) → slice_get (classes_in m.items) c ≡ Some class → (base : facts.Class) → BindAll m base [] class.members → Distinct [] base.fields → ((q : Method) → IsIn base.methods q → Distinct [] q.parameters) → Distinct [] (class_over m c class base).fields × ((q : Method) → IsIn (class_over m c class base).methods q → Distinct [] q.parameters)
     over_base c class is base binds fields methods = (
       distinct_both [] base.fields (own_fields m base [] class.members) fields (own_distinct base [] (names_behind [] base.fields) class.members binds (λ word e n. none_behind [] base.fields word refl n)),
-      λ q h. elim (in_one (own_methods m base c 0 [] class.members) base.methods q h) [
+      λ q h. elim (in_either (own_methods m base c 0 [] class.members) base.methods q h) [
         | inl a ↦ let r = own_method base c 0 [] class.members q a in subst (λ ps. Distinct [] ps) (sym r.params) (parameters_distinct m (receiver (owners.Method c r.at)) r.def.params (function_binds m marks lawful clean (owners.Method c r.at) r.def (ap (λ o. method_at o r.at) is ∙ r.is)))
         | inr b ↦ methods q b
       ],

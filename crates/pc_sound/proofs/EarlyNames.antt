@@ -1,9 +1,11 @@
 -- In a module without errors no test of an instance in an initializer names too early.
-use Rattle.std.proofs.Common.{◌≡◌, ℕ, zero, suc, ◌≤◌, List, [], ◌∷◌, ◌++◌, length, refl, sym, ap, ◌∙◌, subst, inl, arith, Contains}
+use Rattle.std.proofs.Common.{◌≡◌, ℕ, zero, suc, ◌≤◌, List, [], ◌∷◌, ◌++◌, length, refl, sym, ap, ◌∙◌, subst, inl, arith, Contains, append-nil, append_assoc}
 use Rattle.std.specs.Prelude.{Bool as Test, true, false, if◌then◌else◌, nat_lt, take, filter_map, Option, Some, None, slice_get}
 use Rattle.std.specs.List.{cons_option}
 use Rattle.std.proofs.lemmas.List.Elements.{Contains-append_left, Contains-append_right}
 use Rattle.std.proofs.lemmas.Bool.Decides.{nat_tests}
+use Rattle.std.proofs.lemmas.Option.{none-some}
+use Rattle.std.proofs.Math.Seq.{take-append_seam}
 use Rattle.pc_source.specs.declared.place.Place.{Place}
 use Rattle.pc_tree.specs.declared.code.Code.TheVariants.{E03, E20}
 use Rattle.pc_tree.specs.Code.{finding}
@@ -22,10 +24,11 @@ use Rattle.pc_expr.specs.Context.{Context, local_mark, name_mark, constant_mark,
 use Rattle.pc_expr.specs.Signatures.{initializer_context}
 use Rattle.pc_check.specs.Modules.{Labelling, IsLawful, ItemsMarks, Before, before_next, nothing_before}
 use Rattle.pc_sound.specs.Sound.{HasNoError}
+use Rattle.pc_sound.proofs.Lists.{get_at_end, one_longer}
 use Rattle.pc_sound.proofs.KeyedLabels.{SecondTimely, Timely, ItemsTimely, EntriesTimely, KeywordsTimely}
 use Rattle.pc_sound.proofs.TimelyBodies.{own_timely}
 use Rattle.pc_sound.proofs.KeyedInitializers.{InitializersTimely}
-use Rattle.pc_sound.proofs.Binds.{get_at_end, constants_append, classes_append}
+use Rattle.pc_sound.proofs.Binds.{constants_append, classes_append}
 
 -- ---- names among expressions
 
@@ -101,28 +104,9 @@ module _ (ctx : Context) (declared : List Tree) where
 
 -- ---- no initializer of a module without errors names too early
 
-take_front : {A : Type 0} (xs ys : List A) → take (length xs) (xs ++ ys) ≡ xs
-take_front [] ys = refl
-take_front (x ∷ xs) ys = ap (λ l. x ∷ l) (take_front xs ys)
-
-behind : {A : Type 0} (xs : List A) (y : A) (ys : List A) → (xs ++ y ∷ []) ++ ys ≡ xs ++ y ∷ ys
-behind [] y ys = refl
-behind (x ∷ xs) y ys = ap (λ l. x ∷ l) (behind xs y ys)
-
-one_longer : {A : Type 0} (xs : List A) (y : A) → length (xs ++ y ∷ []) ≡ suc (length xs)
-one_longer [] y = refl
-one_longer (x ∷ xs) y = ap suc (one_longer xs y)
-
-no_more : {A : Type 0} (xs : List A) → xs ++ [] ≡ xs
-no_more [] = refl
-no_more (x ∷ xs) = ap (λ l. x ∷ l) (no_more xs)
-
-none_some : {A : Type 0} {x : A} → None ≡ Some x → ⊥
-none_some e = grind arith
-
 past_end : {A : Type 0} (xs : List A) (i : ℕ) → slice_get xs i ≡ None → length xs ≤ i
 past_end [] i e = omega arith
-past_end (x ∷ xs) zero e = absurd (none_some (sym e))
+past_end (x ∷ xs) zero e = absurd (none-some _ (sym e))
 past_end (x ∷ xs) (suc i) e = let h = past_end xs i e in omega (arith, h)
 
 -- a name of an initializer that is not late reads in time
@@ -162,7 +146,7 @@ module _ (m : Module) (marks : Labelling m) (lawful : IsLawful m marks) (clean :
       }) refl
     where
       taken : take (length done) m.items ≡ done
-      taken = ap (take (length done)) (sym whole) ∙ take_front done (constant_item p c ∷ rest)
+      taken = ap (take (length done)) (sym whole) ∙ take-append_seam done (constant_item p c ∷ rest)
 
   timely_items : (done : List Item) (b : Before) (items : List Item) (marks : ItemsMarks items) → done ++ items ≡ m.items → length b.constants ≡ length (constants_in done) → b.classes ≡ length (classes_in done) → InitializersTimely m b items marks
   timely_items done b [] marks whole constants classes = tt
@@ -170,18 +154,18 @@ module _ (m : Module) (marks : Labelling m) (lawful : IsLawful m marks) (clean :
     timely_of (initializer_context m b.constants b.classes) [] c.value
         (λ n named. in_time m b.constants b.classes (resolve_in_module m n.text) (λ late. none_late done p c rest whole n named
         (subst (λ k. IsLate k (length (classes_in done)) (resolve_in_module m n.text)) constants (subst (λ k. IsLate (length b.constants) k (resolve_in_module m n.text)) classes late)))),
-    timely_items (done ++ constant_item p c ∷ []) (before_next m b (constant_item p c) marks.0) rest marks.1 (behind done (constant_item p c) rest ∙ whole)
+    timely_items (done ++ constant_item p c ∷ []) (before_next m b (constant_item p c) marks.0) rest marks.1 (append_assoc done (constant_item p c ∷ []) rest ∙ whole)
         (one_longer b.constants _ ∙ (ap suc constants ∙ (sym (one_longer (constants_in done) c) ∙ ap length (sym (constants_append done (constant_item p c ∷ []))))))
-        (classes ∙ ap length (sym (classes_append done (constant_item p c ∷ []) ∙ no_more (classes_in done)))),
+        (classes ∙ ap length (sym (classes_append done (constant_item p c ∷ []) ∙ append-nil (classes_in done)))),
   )
   timely_items done b (class_item p c ∷ rest) marks whole constants classes =
-      timely_items (done ++ class_item p c ∷ []) (before_next m b (class_item p c) marks.0) rest marks.1 (behind done (class_item p c) rest ∙ whole)
-      (constants ∙ ap length (sym (constants_append done (class_item p c ∷ []) ∙ no_more (constants_in done))))
+      timely_items (done ++ class_item p c ∷ []) (before_next m b (class_item p c) marks.0) rest marks.1 (append_assoc done (class_item p c ∷ []) rest ∙ whole)
+      (constants ∙ ap length (sym (constants_append done (class_item p c ∷ []) ∙ append-nil (constants_in done))))
       (ap suc classes ∙ (sym (one_longer (classes_in done) c) ∙ ap length (sym (classes_append done (class_item p c ∷ [])))))
   timely_items done b (def_item p f ∷ rest) marks whole constants classes =
-      timely_items (done ++ def_item p f ∷ []) (before_next m b (def_item p f) marks.0) rest marks.1 (behind done (def_item p f) rest ∙ whole)
-      (constants ∙ ap length (sym (constants_append done (def_item p f ∷ []) ∙ no_more (constants_in done))))
-      (classes ∙ ap length (sym (classes_append done (def_item p f ∷ []) ∙ no_more (classes_in done))))
+      timely_items (done ++ def_item p f ∷ []) (before_next m b (def_item p f) marks.0) rest marks.1 (append_assoc done (def_item p f ∷ []) rest ∙ whole)
+      (constants ∙ ap length (sym (constants_append done (def_item p f ∷ []) ∙ append-nil (constants_in done))))
+      (classes ∙ ap length (sym (classes_append done (def_item p f ∷ []) ∙ append-nil (classes_in done))))
 
   pub initializers_timely : InitializersTimely m nothing_before m.items marks
   initializers_timely = timely_items [] nothing_before m.items marks refl refl refl

@@ -1,7 +1,9 @@
 -- A function or method that is entered with arguments of its parameters' types gives a value of its return type.
-use Rattle.std.proofs.Common.{◌≡◌, ℕ, zero, suc, List, [], ◌∷◌, ◌++◌, map, refl, sym, ap, ◌∙◌, subst, inl, inr, arith, Contains}
+use Rattle.std.proofs.Common.{◌≡◌, ℕ, suc, List, [], ◌∷◌, ◌++◌, map, refl, sym, ap, ◌∙◌, subst, inl, inr, arith, Contains}
 use Rattle.std.specs.Prelude.{◌⊎◌, Bool as Test, true, false, ◌||◌, if◌then◌else◌, length, Option, Some, None, bytes_eq}
 use Rattle.std.proofs.lemmas.Slice.Eq.{bytes_eq-Decides}
+use Rattle.std.proofs.lemmas.Option.{same_Some}
+use Rattle.std.proofs.lemmas.Bool.{or_right}
 use Rattle.pc_source.specs.declared.place.Place.{Place}
 use Rattle.pc_tree.specs.declared.code.Code.{Code}
 use Rattle.pc_tree.specs.declared.code.Code.TheVariants.{E21}
@@ -19,7 +21,7 @@ use Rattle.pc_types.specs.Tree.{Tree, NoneType}
 use Rattle.pc_class.specs.Bases.{bases_of}
 use Rattle.pc_class.specs.Facts.{Parameter, returned, classes_of}
 use Rattle.pc_class.proofs.Earlier.{smaller}
-use Rattle.pc_flow.specs.Environment.{Env, current, none_assigned}
+use Rattle.pc_flow.specs.Environment.{Env, none_assigned}
 use Rattle.pc_check.specs.StatementLabels.{breaks_in_suite}
 use Rattle.pc_expr.specs.Labels.{IsCodeAt}
 use Rattle.pc_check.specs.Modules.{entries_of, names_entered, entry_env, ReturnsWell, leaves as never_completes, may_complete, may_not}
@@ -31,16 +33,14 @@ use Rattle.pc_machine.specs.Free.{Step, enter}
 use Rattle.pc_machine.specs.Evaluation.{value_of_flow}
 use Rattle.pc_sound.specs.Values.{HeapTyping, HasType, IsWell}
 use Rattle.pc_sound.specs.Judgment.{HasListed, Around, Stands, Keeps, IsSafe, Fits, Goes, Leads, At, Ways, FlowEnds, IsLocal, Lasts}
+use Rattle.pc_sound.proofs.Lists.{among_first}
 use Rattle.pc_sound.proofs.ValuesFlow.{of_static}
 use Rattle.pc_sound.proofs.Steps.{ended}
 use Rattle.pc_sound.proofs.Leading.{ends_as, leads_from, leads_to}
 use Rattle.pc_sound.proofs.Statements.{GoodExec, ways_out}
-use Rattle.pc_sound.proofs.Branches.{among_first}
 use Rattle.pc_sound.proofs.Entry.{frame_names, names_of_append, names_of_unbound, bound_names, numbered, entry_has_names, ParametersHave, parameters_named, entry_holds}
 use Rattle.pc_sound.proofs.World.{World, Labelled, around_of, context_of}
-
-some_inj : {A : Type 0} {x y : A} → Some x ≡ Some y → x ≡ y
-some_inj e = grind arith
+use Rattle.pc_sound.proofs.Frames.{local_injective, none_current}
 
 -- the module binds no local
 bound_local : (k f c : ℕ) (items : List Item) (word : List ℕ) (x : ℕ) → bound_first k f c items word ≡ Some (res.Local x) → ⊥
@@ -104,10 +104,7 @@ module _ (m : Module) (constants : List Tree) (listed : Place → Type 0) where
     Body = around_of m constants listed owner d lab
 
     resolves_local : (word : List ℕ) (x : ℕ) (o : Option ℕ) → index_of word (locals owner d) ≡ o → or_else (local_res o) (resolve_in_module m word) ≡ res.Local x → index_of word (locals owner d) ≡ Some x
-    resolves_local word x (Some y) e r = e ∙ ap Some (same_local r)
-      where
-        same_local : res.Local y ≡ res.Local x → y ≡ x
-        same_local e = grind arith
+    resolves_local word x (Some y) e r = e ∙ ap Some (local_injective r)
     resolves_local word x None e r = absurd (module_local m word x r)
 
     pub fits_of : Fits (around_of m constants listed owner d lab) (context_of m constants listed owner d)
@@ -126,10 +123,6 @@ module _ (m : Module) (constants : List Tree) (listed : Place → Type 0) where
         let x = numbered n.text (entry_texts owner d ++ texts (bound_by d.body)) among (lab.free n.text among) in
         record { number = x.0; resolves = fits_of.named n.text x.0 x.1; is = x.1 }
       where
-        or_right : (a b : Test) → b ≡ true → (a || b) ≡ true
-        or_right true b e = refl
-        or_right false b e = e
-
         right : (xs ys : List (List ℕ)) → is_among n.text ys ≡ true → is_among n.text (xs ++ ys) ≡ true
         right [] ys e = e
         right (x ∷ xs) ys e = or_right (bytes_eq n.text x) (is_among n.text (xs ++ ys)) (right xs ys e)
@@ -151,18 +144,13 @@ module _ (m : Module) (constants : List Tree) (listed : Place → Type 0) where
     abbrev pub body_ways : Ways
     body_ways = ways_out (around_of m constants listed owner d lab) (context_of m constants listed owner d) m (returned m d) lab.marks.out (breaks_in_suite d.body lab.marks.body) (loose_in d.body)
 
-    none_is : (n x : ℕ) (t : Tree) → current (none_assigned n) x ≡ Some t → ⊥
-    none_is zero x t e = grind (arith, e)
-    none_is (suc n) zero t e = grind (arith, e)
-    none_is (suc n) (suc x) t e = none_is n x t e
-
     -- the state in which the body begins
     pub entry_stands : (k : HeapTyping) (s : State) (f : Function) (arguments : List Local) → f.body ≡ d.body → ParametersHave (bases_of m) k (entries_of m owner d) arguments → map (λ (p : Parameter). p.name) (entries_of m owner d) ≡ entry_texts owner d → IsWell (bases_of m) (classes_of m) k s.heap → World m constants k s.classes s.globals → Stands (around_of m constants listed owner d lab) entry k (record s { frame = frame_of f arguments })
     entry_stands k s f arguments same args texts_are well world = record {
       well = well;
       frame = entry_has_names (entry_texts owner d ++ texts (bound_by d.body)) (frame_of f arguments) names_are lab.free;
       locals = entry_holds (bases_of m) k (locals owner d) lab.marks.declared (resolve_among m (locals owner d)) fits_of.local (frame_of f arguments) (entries_of m owner d) arguments (map unbound (names_bound f.body)) (none_assigned (length (locals owner d))) refl args lab.lawful.entry
-          (record { each = λ word x t named e. absurd (none_is (length (locals owner d)) x t e) });
+          (record { each = λ word x t named e. absurd (none_current (length (locals owner d)) x t e) });
       outside = world;
     }
       where
@@ -188,7 +176,7 @@ module _ (m : Module) (constants : List Tree) (listed : Place → Type 0) where
       where
         at_name : (code : Option Code) (c : Code) → code ≡ Some c → IsCodeAt d.name.place code (finding d.name.place c)
         at_name None c e = absurd (grind (arith, e))
-        at_name (Some x) c e = ap (finding d.name.place) (sym (some_inj e))
+        at_name (Some x) c e = ap (finding d.name.place) (sym (same_Some _ _ e))
 
         clean : (c : Code) → lab.marks.completing ≡ Some c → c ≡ E21 → ⊥
         clean c e is = (lab.covered (finding d.name.place c) (inr (inr (inl (at_name lab.marks.completing c e))))).1 (subst (λ x. IsError x) (sym is) refl)

@@ -1,8 +1,9 @@
 -- The frame of a function that is entered: it has the function's locals, and its parameters hold values of their types.
 use Rattle.std.proofs.Common.{◌≡◌, ℕ, suc, List, [], ◌∷◌, ◌++◌, map, refl, sym, ap, ◌∙◌, subst, inl, inr, arith}
-use Rattle.std.specs.Prelude.{◌⊎◌, Bool as Test, true, false, not, ◌||◌, if◌then◌else◌, Option, Some, None, bytes_eq}
+use Rattle.std.specs.Prelude.{Bool as Test, true, false, not, ◌||◌, if◌then◌else◌, Option, Some, None, bytes_eq}
 use Rattle.std.specs.Option.{option_map}
 use Rattle.std.proofs.lemmas.Slice.Eq.{bytes_eq-Decides}
+use Rattle.std.proofs.lemmas.Bool.{or_parts, or_right}
 use Rattle.pc_tree.specs.Tree.{Name, to_name, to_attribute, to_index, Stmt, pass, breaks, continues, returns, asserts, annotated, assigns, evaluates, while_loop, for_loop, conditional, Stmts, no_stmts, more_stmts, Branches, no_branches, more_branches}
 use Rattle.pc_tree.specs.Stopping.{bound_by_stmt, bound_by, bound_by_branches}
 use Rattle.pc_scope.specs.declared.resolution.Res.{Res}
@@ -23,31 +24,9 @@ use Rattle.pc_machine.specs.Names.{names_bound, names_bound_by, names_bound_in, 
 use Rattle.pc_sound.specs.Values.{HeapTyping, HasType}
 use Rattle.pc_sound.specs.Kept.{HasLocal, HasLocals}
 use Rattle.pc_sound.specs.Judgment.{IsHeld, HasNames}
+use Rattle.pc_sound.proofs.TruthValues.{not_both, or_in_turn}
+use Rattle.pc_sound.proofs.Lists.{same_text_back}
 use Rattle.pc_sound.proofs.Frames.{index_same, assigned_cases}
-
--- ---- truth values
-
-or_cases : (a b : Test) → (a || b) ≡ true → (a ≡ true) ⊎ ((a ≡ false) × (b ≡ true))
-or_cases true b e = inl refl
-or_cases false b e = inr (refl, e)
-
-neither : (a b : Test) → (a || b) ≡ false → (a ≡ false) × (b ≡ false)
-neither true b e = absurd (grind (arith, e))
-neither false b e = (refl, e)
-
-clash : {b : Test} → b ≡ true → b ≡ false → ⊥
-clash e f = grind (arith, sym e ∙ f)
-
--- ---- texts
-
-flip : (u w : List ℕ) → bytes_eq u w ≡ bytes_eq w u
-flip u w = go (bytes_eq u w) refl (bytes_eq w u) refl
-  where
-    go : (a : Test) → bytes_eq u w ≡ a → (b : Test) → bytes_eq w u ≡ b → bytes_eq u w ≡ bytes_eq w u
-    go true e true f = e ∙ sym f
-    go true e false f = absurd (clash ((bytes_eq-Decides w u).1 (sym ((bytes_eq-Decides u w).0 e))) f)
-    go false e true f = absurd (clash ((bytes_eq-Decides u w).1 (sym ((bytes_eq-Decides w u).0 f))) e)
-    go false e false f = e ∙ sym f
 
 -- ---- the names of a frame
 
@@ -60,16 +39,16 @@ held_among word (l ∷ rest) e = go (held_among word rest) (same_text l.name wor
   where
     go : (is_among word (frame_names rest) ≡ true → IsHeld word rest) → (b : Test) → same_text l.name word ≡ b → IsHeld word (l ∷ rest)
     go others true t = record { value = l.value; is = ap (λ b. if b then Some l.value else local_of word rest) t }
-    go others false t = elim (or_cases (bytes_eq word l.name) (is_among word (frame_names rest)) e) [
-      | inl a ↦ absurd (clash (flip l.name word ∙ a) t)
+    go others false t = elim (or_in_turn (bytes_eq word l.name) (is_among word (frame_names rest)) e) [
+      | inl a ↦ absurd (not_both (same_text_back l.name word ∙ a) t)
       | inr b ↦ let h = others b.1 in record { value = h.value; is = ap (λ b. if b then Some l.value else local_of word rest) t ∙ h.is }
     ]
 
 pub none_among : (word : List ℕ) (frame : Frame) → is_among word (frame_names frame) ≡ false → local_of word frame ≡ None
 none_among word [] e = refl
 none_among word (l ∷ rest) e =
-    let n = neither (bytes_eq word l.name) (is_among word (frame_names rest)) e in
-    ap (λ b. if b then Some l.value else local_of word rest) (flip l.name word ∙ n.0) ∙ none_among word rest n.1
+    let n = or_parts (bytes_eq word l.name) (is_among word (frame_names rest)) e in
+    ap (λ b. if b then Some l.value else local_of word rest) (same_text_back l.name word ∙ n.0) ∙ none_among word rest n.1
 
 pub names_of_append : (xs ys : Frame) → frame_names (xs ++ ys) ≡ frame_names xs ++ frame_names ys
 names_of_append [] ys = refl
@@ -79,7 +58,8 @@ pub names_of_unbound : (ns : List (List ℕ)) → frame_names (map unbound ns) �
 names_of_unbound [] = refl
 names_of_unbound (n ∷ ns) = ap (λ l. n ∷ l) (names_of_unbound ns)
 
-texts_append : (xs ys : List Name) → texts (xs ++ ys) ≡ texts xs ++ texts ys
+-- the texts of names one list behind the other
+pub texts_append : (xs ys : List Name) → texts (xs ++ ys) ≡ texts xs ++ texts ys
 texts_append [] ys = refl
 texts_append (x ∷ xs) ys = ap (λ l. x.text ∷ l) (texts_append xs ys)
 
@@ -115,10 +95,6 @@ index_among : (word : List ℕ) (before ts : List (List ℕ)) (x : ℕ) → inde
 index_among word before [] x e = absurd (grind (arith, e))
 index_among word before (t ∷ ts) x e = go (is_reserved t || is_among t before) refl (λ y f. index_among word before ts y f) (λ y f. index_among word (t ∷ before) ts y f)
   where
-    right : (a b : Test) → b ≡ true → (a || b) ≡ true
-    right true b f = refl
-    right false b f = f
-
     shifted : (o : Option ℕ) → option_map suc o ≡ Some x → (y : ℕ) × (o ≡ Some y)
     shifted None f = absurd (grind (arith, f))
     shifted (Some y) f = (y, refl)
@@ -127,10 +103,10 @@ index_among word before (t ∷ ts) x e = go (is_reserved t || is_among t before)
     first true c f later = ap (λ b. b || is_among word ts) c
     first false c f later =
         let s = shifted (index_of word (first_of_each (t ∷ before) ts)) (sym (ap (λ b. if b then Some 0 else option_map suc (index_of word (first_of_each (t ∷ before) ts))) c) ∙ f) in
-        right (bytes_eq word t) (is_among word ts) (later s.0 s.1)
+        or_right (bytes_eq word t) (is_among word ts) (later s.0 s.1)
 
     go : (b : Test) → (is_reserved t || is_among t before) ≡ b → ((y : ℕ) → index_of word (first_of_each before ts) ≡ Some y → is_among word ts ≡ true) → ((y : ℕ) → index_of word (first_of_each (t ∷ before) ts) ≡ Some y → is_among word ts ≡ true) → is_among word (t ∷ ts) ≡ true
-    go true b dropped later = right (bytes_eq word t) (is_among word ts) (dropped x (ap (λ c. index_of word (if c then first_of_each before ts else t ∷ first_of_each (t ∷ before) ts)) (sym b) ∙ e))
+    go true b dropped later = or_right (bytes_eq word t) (is_among word ts) (dropped x (ap (λ c. index_of word (if c then first_of_each before ts else t ∷ first_of_each (t ∷ before) ts)) (sym b) ∙ e))
     go false b dropped later = first (bytes_eq word t) refl (ap (λ c. index_of word (if c then first_of_each before ts else t ∷ first_of_each (t ∷ before) ts)) (sym b) ∙ e) later
 
 -- one of the names that is not reserved is a local, or was one before
@@ -141,8 +117,8 @@ among_index word free before (t ∷ ts) e n = go (is_reserved t || is_among t be
     here : (is_reserved t || is_among t before) ≡ true → bytes_eq word t ≡ true → is_among word before ≡ true
     here b c =
         let same = (bytes_eq-Decides word t).0 c in
-        elim (or_cases (is_reserved t) (is_among t before) b) [
-          | inl r ↦ absurd (clash (ap is_reserved same ∙ r) free)
+        elim (or_in_turn (is_reserved t) (is_among t before) b) [
+          | inl r ↦ absurd (not_both (ap is_reserved same ∙ r) free)
           | inr m ↦ subst (λ w. is_among w before ≡ true) (sym same) m.1
         ]
 
@@ -155,15 +131,15 @@ among_index word free before (t ∷ ts) e n = go (is_reserved t || is_among t be
     not_first false c f = (c, unshifted (index_of word (first_of_each (t ∷ before) ts)) (sym (ap (λ b. if b then Some 0 else option_map suc (index_of word (first_of_each (t ∷ before) ts))) c) ∙ f))
 
     go : (b : Test) → (is_reserved t || is_among t before) ≡ b → (is_among word ts ≡ true → index_of word (first_of_each before ts) ≡ None → is_among word before ≡ true) → (is_among word ts ≡ true → index_of word (first_of_each (t ∷ before) ts) ≡ None → is_among word (t ∷ before) ≡ true) → is_among word before ≡ true
-    go true b dropped later = elim (or_cases (bytes_eq word t) (is_among word ts) e) [
+    go true b dropped later = elim (or_in_turn (bytes_eq word t) (is_among word ts) e) [
       | inl c ↦ here b c
       | inr m ↦ dropped m.1 (ap (λ c. index_of word (if c then first_of_each before ts else t ∷ first_of_each (t ∷ before) ts)) (sym b) ∙ n)
     ]
     go false b dropped later =
         let f = not_first (bytes_eq word t) refl (ap (λ c. index_of word (if c then first_of_each before ts else t ∷ first_of_each (t ∷ before) ts)) (sym b) ∙ n) in
-        elim (or_cases (bytes_eq word t) (is_among word ts) e) [
-          | inl c ↦ absurd (clash c f.0)
-          | inr m ↦ elim (or_cases (bytes_eq word t) (is_among word before) (later m.1 f.1)) [ inl c ↦ absurd (clash c f.0) | inr d ↦ d.1 ]
+        elim (or_in_turn (bytes_eq word t) (is_among word ts) e) [
+          | inl c ↦ absurd (not_both c f.0)
+          | inr m ↦ elim (or_in_turn (bytes_eq word t) (is_among word before) (later m.1 f.1)) [ inl c ↦ absurd (not_both c f.0) | inr d ↦ d.1 ]
         ]
 
 -- a name that is not reserved has a number
@@ -216,8 +192,8 @@ module _ (bases : Bases) (k : HeapTyping) (names : List (List ℕ)) (declared : 
     where
       others : (word : List ℕ) → is_among word (p.name ∷ seen) ≡ false → local_of word frame ≡ local_of word (ls ++ tail)
       others word e =
-          let n = neither (bytes_eq word p.name) (is_among word seen) e in
-          left word n.1 ∙ ap (λ b. if b then Some l.value else local_of word (ls ++ tail)) (flip l.name word ∙ ap (bytes_eq word) args.0.same ∙ n.0)
+          let n = or_parts (bytes_eq word p.name) (is_among word seen) e in
+          left word n.1 ∙ ap (λ b. if b then Some l.value else local_of word (ls ++ tail)) (same_text_back l.name word ∙ ap (bytes_eq word) args.0.same ∙ n.0)
 
       bound : (x : ℕ) → is_among p.name seen ≡ false → resolve p.name ≡ res.Local x → declared_type declared x ≡ p.type → HasLocals bases k names declared (assign env x p.type) frame
       bound x new is d = record { each = each }

@@ -1,7 +1,7 @@
 -- What a module without errors establishes of the premises of the law, and what of them is left.
-use Rattle.std.proofs.Common.{◌≡◌, ℕ, zero, suc, ◌+◌, List, [], ◌∷◌, ◌++◌, length, map, refl, sym, ap, ◌∙◌, subst, inl, inr, arith}
-use Rattle.std.specs.Prelude.{true, nat_lt, Option, Some, None, slice_get}
-use Rattle.std.proofs.lemmas.Bool.Decides.{nat_tests}
+use Rattle.std.proofs.Common.{◌≡◌, ℕ, zero, suc, ◌+◌, List, [], ◌∷◌, ◌++◌, length, map, refl, sym, ap, ◌∙◌, subst, inl, inr, arith, append_assoc}
+use Rattle.std.specs.Prelude.{Option, Some, None, slice_get}
+use Rattle.std.proofs.lemmas.Option.{none-some, same_Some}
 use Rattle.pc_source.specs.declared.place.Place.{Place}
 use Rattle.pc_tree.specs.declared.code.Code.{Code}
 use Rattle.pc_tree.specs.declared.code.Code.TheVariants.{E11}
@@ -20,13 +20,13 @@ use Rattle.pc_class.specs.Bases.{bases_of}
 use Rattle.pc_class.specs.Facts.{Class, Method, classes_of, class_at, method_of}
 use Rattle.pc_class.specs.Findings.{base_class, OverrideRule}
 use Rattle.pc_class.specs.Overrides.{Judges, static, dynamic, wrong}
-use Rattle.pc_expr.specs.Labels.{IsCodeAt}
 use Rattle.pc_expr.specs.Signatures.{body_context}
-use Rattle.pc_check.specs.Modules.{ItemsMarks, MembersMarks, LawfulMembers, MembersFind, LawfulItems, ItemsFind, Before, before_next, nothing_before, constant_types, Labelling, IsLawful, IsFinding}
+use Rattle.pc_check.specs.Modules.{ItemsMarks, MembersMarks, LawfulMembers, MembersFind, LawfulItems, ItemsFind, Before, before_next, nothing_before, constant_types, Labelling, IsLawful}
 use Rattle.pc_machine.specs.Free.{Step, free}
 use Rattle.pc_machine.specs.Evaluation.{steps}
 use Rattle.pc_machine.specs.Runs.{Run, End, IsFault}
 use Rattle.pc_sound.specs.Sound.{HasNoError, HasEvaluated}
+use Rattle.pc_sound.proofs.Lists.{get_at_end, within}
 use Rattle.pc_sound.proofs.Keys.{IsKeyed, Keyed}
 use Rattle.pc_sound.proofs.TimelyBodies.{NamesTimely}
 use Rattle.pc_sound.proofs.FunctionsKeyed.{function_keyed}
@@ -36,45 +36,27 @@ use Rattle.pc_sound.proofs.KnownTests.{right_tests}
 use Rattle.pc_sound.proofs.Knowing.{initializer_names, initializer_ancestors, body_names, body_ancestors}
 use Rattle.pc_sound.proofs.World.{Labelled}
 use Rattle.pc_sound.proofs.Filling.{Distinct}
-use Rattle.pc_sound.proofs.Binds.{get_at_end, functions_append, constant_named, class_named}
+use Rattle.pc_sound.proofs.Binds.{functions_append, constant_named, class_named}
 use Rattle.pc_sound.proofs.Globals.{KnowsNames}
 use Rattle.pc_sound.proofs.InstanceTests.{RightTests}
 use Rattle.pc_sound.proofs.Items.{ItemsReady}
 use Rattle.pc_sound.proofs.Classes.{ClassesReady, classes_good}
-use Rattle.pc_sound.proofs.BodyCalls.{Facts}
+use Rattle.pc_sound.proofs.BodyCalls.{Facts, outside_class}
 use Rattle.pc_sound.proofs.Whole.{IsListedPlace, BodyOf, of_function, of_items, body_around, body_ctx, body_fits, Premises, sound_of}
 use Rattle.pc_sound.proofs.AllForms.{forms_of}
-use Rattle.pc_sound.proofs.LabelledBodies.{last_types_are, last_classes_are, main_plain, labelled_of}
+use Rattle.pc_sound.proofs.LabelledBodies.{last_types_are, last_classes_are, main_plain, labelled_of, listed_finding}
 use Rattle.pc_sound.proofs.UniqueNames.{AllBind, parameters_bind, parameters_distinct, items_bind, function_binds}
-
-some_inj : {A : Type 0} {x y : A} → Some x ≡ Some y → x ≡ y
-some_inj e = grind arith
-
-none_some : {A : Type 0} {x : A} → None ≡ Some x → ⊥
-none_some e = grind arith
-
-within : {A : Type 0} (xs : List A) (i : ℕ) (x : A) → slice_get xs i ≡ Some x → nat_lt i (length xs) ≡ true
-within [] i x e = absurd (none_some e)
-within (y ∷ xs) zero x e = grind (arith, nat_tests)
-within (y ∷ xs) (suc i) x e = let h = within xs i x e in grind (arith, nat_tests, h)
+use Rattle.pc_sound.proofs.ModuleOrder.{code_found}
 
 outside_const : (o : Option ℕ) (r : Res) (i : ℕ) → or_else (local_of o) r ≡ res.Const i → r ≡ res.Const i
 outside_const None r i e = e
 outside_const (Some x) r i e = absurd (grind (arith, e))
 
-outside_class : (o : Option ℕ) (r : Res) (i : ℕ) → or_else (local_of o) r ≡ res.Class i → r ≡ res.Class i
-outside_class None r i e = e
-outside_class (Some x) r i e = absurd (grind (arith, e))
-
-shifted : (xs : List Item) (y : Item) (ys : List Item) → (xs ++ y ∷ []) ++ ys ≡ xs ++ y ∷ ys
-shifted [] y ys = refl
-shifted (x ∷ xs) y ys = ap (λ l. x ∷ l) (shifted xs y ys)
-
 -- ---- constants
 
 -- each constant has a type
 constant_at : (m : Module) (items : List Item) (marks : ItemsMarks items) (i : ℕ) (c : Constant) → slice_get (constants_in items) i ≡ Some c → (t : Tree) × (slice_get (constant_types m items marks) i ≡ Some t)
-constant_at m [] marks i c e = absurd (none_some e)
+constant_at m [] marks i c e = absurd (none-some _ e)
 constant_at m (constant_item p x ∷ rest) marks zero c e = (_, refl)
 constant_at m (constant_item p x ∷ rest) marks (suc i) c e = constant_at m rest marks.1 i c e
 constant_at m (class_item p x ∷ rest) marks i c e = constant_at m rest marks.1 i c e
@@ -102,13 +84,6 @@ module _ (m : Module) (marks : Labelling m) (lawful : IsLawful m marks) (clean :
 
   -- ---- overrides
 
-  found_listed : (f : Finding) → ItemsFind m (constant_types m m.items marks) nothing_before m.items marks f → IsListedPlace m f.place × (¬ (IsError f.code))
-  found_listed f h = let found : IsFinding m f = record { marks = marks; lawful = lawful; found = inr (inr h) } in (record { finding = f; found = found; dynamic = clean f found; at = refl }, clean f found)
-
-  code_found : (p : Place) (code : Option Code) (c : Code) → code ≡ Some c → IsCodeAt p code (finding p c)
-  code_found p None c e = absurd (none_some e)
-  code_found p (Some x) c e = ap (finding p) (sym (some_inj e))
-
   allowed_rule : (base : Class) (c : ℕ) (before : List (List ℕ)) (number : ℕ) (d : FuncDef) (code : Option Code) → OverrideRule m base c before number d code → ((x : Code) → code ≡ Some x → IsListedPlace m d.name.place × (¬ (IsError x))) → IsAllowedOverride (IsListedPlace m) d.name.place code
   allowed_rule base c before number d code (inr none) ok = inl none.1
   allowed_rule base c before number d code (inl rule) ok = by _ refl rule.1
@@ -127,16 +102,16 @@ module _ (m : Module) (marks : Labelling m) (lawful : IsLawful m marks) (clean :
   )
 
   judged_items : (items : List Item) (b : Before) (im : ItemsMarks items) → LawfulItems m (constant_types m m.items marks) b items im → ((f : Finding) → ItemsFind m (constant_types m m.items marks) b items im f → IsListedPlace m f.place × (¬ (IsError f.code))) → (j c : ℕ) (class : ClassDef) → slice_get (classes_in items) j ≡ Some class → c ≡ b.classes + j → AreJudged m (IsListedPlace m) (base_class m c class) c 0 [] class.members
-  judged_items [] b im law found j c class e at = absurd (none_some e)
+  judged_items [] b im law found j c class e at = absurd (none-some _ e)
   judged_items (constant_item p x ∷ rest) b im law found j c class e at = judged_items rest (before_next m b (constant_item p x) im.0) im.1 law.1 (λ f h. found f (inr h)) j c class e at
   judged_items (def_item p x ∷ rest) b im law found j c class e at = judged_items rest (before_next m b (def_item p x) im.0) im.1 law.1 (λ f h. found f (inr h)) j c class e at
   judged_items (class_item p x ∷ rest) b im law found (suc j) c class e at = judged_items rest (before_next m b (class_item p x) im.0) im.1 law.1 (λ f h. found f (inr h)) j c class e (omega arith)
   judged_items (class_item p x ∷ rest) b im law found zero c class e at =
       let here : b.classes ≡ c = omega arith in
-      subst (λ n. AreJudged m (IsListedPlace m) (base_class m n class) n 0 [] class.members) here (subst (λ k. AreJudged m (IsListedPlace m) (base_class m b.classes k) b.classes 0 [] k.members) (some_inj e) (judged_members (base_class m b.classes x) b.classes 0 [] x.members im.0 law.0 (λ f h. found f (inl h))))
+      subst (λ n. AreJudged m (IsListedPlace m) (base_class m n class) n 0 [] class.members) here (subst (λ k. AreJudged m (IsListedPlace m) (base_class m b.classes k) b.classes 0 [] k.members) (same_Some _ _ e) (judged_members (base_class m b.classes x) b.classes 0 [] x.members im.0 law.0 (λ f h. found f (inl h))))
 
   pub judged : (c : ℕ) (class : ClassDef) → slice_get (classes_in m.items) c ≡ Some class → AreJudged m (IsListedPlace m) (base_class m c class) c 0 [] class.members
-  judged c class e = judged_items m.items nothing_before marks lawful found_listed c c class e (omega arith)
+  judged c class e = judged_items m.items nothing_before marks lawful (listed_finding m marks lawful clean) c c class e (omega arith)
 
   -- ---- what is left
 
@@ -174,11 +149,11 @@ module _ (m : Module) (marks : Labelling m) (lawful : IsLawful m marks) (clean :
     -- each item can run
     all_ready : (done items : List Item) (b : Before) (im : ItemsMarks items) → m.items ≡ done ++ items → AllBind b.names (map name_of_item items) → InitializersKeyed items im → ItemsReady m (constant_types m m.items marks) (IsListedPlace m) b items im
     all_ready done [] b im all binds keyed = tt
-    all_ready done (constant_item p c ∷ rest) b im all binds keyed = ((binds.0, keyed.0), all_ready (done ++ constant_item p c ∷ []) rest (before_next m b (constant_item p c) im.0) im.1 (all ∙ sym (shifted done (constant_item p c) rest)) binds.1 keyed.1)
-    all_ready done (class_item p c ∷ rest) b im all binds keyed = (binds.0, all_ready (done ++ class_item p c ∷ []) rest (before_next m b (class_item p c) im.0) im.1 (all ∙ sym (shifted done (class_item p c) rest)) binds.1 keyed)
+    all_ready done (constant_item p c ∷ rest) b im all binds keyed = ((binds.0, keyed.0), all_ready (done ++ constant_item p c ∷ []) rest (before_next m b (constant_item p c) im.0) im.1 (all ∙ sym (append_assoc done (constant_item p c ∷ []) rest)) binds.1 keyed.1)
+    all_ready done (class_item p c ∷ rest) b im all binds keyed = (binds.0, all_ready (done ++ class_item p c ∷ []) rest (before_next m b (class_item p c) im.0) im.1 (all ∙ sym (append_assoc done (class_item p c ∷ []) rest)) binds.1 keyed)
     all_ready done (def_item p f ∷ rest) b im all binds keyed = (
       (binds.0, parameters_bind m (IsListedPlace m) [] f.params (function_binds m marks lawful clean (owners.Func (length (functions_in done))) f here)),
-      all_ready (done ++ def_item p f ∷ []) rest (before_next m b (def_item p f) im.0) im.1 (all ∙ sym (shifted done (def_item p f) rest)) binds.1 keyed,
+      all_ready (done ++ def_item p f ∷ []) rest (before_next m b (def_item p f) im.0) im.1 (all ∙ sym (append_assoc done (def_item p f ∷ []) rest)) binds.1 keyed,
     )
       where
         here : slice_get (functions_in m.items) (length (functions_in done)) ≡ Some f

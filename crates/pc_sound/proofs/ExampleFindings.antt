@@ -1,8 +1,9 @@
 -- The findings of a module with a given lawful labelling, as a list: what the examples compute.
-use Rattle.std.proofs.Common.{◌≡◌, ℕ, zero, suc, ◌+◌, ◌<◌, ◌≤◌, List, [], ◌∷◌, ◌++◌, length, refl, sym, ap, ◌∙◌, subst, inl, inr, arith, true≢false, Contains}
+use Rattle.std.proofs.Common.{◌≡◌, ℕ, zero, suc, ◌+◌, ◌<◌, ◌≤◌, List, [], ◌∷◌, ◌++◌, length, refl, sym, ap, ◌∙◌, subst, inl, inr, arith, true≢false, Contains, eq-or-lt_of_le}
 use Rattle.std.specs.Prelude.{◌⊎◌, Bool as Test, true, false, nat_le, take, filter_map, flat_map, Option, Some, None, slice_get}
 use Rattle.std.proofs.lemmas.List.Elements.{Contains-append_left, Contains-append_right, Contains-append_cases}
 use Rattle.std.proofs.lemmas.Bool.Decides.{nat_tests}
+use Rattle.std.proofs.lemmas.Option.{slice_get_within}
 use Rattle.pc_source.specs.declared.place.Place.{Place}
 use Rattle.pc_tree.specs.declared.code.Code.{Code}
 use Rattle.pc_tree.specs.declared.code.Code.TheVariants.{E01, E02, E03, E05, E06, E28, E29, E30, E31}
@@ -25,13 +26,14 @@ use Rattle.pc_class.specs.Findings.{ClassFinds}
 use Rattle.pc_check.specs.Modules.{Labelling, IsLawful, IsFinding, ItemsFind, constant_types, nothing_before}
 use Rattle.pc_check.proofs.OneModule.{one_labelling}
 use Rattle.pc_sound.specs.Examples.{FindsJust}
-use Rattle.pc_sound.proofs.Listings.{Listing, none_in, first_in, later_in, in_cons, none_listed, nothing_listed, equal_listed, both_listed, like, all_items_listed}
+use Rattle.pc_sound.proofs.Lists.{among_first, first_among, later_among, none_among}
+use Rattle.pc_sound.proofs.Listings.{Listing, none_listed, nothing_listed, equal_listed, both_listed, like, all_items_listed}
 
 -- ---- of each element of a list
 
 pub among_into : {A : Type 0} {P : A → Finding → Type 0} (xs : List A) (each : (x : A) → Listing (P x)) (f : Finding) (x : A) → Contains xs x → P x f → Contains (flat_map (λ y. (each y).all) xs) f
-among_into [] each f x c h = absurd (none_in x c)
-among_into {A} {P} (y ∷ ys) each f x c h = elim (in_cons y ys x c) [
+among_into [] each f x c h = absurd (none_among x c)
+among_into {A} {P} (y ∷ ys) each f x c h = elim (among_first y ys x c) [
   | inl a ↦ Contains-append_left (each y).all (flat_map (λ z. (each z).all) ys) f ((each y).into f (subst (λ z. P z f) (sym a) h))
   | inr b ↦ Contains-append_right (each y).all (flat_map (λ z. (each z).all) ys) f (among_into ys each f x b h)
 ]
@@ -43,10 +45,10 @@ pub record OfElement {A : Type 0} (xs : List A) (P : A → Finding → Type 0) (
   pub found : P element f
 
 pub among_from : {A : Type 0} {P : A → Finding → Type 0} (xs : List A) (each : (x : A) → Listing (P x)) (f : Finding) → Contains (flat_map (λ y. (each y).all) xs) f → OfElement xs P f
-among_from [] each f c = absurd (none_in f c)
+among_from [] each f c = absurd (none_among f c)
 among_from (y ∷ ys) each f c = elim (Contains-append_cases (each y).all (flat_map (λ z. (each z).all) ys) f c) [
-  | inl a ↦ record { element = y; among = first_in y ys; found = (each y).from f a }
-  | inr b ↦ let r = among_from ys each f b in record { element = r.element; among = later_in y ys r.element r.among; found = r.found }
+  | inl a ↦ record { element = y; among = first_among y ys; found = (each y).from f a }
+  | inr b ↦ let r = among_from ys each f b in record { element = r.element; among = later_among y ys r.element r.among; found = r.found }
 ]
 
 abbrev pub among_listed : {A : Type 0} {P : A → Finding → Type 0} (xs : List A) → ((x : A) → Listing (P x)) → Listing (OfElement xs P)
@@ -60,29 +62,18 @@ numbers_behind first (suc n) = first ∷ numbers_behind (suc first) n
 abbrev pub numbers_below : ℕ → List ℕ
 numbers_below n = numbers_behind 0 n
 
-first_or_later : (first k : ℕ) → first ≤ k → (first ≡ k) ⊎ (first < k)
-first_or_later zero zero above = inl refl
-first_or_later zero (suc k) above = inr (omega arith)
-first_or_later (suc first) zero above = absurd (omega (arith, above))
-first_or_later (suc first) (suc k) above = elim (first_or_later first k (omega (arith, above))) [ inl is ↦ inl (ap suc is) | inr less ↦ inr (omega (arith, less)) ]
-
 numbered_behind : (first n k : ℕ) → first ≤ k → k < first + n → Contains (numbers_behind first n) k
 numbered_behind first zero k above below = absurd (omega (arith, above, below))
-numbered_behind first (suc n) k above below = elim (first_or_later first k above) [
-  | inl is ↦ subst (λ x. Contains (first ∷ numbers_behind (suc first) n) x) is (first_in first (numbers_behind (suc first) n))
-  | inr is ↦ later_in first (numbers_behind (suc first) n) k (numbered_behind (suc first) n k (omega (arith, above, is)) (omega (arith, below)))
+numbered_behind first (suc n) k above below = elim (eq-or-lt_of_le above) [
+  | inl is ↦ subst (λ x. Contains (first ∷ numbers_behind (suc first) n) x) is (first_among first (numbers_behind (suc first) n))
+  | inr is ↦ later_among first (numbers_behind (suc first) n) k (numbered_behind (suc first) n k (omega (arith, above, is)) (omega (arith, below)))
 ]
 
 pub numbered : (n k : ℕ) → k < n → Contains (numbers_below n) k
 numbered n k below = numbered_behind 0 n k (omega arith) (omega (arith, below))
 
-pub got_within : {A : Type 0} (xs : List A) (i : ℕ) (x : A) → slice_get xs i ≡ Some x → i < length xs
-got_within [] i x e = absurd (grind (arith, e))
-got_within (y ∷ ys) zero x e = omega arith
-got_within (y ∷ ys) (suc i) x e = let l = got_within ys i x e in omega (arith, l)
-
 pub none_of : {A : Type 0} (xs : List A) {x : A} → Contains xs x → has_none xs ≡ true → ⊥
-none_of [] {x} c e = none_in x c
+none_of [] {x} c e = none_among x c
 none_of (y ∷ ys) c e = true≢false (sym e)
 
 pub front_none : {A : Type 0} (xs ys : List A) → has_none (xs ++ ys) ≡ true → has_none xs ≡ true
@@ -209,7 +200,7 @@ module _ (m : Module) where
       go at (Some (def_item p d)) e found = absurd found
 
   pub early_back : (f : Finding) → IsEarly m f → OfElement (numbers_below (length m.items)) (λ at. EarlyAt at (slice_get m.items at)) f
-  early_back f h = record { element = h.at; among = numbered (length m.items) h.at (got_within m.items h.at (constant_item h.first h.constant) h.item); found = subst (λ i. EarlyAt h.at i f) (sym h.item) h.found }
+  early_back f h = record { element = h.at; among = numbered (length m.items) h.at (slice_get_within m.items h.at (constant_item h.first h.constant) h.item); found = subst (λ i. EarlyAt h.at i f) (sym h.item) h.found }
 
   abbrev pub early_listed : Listing (IsEarly m)
   early_listed = like (among_listed (numbers_below (length m.items)) (λ at. early_at at (slice_get m.items at))) early_to early_back
@@ -231,7 +222,7 @@ module _ (m : Module) where
     none_stops p E28 c = none_of (no_main m) c (front_none (no_main m) _ (rest_none (clashing_members m) _ (rest_none (outside_loop m) _ (rest_none (twice m) _ runs))))
     none_stops p E29 c = none_of (reserved_bound m) c (front_none (reserved_bound m) _ (rest_none (no_main m) _ (rest_none (clashing_members m) _ (rest_none (outside_loop m) _ (rest_none (twice m) _ runs)))))
     none_stops p E31 c = none_of (default_order m) c (rest_none (reserved_bound m) _ (rest_none (no_main m) _ (rest_none (clashing_members m) _ (rest_none (outside_loop m) _ (rest_none (twice m) _ runs)))))
-    none_stops p _ c = none_in p c
+    none_stops p _ c = none_among p c
 
     abbrev pub ScopeCases : Finding → Type 0
     ScopeCases f = IsUnknown m f ⊎ (IsEarly m f ⊎ IsUnreachable m f)

@@ -24,6 +24,7 @@ use Rattle.pc_machine.specs.Free.{Step, ◌>>=◌, free}
 use Rattle.pc_sound.specs.Values.{HeapTyping, HasType, IsWell}
 use Rattle.pc_sound.specs.Kept.{ActsWell}
 use Rattle.pc_sound.specs.Judgment.{Around, IsSafe, Fits}
+use Rattle.pc_sound.proofs.Lists.{not_empty}
 use Rattle.pc_sound.proofs.ValuesFlow.{later}
 use Rattle.pc_sound.proofs.Narrowing.{to_members}
 use Rattle.pc_sound.proofs.Steps.{bind_safe, comes_safe, emits_safe, weaken}
@@ -31,7 +32,7 @@ use Rattle.pc_sound.proofs.Keys.{Keyed}
 use Rattle.pc_sound.proofs.KeyedStatements.{TargetKeyed}
 use Rattle.pc_sound.proofs.Expressions.{Covered, GoodEval, allowed, part}
 use Rattle.pc_sound.proofs.Flows.{Evaluates}
-use Rattle.pc_sound.proofs.Members.{no_codes, HasEach, each_later, chosen}
+use Rattle.pc_sound.proofs.Members.{HasEach, each_later, chosen}
 use Rattle.pc_sound.proofs.Fields.{Inherits, field_store_keeps}
 use Rattle.pc_sound.proofs.SeveralFlows.{flows_safe}
 use Rattle.pc_sound.proofs.Acting.{acting_safe}
@@ -59,9 +60,9 @@ module _ (bases : Bases) (classes : List facts.Class) (inherits : Inherits bases
     where
       go : (o : Option Parameter) (m : Option Method) → field_of (class_at classes c).fields name ≡ o → (store_found o m).found ≡ [] → HasEach bases k (store_found o m).takes w → ActsWell bases classes k NoneType (store_attribute_outcome heap (seen heap v) name w)
       go (Some f) m is e takes = field_store_keeps bases classes inherits k heap well c v w name f h is takes.0
-      go None (Some m) is e takes = absurd (no_codes e)
-      go None None is e takes = absurd (no_codes e)
-  member_keeps name _ v w h e takes = absurd (no_codes e)
+      go None (Some m) is e takes = absurd (not_empty e)
+      go None None is e takes = absurd (not_empty e)
+  member_keeps name _ v w h e takes = absurd (not_empty e)
 
   -- a store into a field of an object of a type of which nothing is found
   stored_keeps : (name : List ℕ) (t : Tree) (v w : Value) → HasType bases k t v → found_of (map (store_attribute_member classes name) (members t)) ≡ [] → HasEach bases k (stored_types (map (store_attribute_member classes name) (members t))) w → ActsWell bases classes k NoneType (store_attribute_outcome heap (seen heap v) name w)

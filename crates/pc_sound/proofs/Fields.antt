@@ -1,7 +1,7 @@
 -- Fields of instances: reads and stores are safe, and keep the heap well typed, where each class has its base's fields.
-use Rattle.std.proofs.Common.{◌≡◌, ℕ, List, [], ◌∷◌, ◌++◌, map, refl, sym, ap, ◌∙◌, subst, inl, inr, arith}
+use Rattle.std.proofs.Common.{◌≡◌, ℕ, List, [], ◌∷◌, ◌++◌, map, refl, sym, ap, ◌∙◌, subst, inl, inr}
 use Rattle.std.specs.Prelude.{Bool as Test, true, false, if◌then◌else◌, cond, Option, Some, None, slice_get, bytes_eq}
-use Rattle.std.proofs.lemmas.Slice.Eq.{bytes_eq-Decides}
+use Rattle.std.proofs.lemmas.Option.{none-some, same_Some}
 use Rattle.pc_source.specs.declared.place.Place.{Place}
 use Rattle.pc_tree.specs.Tree.{Expr, Name, attribute}
 use Rattle.pc_types.specs.Tree.{Tree, Class, NoneType}
@@ -26,13 +26,14 @@ use Rattle.pc_machine.specs.Free.{Step, free}
 use Rattle.pc_sound.specs.Values.{HeapTyping, HasType, a_class, SlotsHave, IsWell}
 use Rattle.pc_sound.specs.Kept.{ActsWell}
 use Rattle.pc_sound.specs.Judgment.{EndsWell, Around, IsSafe, Fits}
+use Rattle.pc_sound.proofs.Lists.{get_at_end, not_empty, same_text_back}
 use Rattle.pc_sound.proofs.ValuesFlow.{later, extends_refl}
 use Rattle.pc_sound.proofs.Steps.{bind_safe, emits_safe, looks_safe, act_safe}
 use Rattle.pc_sound.proofs.Keys.{Keyed}
 use Rattle.pc_sound.proofs.Expressions.{Covered, GoodEval, allowed, part}
-use Rattle.pc_sound.proofs.Heaps.{write_keeps, place_keeps, grown, get_end}
+use Rattle.pc_sound.proofs.Heaps.{write_keeps, place_keeps, grown}
 use Rattle.pc_sound.proofs.Seen.{SeesInstance, sees_instance}
-use Rattle.pc_sound.proofs.Members.{no_codes, offers_end}
+use Rattle.pc_sound.proofs.Members.{offers_end}
 
 -- each class has the fields of its base
 pub record Inherits (bases : Bases) (classes : List facts.Class) : Type 0 where
@@ -51,24 +52,6 @@ fields_below bases classes inherits c d below name f e = go (sub_of below)
 
 -- ---- texts
 
-no_truth : true ≡ false → ⊥
-no_truth e = absurd (grind (arith, e))
-
-some_inj : {A : Type 0} {x y : A} → Some x ≡ Some y → x ≡ y
-some_inj e = grind arith
-
-no_some : {A : Type 0} {x : A} → None ≡ Some x → ⊥
-no_some e = absurd (grind (arith, e))
-
-pub same_text_back : (u w : List ℕ) → bytes_eq u w ≡ bytes_eq w u
-same_text_back u w = go (bytes_eq u w) (bytes_eq w u) refl refl
-  where
-    go : (x y : Test) → bytes_eq u w ≡ x → bytes_eq w u ≡ y → bytes_eq u w ≡ bytes_eq w u
-    go true true a b = a ∙ sym b
-    go false false a b = a ∙ sym b
-    go true false a b = absurd (no_truth (sym ((bytes_eq-Decides w u).1 (sym ((bytes_eq-Decides u w).0 a))) ∙ b))
-    go false true a b = absurd (no_truth (sym ((bytes_eq-Decides u w).1 (sym ((bytes_eq-Decides w u).0 b))) ∙ a))
-
 -- a slot is tested as its field is
 same_test : (name : List ℕ) (s : Slot) (f : Parameter) → s.name ≡ f.name → same_text s.name name ≡ bytes_eq name f.name
 same_test name s f e = ap (λ n. bytes_eq n name) e ∙ same_text_back f.name name
@@ -81,7 +64,7 @@ module _ (bases : Bases) (k : HeapTyping) where
     pub has : HasType bases k t value
 
   pub has_field : (fs : List Parameter) (ss : List Slot) (name : List ℕ) (f : Parameter) → SlotsHave bases k fs ss → field_of fs name ≡ Some f → HasField ss name f.type
-  has_field [] ss name f h e = absurd (no_some e)
+  has_field [] ss name f h e = absurd (none-some _ e)
   has_field (g ∷ fs) [] name f h e = absurd h
   has_field (g ∷ fs) (s ∷ ss) name f h e = go (bytes_eq name g.name) refl (same_test name s g h.0) e (λ e'. has_field fs ss name f h.2 e')
     where
@@ -89,7 +72,7 @@ module _ (bases : Bases) (k : HeapTyping) where
       go true is test e rest = record {
         value = s.value;
         is = ap (λ x. if x then Some s.value else field_value name ss) (test ∙ is);
-        has = subst (λ p. HasType bases k p.type s.value) (some_inj e) h.1;
+        has = subst (λ p. HasType bases k p.type s.value) (same_Some _ _ e) h.1;
       }
       go false is test e rest = let r = rest e in record {
         value = r.value;
@@ -106,7 +89,7 @@ module _ (bases : Bases) (k : HeapTyping) where
     where
       go : (x : Test) → bytes_eq name g.name ≡ x → same_text s.name name ≡ bytes_eq name g.name → cond x (Some g) (field_of fs name) ≡ Some f → (field_of fs name ≡ Some f → SlotsHave bases k fs (with_field name w ss)) → SlotsHave bases k (g ∷ fs) (with_field name w (s ∷ ss))
       go true is test e rest =
-          subst (λ l. SlotsHave bases k (g ∷ fs) l) (sym (ap (λ x. if x then record { name = s.name; value = w } ∷ ss else s ∷ with_field name w ss) (test ∙ is))) (h.0, subst (λ p. HasType bases k p.type w) (sym (some_inj e)) hw, h.2)
+          subst (λ l. SlotsHave bases k (g ∷ fs) l) (sym (ap (λ x. if x then record { name = s.name; value = w } ∷ ss else s ∷ with_field name w ss) (test ∙ is))) (h.0, subst (λ p. HasType bases k p.type w) (sym (same_Some _ _ e)) hw, h.2)
       go false is test e rest =
           subst (λ l. SlotsHave bases k (g ∷ fs) l) (sym (ap (λ x. if x then record { name = s.name; value = w } ∷ ss else s ∷ with_field name w ss) (test ∙ is))) (h.0, h.1, rest e)
 
@@ -125,10 +108,10 @@ module _ (bases : Bases) (classes : List facts.Class) (inherits : Inherits bases
     where
       go : (o : Option Parameter) (m : Option Method) → field_of (class_at classes c).fields name ≡ o → (attribute_found o m).found ≡ [] → EndsWell (λ w. HasType bases k (attribute_found o m).gives w) (value_out (attribute_outcome (seen heap (location l)) name is_method))
       go (Some f) m is e = instance_ends l c name f is_method h is
-      go None (Some m) is e = absurd (no_codes e)
-      go None None is e = absurd (no_codes e)
+      go None (Some m) is e = absurd (not_empty e)
+      go None None is e = absurd (not_empty e)
   attribute_ends name is_method (Class c) _ h e = absurd h
-  attribute_ends name is_method _ v h e = absurd (no_codes e)
+  attribute_ends name is_method _ v h e = absurd (not_empty e)
 
   -- ---- stores
 
@@ -157,7 +140,7 @@ module _ (bases : Bases) (classes : List facts.Class) (inherits : Inherits bases
     typing = k ++ a_class c ∷ [];
     grows = grown bases classes k (a_class c);
     well = place_keeps bases classes k heap (a_class c) (instance_cell c slots) (refl, have) well;
-    has = record { class = c; is = subst (λ n. slice_get (k ++ a_class c ∷ []) n ≡ Some (a_class c)) well.long (get_end k (a_class c)); below = same };
+    has = record { class = c; is = subst (λ n. slice_get (k ++ a_class c ∷ []) n ≡ Some (a_class c)) well.long (get_at_end k (a_class c) []); below = same };
   }
 
 module _ (around : Around) (ctx : Context) (fits : Fits around ctx) (inherits : Inherits around.bases around.classes) (parts : Parts Step) (good : GoodEval around ctx parts.eval) (env : Env) where

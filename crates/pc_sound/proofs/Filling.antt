@@ -5,6 +5,7 @@ use Rattle.std.specs.List.{list_all}
 use Rattle.std.specs.Option.{option_map}
 use Rattle.std.proofs.lemmas.Bool.Decides.{nat_tests}
 use Rattle.std.proofs.lemmas.Slice.Eq.{bytes_eq-Decides}
+use Rattle.std.proofs.lemmas.Bool.{and_parts, or_parts, or_right}
 use Rattle.pc_tree.specs.Tree.{Name}
 use Rattle.pc_scope.specs.Bindings.{texts}
 use Rattle.pc_scope.specs.Resolution.{is_among}
@@ -17,11 +18,9 @@ use Rattle.pc_machine.specs.State as state
 use Rattle.pc_machine.specs.State.{Local}
 use Rattle.pc_machine.specs.Calls.{NamedValue, value_named, is_parameter, are_parameters, first_some, taken, and_others, filled, bound_arguments}
 use Rattle.pc_sound.specs.Values.{HeapTyping, HasType}
+use Rattle.pc_sound.proofs.TruthValues.{not_both, or_in_turn}
 use Rattle.pc_sound.proofs.Entry.{ParametersHave}
 use Rattle.pc_sound.proofs.World.{DefaultHas, DefaultsHave}
-
-pub clash : {b : Test} → b ≡ true → b ≡ false → ⊥
-clash e f = grind (arith, sym e ∙ f)
 
 -- ---- what each parameter takes
 
@@ -81,10 +80,6 @@ module _ (bases : Bases) (k : HeapTyping) (named : List NamedValue) where
   for_parameter word (p ∷ ps) [] d e = absurd d
   for_parameter word (p ∷ ps) (q ∷ qs) d e = go (bytes_eq word q.name) refl e (for_parameter word ps qs d.1.1)
     where
-      or_right : (a b : Test) → b ≡ true → (a || b) ≡ true
-      or_right true b e = refl
-      or_right false b e = e
-
       go : (b : Test) → bytes_eq word q.name ≡ b → (b || is_among word (parameter_names qs)) ≡ true → (is_among word (parameter_names qs) ≡ true → is_parameter word ps ≡ true) → is_parameter word (p ∷ ps) ≡ true
       go true t e others = ap (λ b. b || is_parameter word ps) ((bytes_eq-Decides p.name word).1 (d.0 ∙ sym ((bytes_eq-Decides word q.name).0 t)))
       go false t e others = or_right (same_text p.name word) (is_parameter word ps) (others e)
@@ -122,18 +117,6 @@ PositionalHave bases k ps [] = Unit {0}
 PositionalHave bases k [] (v ∷ vs) = ⊥
 PositionalHave bases k (p ∷ ps) (v ∷ vs) = HasType bases k p.type v × PositionalHave bases k ps vs
 
-pub or_cases : (a b : Test) → (a || b) ≡ true → (a ≡ true) ⊎ ((a ≡ false) × (b ≡ true))
-or_cases true b e = inl refl
-or_cases false b e = inr (refl, e)
-
-pub both : (a b : Test) → (a && b) ≡ true → (a ≡ true) × (b ≡ true)
-both true b e = (refl, e)
-both false b e = absurd (grind (arith, e))
-
-pub or_right : (a b : Test) → b ≡ true → (a || b) ≡ true
-or_right true b e = refl
-or_right false b e = e
-
 -- a value by name is one of the arguments by name
 named_among : (word : List ℕ) (named : List NamedValue) (w : Value) → value_named word named ≡ Some w → is_among word (names_of named) ≡ true
 named_among word [] w e = absurd (grind (arith, e))
@@ -145,20 +128,20 @@ named_among word (a ∷ rest) w e = go (same_text a.name word) refl e (named_amo
 
 not_named : (word : List ℕ) (named : List NamedValue) → is_among word (names_of named) ≡ true → value_named word named ≡ None → ⊥
 not_named word [] e n = grind (arith, e)
-not_named word (a ∷ rest) e n = go (same_text a.name word) refl n (or_cases (bytes_eq word a.name) (is_among word (names_of rest)) e) (not_named word rest)
+not_named word (a ∷ rest) e n = go (same_text a.name word) refl n (or_in_turn (bytes_eq word a.name) (is_among word (names_of rest)) e) (not_named word rest)
   where
     go : (b : Test) → same_text a.name word ≡ b → (if b then Some a.value else value_named word rest) ≡ None → (bytes_eq word a.name ≡ true) ⊎ ((bytes_eq word a.name ≡ false) × (is_among word (names_of rest) ≡ true)) → (is_among word (names_of rest) ≡ true → value_named word rest ≡ None → ⊥) → ⊥
     go true t n c others = grind (arith, n)
-    go false t n (inl c) others = clash ((bytes_eq-Decides a.name word).1 (sym ((bytes_eq-Decides word a.name).0 c))) t
+    go false t n (inl c) others = not_both ((bytes_eq-Decides a.name word).1 (sym ((bytes_eq-Decides word a.name).0 c))) t
     go false t n (inr c) others = others c.1 n
 
 -- the names that a call gives once each are those that it gives
 pub once_among : (word : List ℕ) (before : List (List ℕ)) (ns : List Name) → is_among word before ≡ false → is_among word (texts ns) ≡ true → is_among word (once_each before ns) ≡ true
 once_among word before [] new e = e
-once_among word before (n ∷ ns) new e = go (is_among n.text before) refl (or_cases (bytes_eq word n.text) (is_among word (texts ns)) e) (once_among word before ns new) (once_among word (n.text ∷ before) ns)
+once_among word before (n ∷ ns) new e = go (is_among n.text before) refl (or_in_turn (bytes_eq word n.text) (is_among word (texts ns)) e) (once_among word before ns new) (once_among word (n.text ∷ before) ns)
   where
     go : (b : Test) → is_among n.text before ≡ b → (bytes_eq word n.text ≡ true) ⊎ ((bytes_eq word n.text ≡ false) × (is_among word (texts ns) ≡ true)) → (is_among word (texts ns) ≡ true → is_among word (once_each before ns) ≡ true) → (is_among word (n.text ∷ before) ≡ false → is_among word (texts ns) ≡ true → is_among word (once_each (n.text ∷ before) ns) ≡ true) → is_among word (if b then once_each before ns else n.text ∷ once_each (n.text ∷ before) ns) ≡ true
-    go true t (inl c) dropped kept = absurd (clash t (subst (λ w. is_among w before ≡ false) ((bytes_eq-Decides word n.text).0 c) new))
+    go true t (inl c) dropped kept = absurd (not_both t (subst (λ w. is_among w before ≡ false) ((bytes_eq-Decides word n.text).0 c) new))
     go true t (inr c) dropped kept = dropped c.1
     go false t (inl c) dropped kept = ap (λ b. b || is_among word (once_each (n.text ∷ before) ns)) c
     go false t (inr c) dropped kept = or_right (bytes_eq word n.text) (is_among word (once_each (n.text ∷ before) ns)) (kept ((λ i. c.0 i || new i)) c.1)
@@ -166,8 +149,8 @@ once_among word before (n ∷ ns) new e = go (is_among n.text before) refl (or_c
 pub all_at : (p : List ℕ → Test) (words : List (List ℕ)) (word : List ℕ) → list_all p words ≡ true → is_among word words ≡ true → p word ≡ true
 all_at p [] word all e = absurd (grind (arith, e))
 all_at p (x ∷ xs) word all e =
-    let h = both (p x) (list_all p xs) all in
-    elim (or_cases (bytes_eq word x) (is_among word xs) e) [
+    let h = and_parts (p x) (list_all p xs) all in
+    elim (or_in_turn (bytes_eq word x) (is_among word xs) e) [
       | inl c ↦ ap p ((bytes_eq-Decides word x).0 c) ∙ h.0
       | inr c ↦ all_at p xs word h.1 c.1
     ]
@@ -192,18 +175,14 @@ free_behind n None e = e
 free_behind n (Some i) e = grind (arith, nat_tests, e)
 
 fewer_before : (words before : List (List ℕ)) (x : List ℕ) (ps : List Parameter) → are_filled words (x ∷ before) ps ≡ true → are_filled words before ps ≡ true
-fewer_before words before x ps e = less (x ∷ before) before (λ word n. right (bytes_eq word x) (is_among word before) n) ps e
+fewer_before words before x ps e = less (x ∷ before) before (λ word n. (or_parts (bytes_eq word x) (is_among word before) n).1) ps e
   where
-    right : (a b : Test) → (a || b) ≡ false → b ≡ false
-    right true b n = absurd (grind (arith, n))
-    right false b n = n
-
     wider : (xs ys : List (List ℕ)) (y : List ℕ) → ((word : List ℕ) → is_among word xs ≡ false → is_among word ys ≡ false) → (word : List ℕ) → is_among word (y ∷ xs) ≡ false → is_among word (y ∷ ys) ≡ false
     wider xs ys y h word n = go (bytes_eq word y) refl
       where
         go : (b : Test) → bytes_eq word y ≡ b → is_among word (y ∷ ys) ≡ false
-        go true t = absurd (clash (ap (λ b. b || is_among word xs) t) n)
-        go false t = ap (λ b. b || is_among word ys) t ∙ h word (right (bytes_eq word y) (is_among word xs) n)
+        go true t = absurd (not_both (ap (λ b. b || is_among word xs) t) n)
+        go false t = ap (λ b. b || is_among word ys) t ∙ h word (or_parts (bytes_eq word y) (is_among word xs) n).1
 
     one : (d a b c : Test) → (b ≡ false → c ≡ false) → (d || (a && not b)) ≡ true → (d || (a && not c)) ≡ true
     one true a b c h e = refl
@@ -214,7 +193,7 @@ fewer_before words before x ps e = less (x ∷ before) before (λ word n. right 
     less : (xs ys : List (List ℕ)) → ((word : List ℕ) → is_among word xs ≡ false → is_among word ys ≡ false) → (ps : List Parameter) → are_filled words xs ps ≡ true → are_filled words ys ps ≡ true
     less xs ys h [] e = e
     less xs ys h (p ∷ ps) e =
-        let b = both (p.has_default || (is_among p.name words && not (is_among p.name xs))) (are_filled words (p.name ∷ xs) ps) e in
+        let b = and_parts (p.has_default || (is_among p.name words && not (is_among p.name xs))) (are_filled words (p.name ∷ xs) ps) e in
         (λ i. one p.has_default (is_among p.name words) (is_among p.name xs) (is_among p.name ys) (h p.name) b.0 i && less (p.name ∷ xs) (p.name ∷ ys) (wider xs ys p.name h) ps b.1 i)
 
 module _ (bases : Bases) (k : HeapTyping) (named : List NamedValue) (words : List (List ℕ)) (given_are : (word : List ℕ) → is_among word (names_of named) ≡ true → is_among word words ≡ true) (are_given : (word : List ℕ) → is_among word words ≡ true → is_among word (names_of named) ≡ true) where
@@ -225,20 +204,20 @@ module _ (bases : Bases) (k : HeapTyping) (named : List NamedValue) (words : Lis
       (takes (value_named p.name named) refl, rest_fills (p.name ∷ before) ps distinct.1 behind (fewer_before words [] p.name ps halves.1))
     where
       halves : ((p.has_default || (is_among p.name words && not (is_among p.name []))) ≡ true) × (are_filled words (p.name ∷ []) ps ≡ true)
-      halves = both (p.has_default || (is_among p.name words && not (is_among p.name []))) (are_filled words (p.name ∷ []) ps) all_filled
+      halves = and_parts (p.has_default || (is_among p.name words && not (is_among p.name []))) (are_filled words (p.name ∷ []) ps) all_filled
 
       takes : (o : Option Value) → value_named p.name named ≡ o → TakesNamed bases k p o
       takes (Some w) e = have p.name w p distinct.0 e (one_field p ps p.name true ((bytes_eq-Decides p.name p.name).1 refl))
-      takes None e = elim (or_cases p.has_default (is_among p.name words && not (is_among p.name [])) halves.0) [
+      takes None e = elim (or_in_turn p.has_default (is_among p.name words && not (is_among p.name [])) halves.0) [
         | inl d ↦ d
-        | inr a ↦ absurd (not_named p.name named (are_given p.name (both (is_among p.name words) (not (is_among p.name [])) a.1).0) e)
+        | inr a ↦ absurd (not_named p.name named (are_given p.name (and_parts (is_among p.name words) (not (is_among p.name [])) a.1).0) e)
       ]
 
       behind : NamedBehind bases k (p.name ∷ before) ps named
       behind word w q new e f = go (bytes_eq word p.name) refl
         where
           go : (b : Test) → bytes_eq word p.name ≡ b → HasType bases k q.type w
-          go true t = absurd (clash (ap (λ b. b || is_among word before) t) new)
+          go true t = absurd (not_both (ap (λ b. b || is_among word before) t) new)
           go false t = have word w q (sym (ap (λ b. b || is_among word before) t) ∙ new) e (one_field p ps word false t ∙ f)
 
   -- all parameters
@@ -262,7 +241,7 @@ module _ (bases : Bases) (k : HeapTyping) (named : List NamedValue) (words : Lis
 
       none : (o : Option Value) → value_named p.name named ≡ o → value_named p.name named ≡ None
       none None e = e
-      none (Some w) e = absurd (clash ((bytes_eq-Decides p.name p.name).1 refl) (other p.name (given_are p.name (named_among p.name named w e))))
+      none (Some w) e = absurd (not_both ((bytes_eq-Decides p.name p.name).1 refl) (other p.name (given_are p.name (named_among p.name named w e))))
 
       behind_free : (word : List ℕ) → is_among word words ≡ true → is_free (length vs) (position_of ps word) ≡ true
       behind_free word among = free_behind (length vs) (position_of ps word) (sym (ap (is_free (suc (length vs))) (one_position p ps word false (other word among))) ∙ free word among)

@@ -14,14 +14,14 @@ use Rattle.pc_flow.specs.Environment.{Env}
 use Rattle.pc_expr.specs.Context.{Context, Flows, static, dynamic, wrong, FlowUnless, FlowAt, is_late}
 use Rattle.pc_expr.specs.Labels.{Marks, mark_of, type_of, Finds, IsFoundAt, IsFlowAt}
 use Rattle.pc_expr.specs.Lawful.{Lawful}
-use Rattle.pc_value.specs.Value.{Value, Stop, Out, Gives, Stops, Raised, Other, Outside, Cut}
+use Rattle.pc_value.specs.Value.{Value, Out, Gives, Stops}
 use Rattle.pc_machine.specs.State.{State}
 use Rattle.pc_machine.specs.Free.{Step, ◌>>=◌, Emits}
 use Rattle.pc_sound.specs.Values.{HeapTyping, HasType}
-use Rattle.pc_sound.specs.Judgment.{HasListed, EndsWell, Around, Stands, Keeps, IsSafe}
+use Rattle.pc_sound.specs.Judgment.{HasListed, Around, Stands, Keeps, IsSafe}
 use Rattle.pc_sound.proofs.Keys.{Keyed}
 use Rattle.pc_sound.proofs.ValuesFlow.{of_static}
-use Rattle.pc_sound.proofs.Steps.{weaken}
+use Rattle.pc_sound.proofs.Steps.{weaken, gives_not_stops, stopped_as}
 use Rattle.pc_sound.proofs.Expressions.{Covered, GoodEval}
 
 -- an end in a value only after the place was evaluated
@@ -31,14 +31,11 @@ pub record Evaluates {A : Type 0} (p : Place) (m : Step A) : Type 0 where
 pub emit_evaluates : (p : Place) → Evaluates p (Emits p)
 emit_evaluates p = record { place = λ s s' events a h. subst (λ l. Contains l p) (sym h.event) (0, omega arith, refl) }
 
-not_stopped : {A : Type 0} {a : A} {stop : Stop} → Gives a ≡ Stops stop → ⊥
-not_stopped e = grind arith
-
 pub later_evaluates : {A B : Type 0} (p : Place) (m : Step A) (f : A → Step B) → ((a : A) → Evaluates p (f a)) → Evaluates p (m >>= f)
 later_evaluates p m f h = record {
   place = λ s s' events b r. elim r [
     | inl w ↦ subst (λ l. Contains l p) (sym w.both) (Contains-append_right w.early w.late p ((h w.value).place w.middle s' w.late b w.after))
-    | inr w ↦ absurd (not_stopped w.is)
+    | inr w ↦ absurd (gives_not_stops w.is)
   ];
 }
 
@@ -46,15 +43,9 @@ pub first_evaluates : {A B : Type 0} (p : Place) (m : Step A) (f : A → Step B)
 first_evaluates p m f h = record {
   place = λ s s' events b r. elim r [
     | inl w ↦ subst (λ l. Contains l p) (sym w.both) (Contains-append_left w.early w.late p (h.place s w.middle w.early w.value w.before))
-    | inr w ↦ absurd (not_stopped w.is)
+    | inr w ↦ absurd (gives_not_stops w.is)
   ];
 }
-
-pub stopped : {A B : Type 0} (P : A → Type 0) (Q : B → Type 0) (stop : Stop) → EndsWell P (Stops stop) → EndsWell Q (Stops stop)
-stopped P Q (Raised x) h = h
-stopped P Q Outside h = h
-stopped P Q Other h = h
-stopped P Q Cut h = h
 
 -- the codes of an expression's own label are found at its place
 pub found_here : (e : Expr) (m : Marks e) (f : Finding) → IsFoundAt (place_of e) (mark_of e m).codes f → Finds e m f
@@ -99,7 +90,7 @@ module _ (around : Around) (ctx : Context) (eval : Expr → Step Value) (good : 
       dynamic_run here k s s' events (Gives v) knows st r = inl (record { place = place_of e; is = here; event = (evaluates e).place s s' events v r })
       dynamic_run here k s s' events (Stops stop) knows st r = elim (part.run k s s' events (Stops stop) knows st r) [
         | inl l ↦ inl l
-        | inr kept ↦ inr (record { typing = kept.typing; grows = kept.grows; well = kept.well; same_frame = kept.same_frame; same_globals = kept.same_globals; same_classes = kept.same_classes; ends = stopped (λ v. HasType around.bases kept.typing (type_of e m) v) (λ v. HasType around.bases kept.typing t v) stop kept.ends })
+        | inr kept ↦ inr (record { typing = kept.typing; grows = kept.grows; well = kept.well; same_frame = kept.same_frame; same_globals = kept.same_globals; same_classes = kept.same_classes; ends = stopped_as (λ v. HasType around.bases kept.typing (type_of e m) v) (λ v. HasType around.bases kept.typing t v) stop kept.ends })
       ]
 
       by_flow : (d : Option Code) → c ≡ d → Flows around.bases (type_of e m) t d → IsSafe around env known (eval e) (λ k v. HasType around.bases k t v)

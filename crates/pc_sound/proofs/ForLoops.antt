@@ -27,6 +27,7 @@ use Rattle.pc_machine.specs.Evaluation.{exec_node, for_turn, with_item, eval_ite
 use Rattle.pc_sound.specs.Values.{HeapTyping, HasType}
 use Rattle.pc_sound.specs.Kept.{HasLocals}
 use Rattle.pc_sound.specs.Judgment.{IsAllowed, Around, IsSafe, Fits, Leads, At, FlowEnds, Lasts}
+use Rattle.pc_sound.proofs.Lists.{first_among, not_empty}
 use Rattle.pc_sound.proofs.ValuesFlow.{of_static}
 use Rattle.pc_sound.proofs.Expressions.{Covered}
 use Rattle.pc_sound.proofs.Flows.{Evaluates}
@@ -35,7 +36,7 @@ use Rattle.pc_sound.proofs.KeyedStatements.{StmtKeyed, SuiteKeyed}
 use Rattle.pc_sound.proofs.Loops.{into_head}
 use Rattle.pc_sound.proofs.Leading.{ends_as, leads_bind, leads_comes, leads_binds, leads_act, leads_from, leads_to, leads_each, leads_safe}
 use Rattle.pc_sound.proofs.Binding.{one_flow, evaluated_safe, assigned_has}
-use Rattle.pc_sound.proofs.Statements.{Runs, first_of_list, flow_wider, ways_out, GoodExec, GoodStmt}
+use Rattle.pc_sound.proofs.Statements.{Runs, flow_wider, ways_out, GoodExec, GoodStmt}
 use Rattle.pc_sound.proofs.Simple.{bound_local}
 use Rattle.pc_sound.proofs.Branches.{stands_with}
 use Rattle.pc_sound.proofs.Turns.{AlsoKept, also_lasts, kept_still, loop_ways, left_at_head, body_runs, turn_ends}
@@ -53,10 +54,7 @@ flow_allowed around p (Some c) covered = (covered (finding p c) (record { code =
 -- an item of the type that no code is found for is bound to the target
 pub target_has : (bases : Bases) (t d : Tree) (c : Option Code) → FlowAt bases (clean t) d c → codes_of c ≡ [] → (k : HeapTyping) (v : Value) → HasType bases k t v → HasType bases k (assigned_type d t c) v × HasType bases k d v
 target_has bases t d None (static below) quiet k v h = let to = of_static bases k t d below v h in (assigned_has bases k d t v h to, to)
-target_has bases t d (Some c) flow quiet k v h = absurd (full quiet)
-  where
-    full : c ∷ [] ≡ [] → ⊥
-    full e = grind (arith, e)
+target_has bases t d (Some c) flow quiet k v h = absurd (not_empty quiet)
 
 module _ (around : Around) (ctx : Context) (fits : Fits around ctx) (m : Module) (returned : Tree) where
   -- what a `for` goes over is as its labels say, and its place is evaluated
@@ -100,7 +98,7 @@ module _ (around : Around) (ctx : Context) (fits : Fits around ctx) (m : Module)
               (subst (λ y. At around head (AlsoKept around ctx fits (binds_number ctx.resolve (n ∷ bound_by b)) k s.frame (λ j frame. more j frame × GoesOver around.bases j t over)) k y × HasType around.bases k t v) (sym e.1)
               (record { stands = h.0.0.stands; known = ((h.0.0.known, h.0.1), kept_still around ctx fits (binds_number ctx.resolve (n ∷ bound_by b)) k s.frame) }, h.1)))
               (leads_bind around _ _ _ (λ j w q. At around (assign head x u) (AlsoKept around ctx fits (binds_number ctx.resolve (n ∷ bound_by b)) k s.frame (λ j frame. more j frame × GoesOver around.bases j t over)) j q) _
-              (leads_binds around _ n.text v _ λ j q g. bound_local around ctx fits (AlsoKept around ctx fits (binds_number ctx.resolve (n ∷ bound_by b)) k s.frame (λ j frame. more j frame × GoesOver around.bases j t over)) (n ∷ bound_by b) (also_lasts around ctx fits (n ∷ bound_by b) (n ∷ bound_by b) k s.frame (λ j frame. more j frame × GoesOver around.bases j t over) (λ y c. c) over_lasts) head n (first_of_list around ctx n (bound_by b)) x u v resolves j q g.0 (has j v g.1).0 (has j v g.1).1)
+              (leads_binds around _ n.text v _ λ j q g. bound_local around ctx fits (AlsoKept around ctx fits (binds_number ctx.resolve (n ∷ bound_by b)) k s.frame (λ j frame. more j frame × GoesOver around.bases j t over)) (n ∷ bound_by b) (also_lasts around ctx fits (n ∷ bound_by b) (n ∷ bound_by b) k s.frame (λ j frame. more j frame × GoesOver around.bases j t over) (λ y c. c) over_lasts) head n (first_among n (bound_by b)) x u v resolves j q g.0 (has j v g.1).0 (has j v g.1).1)
               λ w. leads_bind around _ _ _ (λ j flow q. FlowEnds around (ways_out around ctx m returned out (breaks_in_suite b bm) (loose_in b)) j flow q × AlsoKept around ctx fits (binds_number ctx.resolve (n ∷ bound_by b)) k s.frame (λ j frame. more j frame × GoesOver around.bases j t over) j q.frame) _
               (body_runs around ctx fits m returned exec good seen (assign head x u) b bm out law covered keyed (AlsoKept around ctx fits (binds_number ctx.resolve (n ∷ bound_by b)) k s.frame (λ j frame. more j frame × GoesOver around.bases j t over)) (also_lasts around ctx fits (bound_by b) (n ∷ bound_by b) k s.frame (λ j frame. more j frame × GoesOver around.bases j t over) (λ y c. Contains-append_right (n ∷ []) (bound_by b) y c) over_lasts))
               λ flow. leads_to around _ _ (λ j f q. FlowEnds around (loop_ways around ctx fits m returned head (breaks_in_suite b bm)) j f q × (more j q.frame × GoesOver around.bases j t over)) _ (λ j f q g. (g.0, g.1.0))
@@ -117,7 +115,7 @@ module _ (around : Around) (ctx : Context) (fits : Fits around ctx) (m : Module)
     where
       go : (seen : Seen) (env : Env) (marks : StmtMarks (for_loop p n e b)) (out : Option Env) → LawfulStmt m ctx around.declared returned seen env (for_loop p n e b) marks out → Covered around (StmtFinds m ctx seen (for_loop p n e b) marks) → StmtKeyed (for_loop p n e b) marks → Runs around ctx env (ways_out around ctx m returned out [] []) (n ∷ bound_by b) (exec_node Step free parts (for_loop p n e b))
       go seen env marks out law covered keyed more lasts =
-          let l = lasts.local n (first_of_list around ctx n (bound_by b)) in
+          let l = lasts.local n (first_among n (bound_by b)) in
           let x = l.number in
           let d = declared_type around.declared x in
           let t = marks.item.type in

@@ -3,9 +3,11 @@ use Rattle.std.proofs.Common.{◌≡◌, ℕ, zero, suc, List, [], ◌∷◌, re
 use Rattle.std.specs.Prelude.{◌⊎◌, Bool as Test, true, false, if◌then◌else◌, Option, Some, None, bytes_eq}
 use Rattle.std.specs.Option.{option_map}
 use Rattle.std.proofs.lemmas.Slice.Eq.{bytes_eq-Decides}
+use Rattle.std.proofs.lemmas.Option.{same_Some}
 use Rattle.pc_types.specs.Tree.{Tree}
 use Rattle.pc_types.specs.Below.{Bases}
-use Rattle.pc_flow.specs.Environment.{Env, current, declared_type, assign}
+use Rattle.pc_flow.specs.Environment.{Env, current, declared_type, assign, none_assigned}
+use Rattle.pc_scope.specs.declared.resolution.Res.TheVariants as res
 use Rattle.pc_scope.specs.Resolution.{index_of}
 use Rattle.pc_value.specs.Value.{Value}
 use Rattle.pc_value.specs.Texts.{same_text}
@@ -14,9 +16,6 @@ use Rattle.pc_machine.specs.Names.{local_of, with_local}
 use Rattle.pc_sound.specs.Values.{HeapTyping, HasType}
 use Rattle.pc_sound.specs.Kept.{HasLocal, HasLocals}
 use Rattle.pc_sound.specs.Judgment.{IsHeld, HasNames}
-
-some_inj : {A : Type 0} {x y : A} → Some x ≡ Some y → x ≡ y
-some_inj e = grind arith
 
 -- ---- texts
 
@@ -102,7 +101,7 @@ record IsMapped (o : Option ℕ) (x : ℕ) : Type 0 where
 
 mapped : (o : Option ℕ) (x : ℕ) → option_map suc o ≡ Some x → IsMapped o x
 mapped None x e = absurd (grind (arith, e))
-mapped (Some y) x e = record { number = y; is = refl; more = sym (some_inj e) }
+mapped (Some y) x e = record { number = y; is = refl; more = sym (same_Some _ _ e) }
 
 one_index : (w t : List ℕ) (ts : List (List ℕ)) (b : Test) → bytes_eq w t ≡ b → index_of w (t ∷ ts) ≡ (if b then Some 0 else option_map suc (index_of w ts))
 one_index w t ts b e = ap (λ x. if x then Some 0 else option_map suc (index_of w ts)) e
@@ -113,6 +112,10 @@ zero_or_suc n e = grind (arith, e)
 suc_same : (m n : ℕ) → suc m ≡ suc n → m ≡ n
 suc_same m n e = grind (arith, e)
 
+-- a name means at most one local
+pub local_injective : {x y : ℕ} → res.Local x ≡ res.Local y → x ≡ y
+local_injective e = grind arith
+
 -- two names of one number are the same
 pub index_same : (w u : List ℕ) (names : List (List ℕ)) (x : ℕ) → index_of w names ≡ Some x → index_of u names ≡ Some x → w ≡ u
 index_same w u [] x e f = absurd (grind (arith, e))
@@ -121,11 +124,11 @@ index_same w u (t ∷ ts) x e f = go (λ y a b. index_same w u ts y a b) (bytes_
     go : ((y : ℕ) → index_of w ts ≡ Some y → index_of u ts ≡ Some y → w ≡ u) → (b c : Test) → bytes_eq w t ≡ b → bytes_eq u t ≡ c → w ≡ u
     go others true true b c = same_is w t b ∙ sym (same_is u t c)
     go others true false b c =
-        let first = some_inj (sym (one_index w t ts true b) ∙ e) in
+        let first = same_Some _ _ (sym (one_index w t ts true b) ∙ e) in
         let m = mapped (index_of u ts) x (sym (one_index u t ts false c) ∙ f) in
         absurd (zero_or_suc m.number (first ∙ m.more))
     go others false true b c =
-        let first = some_inj (sym (one_index u t ts true c) ∙ f) in
+        let first = same_Some _ _ (sym (one_index u t ts true c) ∙ f) in
         let m = mapped (index_of w ts) x (sym (one_index w t ts false b) ∙ e) in
         absurd (zero_or_suc m.number (first ∙ m.more))
     go others false false b c =
@@ -142,7 +145,7 @@ pub record IsOther (env : Env) (x y : ℕ) (u : Tree) : Type 0 where
 
 pub assigned_cases : (env : Env) (x : ℕ) (t : Tree) (y : ℕ) (u : Tree) → current (assign env x t) y ≡ Some u → ((y ≡ x) × (u ≡ t)) ⊎ IsOther env x y u
 assigned_cases [] x t y u e = absurd (grind (arith, e))
-assigned_cases (s ∷ env) zero t zero u e = inl (refl, sym (some_inj e))
+assigned_cases (s ∷ env) zero t zero u e = inl (refl, sym (same_Some _ _ e))
 assigned_cases (s ∷ env) zero t (suc y) u e = inr (record { other = λ is. zero_or_suc y (sym is); is = e })
 assigned_cases (s ∷ env) (suc x) t zero u e = inr (record { other = λ is. zero_or_suc x is; is = e })
 assigned_cases (s ∷ env) (suc x) t (suc y) u e = elim (assigned_cases env x t y u e) [
@@ -168,7 +171,7 @@ module _ (bases : Bases) (names : List (List ℕ)) (declared : List Tree) where
             }
         | inr o ↦
             let l = locals.each w y u is o.is in
-            let differ : ¬ (word ≡ w) = λ same. o.other (some_inj (sym is ∙ sym (ap (λ z. index_of z names) same) ∙ named)) in
+            let differ : ¬ (word ≡ w) = λ same. o.other (same_Some _ _ (sym is ∙ sym (ap (λ z. index_of z names) same) ∙ named)) in
             record { value = l.value; is = local_kept word w v frame differ ∙ l.is; now = l.now; always = l.always }
       ]
 
@@ -189,3 +192,9 @@ module _ (bases : Bases) (names : List (List ℕ)) (declared : List Tree) where
             }
         | inr o ↦ locals.each w y u is o.is
       ]
+
+-- where no local is assigned, none has a current type
+pub none_current : (n x : ℕ) (t : Tree) → current (none_assigned n) x ≡ Some t → ⊥
+none_current zero x t e = grind (arith, e)
+none_current (suc n) zero t e = grind (arith, e)
+none_current (suc n) (suc x) t e = none_current n x t e

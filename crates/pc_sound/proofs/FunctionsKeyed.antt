@@ -1,5 +1,5 @@
 -- The labels of the body of a lawful function have types whose dicts have int or str as key.
-use Rattle.std.proofs.Common.{◌≡◌, ℕ, zero, suc, List, [], ◌∷◌, length, refl, sym, ◌∙◌, subst, arith}
+use Rattle.std.proofs.Common.{◌≡◌, ℕ, List, [], ◌∷◌, length, refl, sym, ◌∙◌, subst, arith}
 use Rattle.std.specs.Prelude.{Bool as Test, true, false, not, ◌||◌, Some, slice_get, bytes_eq}
 use Rattle.std.specs.List.{list_any}
 use Rattle.std.proofs.lemmas.Slice.Eq.{bytes_eq-Decides}
@@ -12,7 +12,7 @@ use Rattle.pc_scope.specs.Resolution.{is_among, locals}
 use Rattle.pc_types.specs.Tree.{Tree}
 use Rattle.pc_class.specs.Facts.{Parameter, returned}
 use Rattle.pc_class.specs.Bases.{bases_of}
-use Rattle.pc_flow.specs.Environment.{Env, current, declared_type, none_assigned}
+use Rattle.pc_flow.specs.Environment.{Env, declared_type, none_assigned}
 use Rattle.pc_expr.specs.Signatures.{body_context}
 use Rattle.pc_check.specs.Statements.{Seen}
 use Rattle.pc_check.specs.Modules.{entries_of, names_entered, DeclaredEntry, LawfulEntry, entered, entry_env, FunctionMarks, LawfulFunction}
@@ -21,19 +21,9 @@ use Rattle.pc_sound.proofs.KeyedStatements.{SuiteKeyed}
 use Rattle.pc_sound.proofs.KeyedTypes.{EnvKeyed, assign_keyed}
 use Rattle.pc_sound.proofs.KeyedLabels.{ParametersKeyed}
 use Rattle.pc_sound.proofs.KeyedModules.{body_keyed, option_ann_keyed, parameters_keyed}
-use Rattle.pc_sound.proofs.KeyedSuites.{suite_keyed}
+use Rattle.pc_sound.proofs.KeyedSuites.{suite_keyed, local_same}
 use Rattle.pc_sound.proofs.TimelyBodies.{NamesTimely, all_timely}
-
-none_current : (n x : ℕ) (t : Tree) → current (none_assigned n) x ≡ Some t → ⊥
-none_current zero x t e = grind (arith, e)
-none_current (suc n) zero t e = grind (arith, e)
-none_current (suc n) (suc x) t e = none_current n x t e
-
-local_same : {r : Res} {x y : ℕ} → r ≡ res.Local x → r ≡ res.Local y → x ≡ y
-local_same f g = inj (sym f ∙ g)
-  where
-    inj : {x y : ℕ} → res.Local x ≡ res.Local y → x ≡ y
-    inj e = grind arith
+use Rattle.pc_sound.proofs.Frames.{none_current}
 
 module _ (resolve : List ℕ → Res) (declared : List Tree) where
   abbrev WordKeyed : List ℕ → Type 0

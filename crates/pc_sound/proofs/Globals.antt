@@ -2,6 +2,7 @@
 use Rattle.std.proofs.Common.{◌≡◌, ℕ, List, [], ◌∷◌, refl, sym, ap, ◌∙◌, subst, arith, Contains}
 use Rattle.std.specs.Prelude.{Bool as Test, true, false, if◌then◌else◌, nat_lt, Option, Some, None, slice_get, codes, bytes_eq}
 use Rattle.std.proofs.lemmas.Slice.Eq.{bytes_eq-Decides}
+use Rattle.std.proofs.lemmas.Option.{same_Some}
 use Rattle.pc_source.specs.declared.place.Place.{Place}
 use Rattle.pc_tree.specs.declared.code.Code.{Code}
 use Rattle.pc_tree.specs.declared.code.Code.TheVariants.{E02, E03, E20}
@@ -65,9 +66,6 @@ builtin_text builtin.Range = codes "range"
 builtin_text builtin.Str = codes "str"
 builtin_text builtin.Tuple = codes "tuple"
 
-some_inj : {A : Type 0} {x y : A} → Some x ≡ Some y → x ≡ y
-some_inj e = grind arith
-
 abbrev AreTexts : List (List ℕ × Builtin) → Type 0
 AreTexts [] = Unit {0}
 AreTexts (e ∷ es) = (e.0 ≡ builtin_text e.1) × AreTexts es
@@ -77,7 +75,7 @@ beside_text [] all word b e = absurd (grind (arith, e))
 beside_text (x ∷ es) all word b e = go (bytes_eq x.0 word) refl e (λ e'. beside_text es all.1 word b e')
   where
     go : (t : Test) → bytes_eq x.0 word ≡ t → (if t then Some x.1 else beside es word) ≡ Some b → (beside es word ≡ Some b → word ≡ builtin_text b) → word ≡ builtin_text b
-    go true is e rest = sym ((bytes_eq-Decides x.0 word).0 is) ∙ all.0 ∙ ap builtin_text (some_inj e)
+    go true is e rest = sym ((bytes_eq-Decides x.0 word).0 is) ∙ all.0 ∙ ap builtin_text (same_Some _ _ e)
     go false is e rest = rest e
 
 pub text_of_builtin : (word : List ℕ) (b : Builtin) → builtin_of word ≡ Some b → word ≡ builtin_text b

@@ -1,6 +1,7 @@
 -- Aliases: what is recorded of a location never changes, and each action on what lies there keeps the heap well typed.
-use Rattle.std.proofs.Common.{◌≡◌, ℕ, zero, suc, List, [], ◌∷◌, ◌++◌, length, ◌+◌, refl, sym, ap, ◌∙◌, subst, inl, inr, arith, length-append}
+use Rattle.std.proofs.Common.{◌≡◌, ℕ, zero, suc, List, [], ◌∷◌, ◌++◌, length, ◌+◌, refl, sym, ap, ◌∙◌, subst, inl, inr, length-append}
 use Rattle.std.specs.Prelude.{◌⊎◌, Option, Some, None, slice_get, slice_set}
+use Rattle.std.proofs.lemmas.Option.{same_Some}
 use Rattle.pc_types.specs.Tree.{Tree, Int, NoneType, ListOf}
 use Rattle.pc_types.specs.Below.{Bases, same}
 use Rattle.pc_class.specs.Facts.{Class, Parameter, class_at}
@@ -8,27 +9,10 @@ use Rattle.pc_value.specs.Value.{Value, whole, boolean, location, Cell, list_cel
 use Rattle.pc_value.specs.Containers.{placed, append_outcome, index_among, gives_item, store_outcome, store_at}
 use Rattle.pc_sound.specs.Values.{HeapTyping, Recorded, a_list, a_dict, a_class, Extends, HasType, AllHave, EntriesHave, SlotsHave, CellHas, CellAt, IsWell}
 use Rattle.pc_sound.specs.Kept.{OutcomeHas, ActsWell}
-use Rattle.pc_sound.proofs.ValuesFlow.{of_static, later, extends_refl}
+use Rattle.pc_sound.proofs.Lists.{get_at_end, get_left, get_one_more}
+use Rattle.pc_sound.proofs.ValuesFlow.{of_static, later, extends_refl, all_later}
 
 -- ---- lists by place
-
-get_left : {A : Type 0} (xs ys : List A) (i : ℕ) (x : A) → slice_get xs i ≡ Some x → slice_get (xs ++ ys) i ≡ Some x
-get_left [] ys i x e = grind arith
-get_left (y ∷ xs) ys zero x e = e
-get_left (y ∷ xs) ys (suc i) x e = get_left xs ys i x e
-
-pub get_end : {A : Type 0} (xs : List A) (y : A) → slice_get (xs ++ y ∷ []) (length xs) ≡ Some y
-get_end [] y = refl
-get_end (x ∷ xs) y = get_end xs y
-
-some_inj : {A : Type 0} {x y : A} → Some x ≡ Some y → x ≡ y
-some_inj e = grind arith
-
-get_more : {A : Type 0} (xs : List A) (y : A) (i : ℕ) (z : A) → slice_get (xs ++ y ∷ []) i ≡ Some z → (slice_get xs i ≡ Some z) ⊎ ((i ≡ length xs) × (y ≡ z))
-get_more [] y zero z e = inr (refl, some_inj e)
-get_more [] y (suc i) z e = inl e
-get_more (x ∷ xs) y zero z e = inl e
-get_more (x ∷ xs) y (suc i) z e = elim (get_more xs y i z e) [ inl a ↦ inl a | inr b ↦ inr (ap suc b.0, b.1) ]
 
 get_set : {A : Type 0} (xs : List A) (i j : ℕ) (x y : A) → slice_get xs j ≡ Some x → ((i ≡ j) × (slice_get (slice_set xs i y) j ≡ Some y)) ⊎ (slice_get (slice_set xs i y) j ≡ Some x)
 get_set [] i j x y e = inr e
@@ -45,10 +29,6 @@ length-set (x ∷ xs) (suc i) y = ap suc (length-set xs i y)
 -- ---- cells under later heap typings
 
 module _ (bases : Bases) (classes : List Class) where
-  all_later : {k k' : HeapTyping} → Extends k k' → (t : Tree) (vs : List Value) → AllHave bases k t vs → AllHave bases k' t vs
-  all_later x t [] h = tt
-  all_later x t (v ∷ vs) h = (later bases x t v h.0, all_later x t vs h.1)
-
   entries_later : {k k' : HeapTyping} → Extends k k' → (s t : Tree) (es : List Entry) → EntriesHave bases k s t es → EntriesHave bases k' s t es
   entries_later x s t [] h = tt
   entries_later x s t (e ∷ es) h = (later bases x s e.key h.0, later bases x t e.value h.1, entries_later x s t es h.2)
@@ -60,7 +40,7 @@ module _ (bases : Bases) (classes : List Class) where
   slots_later x (f ∷ fs) (s ∷ ss) h = (h.0, later bases x f.type s.value h.1, slots_later x fs ss h.2)
 
   cell_later : {k k' : HeapTyping} → Extends k k' → (r : Recorded) (c : Cell) → CellHas bases classes k r c → CellHas bases classes k' r c
-  cell_later x (a_list t) (list_cell items) h = all_later x t items h
+  cell_later x (a_list t) (list_cell items) h = all_later bases x t items h
   cell_later x (a_dict s t) (dict_cell entries) h = entries_later x s t entries h
   cell_later x (a_class c) (instance_cell d slots) h = (h.0, slots_later x (class_at classes c).fields slots h.1)
   cell_later x _ _ h = absurd h
@@ -73,7 +53,7 @@ module _ (bases : Bases) (classes : List Class) where
       each j q e =
           let old = well.each j q e in
           elim (get_set heap l j old.cell c old.is) [
-            | inl new ↦ record { cell = c; is = new.1; has = subst (λ x. CellHas bases classes k x c) (some_inj (sym is ∙ ap (slice_get k) new.0 ∙ e)) has }
+            | inl new ↦ record { cell = c; is = new.1; has = subst (λ x. CellHas bases classes k x c) (same_Some _ _ (sym is ∙ ap (slice_get k) new.0 ∙ e)) has }
             | inr kept ↦ record { cell = old.cell; is = kept; has = old.has }
           ]
 
@@ -85,11 +65,11 @@ module _ (bases : Bases) (classes : List Class) where
   place_keeps k heap r c has well = record { long = length-append k (r ∷ []) ∙ ap (λ n. n + 1) well.long ∙ sym (length-append heap (c ∷ [])); each = each }
     where
       each : (j : ℕ) (q : Recorded) → slice_get (k ++ r ∷ []) j ≡ Some q → CellAt bases classes (k ++ r ∷ []) (heap ++ c ∷ []) j q
-      each j q e = elim (get_more k r j q e) [
+      each j q e = elim (get_one_more k r j q e) [
         | inl old ↦ let h = well.each j q old in record { cell = h.cell; is = get_left heap (c ∷ []) j h.cell h.is; has = cell_later (grown k r) q h.cell h.has }
         | inr new ↦ record {
           cell = c;
-          is = subst (λ n. slice_get (heap ++ c ∷ []) n ≡ Some c) (sym (new.0 ∙ well.long)) (get_end heap c);
+          is = subst (λ n. slice_get (heap ++ c ∷ []) n ≡ Some c) (sym (new.0 ∙ well.long)) (get_at_end heap c []);
           has = cell_later (grown k r) q c (subst (λ x. CellHas bases classes k x c) new.1 has);
         }
       ]
@@ -142,7 +122,7 @@ module _ (bases : Bases) (classes : List Class) where
     typing = k ++ a_list t ∷ [];
     grows = grown k (a_list t);
     well = place_keeps k heap (a_list t) (list_cell vs) all well;
-    has = record { item = t; is = subst (λ n. slice_get (k ++ a_list t ∷ []) n ≡ Some (a_list t)) well.long (get_end k (a_list t)); equal = record { to = same; fro = same } };
+    has = record { item = t; is = subst (λ n. slice_get (k ++ a_list t ∷ []) n ≡ Some (a_list t)) well.long (get_at_end k (a_list t) []); equal = record { to = same; fro = same } };
   }
 
   -- an item stored, which is of the type that the list was made with
@@ -159,7 +139,3 @@ module _ (bases : Bases) (classes : List Class) where
       go (boolean b) hi at = rw at.is (store_keeps_at k heap l h.item at.items (index_among (length at.items) (number_of_truth b)) w h.is at.have (of_static bases k t h.item h.equal.fro w hw) well)
       go _ hi at = absurd hi
   store_keeps k heap t _ i w well h hi hw = absurd h
-
--- what was put behind a list is its last element
-pub last_is : {A : Type 0} (xs : List A) (y : A) → slice_get (xs ++ y ∷ []) (length xs) ≡ Some y
-last_is xs y = get_end xs y

@@ -2,6 +2,7 @@
 -- tuple of that very item's.
 use Rattle.std.proofs.Common.{◌≡◌, ℕ, zero, suc, ◌+◌, ◌*◌, ◌-◌, List, [], ◌∷◌, map, length, refl, sym, ap, ◌∙◌, subst, inl, inr, arith}
 use Rattle.std.specs.Prelude.{◌⊎◌, Bool as Test, true, false, if◌then◌else◌, nat_lt, Option, Some, None, unwrap_or, slice_get, ℤ, pos}
+use Rattle.std.proofs.lemmas.Option.{same_Some}
 use Rattle.pc_source.specs.declared.place.Place.{Place}
 use Rattle.pc_tree.specs.Tree.{Expr, number, index}
 use Rattle.pc_scope.specs.Expressions.{place_of}
@@ -16,9 +17,8 @@ use Rattle.pc_expr.specs.Labels.{Marks, mark_of, type_of, Finds}
 use Rattle.pc_expr.specs.Lawful as lawful
 use Rattle.pc_expr.specs.Lawful.{Lawful, int_literal}
 use Rattle.pc_value.specs.Value as value
-use Rattle.pc_value.specs.Value.{Value, Values, Out, Gives, whole, boolean, string, tuple_of, location, no_values, more_values, list_of, Seen, a_number, Heap, seen}
+use Rattle.pc_value.specs.Value.{Value, Values, Out, Gives, whole, boolean, string, tuple_of, location, no_values, more_values, list_of, a_number, Heap, seen}
 use Rattle.pc_value.specs.Actions as action
-use Rattle.pc_value.specs.Actions.{Outcome}
 use Rattle.pc_value.specs.Numbers.{number_behind, number_of_digits}
 use Rattle.pc_value.specs.Containers.{index_among, at_index, item_of, gives_item, gives_character, item_outcome}
 use Rattle.pc_machine.specs.State.{State}
@@ -27,8 +27,9 @@ use Rattle.pc_machine.specs.Evaluation.{eval_node, eval_over, steps}
 use Rattle.pc_machine.specs.Free.{Step, free}
 use Rattle.pc_sound.specs.Values.{HeapTyping, HasType, HaveTypes, AllHave, IsWell}
 use Rattle.pc_sound.specs.Judgment.{HasListed, EndsWell, Around, Stands, Keeps, IsSafe, Fits}
+use Rattle.pc_sound.proofs.Lists.{not_empty}
 use Rattle.pc_sound.proofs.ValuesFlow.{later, of_static}
-use Rattle.pc_sound.proofs.Steps.{bind_safe, emits_safe, act_safe}
+use Rattle.pc_sound.proofs.Steps.{bind_safe, emits_safe, act_safe, gives_injective, gives_not_stops}
 use Rattle.pc_sound.proofs.Keys.{IsKeyed, Keyed, keyed_type}
 use Rattle.pc_sound.proofs.Expressions.{Covered, GoodEval, allowed, part}
 use Rattle.pc_sound.proofs.Flows.{Evaluates}
@@ -37,7 +38,7 @@ use Rattle.pc_sound.proofs.Joins.{all_hold}
 use Rattle.pc_sound.proofs.Dicts.{dict_item_has}
 use Rattle.pc_sound.proofs.Seen.{sees_list}
 use Rattle.pc_sound.proofs.Acting.{outcome_ends}
-use Rattle.pc_sound.proofs.Members.{no_codes, ends_more, HasEach, each_later, AllOf, offers_end_where}
+use Rattle.pc_sound.proofs.Members.{ends_more, HasEach, each_later, AllOf, offers_end_where}
 use Rattle.pc_sound.proofs.SeveralFlows.{flows_safe}
 
 -- ---- steps of which more is known
@@ -69,15 +70,12 @@ same_behind : (n : ℕ) (digits : List ℕ) → number_behind n digits ≡ lawfu
 same_behind n [] = refl
 same_behind n (d ∷ ds) = same_behind (10 * n + (d - 48)) ds
 
-some_inj : {A : Type 0} {x y : A} → Some x ≡ Some y → x ≡ y
-some_inj e = grind arith
-
 -- a value is the number of the literal, if the index is one
 abbrev IsLiteral : Option ℕ → Value → Type 0
 IsLiteral literal v = (i : ℕ) → literal ≡ Some i → v ≡ whole (pos i)
 
 literal_value : (eval : Expr → Step Value) → ReadsNumbers eval → (e : Expr) (s s' : State) (events : List Place) (v : Value) → eval e s events (Gives v) s' → IsLiteral (int_literal e) v
-literal_value eval reads (number p digits) s s' events v r i is = reads.number p digits s s' events v r ∙ ap (λ n. whole (pos n)) (same_behind 0 digits ∙ some_inj is)
+literal_value eval reads (number p digits) s s' events v r i is = reads.number p digits s s' events v r ∙ ap (λ n. whole (pos n)) (same_behind 0 digits ∙ same_Some _ _ is)
 literal_value eval reads _ s s' events v r i is = absurd (grind (arith, is))
 
 -- ---- items
@@ -178,7 +176,7 @@ module _ (bases : Bases) (k : HeapTyping) where
     index_ends literal (ListOf t) _ key keyed h e each is = absurd h
     index_ends literal Str _ key keyed h e each is = absurd h
     index_ends literal (TupleOf ts) _ key keyed h e each is = absurd h
-    index_ends literal _ v key keyed h e each is = absurd (no_codes e)
+    index_ends literal _ v key keyed h e each is = absurd (not_empty e)
 
 module _ (around : Around) (ctx : Context) (fits : Fits around ctx) (parts : Parts Step) (good : GoodEval around ctx parts.eval) (evaluates : (e : Expr) → Evaluates (place_of e) (parts.eval e)) (reads : ReadsNumbers parts.eval) (env : Env) where
   pub index_safe : (want : Option Tree) (p : Place) (e i : Expr) (m : Marks (index p e i)) → Lawful ctx around.declared env want (index p e i) m → Covered around (Finds (index p e i) m) → Keyed (index p e i) m → IsSafe around env (λ k. Unit {0}) (eval_node Step free parts (index p e i)) (λ k v. HasType around.bases k m.here.type v)
@@ -203,19 +201,13 @@ module _ (around : Around) (ctx : Context) (fits : Fits around ctx) (parts : Par
 
 -- ---- numbers as they are written, over any number of nested steps
 
-no_stop : {v : Value} {stop : value.Stop} → Gives v ≡ value.Stops stop → ⊥
-no_stop e = absurd (grind (arith, e))
-
-gives_inj : {v w : Value} → Gives v ≡ Gives w → v ≡ w
-gives_inj e = grind arith
-
 number_read : (p : Place) (parts : Parts Step) (digits : List ℕ) (s s' : State) (events : List Place) (v : Value) → eval_node Step free parts (number p digits) s events (Gives v) s' → v ≡ whole (number_of_digits digits)
-number_read p parts digits s s' events v (inl r) = elim r.after [ inl a ↦ gives_inj a.is | inr a ↦ elim a [ inl b ↦ absurd (no_stop b.is) | inr b ↦ absurd (no_stop b.is) ] ]
-number_read p parts digits s s' events v (inr r) = absurd (no_stop r.is)
+number_read p parts digits s s' events v (inl r) = elim r.after [ inl a ↦ gives_injective a.is | inr a ↦ elim a [ inl b ↦ absurd (gives_not_stops b.is) | inr b ↦ absurd (gives_not_stops b.is) ] ]
+number_read p parts digits s s' events v (inr r) = absurd (gives_not_stops r.is)
 
 over_reads : (parts : Parts Step) → ReadsNumbers (eval_over Step free parts)
-over_reads parts = record { number = λ p digits s s' events v r. elim r [ inl w ↦ number_read p parts digits w.middle s' w.late v w.after | inr w ↦ absurd (no_stop w.is) ] }
+over_reads parts = record { number = λ p digits s s' events v r. elim r [ inl w ↦ number_read p parts digits w.middle s' w.late v w.after | inr w ↦ absurd (gives_not_stops w.is) ] }
 
 pub steps_read_numbers : (n : ℕ) → ReadsNumbers (steps Step free n).eval
-steps_read_numbers zero = record { number = λ p digits s s' events v r. absurd (no_stop r.is) }
+steps_read_numbers zero = record { number = λ p digits s s' events v r. absurd (gives_not_stops r.is) }
 steps_read_numbers (suc n) = over_reads (steps Step free n)

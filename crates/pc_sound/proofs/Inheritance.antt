@@ -1,18 +1,17 @@
 -- Each class of a module has the fields and the methods of its base behind or before its own.
-use Rattle.std.proofs.Common.{◌≡◌, ℕ, zero, suc, ◌+◌, ◌<◌, ◌≤◌, List, [], ◌∷◌, ◌++◌, length, refl, sym, ap, ◌∙◌, subst, arith, length-append}
+use Rattle.std.proofs.Common.{◌≡◌, ℕ, zero, suc, ◌+◌, ◌<◌, List, [], ◌∷◌, ◌++◌, length, refl, sym, ap, ◌∙◌, subst, arith, length-append}
 use Rattle.std.specs.Prelude.{Option, Some, None, slice_get, slice_index_or, bytes_eq}
 use Rattle.std.specs.Option.{option_or}
 use Rattle.std.proofs.lemmas.List.Folds.{find-append}
+use Rattle.std.proofs.lemmas.Option.{same_Some, slice_get_past}
 use Rattle.pc_tree.specs.Tree.{ClassDef, Module}
 use Rattle.pc_scope.specs.Bindings.{classes_in}
 use Rattle.pc_types.specs.Below.{base_of}
 use Rattle.pc_class.specs.Bases.{base_named, bases_from, bases_of}
 use Rattle.pc_class.specs.Facts.{Parameter, Class, field_of, class_in, class_at, inherited, own_fields, own_methods, class_behind, classes_behind, classes_of}
 use Rattle.pc_class.proofs.Earlier.{smaller}
+use Rattle.pc_sound.proofs.Lists.{get_at_end}
 use Rattle.pc_sound.proofs.Fields.{Inherits}
-
-some_inj : {A : Type 0} {x y : A} → Some x ≡ Some y → x ≡ y
-some_inj e = grind arith
 
 -- ---- lists of classes
 
@@ -20,15 +19,6 @@ get_front : {A : Type 0} (xs ys : List A) (i : ℕ) → i < length xs → slice_
 get_front [] ys i h = absurd (omega arith)
 get_front (x ∷ xs) ys zero h = refl
 get_front (x ∷ xs) ys (suc i) h = get_front xs ys i (omega arith)
-
-get_last : {A : Type 0} (xs : List A) (y : A) → slice_get (xs ++ y ∷ []) (length xs) ≡ Some y
-get_last [] y = refl
-get_last (x ∷ xs) y = get_last xs y
-
-get_past : {A : Type 0} (xs : List A) (i : ℕ) → length xs ≤ i → slice_get xs i ≡ None
-get_past [] i h = refl
-get_past (x ∷ xs) zero h = absurd (omega arith)
-get_past (x ∷ xs) (suc i) h = get_past xs i (omega arith)
 
 module _ (m : Module) where
   -- classes that stand before others stay
@@ -53,8 +43,8 @@ module _ (m : Module) where
       record {
         earlier = earlier;
         is = ap (slice_get (classes_behind m more (suc c) rest)) (omega arith) ∙ kept more (suc c) rest c (omega arith)
-            ∙ ap (slice_get more) (sym long) ∙ get_last earlier (class_behind m earlier c d)
-            ∙ ap (λ x. Some (class_behind m earlier c x)) (some_inj e) ∙ ap (λ n. Some (class_behind m earlier n class)) (omega arith);
+            ∙ ap (slice_get more) (sym long) ∙ get_at_end earlier (class_behind m earlier c d) []
+            ∙ ap (λ x. Some (class_behind m earlier c x)) (same_Some _ _ e) ∙ ap (λ n. Some (class_behind m earlier n class)) (omega arith);
         same = λ b h. sym (kept more (suc c) rest b (omega arith) ∙ get_front earlier (class_behind m earlier c d ∷ []) b (omega arith));
       }
   made earlier c (d ∷ rest) (suc i) class long e =
@@ -64,7 +54,7 @@ module _ (m : Module) where
 
   -- past the classes of the text there is none
   past : (earlier : List Class) (c : ℕ) (cs : List ClassDef) (i : ℕ) → length earlier ≡ c → slice_get cs i ≡ None → slice_get (classes_behind m earlier c cs) (c + i) ≡ None
-  past earlier c [] i long e = get_past earlier (c + i) (omega arith)
+  past earlier c [] i long e = slice_get_past earlier (c + i) (omega arith)
   past earlier c (d ∷ rest) zero long e = absurd (grind (arith, e))
   past earlier c (d ∷ rest) (suc i) long e =
       let more = earlier ++ class_behind m earlier c d ∷ [] in
@@ -88,7 +78,7 @@ module _ (m : Module) where
 
   base_is : (n : ℕ) (cs : List ClassDef) (i : ℕ) (class : ClassDef) → slice_get cs i ≡ Some class → slice_index_or (bases_from m n cs) i None ≡ base_named m (n + i) class.base
   base_is n [] i class e = absurd (grind (arith, e))
-  base_is n (d ∷ cs) zero class e = ap (λ x. base_named m n x.base) (some_inj e) ∙ ap (λ k. base_named m k class.base) (omega arith)
+  base_is n (d ∷ cs) zero class e = ap (λ x. base_named m n x.base) (same_Some _ _ e) ∙ ap (λ k. base_named m k class.base) (omega arith)
   base_is n (d ∷ cs) (suc i) class e = base_is (suc n) cs i class e ∙ ap (λ k. base_named m k class.base) (omega arith)
 
   -- ---- the classes of the module

@@ -1,6 +1,7 @@
 -- Calls in initializers: of classes that are defined earlier, and of nothing else without an error.
 use Rattle.std.proofs.Common.{◌≡◌, ℕ, List, [], ◌∷◌, refl, sym, ap, ◌∙◌, subst, inl, inr, arith, Contains}
-use Rattle.std.specs.Prelude.{Bool as Test, true, false, ◌&&◌, if◌then◌else◌, nat_lt, Option, Some, None, slice_get}
+use Rattle.std.specs.Prelude.{Bool as Test, true, false, ◌&&◌, if◌then◌else◌, nat_lt, Option, slice_get}
+use Rattle.std.proofs.lemmas.Option.{none-some}
 use Rattle.pc_source.specs.declared.place.Place.{Place}
 use Rattle.pc_tree.specs.declared.code.Code.TheVariants.{E03}
 use Rattle.pc_tree.specs.Code.{finding}
@@ -60,9 +61,6 @@ own_mark (attribute p e f) m h = refl
 own_mark (index p a b) m h = refl
 own_mark (call p c args by_name) m h = refl
 
-none_here : {A : Type 0} {a : A} → None ≡ Some a → ⊥
-none_here e = grind arith
-
 module _ (m : Module) (listed : Place → Type 0) (types : List Tree) (defs : List FuncDef) (n : ℕ) (names : List (List ℕ)) where
   abbrev Here : Around
   Here = around_items m listed types defs n names
@@ -77,7 +75,7 @@ module _ (m : Module) (listed : Place → Type 0) (types : List Tree) (defs : Li
     classes = refl;
     smaller = smaller m;
     local = λ word x e. absurd (module_local m word x e);
-    named = λ word x e. absurd (none_here e);
+    named = λ word x e. absurd (none-some _ e);
   }
 
   module _ (inherits : Inherits (bases_of m) (classes_of m)) (distinct_fields : (c : ℕ) → Distinct [] (class_at (classes_of m) c).fields) (knows : KnowsNames (around_items m listed types defs n names) (initializer_context m types n)) (parts : Parts Step) (good : GoodEval (around_items m listed types defs n names) (initializer_context m types n) parts.eval) (evaluates : (e : Expr) → Evaluates (place_of e) (parts.eval e)) (env : Env) where

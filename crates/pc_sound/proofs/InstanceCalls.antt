@@ -1,6 +1,8 @@
 -- Tests of instances are safe: what stands second is `int`, `str`, `bool`, `list` or a class that the module has bound.
-use Rattle.std.proofs.Common.{◌≡◌, ℕ, List, [], refl, sym, ap, ◌∙◌, subst, inl, inr, arith}
+use Rattle.std.proofs.Common.{◌≡◌, ℕ, List, [], refl, sym, ap, ◌∙◌, subst, inl, inr}
 use Rattle.std.specs.Prelude.{Bool as Test, true, false, ◌&&◌, if◌then◌else◌, nat_lt, Option, Some, None, codes, bytes_eq}
+use Rattle.std.proofs.lemmas.Option.{none-some}
+use Rattle.std.proofs.lemmas.Bool.{and_parts, false≢true}
 use Rattle.pc_source.specs.declared.place.Place.{Place}
 use Rattle.pc_tree.specs.declared.code.Code.TheVariants.{E20, E25, E03}
 use Rattle.pc_tree.specs.Code.{finding}
@@ -28,25 +30,12 @@ use Rattle.pc_machine.specs.Evaluation.{instance_test, ordinary, call_form, eval
 use Rattle.pc_machine.specs.Free.{Step, free}
 use Rattle.pc_sound.specs.Values.{HeapTyping, HasType}
 use Rattle.pc_sound.specs.Judgment.{Around, Stands, EndsWell, IsSafe, Fits}
+use Rattle.pc_sound.proofs.Lists.{same_text_back}
 use Rattle.pc_sound.proofs.ValuesFlow.{later}
 use Rattle.pc_sound.proofs.Steps.{bind_safe, looks_safe, may_stop_safe, emits_safe, weaken}
 use Rattle.pc_sound.proofs.Keys.{Keyed}
 use Rattle.pc_sound.proofs.Expressions.{Covered, GoodEval, allowed, part}
-use Rattle.pc_sound.proofs.Fields.{same_text_back}
 use Rattle.pc_sound.proofs.Globals.{KnowsNames, builtin_text, means_a_class, means_a_builtin, reserved_is}
-
-some_inj : {A : Type 0} {x y : A} → Some x ≡ Some y → x ≡ y
-some_inj e = grind arith
-
-no_none : {A : Type 0} {x : A} → None ≡ Some x → ⊥
-no_none e = absurd (grind (arith, e))
-
-no_truth : false ≡ true → ⊥
-no_truth e = absurd (grind (arith, e))
-
-both_hold : (x y : Test) → (x && y) ≡ true → (x ≡ true) × (y ≡ true)
-both_hold true y e = (refl, e)
-both_hold false y e = absurd (no_truth e)
 
 picked : (b : Test) (x y : Mark) → b ≡ true → (if b then x else y) ≡ x
 picked b x y e = ap (λ c. if c then x else y) e
@@ -61,7 +50,7 @@ module _ (around : Around) (ctx : Context) (fits : Fits around ctx) (knows : Kno
       go builtin.Str e = tt
       go builtin.Bool e = tt
       go builtin.List e = tt
-      go _ e = absurd (no_none e)
+      go _ e = absurd (none-some _ e)
 
   -- a class that is tested for is bound where no E03 stands
   class_known : (c : ℕ) (m : Mark) → m ≡ name_mark ctx env (res.Class c) → is_late m.codes ≡ false → nat_lt c ctx.known ≡ true
@@ -69,7 +58,7 @@ module _ (around : Around) (ctx : Context) (fits : Fits around ctx) (knows : Kno
     where
       go : (x : Test) → nat_lt c ctx.known ≡ x → m ≡ (if x then in_error E20 else in_error E03) → nat_lt c ctx.known ≡ true
       go true is e = is
-      go false is e = absurd (no_truth (sym late ∙ ap (λ y. is_late y.codes) e))
+      go false is e = absurd (false≢true (sym late ∙ ap (λ y. is_late y.codes) e))
 
   -- what a name tests for is found
   name_tests : (word : List ℕ) (test : Tested) (m : Mark) → test_named (ctx.resolve word) ≡ Some test → m ≡ name_mark ctx env (ctx.resolve word) → is_late m.codes ≡ false → (k : HeapTyping) (s : State) → Stands around env k s → EndsWell (λ t. Unit {0}) (test_of_meaning word (meaning word s))
@@ -78,14 +67,14 @@ module _ (around : Around) (ctx : Context) (fits : Fits around ctx) (knows : Kno
       go : (r : Res) → ctx.resolve word ≡ r → test_named r ≡ Some test → m ≡ name_mark ctx env r → EndsWell (λ t. Unit {0}) (test_of_meaning word (meaning word s))
       go (res.Class c) is e law' = subst (λ x. EndsWell (λ t. Unit {0}) (test_of_meaning word x)) (sym (means_a_class around ctx fits knows env word c is (class_known c m law' late) k s st)) tt
       go (res.Builtin b) is e law' = subst (λ x. EndsWell (λ t. Unit {0}) (test_of_meaning word x)) (sym (means_a_builtin around ctx fits knows env word b is k s st)) (reserved_test word b test is e)
-      go (res.Local x) is e law' = absurd (no_none e)
-      go (res.Const i) is e law' = absurd (no_none e)
-      go (res.Func i) is e law' = absurd (no_none e)
-      go res.None is e law' = absurd (no_none e)
+      go (res.Local x) is e law' = absurd (none-some _ e)
+      go (res.Const i) is e law' = absurd (none-some _ e)
+      go (res.Func i) is e law' = absurd (none-some _ e)
+      go res.None is e law' = absurd (none-some _ e)
 
   second_tests : (want : Option Tree) (t : Expr) (m : Marks t) (test : Tested) → narrowing.test_of ctx.resolve t ≡ Some test → Lawful ctx around.declared env want t m → is_late (mark_of t m).codes ≡ false → (k : HeapTyping) (s : State) → Stands around env k s → EndsWell (λ x. Unit {0}) (test_of t s)
   second_tests want (name w) m test named law late k s st = name_tests w.text test m named law late k s st
-  second_tests want _ m test named law late k s st = absurd (no_none named)
+  second_tests want _ m test named law late k s st = absurd (none-some _ named)
 
   module _ (parts : Parts Step) (good : GoodEval around ctx parts.eval) where
     two_safe : (want : Option Tree) (p : Place) (n : Name) (e t : Expr) (m : Marks (call p (name n) (more_exprs e (more_exprs t no_exprs)) no_keywords)) → bytes_eq (codes "isinstance") n.text ≡ true → Lawful ctx around.declared env want (call p (name n) (more_exprs e (more_exprs t no_exprs)) no_keywords) m → Covered around (Finds (call p (name n) (more_exprs e (more_exprs t no_exprs)) no_keywords) m) → Keyed (call p (name n) (more_exprs e (more_exprs t no_exprs)) no_keywords) m → IsSafe around env (λ k. Unit {0}) (eval_node Step free parts (call p (name n) (more_exprs e (more_exprs t no_exprs)) no_keywords)) (λ k v. HasType around.bases k m.here.type v)
@@ -130,6 +119,6 @@ module _ (around : Around) (ctx : Context) (fits : Fits around ctx) (knows : Kno
 
     -- a test of an instance is safe
     pub instance_safe : (want : Option Tree) (p : Place) (c : Expr) (args : Exprs) (kws : Keywords) (m : Marks (call p c args kws)) → is_instance_test c args kws ≡ true → Lawful ctx around.declared env want (call p c args kws) m → Covered around (Finds (call p c args kws) m) → Keyed (call p c args kws) m → IsSafe around env (λ k. Unit {0}) (eval_node Step free parts (call p c args kws)) (λ k v. HasType around.bases k m.here.type v)
-    instance_safe want p (name n) (more_exprs e (more_exprs t no_exprs)) no_keywords m is law covered keyed = two_safe want p n e t m (both_hold (bytes_eq (codes "isinstance") n.text) true is).0 law covered keyed
-    instance_safe want p (name n) _ _ m is law covered keyed = absurd (no_truth (both_hold _ _ is).1)
-    instance_safe want p _ args kws m is law covered keyed = absurd (no_truth is)
+    instance_safe want p (name n) (more_exprs e (more_exprs t no_exprs)) no_keywords m is law covered keyed = two_safe want p n e t m (and_parts (bytes_eq (codes "isinstance") n.text) true is).0 law covered keyed
+    instance_safe want p (name n) _ _ m is law covered keyed = absurd (false≢true (and_parts _ _ is).1)
+    instance_safe want p _ args kws m is law covered keyed = absurd (false≢true is)

@@ -1,15 +1,16 @@
 -- Tests of instances: what a run tests for where types see a test; a value passes the one where it passes the other.
 use Rattle.std.proofs.Common.{◌≡◌, ℕ, zero, suc, List, [], ◌∷◌, length, refl, sym, ap, ◌∙◌, subst, arith}
 use Rattle.std.specs.Prelude.{Bool as Truth, true, false, Option, Some, None, slice_get}
+use Rattle.std.proofs.lemmas.Option.{none-some, same_Some}
 use Rattle.pc_scope.specs.declared.resolution.Res.TheVariants as res
-use Rattle.pc_types.specs.Tree.{Tree, Int, Bool, Str}
+use Rattle.pc_types.specs.Tree.{Int, Bool, Str}
 use Rattle.pc_types.specs.Tree as tree
 use Rattle.pc_types.specs.Below.{Bases, Below}
 use Rattle.pc_class.specs.Facts as facts
 use Rattle.pc_flow.specs.Environment.{Env}
 use Rattle.pc_flow.specs.Narrowing.{Tested, for_type, for_list, test_named}
 use Rattle.pc_expr.specs.Context.{Context}
-use Rattle.pc_value.specs.Value.{Value, whole, boolean, string, tuple_of, location, Gives, Cell, list_cell, dict_cell, instance_cell, Heap, is_list, seen_cell, class_seen}
+use Rattle.pc_value.specs.Value.{Value, whole, boolean, string, location, Gives, Cell, list_cell, dict_cell, instance_cell, Heap, is_list, seen_cell, class_seen}
 use Rattle.pc_value.specs.Value as value
 use Rattle.pc_machine.specs.State.{State, Class}
 use Rattle.pc_machine.specs.Names.{meaning}
@@ -17,6 +18,7 @@ use Rattle.pc_machine.specs.Calls.{Test, tests_int, tests_str, tests_bool, tests
 use Rattle.pc_sound.specs.Values.{HeapTyping, Recorded, a_list, a_dict, a_class, IsInstance, CellHas, IsWell}
 use Rattle.pc_sound.specs.Kept.{IsRecordedList, Passes}
 use Rattle.pc_sound.specs.Judgment.{Around, Stands}
+use Rattle.pc_sound.proofs.TruthValues.{not_both}
 
 -- the ancestors of the classes made are those that are above them
 pub record Descends (bases : Bases) (made : List Class) (c : ℕ) : Type 0 where
@@ -42,22 +44,13 @@ abbrev pub AsTold : Truth → Type 0 → Type 0
 AsTold true A = A
 AsTold false A = ¬ A
 
-some_inj : {A : Type 0} {x y : A} → Some x ≡ Some y → x ≡ y
-some_inj e = grind arith
-
-some_none : {A : Type 0} {x : A} → None ≡ Some x → ⊥
-some_none e = grind arith
-
-not_same : {b : Truth} → b ≡ true → b ≡ false → ⊥
-not_same e e' = grind (arith, e, e')
-
 -- a place in one list is one in each list as long
 record Got {A : Type 0} (xs : List A) (i : ℕ) : Type 0 where
   element : A
   is : slice_get xs i ≡ Some element
 
 got_too : {A B : Type 0} (xs : List A) (ys : List B) (i : ℕ) (y : B) → length xs ≡ length ys → slice_get ys i ≡ Some y → Got xs i
-got_too xs [] i y e is = absurd (some_none is)
+got_too xs [] i y e is = absurd (none-some _ is)
 got_too [] (z ∷ ys) i y e is = absurd (omega arith)
 got_too (x ∷ xs) (z ∷ ys) zero y e is = record { element = x; is = refl }
 got_too (x ∷ xs) (z ∷ ys) (suc i) y e is = let g = got_too xs ys i y (omega arith) is in record { element = g.element; is = g.is }
@@ -73,7 +66,7 @@ module _ (bases : Bases) (classes : List facts.Class) (k : HeapTyping) (heap : H
   typed l c e =
       let g = got_too k heap l c well.long e in
       let at = well.each l g.element g.is in
-      record { recorded = g.element; is = g.is; has = subst (λ x. CellHas bases classes k g.element x) (some_inj (sym at.is ∙ e)) at.has }
+      record { recorded = g.element; is = g.is; has = subst (λ x. CellHas bases classes k g.element x) (same_Some _ _ (sym at.is ∙ e)) at.has }
 
   list_recorded : (l : ℕ) (items : List Value) (r : Recorded) → slice_get k l ≡ Some r → CellHas bases classes k r (list_cell items) → IsRecordedList k l
   list_recorded l items (a_list t) is has = record { item = t; is = is }
@@ -82,19 +75,19 @@ module _ (bases : Bases) (classes : List facts.Class) (k : HeapTyping) (heap : H
 
   -- at a location where something else lies, no list and no instance of a class is recorded
   other_cell : (l : ℕ) (c : Cell) (r : Recorded) → slice_get heap l ≡ Some c → slice_get k l ≡ Some r → CellHas bases classes k r c
-  other_cell l c r e is = let at = well.each l r is in subst (λ x. CellHas bases classes k r x) (some_inj (sym at.is ∙ e)) at.has
+  other_cell l c r e is = let at = well.each l r is in subst (λ x. CellHas bases classes k r x) (same_Some _ _ (sym at.is ∙ e)) at.has
 
   no_cell : (l : ℕ) (r : Recorded) → slice_get heap l ≡ None → slice_get k l ≡ Some r → ⊥
-  no_cell l r e is = let at = well.each l r is in some_none (sym e ∙ at.is)
+  no_cell l r e is = let at = well.each l r is in none-some _ (sym e ∙ at.is)
 
   lists_agree : (l : ℕ) (o : Option Cell) → slice_get heap l ≡ o → (holds : Truth) → is_list (seen_cell l o) ≡ holds → AsTold holds (IsRecordedList k l)
-  lists_agree l None e true is = absurd (not_same refl (sym is))
+  lists_agree l None e true is = absurd (not_both refl (sym is))
   lists_agree l None e false is = λ r. no_cell l (a_list r.item) e r.is
   lists_agree l (Some (list_cell items)) e true is = let t = typed l (list_cell items) e in list_recorded l items t.recorded t.is t.has
-  lists_agree l (Some (list_cell items)) e false is = absurd (not_same refl is)
-  lists_agree l (Some (dict_cell entries)) e true is = absurd (not_same refl (sym is))
+  lists_agree l (Some (list_cell items)) e false is = absurd (not_both refl is)
+  lists_agree l (Some (dict_cell entries)) e true is = absurd (not_both refl (sym is))
   lists_agree l (Some (dict_cell entries)) e false is = λ r. other_cell l (dict_cell entries) (a_list r.item) e r.is
-  lists_agree l (Some (instance_cell d slots)) e true is = absurd (not_same refl (sym is))
+  lists_agree l (Some (instance_cell d slots)) e true is = absurd (not_both refl (sym is))
   lists_agree l (Some (instance_cell d slots)) e false is = λ r. other_cell l (instance_cell d slots) (a_list r.item) e r.is
 
   instance_recorded : (l c d : ℕ) (slots : List value.Slot) (r : Recorded) → slice_get k l ≡ Some r → CellHas bases classes k r (instance_cell d slots) → Below bases (tree.Class d) (tree.Class c) → IsInstance bases k l c
@@ -104,36 +97,36 @@ module _ (bases : Bases) (classes : List facts.Class) (k : HeapTyping) (heap : H
 
   module _ (made : List Class) (c : ℕ) (descends : Descends bases made c) where
     instances_agree : (l : ℕ) (o : Option Cell) → slice_get heap l ≡ o → (holds : Truth) → descends_from c (class_at made (class_seen (seen_cell l o))) ≡ holds → AsTold holds (IsInstance bases k l c)
-    instances_agree l None e true is = absurd (not_same refl (sym is))
+    instances_agree l None e true is = absurd (not_both refl (sym is))
     instances_agree l None e false is = λ r. no_cell l (a_class r.class) e r.is
-    instances_agree l (Some (list_cell items)) e true is = absurd (not_same refl (sym is))
+    instances_agree l (Some (list_cell items)) e true is = absurd (not_both refl (sym is))
     instances_agree l (Some (list_cell items)) e false is = λ r. other_cell l (list_cell items) (a_class r.class) e r.is
-    instances_agree l (Some (dict_cell entries)) e true is = absurd (not_same refl (sym is))
+    instances_agree l (Some (dict_cell entries)) e true is = absurd (not_both refl (sym is))
     instances_agree l (Some (dict_cell entries)) e false is = λ r. other_cell l (dict_cell entries) (a_class r.class) e r.is
     instances_agree l (Some (instance_cell d slots)) e true is = let t = typed l (instance_cell d slots) e in instance_recorded l c d slots t.recorded t.is t.has (descends.below d is)
     instances_agree l (Some (instance_cell d slots)) e false is =
-        λ r. not_same (descends.reached d (subst (λ y. Below bases (tree.Class y) (tree.Class c)) (sym (other_cell l (instance_cell d slots) (a_class r.class) e r.is).0) r.below)) is
+        λ r. not_both (descends.reached d (subst (λ y. Below bases (tree.Class y) (tree.Class c)) (sym (other_cell l (instance_cell d slots) (a_class r.class) e r.is).0) r.below)) is
 
 -- a value passes a test in a run where it does as types see it
 pub passes_agree : (bases : Bases) (classes : List facts.Class) (k : HeapTyping) (s : State) → IsWell bases classes k s.heap → (test : Tested) (made : Test) (v : Value) → IsRight bases s.classes test made → (holds : Truth) → passes s v made ≡ holds → AsTold holds (Passes bases k test v)
 passes_agree bases classes k s well (for_type Int) tests_int (whole n) right true e = tt
-passes_agree bases classes k s well (for_type Int) tests_int (whole n) right false e = absurd (not_same refl e)
+passes_agree bases classes k s well (for_type Int) tests_int (whole n) right false e = absurd (not_both refl e)
 passes_agree bases classes k s well (for_type Int) tests_int (boolean b) right true e = tt
-passes_agree bases classes k s well (for_type Int) tests_int (boolean b) right false e = absurd (not_same refl e)
-passes_agree bases classes k s well (for_type Int) tests_int _ right true e = absurd (not_same refl (sym e))
+passes_agree bases classes k s well (for_type Int) tests_int (boolean b) right false e = absurd (not_both refl e)
+passes_agree bases classes k s well (for_type Int) tests_int _ right true e = absurd (not_both refl (sym e))
 passes_agree bases classes k s well (for_type Int) tests_int _ right false e = λ h. h
 passes_agree bases classes k s well (for_type Bool) tests_bool (boolean b) right true e = tt
-passes_agree bases classes k s well (for_type Bool) tests_bool (boolean b) right false e = absurd (not_same refl e)
-passes_agree bases classes k s well (for_type Bool) tests_bool _ right true e = absurd (not_same refl (sym e))
+passes_agree bases classes k s well (for_type Bool) tests_bool (boolean b) right false e = absurd (not_both refl e)
+passes_agree bases classes k s well (for_type Bool) tests_bool _ right true e = absurd (not_both refl (sym e))
 passes_agree bases classes k s well (for_type Bool) tests_bool _ right false e = λ h. h
 passes_agree bases classes k s well (for_type Str) tests_str (string cs) right true e = tt
-passes_agree bases classes k s well (for_type Str) tests_str (string cs) right false e = absurd (not_same refl e)
-passes_agree bases classes k s well (for_type Str) tests_str _ right true e = absurd (not_same refl (sym e))
+passes_agree bases classes k s well (for_type Str) tests_str (string cs) right false e = absurd (not_both refl e)
+passes_agree bases classes k s well (for_type Str) tests_str _ right true e = absurd (not_both refl (sym e))
 passes_agree bases classes k s well (for_type Str) tests_str _ right false e = λ h. h
 passes_agree bases classes k s well for_list tests_list (location l) right holds e = lists_agree bases classes k s.heap well l (slice_get s.heap l) refl holds e
-passes_agree bases classes k s well for_list tests_list _ right true e = absurd (not_same refl (sym e))
+passes_agree bases classes k s well for_list tests_list _ right true e = absurd (not_both refl (sym e))
 passes_agree bases classes k s well for_list tests_list _ right false e = λ h. h
 passes_agree bases classes k s well (for_type (tree.Class c)) (tests_class d) (location l) right holds e = instances_agree bases classes k s.heap well s.classes c right.1 l (slice_get s.heap l) refl holds (ap (λ x. descends_from x (class_at s.classes (class_seen (seen_cell l (slice_get s.heap l))))) right.0 ∙ e)
-passes_agree bases classes k s well (for_type (tree.Class c)) (tests_class d) _ right true e = absurd (not_same refl (sym e))
+passes_agree bases classes k s well (for_type (tree.Class c)) (tests_class d) _ right true e = absurd (not_both refl (sym e))
 passes_agree bases classes k s well (for_type (tree.Class c)) (tests_class d) _ right false e = λ h. h
 passes_agree bases classes k s well _ _ v right holds e = absurd right

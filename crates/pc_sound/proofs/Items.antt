@@ -1,7 +1,8 @@
 -- All items of a module, one after another, and then `main`.
-use Rattle.std.proofs.Common.{◌≡◌, ℕ, zero, suc, ◌+◌, List, [], ◌∷◌, ◌++◌, length, refl, sym, ap, ◌∙◌, subst, inl, inr, arith}
-use Rattle.std.specs.Prelude.{Bool as Test, true, false, ◌&&◌, ◌||◌, not, nat_lt, if◌then◌else◌, codes, Some, None, is_some, slice_get, bytes_eq}
-use Rattle.std.proofs.lemmas.Bool.Decides.{nat_tests}
+use Rattle.std.proofs.Common.{◌≡◌, ℕ, zero, suc, ◌+◌, List, [], ◌∷◌, ◌++◌, length, refl, sym, ap, ◌∙◌, subst, inl, inr, arith, append-nil, append_assoc}
+use Rattle.std.specs.Prelude.{Bool as Test, true, false, not, nat_lt, if◌then◌else◌, codes, Some, None, is_some, slice_get, bytes_eq}
+use Rattle.std.proofs.lemmas.Option.{same_Some}
+use Rattle.std.proofs.lemmas.Bool.{and_parts, not-true}
 use Rattle.pc_source.specs.declared.place.Place.{Place}
 use Rattle.pc_tree.specs.Tree.{Name, Expr, ClassDef, FuncDef, Param, Item, constant_item, class_item, def_item, Module}
 use Rattle.pc_tree.specs.Stopping.{is_plain_def, has_none}
@@ -21,7 +22,7 @@ use Rattle.pc_expr.specs.Signatures.{initializer_context}
 use Rattle.pc_check.specs.Modules.{annotated_types, first_of_types, binds_item, Before, before_next, ItemMarks, ItemsMarks, LawfulItem, LawfulItems, ItemFinds, ItemsFind}
 use Rattle.pc_value.specs.Value.{Gives}
 use Rattle.pc_machine.specs.State.{State, Function, Class, Globals}
-use Rattle.pc_machine.specs.Names.{Meaning, means_function, meaning, meaning_of_bound, meaning_of_global, meaning_of_local, global_of, local_of}
+use Rattle.pc_machine.specs.Names.{meaning, meaning_of_global, meaning_of_local, global_of}
 use Rattle.pc_tree.specs.Stopping as stopping
 use Rattle.pc_machine.specs.Calls.{Callee, calls_value, calls_function, calls_class, calls_reserved, calls_method, calls_builtin_method, callee_of_meaning, bound_arguments}
 use Rattle.pc_machine.specs.Steps.{Parts}
@@ -29,6 +30,8 @@ use Rattle.pc_machine.specs.Free.{Step, free}
 use Rattle.pc_machine.specs.Evaluation.{exec_item, exec_items, enter_main, call_callee}
 use Rattle.pc_sound.specs.Values.{HeapTyping, HasType}
 use Rattle.pc_sound.specs.Judgment.{EndsWell, Around, Stands, IsSafe}
+use Rattle.pc_sound.proofs.TruthValues.{neither}
+use Rattle.pc_sound.proofs.Lists.{get_at_end, one_longer, within}
 use Rattle.pc_sound.proofs.Steps.{bind_safe, looks_safe, weaken}
 use Rattle.pc_sound.proofs.Expressions.{GoodEval}
 use Rattle.pc_sound.proofs.Flows.{Evaluates}
@@ -41,40 +44,11 @@ use Rattle.pc_sound.proofs.Filling.{Filled}
 use Rattle.pc_sound.proofs.Suiting.{Suits, suited_bound}
 use Rattle.pc_sound.proofs.Calling.{function_call_safe}
 use Rattle.pc_sound.proofs.Proceeding.{Proceeds, proceeds_bind, proceeds_comes}
-use Rattle.pc_sound.proofs.Binds.{get_at_end, constants_append, classes_append, functions_append, constant_named, function_named, class_named}
+use Rattle.pc_sound.proofs.Binds.{constants_append, classes_append, functions_append, constant_named, function_named, class_named}
 use Rattle.pc_sound.proofs.ModuleOrder.{BoundSoFar, bound_later, around_items, Between, Listed, ParametersBind, def_proceeds, constant_proceeds}
 
-some_inj : {A : Type 0} {x y : A} → Some x ≡ Some y → x ≡ y
-some_inj e = grind arith
-
-both : (a b : Test) → (a && b) ≡ true → (a ≡ true) × (b ≡ true)
-both true b e = (refl, e)
-both false b e = absurd (grind (arith, e))
-
-shifted : (xs : List Item) (y : Item) (ys : List Item) → (xs ++ y ∷ []) ++ ys ≡ xs ++ y ∷ ys
-shifted [] y ys = refl
-shifted (x ∷ xs) y ys = ap (λ l. x ∷ l) (shifted xs y ys)
-
-right_end : {A : Type 0} (xs : List A) → xs ++ [] ≡ xs
-right_end [] = refl
-right_end (x ∷ xs) = ap (λ l. x ∷ l) (right_end xs)
-
-one_longer : {A : Type 0} (xs : List A) (y : A) → length (xs ++ y ∷ []) ≡ suc (length xs)
-one_longer [] y = refl
-one_longer (x ∷ xs) y = ap suc (one_longer xs y)
-
-within : {A : Type 0} (xs : List A) (i : ℕ) (x : A) → slice_get xs i ≡ Some x → nat_lt i (length xs) ≡ true
-within [] i x e = absurd (grind (arith, e))
-within (y ∷ xs) zero x e = grind (arith, nat_tests)
-within (y ∷ xs) (suc i) x e = let h = within xs i x e in grind (arith, nat_tests, h)
-
 binds_parts : (names : List (List ℕ)) (n : Name) → binds_item names n ≡ true → (is_among n.text names ≡ false) × (is_reserved n.text ≡ false)
-binds_parts names n e = go (is_reserved n.text) (is_among n.text names) e
-  where
-    go : (a b : Test) → not (a || b) ≡ true → (b ≡ false) × (a ≡ false)
-    go true b e = absurd (grind (arith, e))
-    go false true e = absurd (grind (arith, e))
-    go false false e = (refl, refl)
+binds_parts names n e = let h = neither (is_reserved n.text) (is_among n.text names) e in (h.1, h.0)
 
 module _ (m : Module) (constants : List Tree) (listed : Place → Type 0) where
   -- what is known of each item before it runs: its name is bound by nothing, its labels' dicts have int or str as key, its parameters bind their names
@@ -103,7 +77,7 @@ module _ (m : Module) (constants : List Tree) (listed : Place → Type 0) where
         → LawfulItems m constants b rest marks → Listed m listed (ItemsFind m constants b rest marks) → ItemsReady b rest marks
         → Proceeds listed (λ k s. Between m listed b.constants defs b.classes b.names k s) (exec_items Step free parts m.imports_dataclass rest) (λ k u s. Between m listed (last_of b rest marks).constants (functions_in m.items) (last_of b rest marks).classes (last_of b rest marks).names k s)
     items_proceed done [] b defs marks all cs ns fs law clean ready =
-        proceeds_comes listed _ (Gives tt) _ λ k s h. subst (λ d. Between m listed b.constants d b.classes b.names k s) (fs ∙ ap functions_in (sym (right_end done)) ∙ ap functions_in (sym all)) h
+        proceeds_comes listed _ (Gives tt) _ λ k s h. subst (λ d. Between m listed b.constants d b.classes b.names k s) (fs ∙ ap functions_in (sym (append-nil done)) ∙ ap functions_in (sym all)) h
     items_proceed done (constant_item p c ∷ rest) b defs marks all cs ns fs law clean ready =
         let parts_of = binds_parts b.names c.name ready.0.0 in
         proceeds_bind listed _ _ _ (λ k u s. Between m listed (before_next m b (constant_item p c) marks.0).constants defs b.classes (c.name.text ∷ b.names) k s) _
@@ -111,9 +85,9 @@ module _ (m : Module) (constants : List Tree) (listed : Place → Type 0) where
         (subst (λ t. Lawful (initializer_context m b.constants b.classes) [] [] (first_of_types (annotated_types m t c.annotation)) c.value marks.0.value) ready.0.0 law.0.value)
         (subst (λ t. FlowsInto (bases_of m) (mark_of c.value marks.0.value) (annotated_types m t c.annotation) marks.0.flows) ready.0.0 law.0.flow)
         (λ f h. clean f (inl (inr h))) ready.0.1 means parts_of.0 parts_of.1)
-        λ u. items_proceed (done ++ constant_item p c ∷ []) rest (before_next m b (constant_item p c) marks.0) defs marks.1 (all ∙ sym (shifted done (constant_item p c) rest))
+        λ u. items_proceed (done ++ constant_item p c ∷ []) rest (before_next m b (constant_item p c) marks.0) defs marks.1 (all ∙ sym (append_assoc done (constant_item p c ∷ []) rest))
         (one_longer b.constants _ ∙ ap suc cs ∙ sym (one_longer (constants_in done) c) ∙ ap length (sym (constants_append done (constant_item p c ∷ []))))
-        (ns ∙ ap length (sym (classes_append done (constant_item p c ∷ []) ∙ right_end (classes_in done)))) (fs ∙ sym (functions_append done (constant_item p c ∷ []) ∙ right_end (functions_in done))) law.1 (λ f h. clean f (inr h)) ready.1
+        (ns ∙ ap length (sym (classes_append done (constant_item p c ∷ []) ∙ append-nil (classes_in done)))) (fs ∙ sym (functions_append done (constant_item p c ∷ []) ∙ append-nil (functions_in done))) law.1 (λ f h. clean f (inr h)) ready.1
       where
         means : (word : List ℕ) → resolve_in_module m word ≡ res.Const (length b.constants) → c.name.text ≡ word
         means word r =
@@ -121,21 +95,21 @@ module _ (m : Module) (constants : List Tree) (listed : Place → Type 0) where
             let here : slice_get (constants_in m.items) (length (constants_in done)) ≡ Some c = ap (λ l. slice_get l (length (constants_in done))) (ap constants_in all ∙ constants_append done (constant_item p c ∷ rest)) ∙ get_at_end (constants_in done) c (constants_in rest) in
             let behind = n.behind in
             let at : n.at ≡ length b.constants = omega arith in
-            let same : n.constant ≡ c = some_inj (sym n.is ∙ ap (slice_get (constants_in m.items)) (at ∙ cs) ∙ here) in
+            let same : n.constant ≡ c = same_Some _ _ (sym n.is ∙ ap (slice_get (constants_in m.items)) (at ∙ cs) ∙ here) in
             ap (λ x. x.name.text) (sym same) ∙ n.named
     items_proceed done (class_item p c ∷ rest) b defs marks all cs ns fs law clean ready =
         proceeds_bind listed _ _ _ (λ k u s. Between m listed b.constants defs (suc b.classes) (c.name.text ∷ b.names) k s) _
         (classes.proceeds p c b defs marks.0 (ap (λ l. slice_get l b.classes) (ap classes_in all ∙ classes_append done (class_item p c ∷ rest)) ∙ ap (slice_get (classes_in done ++ classes_in (class_item p c ∷ rest))) ns ∙ get_at_end (classes_in done) c (classes_in rest)) law.0 (λ f h. clean f (inl h)) ready.0)
-        λ u. items_proceed (done ++ class_item p c ∷ []) rest (before_next m b (class_item p c) marks.0) defs marks.1 (all ∙ sym (shifted done (class_item p c) rest))
-        (cs ∙ ap length (sym (constants_append done (class_item p c ∷ []) ∙ right_end (constants_in done))))
-        (ap suc ns ∙ sym (one_longer (classes_in done) c) ∙ ap length (sym (classes_append done (class_item p c ∷ [])))) (fs ∙ sym (functions_append done (class_item p c ∷ []) ∙ right_end (functions_in done))) law.1 (λ f h. clean f (inr h)) ready.1
+        λ u. items_proceed (done ++ class_item p c ∷ []) rest (before_next m b (class_item p c) marks.0) defs marks.1 (all ∙ sym (append_assoc done (class_item p c ∷ []) rest))
+        (cs ∙ ap length (sym (constants_append done (class_item p c ∷ []) ∙ append-nil (constants_in done))))
+        (ap suc ns ∙ sym (one_longer (classes_in done) c) ∙ ap length (sym (classes_append done (class_item p c ∷ [])))) (fs ∙ sym (functions_append done (class_item p c ∷ []) ∙ append-nil (functions_in done))) law.1 (λ f h. clean f (inr h)) ready.1
     items_proceed done (def_item p d ∷ rest) b defs marks all cs ns fs law clean ready =
         let parts_of = binds_parts b.names d.name ready.0.0 in
         proceeds_bind listed _ _ _ (λ k u s. Between m listed b.constants (defs ++ d ∷ []) b.classes (d.name.text ∷ b.names) k s) _
         (def_proceeds m listed parts m.imports_dataclass b.constants defs b.classes b.names p d marks.0.params law.0.params ready.0.1 (λ f h. clean f (inl (inl h))) means parts_of.0 parts_of.1)
-        λ u. items_proceed (done ++ def_item p d ∷ []) rest (before_next m b (def_item p d) marks.0) (defs ++ d ∷ []) marks.1 (all ∙ sym (shifted done (def_item p d) rest))
-        (cs ∙ ap length (sym (constants_append done (def_item p d ∷ []) ∙ right_end (constants_in done))))
-        (ns ∙ ap length (sym (classes_append done (def_item p d ∷ []) ∙ right_end (classes_in done)))) (ap (λ l. l ++ d ∷ []) fs ∙ sym (functions_append done (def_item p d ∷ []))) law.1 (λ f h. clean f (inr h)) ready.1
+        λ u. items_proceed (done ++ def_item p d ∷ []) rest (before_next m b (def_item p d) marks.0) (defs ++ d ∷ []) marks.1 (all ∙ sym (append_assoc done (def_item p d ∷ []) rest))
+        (cs ∙ ap length (sym (constants_append done (def_item p d ∷ []) ∙ append-nil (constants_in done))))
+        (ns ∙ ap length (sym (classes_append done (def_item p d ∷ []) ∙ append-nil (classes_in done)))) (ap (λ l. l ++ d ∷ []) fs ∙ sym (functions_append done (def_item p d ∷ []))) law.1 (λ f h. clean f (inr h)) ready.1
       where
         means : (word : List ℕ) → resolve_in_module m word ≡ res.Func (length defs) → d.name.text ≡ word
         means word r =
@@ -143,7 +117,7 @@ module _ (m : Module) (constants : List Tree) (listed : Place → Type 0) where
             let here : slice_get (functions_in m.items) (length (functions_in done)) ≡ Some d = ap (λ l. slice_get l (length (functions_in done))) (ap functions_in all ∙ functions_append done (def_item p d ∷ rest)) ∙ get_at_end (functions_in done) d (functions_in rest) in
             let behind = n.behind in
             let at : n.at ≡ length defs = omega arith in
-            let same : n.function ≡ d = some_inj (sym n.is ∙ ap (slice_get (functions_in m.items)) (at ∙ ap length fs) ∙ here) in
+            let same : n.function ≡ d = same_Some _ _ (sym n.is ∙ ap (slice_get (functions_in m.items)) (at ∙ ap length fs) ∙ here) in
             ap (λ x. x.name.text) (sym same) ∙ n.named
 
   -- ---- the end
@@ -176,20 +150,16 @@ module _ (m : Module) (constants : List Tree) (listed : Place → Type 0) where
     is : slice_get (functions_in items) at ≡ Some function
     plain : has_none function.params ≡ true
 
-  not_true : (b : Test) → not b ≡ true → b ≡ false
-  not_true true e = absurd (grind (arith, e))
-  not_true false e = refl
-
   plain_main : (k f c : ℕ) (items : List Item) → is_plain_def (codes "main") items ≡ true → MainNamed k f c items
   plain_main k f c [] e = absurd (grind (arith, e))
   plain_main k f c (constant_item p x ∷ rest) e =
-      let h = both (not (bytes_eq x.name.text (codes "main"))) (is_plain_def (codes "main") rest) e in
+      let h = and_parts (not (bytes_eq x.name.text (codes "main"))) (is_plain_def (codes "main") rest) e in
       let r = plain_main (suc k) f c rest h.1 in
-      record { number = r.number; at = r.at; function = r.function; bound = ap (λ b. if b then Some (res.Const k) else bound_first (suc k) f c rest (codes "main")) (not_true (bytes_eq x.name.text (codes "main")) h.0) ∙ r.bound; behind = r.behind; is = r.is; plain = r.plain }
+      record { number = r.number; at = r.at; function = r.function; bound = ap (λ b. if b then Some (res.Const k) else bound_first (suc k) f c rest (codes "main")) (not-true (bytes_eq x.name.text (codes "main")) h.0) ∙ r.bound; behind = r.behind; is = r.is; plain = r.plain }
   plain_main k f c (class_item p x ∷ rest) e =
-      let h = both (not (bytes_eq x.name.text (codes "main"))) (is_plain_def (codes "main") rest) e in
+      let h = and_parts (not (bytes_eq x.name.text (codes "main"))) (is_plain_def (codes "main") rest) e in
       let r = plain_main k f (suc c) rest h.1 in
-      record { number = r.number; at = r.at; function = r.function; bound = ap (λ b. if b then Some (res.Class c) else bound_first k f (suc c) rest (codes "main")) (not_true (bytes_eq x.name.text (codes "main")) h.0) ∙ r.bound; behind = r.behind; is = r.is; plain = r.plain }
+      record { number = r.number; at = r.at; function = r.function; bound = ap (λ b. if b then Some (res.Class c) else bound_first k f (suc c) rest (codes "main")) (not-true (bytes_eq x.name.text (codes "main")) h.0) ∙ r.bound; behind = r.behind; is = r.is; plain = r.plain }
   plain_main k f c (def_item p x ∷ rest) e = go (bytes_eq x.name.text (codes "main")) refl e (plain_main k (suc f) c rest)
     where
       go : (b : Test) → bytes_eq x.name.text (codes "main") ≡ b → (if b then has_none x.params else is_plain_def (codes "main") rest) ≡ true → (is_plain_def (codes "main") rest ≡ true → MainNamed k (suc f) c rest) → MainNamed k f c (def_item p x ∷ rest)

@@ -1,5 +1,5 @@
 -- What a `for` goes over: each turn gives a value of the item type, or there is none, whatever the body did to the heap.
-use Rattle.std.proofs.Common.{◌≡◌, ℕ, zero, suc, List, [], ◌∷◌, map, refl, sym, ap, ◌∙◌, subst, inl, inr, arith}
+use Rattle.std.proofs.Common.{◌≡◌, ℕ, zero, suc, List, [], ◌∷◌, map, refl, sym, ap, ◌∙◌, subst, inl, inr}
 use Rattle.std.specs.Prelude.{ℤ, pos, Bool as Test, true, false, nat_eq, if◌then◌else◌, length, Option, Some, None, slice_get}
 use Rattle.pc_types.specs.Tree.{Tree, Trees, Any, Object, Never, Int, Bool, Str, NoneType, Class, ListOf, DictOf, TupleOf, Union, end, more}
 use Rattle.pc_types.specs.Below.{Bases, AreSmaller}
@@ -14,10 +14,10 @@ use Rattle.pc_value.specs.Numbers.{number_below}
 use Rattle.pc_machine.specs.Steps.{iteration_out, item_out}
 use Rattle.pc_sound.specs.Values.{HeapTyping, a_list, a_dict, Extends, HasType, HaveTypes, AllHave, EntriesHave, CellHas, CellAt, IsWell}
 use Rattle.pc_sound.specs.Judgment.{EndsWell}
-use Rattle.pc_sound.proofs.ValuesFlow.{of_static, later}
+use Rattle.pc_sound.proofs.Lists.{front_empty, not_empty, rest_empty}
+use Rattle.pc_sound.proofs.ValuesFlow.{of_static, all_later}
 use Rattle.pc_sound.proofs.Narrowing.{HasSome, to_members}
 use Rattle.pc_sound.proofs.Joins.{all_hold, among_has}
-use Rattle.pc_sound.proofs.Members.{front_empty, rest_empty}
 use Rattle.pc_sound.proofs.Seen.{sees_list, sees_dict}
 
 -- a list is gone over whose items are of the type, now and later
@@ -47,15 +47,11 @@ ItemHas bases k t None = Unit {0}
 ItemHas bases k t (Some v) = HasType bases k t v
 
 module _ (bases : Bases) where
-  all_later : {k k' : HeapTyping} → Extends k k' → (t : Tree) (vs : List Value) → AllHave bases k t vs → AllHave bases k' t vs
-  all_later x t [] h = tt
-  all_later x t (v ∷ vs) h = (later bases x t v h.0, all_later x t vs h.1)
-
   pub goes_over_later : (k k' : HeapTyping) (t : Tree) (over : Iteration) → Extends k k' → GoesOver bases k t over → GoesOver bases k' t over
   goes_over_later k k' t (over_list l) x h = record { item = h.item; is = x.by l (a_list h.item) h.is; into = h.into }
   goes_over_later k k' t (over_dict l size) x h = record { keys = h.keys; values = h.values; is = x.by l (a_dict h.keys h.values) h.is; into = h.into }
   goes_over_later k k' t (over_text cs) x h = h
-  goes_over_later k k' t (over_tuple vs) x h = all_later x t (list_of vs) h
+  goes_over_later k k' t (over_tuple vs) x h = all_later bases x t (list_of vs) h
   goes_over_later k k' t (over_range n) x h = h
 
   -- ---- a turn
@@ -133,9 +129,6 @@ module _ (bases : Bases) where
   parts_have ordered k all (more t ts) no_values within h = absurd h
   parts_have ordered k all (more t ts) (more_values v vs) within h = (all_hold bases ordered k all v (within v (inl h.0)), parts_have ordered k all ts vs (λ w x. within w (inr x)) h.1)
 
-  full : {A : Type 0} {x : A} {xs : List A} → x ∷ xs ≡ [] → ⊥
-  full e = absurd (grind (arith, e))
-
   module _ (ordered : AreSmaller bases) (classes : List facts.Class) (k : HeapTyping) (heap : Heap) (well : IsWell bases classes k heap) (u : Tree) where
     member_over : (m : Tree) (v : Value) → HasType bases k m v → (iterate_member bases m).found ≡ [] → ((k' : HeapTyping) (w : Value) → HasType bases k' (iterate_member bases m).gives w → HasType bases k' u w) → EndsWell (GoesOver bases k u) (iteration_out (iterate_outcome (seen heap v)))
     member_over (ListOf t) (location l) h clean into =
@@ -146,14 +139,14 @@ module _ (bases : Bases) where
         subst (λ o. EndsWell (GoesOver bases k u) (iteration_out (iterate_outcome o))) (sym s.seen_as) (record { keys = s.keys; values = s.values; is = s.recorded; into = λ k' w x. into k' w (of_static bases k' s.keys r s.equal_keys.to w x) })
     member_over Str (string cs) h clean into = λ k' c. into k' (string c) tt
     member_over (TupleOf ts) (tuple_of vs) h clean into = all_into k (join_all bases (listed ts)) u (into k) (list_of vs) (parts_have ordered k (listed ts) ts vs (λ w x. x) h)
-    member_over Any v h clean into = absurd (full clean)
-    member_over Object v h clean into = absurd (full clean)
+    member_over Any v h clean into = absurd (not_empty clean)
+    member_over Object v h clean into = absurd (not_empty clean)
     member_over Never v h clean into = absurd h
-    member_over Int v h clean into = absurd (full clean)
-    member_over Bool v h clean into = absurd (full clean)
-    member_over NoneType v h clean into = absurd (full clean)
-    member_over (Class c) v h clean into = absurd (full clean)
-    member_over (Union a b) v h clean into = absurd (full clean)
+    member_over Int v h clean into = absurd (not_empty clean)
+    member_over Bool v h clean into = absurd (not_empty clean)
+    member_over NoneType v h clean into = absurd (not_empty clean)
+    member_over (Class c) v h clean into = absurd (not_empty clean)
+    member_over (Union a b) v h clean into = absurd (not_empty clean)
     member_over (ListOf t) _ h clean into = absurd h
     member_over (DictOf r t) _ h clean into = absurd h
     member_over Str _ h clean into = absurd h

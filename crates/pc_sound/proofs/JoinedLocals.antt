@@ -1,6 +1,7 @@
 -- Where ways meet, each local that all of them assign has its type in the joined environment, whichever way was taken.
 use Rattle.std.proofs.Common.{◌≡◌, ℕ, zero, suc, List, [], ◌∷◌, ◌++◌, refl, subst, inl, inr, arith}
 use Rattle.std.specs.Prelude.{◌⊎◌, Option, Some, None, unwrap_or}
+use Rattle.std.proofs.lemmas.Option.{same_Some}
 use Rattle.pc_types.specs.Tree.{Tree}
 use Rattle.pc_types.specs.Below.{Bases, AreSmaller}
 use Rattle.pc_types.specs.Join.{join}
@@ -10,9 +11,6 @@ use Rattle.pc_machine.specs.State.{Frame}
 use Rattle.pc_sound.specs.Values.{HeapTyping, HasType}
 use Rattle.pc_sound.specs.Kept.{HasLocal, HasLocals}
 use Rattle.pc_sound.proofs.Joins.{join_or_holds}
-
-some_inj : {A : Type 0} {x y : A} → Some x ≡ Some y → x ≡ y
-some_inj e = grind arith
 
 -- what a local is where two ways meet
 pub record Met (bases : Bases) (d : Tree) (left right : Option Tree) (t : Tree) : Type 0 where
@@ -25,7 +23,7 @@ pub record Met (bases : Bases) (d : Tree) (left right : Option Tree) (t : Tree) 
 met_local : (bases : Bases) (d : Tree) (s r : Option Tree) (t : Tree) → join_local bases d s r ≡ Some t → Met bases d s r t
 met_local bases d None r t e = absurd (grind (arith, e))
 met_local bases d (Some s) None t e = absurd (grind (arith, e))
-met_local bases d (Some s) (Some r) t e = record { first = s; second = r; is_left = refl; is_right = refl; is = some_inj e }
+met_local bases d (Some s) (Some r) t e = record { first = s; second = r; is_left = refl; is_right = refl; is = same_Some _ _ e }
 
 pub met : (bases : Bases) (ds : List Tree) (left right : Env) (x : ℕ) (t : Tree) → current (join_env bases ds left right) x ≡ Some t → Met bases (declared_type ds x) (current left x) (current right x) t
 met bases [] left right x t e = absurd (grind (arith, e))

@@ -1,10 +1,12 @@
 -- A value of either side of a join is one of the join: of classes it is needed that each base has a smaller number, and
 -- of the two types nothing, normal or not.
 use Rattle.std.proofs.Common.{◌≡◌, ◌<◌, ◌≤◌, ℕ, zero, suc, List, [], ◌∷◌, filter, refl, sym, ap, ◌∙◌, subst, inl, inr, arith}
-use Rattle.std.specs.Prelude.{◌⊎◌, Bool as Test, true, false, ◌==◌, ◌&&◌, ◌||◌, not, if◌then◌else◌, Option, Some, None, unwrap_or, nat_le, slice_get}
+use Rattle.std.specs.Prelude.{◌⊎◌, Bool as Test, true, false, ◌==◌, ◌||◌, not, if◌then◌else◌, Option, Some, None, unwrap_or, nat_le, slice_get}
 use Rattle.std.specs.List.{list_any}
 use Rattle.std.specs.Option.{option_map, option_map_or, option_and_then}
 use Rattle.std.proofs.lemmas.Bool.Decides.{nat_tests, eqb_tells}
+use Rattle.std.proofs.lemmas.Option.{none-some, same_Some}
+use Rattle.std.proofs.lemmas.Bool.{and_parts, false≢true}
 use Rattle.pc_types.specs.Tree.{Tree, Trees, Any, Object, Never, Int, Bool, Str, NoneType, Class, ListOf, DictOf, TupleOf, Union, end, more}
 use Rattle.pc_types.specs.Below.{Bases, Below, AreSmaller, base_of, bool_int}
 use Rattle.pc_types.specs.Shape.{members, union, nodes, limit}
@@ -16,13 +18,6 @@ use Rattle.pc_sound.specs.Values.{HeapTyping, HasType, HaveTypes}
 use Rattle.pc_types.proofs.Together.{same_rank}
 use Rattle.pc_sound.proofs.ValuesFlow.{of_below}
 use Rattle.pc_sound.proofs.Narrowing.{HasSome, to_members, of_members, descends}
-
-no_false : false ≡ true → ⊥
-no_false e = grind arith
-
-both : (x y : Test) → (x && y) ≡ true → (x ≡ true) × (y ≡ true)
-both true y e = (refl, e)
-both false y e = absurd (no_false e)
 
 -- types that are told equal are equal
 mutual
@@ -36,15 +31,15 @@ mutual
   same_types NoneType NoneType e = refl
   same_types (Class c) (Class d) e = let is : c ≡ d = grind (arith, nat_tests) in ap Class is
   same_types (ListOf s) (ListOf t) e = ap ListOf (same_types s t e)
-  same_types (DictOf j v) (DictOf k w) e = let h = both (same_tree j k) (same_tree v w) e in λ i. DictOf (same_types j k h.0 i) (same_types v w h.1 i)
+  same_types (DictOf j v) (DictOf k w) e = let h = and_parts (same_tree j k) (same_tree v w) e in λ i. DictOf (same_types j k h.0 i) (same_types v w h.1 i)
   same_types (TupleOf ss) (TupleOf ts) e = ap TupleOf (same_each ss ts e)
-  same_types (Union a b) (Union c d) e = let h = both (same_tree a c) (same_tree b d) e in λ i. Union (same_types a c h.0 i) (same_types b d h.1 i)
-  same_types _ _ e = absurd (no_false e)
+  same_types (Union a b) (Union c d) e = let h = and_parts (same_tree a c) (same_tree b d) e in λ i. Union (same_types a c h.0 i) (same_types b d h.1 i)
+  same_types _ _ e = absurd (false≢true e)
 
   same_each : (ss ts : Trees) → same_trees ss ts ≡ true → ss ≡ ts
   same_each end end e = refl
-  same_each (more s ss) (more t ts) e = let h = both (same_tree s t) (same_trees ss ts) e in λ i. more (same_types s t h.0 i) (same_each ss ts h.1 i)
-  same_each _ _ e = absurd (no_false e)
+  same_each (more s ss) (more t ts) e = let h = and_parts (same_tree s t) (same_trees ss ts) e in λ i. more (same_types s t h.0 i) (same_each ss ts h.1 i)
+  same_each _ _ e = absurd (false≢true e)
 
 -- ---- absorption
 
@@ -62,7 +57,7 @@ reaches_smaller bases ordered (suc n) c d e = elim (eqb_tells c d) [
 ]
   where
     go : ((b : ℕ) → reaches bases n b d ≡ true → d ≤ b) → (o : Option ℕ) → base_of bases c ≡ o → (false || option_map_or (λ b. reaches bases n b d) o false) ≡ true → d ≤ c
-    go f None is e = absurd (no_false e)
+    go f None is e = absurd (false≢true e)
     go f (Some b) is e = let l = ordered c b is in let m = f b e in omega arith
 
 -- a member that absorbs: int, or a class
@@ -74,22 +69,22 @@ IsAbsorber _ = ⊥
 absorber : (bases : Bases) (n m : Tree) → absorbs bases n m ≡ true → IsAbsorber n
 absorber bases Int m e = tt
 absorber bases (Class d) m e = tt
-absorber bases _ m e = absurd (no_false e)
+absorber bases _ m e = absurd (false≢true e)
 
 module _ (bases : Bases) (ordered : AreSmaller bases) where
   lighter : (n m : Tree) → absorbs bases n m ≡ true → weight n < weight m
   lighter Int Bool e = omega arith
   lighter (Class d) (Class c) e =
-      let h = both (not (c == d)) (reaches bases c c d) e in
+      let h = and_parts (not (c == d)) (reaches bases c c d) e in
       let l = reaches_smaller bases ordered c c d h.1 in
       let n : (c ≡ d → ⊥) = λ f. grind (arith, nat_tests, h.0, f) in
       omega (arith, n)
-  lighter _ _ e = absurd (no_false e)
+  lighter _ _ e = absurd (false≢true e)
 
   below_absorber : (n m : Tree) → absorbs bases n m ≡ true → Below bases m n
   below_absorber Int Bool e = bool_int
-  below_absorber (Class d) (Class c) e = descends bases c c d (both (not (c == d)) (reaches bases c c d) e).1
-  below_absorber _ _ e = absurd (no_false e)
+  below_absorber (Class d) (Class c) e = descends bases c c d (and_parts (not (c == d)) (reaches bases c c d) e).1
+  below_absorber _ _ e = absurd (false≢true e)
 
 -- ---- members
 
@@ -104,7 +99,7 @@ record Absorbing (bases : Bases) (m : Tree) (ns : List Tree) : Type 0 where
   absorbs : absorbs bases by m ≡ true
 
 absorbing : (bases : Bases) (m : Tree) (ns : List Tree) → list_any (λ n. absorbs bases n m) ns ≡ true → Absorbing bases m ns
-absorbing bases m [] e = absurd (no_false e)
+absorbing bases m [] e = absurd (false≢true e)
 absorbing bases m (n ∷ ns) e = go (λ e. absorbing bases m ns e) (absorbs bases n m) refl e
   where
     go : (list_any (λ n. absorbs bases n m) ns ≡ true → Absorbing bases m ns) → (x : Test) → absorbs bases n m ≡ x → (x || list_any (λ n. absorbs bases n m) ns) ≡ true → Absorbing bases m (n ∷ ns)
@@ -134,12 +129,6 @@ member_leaf n (Class c) k i = elim i [ inl e ↦ e | inr r ↦ absurd r ]
 member_leaf n (ListOf t) k i = elim i [ inl e ↦ e | inr r ↦ absurd r ]
 member_leaf n (DictOf s t) k i = elim i [ inl e ↦ e | inr r ↦ absurd r ]
 member_leaf n (TupleOf ts) k i = elim i [ inl e ↦ e | inr r ↦ absurd r ]
-
-some_none : {A : Type 0} {x : A} → None ≡ Some x → ⊥
-some_none e = grind arith
-
-some_inj : {A : Type 0} {x y : A} → Some x ≡ Some y → x ≡ y
-some_inj e = grind arith
 
 module _ (bases : Bases) (k : HeapTyping) where
   abbrev Has : Tree → Value → Type 0
@@ -191,7 +180,7 @@ module _ (bases : Bases) (k : HeapTyping) where
     where
       first : (x : Test) → x ≡ true → Has m v → Some_has (if x then m ∷ filter p ms else filter p ms) v
       first true e h = inl h
-      first false e h = absurd (no_false e)
+      first false e h = absurd (false≢true e)
 
       rest : (x : Test) → Some_has (filter p ms) v → Some_has (if x then m ∷ filter p ms else filter p ms) v
       rest true h = inr h
@@ -201,15 +190,15 @@ module _ (bases : Bases) (k : HeapTyping) where
 
   module _ (m : Tree) (one : Tree → Option Tree) (v : Value) (makes : (n f : Tree) → rank m ≡ rank n → one n ≡ Some f → Has m v ⊎ Has n v → Has f v) where
     put_made : (n : Tree) (ns l : List Tree) → rank m ≡ rank n → (o : Option Tree) → one n ≡ o → option_map (λ f. f ∷ ns) o ≡ Some l → Has m v ⊎ Some_has (n ∷ ns) v → Some_has l v
-    put_made n ns l r None q e h = absurd (some_none e)
-    put_made n ns l r (Some f) q e h = subst (λ x. Some_has x v) (some_inj e) (elim h [
+    put_made n ns l r None q e h = absurd (none-some _ e)
+    put_made n ns l r (Some f) q e h = subst (λ x. Some_has x v) (same_Some _ _ e) (elim h [
       | inl a ↦ inl (makes n f r q (inl a))
       | inr b ↦ elim b [ inl a ↦ inl (makes n f r q (inr a)) | inr c ↦ inr c ]
     ])
 
     put_rest : (n : Tree) (ns l : List Tree) → ((q : List Tree) → put m one ns ≡ Some q → Has m v ⊎ Some_has ns v → Some_has q v) → (o : Option (List Tree)) → put m one ns ≡ o → option_map (λ q. n ∷ q) o ≡ Some l → Has m v ⊎ Some_has (n ∷ ns) v → Some_has l v
-    put_rest n ns l g None q e h = absurd (some_none e)
-    put_rest n ns l g (Some r) q e h = subst (λ x. Some_has x v) (some_inj e) (elim h [
+    put_rest n ns l g None q e h = absurd (none-some _ e)
+    put_rest n ns l g (Some r) q e h = subst (λ x. Some_has x v) (same_Some _ _ e) (elim h [
       | inl a ↦ inr (g r q (inl a))
       | inr b ↦ elim b [ inl a ↦ inl a | inr c ↦ inr (g r q (inr c)) ]
     ])
@@ -219,20 +208,20 @@ module _ (bases : Bases) (k : HeapTyping) where
     put_behind n ns l h g false b e = put_made n ns l (same_rank m n h b) (one n) refl e
 
     put_before : (n : Tree) (ns l : List Tree) → ((q : List Tree) → put m one ns ≡ Some q → Has m v ⊎ Some_has ns v → Some_has q v) → (x : Test) → is_before m n ≡ x → (if x then Some (m ∷ n ∷ ns) else (if is_before n m then option_map (λ q. n ∷ q) (put m one ns) else option_map (λ f. f ∷ ns) (one n))) ≡ Some l → Has m v ⊎ Some_has (n ∷ ns) v → Some_has l v
-    put_before n ns l g true b e h = subst (λ x. Some_has x v) (some_inj e) h
+    put_before n ns l g true b e h = subst (λ x. Some_has x v) (same_Some _ _ e) h
     put_before n ns l g false b e h = put_behind n ns l b g (is_before n m) refl e h
 
     put_holds : (ms l : List Tree) → put m one ms ≡ Some l → Has m v ⊎ Some_has ms v → Some_has l v
-    put_holds [] l e h = subst (λ x. Some_has x v) (some_inj e) h
+    put_holds [] l e h = subst (λ x. Some_has x v) (same_Some _ _ e) h
     put_holds (n ∷ ns) l e h = put_before n ns l (λ q f g. put_holds ns q f g) (is_before m n) refl e h
 
   -- a member put among others, but for one that the other type absorbs
   tested_keeps : (x : Test) (ms l : List Tree) (p : Option (List Tree)) (v : Value) → (p ≡ Some l → Some_has ms v → Some_has l v) → (if x then Some ms else p) ≡ Some l → Some_has ms v → Some_has l v
-  tested_keeps true ms l p v g e h = subst (λ x. Some_has x v) (some_inj e) h
+  tested_keeps true ms l p v g e h = subst (λ x. Some_has x v) (same_Some _ _ e) h
   tested_keeps false ms l p v g e h = g e h
 
   tested_adds : (x : Test) (ms l : List Tree) (p : Option (List Tree)) (v : Value) → x ≡ false → (p ≡ Some l → Some_has l v) → (if x then Some ms else p) ≡ Some l → Some_has l v
-  tested_adds true ms l p v f g e = absurd (no_false (sym f))
+  tested_adds true ms l p v f g e = absurd (false≢true (sym f))
   tested_adds false ms l p v f g e = g e
 
   record BothSome (f : List Tree → Option (List Tree)) (o : Option (List Tree)) (l : List Tree) : Type 0 where
@@ -241,33 +230,33 @@ module _ (bases : Bases) (k : HeapTyping) where
     then_is : f first ≡ Some l
 
   both_some : (f : List Tree → Option (List Tree)) (o : Option (List Tree)) (l : List Tree) → option_and_then f o ≡ Some l → BothSome f o l
-  both_some f None l e = absurd (some_none e)
+  both_some f None l e = absurd (none-some _ e)
   both_some f (Some q) l e = record { first = q; is = refl; then_is = e }
 
   equal_makes : (m : Tree) (v : Value) (n f : Tree) → equal_one m n ≡ Some f → Has m v ⊎ Has n v → Has f v
   equal_makes m v n f e h = go (same_tree m n) refl e
     where
       go : (x : Test) → same_tree m n ≡ x → (if x then Some m else None) ≡ Some f → Has f v
-      go true is e = subst (λ t. Has t v) (some_inj e) (elim h [ inl a ↦ a | inr b ↦ subst (λ t. Has t v) (sym (same_types m n is)) b ])
-      go false is e = absurd (some_none e)
+      go true is e = subst (λ t. Has t v) (same_Some _ _ e) (elim h [ inl a ↦ a | inr b ↦ subst (λ t. Has t v) (sym (same_types m n is)) b ])
+      go false is e = absurd (none-some _ e)
 
   tuple_makes : (bases' : Bases) (ss : Trees) → ((ts us : Trees) → join_each bases' ss ts ≡ Some us → (vs : Values) → HaveTypes bases k ss vs ⊎ HaveTypes bases k ts vs → HaveTypes bases k us vs) → (v : Value) (n f : Tree) → rank (TupleOf ss) ≡ rank n → one_of bases' (TupleOf ss) n ≡ Some f → Has (TupleOf ss) v ⊎ Has n v → Has f v
   tuple_makes bases' ss each v (TupleOf ts) f r e h = go (join_each bases' ss ts) refl e v h
     where
       go : (o : Option Trees) → join_each bases' ss ts ≡ o → option_map TupleOf o ≡ Some f → (v : Value) → Has (TupleOf ss) v ⊎ Has (TupleOf ts) v → Has f v
-      go None is e v h = absurd (some_none e)
-      go (Some us) is e (tuple_of vs) h = subst (λ t. Has t (tuple_of vs)) (some_inj e) (each ts us is vs h)
+      go None is e v h = absurd (none-some _ e)
+      go (Some us) is e (tuple_of vs) h = subst (λ t. Has t (tuple_of vs)) (same_Some _ _ e) (each ts us is vs h)
       go (Some us) is e _ h = elim h [ inl a ↦ absurd a | inr b ↦ absurd b ]
   tuple_makes bases' ss each v _ f r e h = absurd (grind (arith, ap (λ p. p.0) r))
 
 -- a join within the limit of nodes is the join
 pub within_is : (o : Option Tree) (u : Tree) → within_limit o ≡ Some u → o ≡ Some u
-within_is None u e = absurd (some_none e)
+within_is None u e = absurd (none-some _ e)
 within_is (Some t) u e = go (nat_le (nodes t) limit) e
   where
     go : (x : Test) → (if x then Some t else None) ≡ Some u → Some t ≡ Some u
     go true e = e
-    go false e = absurd (some_none e)
+    go false e = absurd (none-some _ e)
 
 -- ---- the members of one type put among those of another
 
@@ -307,23 +296,23 @@ module _ (bases : Bases) (ordered : AreSmaller bases) (k : HeapTyping) where
     members_hold (inr h) = let a = member_of bases k (members t) v (to_members bases k t v h) in (chase (suc (weight a.part))).1 a.part (omega arith) a.among a.has
 
   rule_holds : (s t u : Tree) (o : Option Tree) (v : Value) → by_rule s t o ≡ Some u → (o ≡ Some u → HasType bases k s v ⊎ HasType bases k t v → HasType bases k u v) → HasType bases k s v ⊎ HasType bases k t v → HasType bases k u v
-  rule_holds Never t u o v e g h = elim h [ inl a ↦ absurd a | inr b ↦ subst (λ x. HasType bases k x v) (some_inj e) b ]
-  rule_holds s Never u o v e g h = elim h [ inl a ↦ subst (λ x. HasType bases k x v) (some_inj e) a | inr b ↦ absurd b ]
-  rule_holds Any t u o v e g h = subst (λ x. HasType bases k x v) (some_inj e) tt
-  rule_holds s Any u o v e g h = subst (λ x. HasType bases k x v) (some_inj e) tt
-  rule_holds Object t u o v e g h = subst (λ x. HasType bases k x v) (some_inj e) tt
-  rule_holds s Object u o v e g h = subst (λ x. HasType bases k x v) (some_inj e) tt
+  rule_holds Never t u o v e g h = elim h [ inl a ↦ absurd a | inr b ↦ subst (λ x. HasType bases k x v) (same_Some _ _ e) b ]
+  rule_holds s Never u o v e g h = elim h [ inl a ↦ subst (λ x. HasType bases k x v) (same_Some _ _ e) a | inr b ↦ absurd b ]
+  rule_holds Any t u o v e g h = subst (λ x. HasType bases k x v) (same_Some _ _ e) tt
+  rule_holds s Any u o v e g h = subst (λ x. HasType bases k x v) (same_Some _ _ e) tt
+  rule_holds Object t u o v e g h = subst (λ x. HasType bases k x v) (same_Some _ _ e) tt
+  rule_holds s Object u o v e g h = subst (λ x. HasType bases k x v) (same_Some _ _ e) tt
   rule_holds s t u o v e g h = g e h
 
   settled_holds : (s t u : Tree) → ((l : List Tree) → put_all bases t s (unabsorbed bases t s) ≡ Some l → Keeps t s (unabsorbed bases t s) l) → ((l : List Tree) → put_all bases t s (unabsorbed bases t s) ≡ Some l → Adds t s l) → joined bases s t ≡ Some u → (v : Value) → HasType bases k s v ⊎ HasType bases k t v → HasType bases k u v
   settled_holds s t u keeps adds e v h = go (same_tree s t) refl e
     where
       by_members : (o : Option (List Tree)) → put_all bases t s (unabsorbed bases t s) ≡ o → option_map union o ≡ Some u → HasType bases k s v ⊎ HasType bases k t v → HasType bases k u v
-      by_members None is e h = absurd (some_none e)
-      by_members (Some l) is e h = subst (λ x. HasType bases k x v) (some_inj e) (of_members bases k l v (members_hold s t l v (keeps l is v) (λ n leaf f. adds l is n leaf f v) h))
+      by_members None is e h = absurd (none-some _ e)
+      by_members (Some l) is e h = subst (λ x. HasType bases k x v) (same_Some _ _ e) (of_members bases k l v (members_hold s t l v (keeps l is v) (λ n leaf f. adds l is n leaf f v) h))
 
       go : (x : Test) → same_tree s t ≡ x → (if x then Some s else by_rule s t (option_map union (put_all bases t s (unabsorbed bases t s)))) ≡ Some u → HasType bases k u v
-      go true is e = subst (λ x. HasType bases k x v) (some_inj e) (elim h [ inl a ↦ a | inr b ↦ subst (λ x. HasType bases k x v) (sym (same_types s t is)) b ])
+      go true is e = subst (λ x. HasType bases k x v) (same_Some _ _ e) (elim h [ inl a ↦ a | inr b ↦ subst (λ x. HasType bases k x v) (sym (same_types s t is)) b ])
       go false is e = rule_holds s t u (option_map union (put_all bases t s (unabsorbed bases t s))) v e (by_members (put_all bases t s (unabsorbed bases t s)) refl) h
 
   record BothParts (o : Option Tree) (p : Option Trees) (us : Trees) : Type 0 where
@@ -334,13 +323,13 @@ module _ (bases : Bases) (ordered : AreSmaller bases) (k : HeapTyping) where
     is : more first rest ≡ us
 
   both_are : (o : Option Tree) (p : Option Trees) (us : Trees) → both_parts o p ≡ Some us → BothParts o p us
-  both_are None p us e = absurd (some_none e)
-  both_are (Some t) None us e = absurd (some_none e)
-  both_are (Some t) (Some ts) us e = record { first = t; rest = ts; is_first = refl; is_rest = refl; is = some_inj e }
+  both_are None p us e = absurd (none-some _ e)
+  both_are (Some t) None us e = absurd (none-some _ e)
+  both_are (Some t) (Some ts) us e = record { first = t; rest = ts; is_first = refl; is_rest = refl; is = same_Some _ _ e }
 
   mutual
     put_all_keeps : (other s : Tree) (ms l : List Tree) → put_all bases other s ms ≡ Some l → Keeps other s ms l
-    put_all_keeps other Never ms l e v h = subst (λ x. HasSome bases k x v) (some_inj e) h
+    put_all_keeps other Never ms l e v h = subst (λ x. HasSome bases k x v) (same_Some _ _ e) h
     put_all_keeps other (Union a b) ms l e v h =
         let w = both_some bases k (λ l. put_all bases other a l) (put_all bases other b ms) l e in
         put_all_keeps other a w.first l w.then_is v (put_all_keeps other b ms w.first w.is v h)
@@ -371,9 +360,9 @@ module _ (bases : Bases) (ordered : AreSmaller bases) (k : HeapTyping) where
         e
 
     each_holds : (ss ts us : Trees) → join_each bases ss ts ≡ Some us → (vs : Values) → HaveTypes bases k ss vs ⊎ HaveTypes bases k ts vs → HaveTypes bases k us vs
-    each_holds end end us e vs h = subst (λ x. HaveTypes bases k x vs) (some_inj e) (elim h [ inl a ↦ a | inr b ↦ b ])
-    each_holds end (more t ts) us e vs h = absurd (some_none e)
-    each_holds (more s ss) end us e vs h = absurd (some_none e)
+    each_holds end end us e vs h = subst (λ x. HaveTypes bases k x vs) (same_Some _ _ e) (elim h [ inl a ↦ a | inr b ↦ b ])
+    each_holds end (more t ts) us e vs h = absurd (none-some _ e)
+    each_holds (more s ss) end us e vs h = absurd (none-some _ e)
     each_holds (more s ss) (more t ts) us e no_values h = elim h [ inl a ↦ absurd a | inr b ↦ absurd b ]
     each_holds (more s ss) (more t ts) us e (more_values v vs) h =
         let w = both_are (joined bases s t) (join_each bases ss ts) us e in
@@ -413,6 +402,6 @@ module _ (bases : Bases) (ordered : AreSmaller bases) (k : HeapTyping) where
 
   -- a value of a type that is among several
   pub among_has : (ts : List Tree) (i : ℕ) (t : Tree) (v : Value) → slice_get ts i ≡ Some t → HasType bases k t v → HasSome bases k ts v
-  among_has [] i t v e h = absurd (some_none e)
-  among_has (s ∷ ts) zero t v e h = inl (subst (λ x. HasType bases k x v) (sym (some_inj e)) h)
+  among_has [] i t v e h = absurd (none-some _ e)
+  among_has (s ∷ ts) zero t v e h = inl (subst (λ x. HasType bases k x v) (sym (same_Some _ _ e)) h)
   among_has (s ∷ ts) (suc i) t v e h = inr (among_has ts i t v e h)

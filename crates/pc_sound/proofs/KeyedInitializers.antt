@@ -1,21 +1,19 @@
 -- The labels of initializers, and the types of constants, have dicts with int or str as key, where no test of an instance in an initializer names too early.
-use Rattle.std.proofs.Common.{◌≡◌, ℕ, List, [], ◌∷◌, ◌++◌, refl, sym, ap, subst, inl, inr, arith}
+use Rattle.std.proofs.Common.{◌≡◌, ℕ, List, [], ◌∷◌, ◌++◌, sym, subst, inl, inr, append-nil, append_assoc}
 use Rattle.std.specs.Prelude.{Bool as Test, true, false, Option, Some, None, slice_get}
+use Rattle.std.proofs.lemmas.Option.{none-some}
 use Rattle.pc_tree.specs.Tree.{Ann, Item, constant_item, class_item, def_item, Module}
 use Rattle.pc_types.specs.Tree.{Tree}
 use Rattle.pc_class.specs.Bases.{bases_of}
 use Rattle.pc_expr.specs.Labels.{type_of}
 use Rattle.pc_expr.specs.Signatures.{initializer_context}
 use Rattle.pc_check.specs.Modules.{ItemsMarks, LawfulItems, Before, before_next, nothing_before, binds_item, annotated_types, first_of_types, constant_type, constant_types, Labelling, IsLawful}
+use Rattle.pc_sound.proofs.Lists.{get_one_more}
 use Rattle.pc_sound.proofs.Keys.{IsKeyed, keyed_type}
 use Rattle.pc_sound.proofs.KeyedTypes.{OptionKeyed}
 use Rattle.pc_sound.proofs.KeyedLabels.{Timely, labels_keyed}
 use Rattle.pc_sound.proofs.KeyedModules.{ann_keyed, initializer_keyed}
-use Rattle.pc_sound.proofs.Binds.{get_one_more}
 use Rattle.pc_sound.proofs.Established.{InitializersKeyed}
-
-none_some : {A : Type 0} {x : A} → None ≡ Some x → ⊥
-none_some e = grind arith
 
 -- each type of a list is keyed
 abbrev pub AllTypesKeyed : List Tree → Type 0
@@ -45,27 +43,19 @@ module _ (m : Module) where
     labels : InitializersKeyed items marks
     types : AllTypesKeyed (b.constants ++ constant_types m items marks)
 
-  associate : (xs ys zs : List Tree) → (xs ++ ys) ++ zs ≡ xs ++ (ys ++ zs)
-  associate [] ys zs = refl
-  associate (x ∷ xs) ys zs = ap (λ l. x ∷ l) (associate xs ys zs)
-
-  right_end : (xs : List Tree) → xs ++ [] ≡ xs
-  right_end [] = refl
-  right_end (x ∷ xs) = ap (λ l. x ∷ l) (right_end xs)
-
   both_keyed : (all : List Tree) (b : Before) (items : List Item) (marks : ItemsMarks items) → LawfulItems m all b items marks → InitializersTimely b items marks → AllTypesKeyed b.constants → BothKeyed b items marks
-  both_keyed all b [] marks law timely keyed = record { labels = tt; types = subst AllTypesKeyed (sym (right_end b.constants)) keyed }
+  both_keyed all b [] marks law timely keyed = record { labels = tt; types = subst AllTypesKeyed (sym (append-nil b.constants)) keyed }
   both_keyed all b (constant_item p c ∷ rest) marks law timely keyed =
-      let here = labels_keyed (initializer_context m b.constants b.classes) [] (initializer_keyed m b.constants b.classes keyed) [] (λ x t e. absurd (none_some e)) (first_of_types (annotated_types m (binds_item b.names c.name) c.annotation)) (want_keyed (binds_item b.names c.name) c.annotation) c.value timely.0 marks.0.value law.0.value in
+      let here = labels_keyed (initializer_context m b.constants b.classes) [] (initializer_keyed m b.constants b.classes keyed) [] (λ x t e. absurd (none-some _ e)) (first_of_types (annotated_types m (binds_item b.names c.name) c.annotation)) (want_keyed (binds_item b.names c.name) c.annotation) c.value timely.0 marks.0.value law.0.value in
       let t = constant_type m c.annotation (type_of c.value marks.0.value) in
       let r = both_keyed all (before_next m b (constant_item p c) marks.0) rest marks.1 law.1 timely.1 (one_more_keyed b.constants t keyed (type_keyed c.annotation (type_of c.value marks.0.value) (keyed_type c.value marks.0.value here))) in
-      record { labels = (here, r.labels); types = subst AllTypesKeyed (associate b.constants (t ∷ []) (constant_types m rest marks.1)) r.types }
+      record { labels = (here, r.labels); types = subst AllTypesKeyed (append_assoc b.constants (t ∷ []) (constant_types m rest marks.1)) r.types }
   both_keyed all b (class_item p c ∷ rest) marks law timely keyed = let r = both_keyed all (before_next m b (class_item p c) marks.0) rest marks.1 law.1 timely keyed in record { labels = r.labels; types = r.types }
   both_keyed all b (def_item p f ∷ rest) marks law timely keyed = let r = both_keyed all (before_next m b (def_item p f) marks.0) rest marks.1 law.1 timely keyed in record { labels = r.labels; types = r.types }
 
   module _ (marks : Labelling m) (lawful : IsLawful m marks) (timely : InitializersTimely nothing_before m.items marks) where
     all_keyed : BothKeyed nothing_before m.items marks
-    all_keyed = both_keyed (constant_types m m.items marks) nothing_before m.items marks lawful timely (λ i t e. absurd (none_some e))
+    all_keyed = both_keyed (constant_types m m.items marks) nothing_before m.items marks lawful timely (λ i t e. absurd (none-some _ e))
 
     pub initializers_are_keyed : InitializersKeyed m.items marks
     initializers_are_keyed = all_keyed.labels

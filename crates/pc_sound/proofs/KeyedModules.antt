@@ -1,6 +1,7 @@
 -- Annotations are read as types whose dicts have int or str as key; so fields, parameters and returns of a module have such types.
 use Rattle.std.proofs.Common.{◌≡◌, ℕ, zero, suc, List, [], ◌∷◌, ◌++◌, map, subst, arith}
 use Rattle.std.specs.Prelude.{Bool as Test, true, false, if◌then◌else◌, nat_le, Option, Some, None, slice_get, is_some}
+use Rattle.std.proofs.lemmas.Option.{same_Some}
 use Rattle.pc_tree.specs.Tree.{Ann, Anns, named, none_type, applied, applied_empty, no_anns, more_anns, Param, FuncDef, Member, field_member, method_member, ClassDef, Module}
 use Rattle.pc_tree.specs.Tree as tree
 use Rattle.pc_scope.specs.Resolution.{resolve_in_module}
@@ -172,12 +173,9 @@ module _ (m : Module) where
 
   -- ---- functions
 
-  some_inj : {A : Type 0} {x y : A} → Some x ≡ Some y → x ≡ y
-  some_inj e = grind arith
-
   one_signature : (fs : List FuncDef) (i : ℕ) (s : Signature) → slice_get (map (signature_of m) fs) i ≡ Some s → SignatureKeyed s
   one_signature [] i s e = absurd (grind (arith, e))
-  one_signature (f ∷ fs) zero s e = subst SignatureKeyed (some_inj e) (parameters_keyed f.params, option_ann_keyed m (bases_of m) f.returns)
+  one_signature (f ∷ fs) zero s e = subst SignatureKeyed (same_Some _ _ e) (parameters_keyed f.params, option_ann_keyed m (bases_of m) f.returns)
   one_signature (f ∷ fs) (suc i) s e = one_signature fs i s e
 
   pub functions_keyed : (i : ℕ) (s : Signature) → slice_get (signatures_of m) i ≡ Some s → SignatureKeyed s

@@ -4,6 +4,7 @@ use Rattle.std.proofs.Common.{◌≡◌, ℕ, zero, suc, List, [], ◌∷◌, �
 use Rattle.std.specs.Prelude.{◌⊎◌, Bool as Test, true, false, not, ◌||◌, if◌then◌else◌, Option, Some, None, bytes_eq, option_to_list, flat_map}
 use Rattle.std.specs.List.{list_any}
 use Rattle.std.proofs.lemmas.Slice.Eq.{bytes_eq-Decides}
+use Rattle.std.proofs.lemmas.Option.{same_Some}
 use Rattle.pc_source.specs.declared.place.Place.{Place}
 use Rattle.pc_tree.specs.declared.code.Code.{Code}
 use Rattle.pc_tree.specs.declared.code.Code.TheVariants.{A5}
@@ -28,6 +29,7 @@ use Rattle.pc_expr.specs.Labels.{Flowing, Marks, type_of}
 use Rattle.pc_expr.specs.Lawful.{Lawful}
 use Rattle.pc_check.specs.StatementLabels.{OptionMarks, TargetMarks, StmtMarks, SuiteMarks, BranchesMarks, Behind, BehindRule, breaks_in, breaks_in_suite, breaks_in_branches, behind_list, ways_in}
 use Rattle.pc_check.specs.Statements.{Seen, is_first, only_code, range_offers, range_item, is_range, LawfulRange, LawfulValues, RangeOrValues, LawfulIterable, LawfulTarget, LawfulDeclaration, annotation_at, LawfulAnnotated, LawfulAssignment, LawfulReturn, LawfulOption, LawfulStmt, LawfulSuite, LawfulBranches, binds_number, DeclaredAt, known_type, bound_env, LawfulBinding, LawfulStore, UndeclaredName, Undeclared}
+use Rattle.pc_sound.proofs.TruthValues.{not_both}
 use Rattle.pc_sound.proofs.Keys.{IsKeyed, Keyed, keyed_type}
 use Rattle.pc_sound.proofs.KeyedTypes.{OptionKeyed, EnvKeyed, assign_keyed, narrow_keyed, join_env_keyed, all_keyed}
 use Rattle.pc_sound.proofs.KeyedLabels.{ContextKeyed, Timely, Keyeds, FieldKeyed, field_keyed, append_keyed, key_keyed, listed_keyed, operation_keyed, called_keyed, call_keyed, positional_keyed, keyword_keyed, items_keyed, keywords_keyed, second_timely, labels_keyed}
@@ -35,12 +37,7 @@ use Rattle.pc_sound.proofs.Indexing.{keyed_members}
 use Rattle.pc_sound.proofs.KeyedModules.{ann_keyed}
 use Rattle.pc_sound.proofs.KeyedStatements as keyed_statements
 use Rattle.pc_sound.proofs.KeyedStatements.{TargetKeyed, StmtKeyed, SuiteKeyed, BranchesKeyed}
-
-some_inj : {A : Type 0} {x y : A} → Some x ≡ Some y → x ≡ y
-some_inj e = grind arith
-
-not_same : {b : Test} → b ≡ true → b ≡ false → ⊥
-not_same e e' = grind (arith, e, e')
+use Rattle.pc_sound.proofs.Frames.{local_injective}
 
 -- ---- environments
 
@@ -60,7 +57,7 @@ module _ (bases : Bases) (declared : List Tree) where
 
     ways_keyed : (ways : List Env) (env : Env) → join_ways bases declared ways ≡ Some env → EnvsKeyed ways → EnvKeyed declared env
     ways_keyed [] env e h = absurd (grind (arith, e))
-    ways_keyed (w ∷ ws) env e h = subst (EnvKeyed declared) (some_inj e) (onto_keyed w ws h.0 h.1)
+    ways_keyed (w ∷ ws) env e h = subst (EnvKeyed declared) (same_Some _ _ e) (onto_keyed w ws h.0 h.1)
 
 -- at the head of a loop a local has its declared type, or is as it was
 record AtHead (ds : List Tree) (env : Env) (x : ℕ) (t : Tree) : Type 0 where
@@ -70,8 +67,8 @@ record AtHead (ds : List Tree) (env : Env) (x : ℕ) (t : Tree) : Type 0 where
 
 head_one : (b : Test) (d t : Tree) (o : Option Tree) → head_local b d o ≡ Some t → (u : Tree) × (o ≡ Some u) × ((t ≡ d) ⊎ (t ≡ u))
 head_one b d t None e = absurd (grind (arith, e))
-head_one true d t (Some u) e = (u, refl, inl (sym (some_inj e)))
-head_one false d t (Some u) e = (u, refl, inr (sym (some_inj e)))
+head_one true d t (Some u) e = (u, refl, inl (sym (same_Some _ _ e)))
+head_one false d t (Some u) e = (u, refl, inr (sym (same_Some _ _ e)))
 
 at_head : (bound : ℕ → Test) (ds : List Tree) (env : Env) (x : ℕ) (t : Tree) → current (loop_head bound ds env) x ≡ Some t → AtHead ds env x t
 at_head bound [] env x t e = absurd (grind (arith, e))
@@ -86,6 +83,10 @@ head_keyed bound declared env h x t e =
     (elim a.is [ inl d ↦ subst IsKeyed (sym d) k.1 | inr u ↦ subst IsKeyed (sym u) k.0 ], k.1)
 
 -- ---- names
+
+-- two locals that one meaning is are the same
+pub local_same : {r : Res} {x y : ℕ} → r ≡ res.Local x → r ≡ res.Local y → x ≡ y
+local_same f g = local_injective (sym f ∙ g)
 
 module _ (m : Module) (ctx : Context) (declared : List Tree) (keyed : ContextKeyed ctx) (timely : (e : Expr) → Timely ctx declared e) where
   -- a local of this name has such a declared type
@@ -121,17 +122,8 @@ module _ (m : Module) (ctx : Context) (declared : List Tree) (keyed : ContextKey
     where
       one : (b : Test) → is_among n.text seen ≡ b → (r : Res) → ctx.resolve n.text ≡ r → UndeclaredName m ctx declared (not b) r → NameKeyed n.text
       one true e r is u = k n.text e
-      one false e (res.Local x) is u = λ y i. subst (λ z. IsKeyed (declared_type declared z)) (local_inj (sym is ∙ i)) (subst IsKeyed (sym u) tt)
-        where
-          local_inj : {x y : ℕ} → res.Local x ≡ res.Local y → x ≡ y
-          local_inj e = grind arith
+      one false e (res.Local x) is u = λ y i. subst (λ z. IsKeyed (declared_type declared z)) (local_injective (sym is ∙ i)) (subst IsKeyed (sym u) tt)
       one false e _ is u = λ y i. absurd (grind (arith, sym is ∙ i))
-
-  local_same : {r : Res} {x y : ℕ} → r ≡ res.Local x → r ≡ res.Local y → x ≡ y
-  local_same f g = inj (sym f ∙ g)
-    where
-      inj : {x y : ℕ} → res.Local x ≡ res.Local y → x ≡ y
-      inj e = grind arith
 
   -- a name is keyed where the local that it is has such a declared type
   local_named : (n : Name) (x : ℕ) → ctx.resolve n.text ≡ res.Local x → IsKeyed (declared_type declared x) → NameKeyed n.text
@@ -171,7 +163,7 @@ module _ (m : Module) (ctx : Context) (declared : List Tree) (keyed : ContextKey
     where
       go : (b : Test) → is_among n.text seen ≡ b → not b ≡ false → IsKeyed (declared_type declared x)
       go true a e = k n.text a x is
-      go false a e = absurd (not_same refl e)
+      go false a e = absurd (not_both refl e)
 
   binding_keyed : (env : Env) (seen : Seen) (n : Name) (annotation : Option Tree) (e : Expr) (marks : Marks e) (flows : Flowing) (after : Env) → EnvKeyed declared env → SeenKeyed seen → OptionKeyed annotation → LawfulBinding m ctx declared env seen n (ctx.resolve n.text) annotation e marks flows after → BoundKeyed n e marks after
   binding_keyed env seen n annotation e marks flows after ek sk ak law = go (ctx.resolve n.text) refl law
@@ -364,7 +356,7 @@ module _ (m : Module) (ctx : Context) (declared : List Tree) (keyed : ContextKey
     breaks : Envs (breaks_in_branches bs marks)
 
   out_is : (out : Option Env) (env : Env) → out ≡ Some env → EnvKeyed declared env → OutKeyed out
-  out_is out env e h other i = subst (EnvKeyed declared) (some_inj (sym e ∙ i)) h
+  out_is out env e h other i = subst (EnvKeyed declared) (same_Some _ _ (sym e ∙ i)) h
 
   out_none : (out : Option Env) → out ≡ None → OutKeyed out
   out_none out e other i = absurd (grind (arith, sym e ∙ i))

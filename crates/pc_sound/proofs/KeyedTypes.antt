@@ -1,8 +1,9 @@
 -- Joins, tests and environments keep that each dict in a type has int or str as its key.
-use Rattle.std.proofs.Common.{◌≡◌, ℕ, List, [], ◌∷◌, filter, refl, sym, subst, inl, inr, arith}
+use Rattle.std.proofs.Common.{◌≡◌, ℕ, List, [], ◌∷◌, filter, refl, sym, subst, inl, inr}
 use Rattle.std.specs.Prelude.{Bool as Test, true, false, not, if◌then◌else◌, Option, Some, None, unwrap_or, filter_map}
 use Rattle.std.specs.List.{cons_option}
 use Rattle.std.specs.Option.{option_map, option_and_then}
+use Rattle.std.proofs.lemmas.Option.{none-some, same_Some}
 use Rattle.pc_tree.specs.Tree.{Expr, name, negation, is_none, is_not_none, conjunction, disjunction, call}
 use Rattle.pc_scope.specs.declared.resolution.Builtin.TheVariants as builtin
 use Rattle.pc_scope.specs.declared.resolution.Res.{Res}
@@ -21,12 +22,6 @@ use Rattle.pc_sound.proofs.Indexing.{keyed_members}
 use Rattle.pc_sound.proofs.Joins.{within_is}
 use Rattle.pc_sound.proofs.JoinedLocals.{met}
 use Rattle.pc_sound.proofs.Frames.{assigned_cases}
-
-some_inj : {A : Type 0} {x y : A} → Some x ≡ Some y → x ≡ y
-some_inj e = grind arith
-
-some_none : {A : Type 0} {x : A} → None ≡ Some x → ⊥
-some_none e = grind arith
 
 -- ---- members
 
@@ -53,51 +48,51 @@ filter_keyed p (m ∷ ms) h = go (p m) (filter_keyed p ms h.1)
 
 module _ (m : Tree) (one : Tree → Option Tree) (keyed : IsKeyed m) (makes : (n f : Tree) → IsKeyed n → one n ≡ Some f → IsKeyed f) where
   made_keyed : (n : Tree) (ns l : List Tree) → Keyeds (n ∷ ns) → (o : Option Tree) → one n ≡ o → option_map (λ f. f ∷ ns) o ≡ Some l → Keyeds l
-  made_keyed n ns l h None q e = absurd (some_none e)
-  made_keyed n ns l h (Some f) q e = subst Keyeds (some_inj e) (makes n f h.0 q, h.1)
+  made_keyed n ns l h None q e = absurd (none-some _ e)
+  made_keyed n ns l h (Some f) q e = subst Keyeds (same_Some _ _ e) (makes n f h.0 q, h.1)
 
   rest_keyed : (n : Tree) (ns l : List Tree) → Keyeds (n ∷ ns) → (o : Option (List Tree)) → ((q : List Tree) → o ≡ Some q → Keyeds q) → option_map (λ q. n ∷ q) o ≡ Some l → Keyeds l
-  rest_keyed n ns l h None g e = absurd (some_none e)
-  rest_keyed n ns l h (Some q) g e = subst Keyeds (some_inj e) (h.0, g q refl)
+  rest_keyed n ns l h None g e = absurd (none-some _ e)
+  rest_keyed n ns l h (Some q) g e = subst Keyeds (same_Some _ _ e) (h.0, g q refl)
 
   put_keyed : (ms l : List Tree) → Keyeds ms → put m one ms ≡ Some l → Keyeds l
-  put_keyed [] l h e = subst Keyeds (some_inj e) (keyed, tt)
+  put_keyed [] l h e = subst Keyeds (same_Some _ _ e) (keyed, tt)
   put_keyed (n ∷ ns) l h e = go (λ q f. put_keyed ns q h.1 f) (is_before m n) (is_before n m) e
     where
       go : ((q : List Tree) → put m one ns ≡ Some q → Keyeds q) → (x y : Test) → (if x then Some (m ∷ n ∷ ns) else (if y then option_map (λ q. n ∷ q) (put m one ns) else option_map (λ f. f ∷ ns) (one n))) ≡ Some l → Keyeds l
-      go g true y e = subst Keyeds (some_inj e) (keyed, h)
+      go g true y e = subst Keyeds (same_Some _ _ e) (keyed, h)
       go g false true e = rest_keyed n ns l h (put m one ns) g e
       go g false false e = made_keyed n ns l h (one n) refl e
 
 tested_keyed : (x : Test) (ms l : List Tree) (p : Option (List Tree)) → Keyeds ms → (p ≡ Some l → Keyeds l) → (if x then Some ms else p) ≡ Some l → Keyeds l
-tested_keyed true ms l p h g e = subst Keyeds (some_inj e) h
+tested_keyed true ms l p h g e = subst Keyeds (same_Some _ _ e) h
 tested_keyed false ms l p h g e = g e
 
 bound_keyed : (f : List Tree → Option (List Tree)) (o : Option (List Tree)) (l : List Tree) → ((q : List Tree) → o ≡ Some q → Keyeds q) → ((q : List Tree) → Keyeds q → f q ≡ Some l → Keyeds l) → option_and_then f o ≡ Some l → Keyeds l
-bound_keyed f None l g h e = absurd (some_none e)
+bound_keyed f None l g h e = absurd (none-some _ e)
 bound_keyed f (Some q) l g h e = h q (g q refl) e
 
 mapped_keyed : (o : Option (List Tree)) (u : Tree) → ((l : List Tree) → o ≡ Some l → Keyeds l) → option_map union o ≡ Some u → IsKeyed u
-mapped_keyed None u h e = absurd (some_none e)
-mapped_keyed (Some l) u h e = subst IsKeyed (some_inj e) (union_keyed l (h l refl))
+mapped_keyed None u h e = absurd (none-some _ e)
+mapped_keyed (Some l) u h e = subst IsKeyed (same_Some _ _ e) (union_keyed l (h l refl))
 
 rule_keyed : (s t u : Tree) (o : Option Tree) → IsKeyed s → IsKeyed t → (o ≡ Some u → IsKeyed u) → by_rule s t o ≡ Some u → IsKeyed u
-rule_keyed Never t u o h k g e = subst IsKeyed (some_inj e) k
-rule_keyed s Never u o h k g e = subst IsKeyed (some_inj e) h
-rule_keyed Any t u o h k g e = subst IsKeyed (some_inj e) tt
-rule_keyed s Any u o h k g e = subst IsKeyed (some_inj e) tt
-rule_keyed Object t u o h k g e = subst IsKeyed (some_inj e) tt
-rule_keyed s Object u o h k g e = subst IsKeyed (some_inj e) tt
+rule_keyed Never t u o h k g e = subst IsKeyed (same_Some _ _ e) k
+rule_keyed s Never u o h k g e = subst IsKeyed (same_Some _ _ e) h
+rule_keyed Any t u o h k g e = subst IsKeyed (same_Some _ _ e) tt
+rule_keyed s Any u o h k g e = subst IsKeyed (same_Some _ _ e) tt
+rule_keyed Object t u o h k g e = subst IsKeyed (same_Some _ _ e) tt
+rule_keyed s Object u o h k g e = subst IsKeyed (same_Some _ _ e) tt
 rule_keyed s t u o h k g e = g e
 
 settled_keyed : (s t u : Tree) (o : Option (List Tree)) (x : Test) → IsKeyed s → IsKeyed t → ((l : List Tree) → o ≡ Some l → Keyeds l) → (if x then Some s else by_rule s t (option_map union o)) ≡ Some u → IsKeyed u
-settled_keyed s t u o true h k g e = subst IsKeyed (some_inj e) h
+settled_keyed s t u o true h k g e = subst IsKeyed (same_Some _ _ e) h
 settled_keyed s t u o false h k g e = rule_keyed s t u (option_map union o) h k (mapped_keyed o u g) e
 
 both_keyed : (o : Option Tree) (p : Option Trees) (us : Trees) → ((u : Tree) → o ≡ Some u → IsKeyed u) → ((vs : Trees) → p ≡ Some vs → AreKeyed vs) → both_parts o p ≡ Some us → AreKeyed us
-both_keyed None p us g h e = absurd (some_none e)
-both_keyed (Some t) None us g h e = absurd (some_none e)
-both_keyed (Some t) (Some ts) us g h e = subst AreKeyed (some_inj e) (g t refl, h ts refl)
+both_keyed None p us g h e = absurd (none-some _ e)
+both_keyed (Some t) None us g h e = absurd (none-some _ e)
+both_keyed (Some t) (Some ts) us g h e = subst AreKeyed (same_Some _ _ e) (g t refl, h ts refl)
 
 parts_keyed : (n : Tree) → IsKeyed n → AreKeyed (parts_of n)
 parts_keyed (TupleOf ts) h = h
@@ -107,12 +102,12 @@ tuple_keyed : (bases : Bases) (ss : Trees) → ((ts us : Trees) → AreKeyed ts 
 tuple_keyed bases ss each n f h e = go (join_each bases ss (parts_of n)) refl e
   where
     go : (o : Option Trees) → join_each bases ss (parts_of n) ≡ o → option_map TupleOf o ≡ Some f → IsKeyed f
-    go None is e = absurd (some_none e)
-    go (Some us) is e = subst IsKeyed (some_inj e) (each (parts_of n) us (parts_keyed n h) is)
+    go None is e = absurd (none-some _ e)
+    go (Some us) is e = subst IsKeyed (same_Some _ _ e) (each (parts_of n) us (parts_keyed n h) is)
 
 mutual
   put_all_keyed : (bases : Bases) (other s : Tree) (ms l : List Tree) → IsKeyed s → Keyeds ms → put_all bases other s ms ≡ Some l → Keyeds l
-  put_all_keyed bases other Never ms l k h e = subst Keyeds (some_inj e) h
+  put_all_keyed bases other Never ms l k h e = subst Keyeds (same_Some _ _ e) h
   put_all_keyed bases other (Union a b) ms l k h e =
       bound_keyed (λ l. put_all bases other a l) (put_all bases other b ms) l (λ q f. put_all_keyed bases other b ms q k.1 h f) (λ q g f. put_all_keyed bases other a q l k.0 g f) e
   put_all_keyed bases other (TupleOf ss) ms l k h e =
@@ -123,9 +118,9 @@ mutual
       tested_keyed (is_absorbed bases m other) ms l (put m (equal_one m) ms) h (put_keyed m (equal_one m) k (λ n f g r. subst IsKeyed (sym (equal_is m n f r)) k) ms l h) e
 
   each_keyed : (bases : Bases) (ss ts us : Trees) → AreKeyed ss → AreKeyed ts → join_each bases ss ts ≡ Some us → AreKeyed us
-  each_keyed bases end end us k h e = subst AreKeyed (some_inj e) tt
-  each_keyed bases end (more t ts) us k h e = absurd (some_none e)
-  each_keyed bases (more s ss) end us k h e = absurd (some_none e)
+  each_keyed bases end end us k h e = subst AreKeyed (same_Some _ _ e) tt
+  each_keyed bases end (more t ts) us k h e = absurd (none-some _ e)
+  each_keyed bases (more s ss) end us k h e = absurd (none-some _ e)
   each_keyed bases (more s ss) (more t ts) us k h e =
       both_keyed (joined bases s t) (join_each bases ss ts) us
       (λ u f. settled_keyed s t u (put_all bases t s (unabsorbed bases t s)) (same_tree s t) k.0 h.0 (λ l g. put_all_keyed bases t s (unabsorbed bases t s) l k.0 (filter_keyed (λ m. not (is_absorbed bases m s)) (members t) (keyed_members t h.0)) g) f)

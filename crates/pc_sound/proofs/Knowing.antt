@@ -1,7 +1,6 @@
 -- What bodies and initializers know of the module's names and of the classes made.
-use Rattle.std.proofs.Common.{◌≡◌, ℕ, zero, suc, List, [], ◌∷◌, length, refl, sym, ap, ◌∙◌, subst, arith}
+use Rattle.std.proofs.Common.{◌≡◌, ℕ, suc, List, [], ◌∷◌, length, refl, sym, ap, ◌∙◌, subst, arith}
 use Rattle.std.specs.Prelude.{Bool as Test, true, false, if◌then◌else◌, is_some, nat_lt, bytes_eq, Option, Some, None, slice_get}
-use Rattle.std.proofs.lemmas.Bool.Decides.{nat_tests}
 use Rattle.pc_source.specs.declared.place.Place.{Place}
 use Rattle.pc_tree.specs.Tree.{FuncDef, ClassDef, Item, constant_item, class_item, def_item, Module}
 use Rattle.pc_scope.specs.declared.resolution.Builtin.{Builtin}
@@ -20,6 +19,7 @@ use Rattle.pc_machine.specs.State.{Class, Globals}
 use Rattle.pc_machine.specs.Calls.{descends_from, class_at}
 use Rattle.pc_expr.specs.Signatures.{initializer_context}
 use Rattle.pc_sound.specs.Values.{HeapTyping}
+use Rattle.pc_sound.proofs.Lists.{within}
 use Rattle.pc_sound.proofs.Globals.{KnowsNames}
 use Rattle.pc_sound.proofs.InstanceTests.{Descends}
 use Rattle.pc_sound.proofs.KnownTests.{KnowsAncestors}
@@ -29,9 +29,6 @@ use Rattle.pc_sound.proofs.World.{World, Labelled, around_of, context_of}
 use Rattle.pc_sound.proofs.Classes.{chain_below}
 use Rattle.pc_sound.proofs.Entering.{module_local}
 use Rattle.pc_sound.proofs.ModuleOrder.{around_items}
-
-some_inj : {A : Type 0} {x y : A} → Some x ≡ Some y → x ≡ y
-some_inj e = grind arith
 
 -- ---- names of the module
 
@@ -84,11 +81,6 @@ module _ (m : Module) where
       let behind = x.behind in
       let at : c ≡ x.at = omega arith in
       subst (λ i. nat_lt i (length (classes_in m.items)) ≡ true) (sym at) (within (classes_in m.items) x.at x.class x.is)
-    where
-      within : (xs : List ClassDef) (i : ℕ) (y : ClassDef) → slice_get xs i ≡ Some y → nat_lt i (length xs) ≡ true
-      within [] i y e = absurd (grind (arith, e))
-      within (x ∷ xs) zero y e = grind (arith, nat_tests)
-      within (x ∷ xs) (suc i) y e = let h = within xs i y e in grind (arith, nat_tests, h)
 
   -- ---- in initializers
 

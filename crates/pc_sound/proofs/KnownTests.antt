@@ -1,6 +1,7 @@
 -- In a body each name that types see as a test is that test in a run: there all classes are made.
-use Rattle.std.proofs.Common.{◌≡◌, ℕ, List, refl, sym, ap, ◌∙◌, subst, arith}
-use Rattle.std.specs.Prelude.{true, Some, None, nat_lt}
+use Rattle.std.proofs.Common.{◌≡◌, ℕ, List, refl, sym, ap, ◌∙◌, subst}
+use Rattle.std.specs.Prelude.{true, Some, nat_lt}
+use Rattle.std.proofs.lemmas.Option.{none-some, same_Some}
 use Rattle.pc_scope.specs.declared.resolution.Builtin.TheVariants as builtin
 use Rattle.pc_scope.specs.declared.resolution.Res.{Res}
 use Rattle.pc_scope.specs.declared.resolution.Res.TheVariants as res
@@ -17,20 +18,12 @@ use Rattle.pc_sound.specs.Values.{HeapTyping}
 use Rattle.pc_sound.specs.Judgment.{Around, Stands, Fits}
 use Rattle.pc_sound.proofs.Globals.{KnowsNames, means_a_class, means_a_builtin, reserved_is}
 use Rattle.pc_sound.proofs.InstanceTests.{Descends, IsRight, RightTests}
+use Rattle.pc_sound.proofs.Steps.{gives_injective}
 
 -- where there are locals, the classes that names mean are made, with the ancestors that are above them
 pub record KnowsAncestors (around : Around) (ctx : Context) : Type 0 where
   pub known : (local : List ℕ) (x : ℕ) → ctx.resolve local ≡ res.Local x → (word : List ℕ) (c : ℕ) → ctx.resolve word ≡ res.Class c → nat_lt c ctx.known ≡ true
   pub descends : (local : List ℕ) (x : ℕ) → ctx.resolve local ≡ res.Local x → (word : List ℕ) (c : ℕ) → ctx.resolve word ≡ res.Class c → (k : HeapTyping) (made : List Class) (globals : Globals) → around.outside k made globals → Descends around.bases made c
-
-some_inj : {A : Type 0} {x y : A} → Some x ≡ Some y → x ≡ y
-some_inj e = grind arith
-
-some_none : {A : Type 0} {x : A} → None ≡ Some x → ⊥
-some_none e = grind arith
-
-gives_inj : {x y : Test} → Gives x ≡ Gives y → x ≡ y
-gives_inj e = grind arith
 
 module _ (around : Around) (ctx : Context) (fits : Fits around ctx) (knows : KnowsNames around ctx) (ancestors : KnowsAncestors around ctx) where
   pub right_tests : RightTests around ctx
@@ -41,7 +34,7 @@ module _ (around : Around) (ctx : Context) (fits : Fits around ctx) (knows : Kno
         where
           -- it is this test in both
           so : (t : Tested) (m : Test) → Some t ≡ Some test → test_of_meaning word (meaning word s) ≡ Gives m → IsRight around.bases s.classes t m → IsRight around.bases s.classes test made
-          so t m e is h = subst (λ y. IsRight around.bases s.classes y made) (some_inj e) (subst (λ y. IsRight around.bases s.classes t y) (gives_inj (sym is ∙ comes)) h)
+          so t m e is h = subst (λ y. IsRight around.bases s.classes y made) (same_Some _ _ e) (subst (λ y. IsRight around.bases s.classes t y) (gives_injective (sym is ∙ comes)) h)
 
           reserved : (b : _) → ctx.resolve word ≡ res.Builtin b → test_of_meaning word (meaning word s) ≡ test_of_reserved word
           reserved b e = ap (test_of_meaning word) (means_a_builtin around ctx fits knows env word b e k s st)
@@ -52,4 +45,4 @@ module _ (around : Around) (ctx : Context) (fits : Fits around ctx) (knows : Kno
           go (res.Builtin builtin.Str) e named = so (for_type Str) tests_str named (reserved builtin.Str e ∙ ap test_of_reserved (reserved_is around ctx fits knows env word builtin.Str e)) tt
           go (res.Builtin builtin.Bool) e named = so (for_type Bool) tests_bool named (reserved builtin.Bool e ∙ ap test_of_reserved (reserved_is around ctx fits knows env word builtin.Bool e)) tt
           go (res.Builtin builtin.List) e named = so for_list tests_list named (reserved builtin.List e ∙ ap test_of_reserved (reserved_is around ctx fits knows env word builtin.List e)) tt
-          go _ e named = absurd (some_none named)
+          go _ e named = absurd (none-some _ named)

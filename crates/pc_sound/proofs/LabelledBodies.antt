@@ -1,9 +1,10 @@
 -- The functions and methods of a module have the lawful labels that the module's labelling gives them.
-use Rattle.std.proofs.Common.{◌≡◌, ℕ, zero, suc, ◌+◌, List, [], ◌∷◌, ◌++◌, length, map, refl, sym, ap, ◌∙◌, subst, inl, inr, arith, Contains}
+use Rattle.std.proofs.Common.{◌≡◌, ℕ, zero, suc, ◌+◌, List, [], ◌∷◌, ◌++◌, length, map, refl, sym, ap, ◌∙◌, subst, inl, inr, arith, Contains, append-nil, append_assoc}
 use Rattle.std.specs.Prelude.{Bool as Test, true, false, ◌||◌, not, if◌then◌else◌, Option, Some, None, is_some, slice_get, bytes_eq, codes}
 use Rattle.std.specs.List.{list_any}
 use Rattle.std.proofs.lemmas.List.Elements.{Contains-append_left, Contains-append_right}
 use Rattle.std.proofs.lemmas.Slice.Eq.{bytes_eq-Decides}
+use Rattle.std.proofs.lemmas.Option.{none-some, same_Some}
 use Rattle.pc_source.specs.declared.place.Place.{Place}
 use Rattle.pc_tree.specs.declared.code.Code.{Code}
 use Rattle.pc_tree.specs.declared.code.Code.TheVariants.{E05, E28, E29}
@@ -11,7 +12,7 @@ use Rattle.pc_tree.specs.declared.code.Finding.{Finding}
 use Rattle.pc_tree.specs.Code.{finding, IsError}
 use Rattle.pc_tree.specs.Tree.{Name, Param, FuncDef, Member, field_member, method_member, ClassDef, Item, constant_item, class_item, def_item, Module}
 use Rattle.pc_tree.specs.Stopping as stopping
-use Rattle.pc_tree.specs.Stopping.{one_if, of_members, of_defs, name_of_param, bound_by, loose_in, loose_in_def, reserved_among, reserved_in_def, is_plain_def, stopping_places}
+use Rattle.pc_tree.specs.Stopping.{one_if, of_members, of_defs, name_of_param, bound_by, loose_in_def, reserved_among, reserved_in_def, is_plain_def, stopping_places}
 use Rattle.pc_scope.specs.declared.resolution.Owner.{Owner}
 use Rattle.pc_scope.specs.declared.resolution.Owner.TheVariants as owners
 use Rattle.pc_scope.specs.Reserved.{reserved, beside, builtin_of, is_reserved}
@@ -24,34 +25,19 @@ use Rattle.pc_class.specs.Facts.{Class}
 use Rattle.pc_class.specs.Findings.{base_class}
 use Rattle.pc_check.specs.Modules.{FunctionMarks, LawfulFunction, FunctionFinds, MembersMarks, LawfulMembers, MembersFind, ItemsMarks, LawfulItems, ItemsFind, Before, before_next, nothing_before, Labelling, IsLawful, IsFinding, constant_types, item_constants}
 use Rattle.pc_sound.specs.Sound.{HasNoError}
+use Rattle.pc_sound.proofs.TruthValues.{not_both}
 use Rattle.pc_sound.proofs.KeyedStatements.{SuiteKeyed}
 use Rattle.pc_sound.proofs.World.{Labelled}
 use Rattle.pc_sound.proofs.Items.{last_of}
 use Rattle.pc_sound.proofs.Whole.{IsListedPlace}
-
-some_inj : {A : Type 0} {x y : A} → Some x ≡ Some y → x ≡ y
-some_inj e = grind arith
-
-none_some : {A : Type 0} {x : A} → None ≡ Some x → ⊥
-none_some e = grind arith
-
-clash : {b : Test} → b ≡ true → b ≡ false → ⊥
-clash e f = grind (arith, sym e ∙ f)
+use Rattle.pc_sound.proofs.Entry.{texts_append}
 
 -- ---- what is at the end of the items
 
-append_associates : {A : Type 0} (xs ys zs : List A) → (xs ++ ys) ++ zs ≡ xs ++ (ys ++ zs)
-append_associates [] ys zs = refl
-append_associates (x ∷ xs) ys zs = ap (λ l. x ∷ l) (append_associates xs ys zs)
-
-right_end : {A : Type 0} (xs : List A) → xs ++ [] ≡ xs
-right_end [] = refl
-right_end (x ∷ xs) = ap (λ l. x ∷ l) (right_end xs)
-
 module _ (m : Module) (constants : List Tree) (listed : Place → Type 0) where
   pub last_types_are : (b : Before) (items : List Item) (marks : ItemsMarks items) → (last_of m constants listed b items marks).constants ≡ b.constants ++ constant_types m items marks
-  last_types_are b [] marks = sym (right_end b.constants)
-  last_types_are b (constant_item p c ∷ rest) marks = last_types_are (before_next m b (constant_item p c) marks.0) rest marks.1 ∙ append_associates b.constants (item_constants m (constant_item p c) marks.0) (constant_types m rest marks.1)
+  last_types_are b [] marks = sym (append-nil b.constants)
+  last_types_are b (constant_item p c ∷ rest) marks = last_types_are (before_next m b (constant_item p c) marks.0) rest marks.1 ∙ append_assoc b.constants (item_constants m (constant_item p c) marks.0) (constant_types m rest marks.1)
   last_types_are b (class_item p c ∷ rest) marks = last_types_are (before_next m b (class_item p c) marks.0) rest marks.1
   last_types_are b (def_item p f ∷ rest) marks = last_types_are (before_next m b (def_item p f) marks.0) rest marks.1
 
@@ -77,47 +63,47 @@ module _ (m : Module) (constants : List Tree) where
   wider owner d finds more w h = record { marks = h.marks; lawful = h.lawful; within = λ f x. w f (h.within f x) }
 
   pub function_in : (items : List Item) (b : Before) (marks : ItemsMarks items) → LawfulItems m constants b items marks → (j i : ℕ) (d : FuncDef) → slice_get (functions_in items) j ≡ Some d → i ≡ b.functions + j → FunctionIn (owners.Func i) d (ItemsFind m constants b items marks)
-  function_in [] b marks law j i d e at = absurd (none_some e)
+  function_in [] b marks law j i d e at = absurd (none-some _ e)
   function_in (constant_item p c ∷ rest) b marks law j i d e at = wider (owners.Func i) d _ _ (λ f h. inr h) (function_in rest (before_next m b (constant_item p c) marks.0) marks.1 law.1 j i d e at)
   function_in (class_item p c ∷ rest) b marks law j i d e at = wider (owners.Func i) d _ _ (λ f h. inr h) (function_in rest (before_next m b (class_item p c) marks.0) marks.1 law.1 j i d e at)
-  function_in (def_item p x ∷ rest) b marks law zero i d e at = same_function (owners.Func b.functions) (owners.Func i) x d _ (ap owners.Func (omega arith)) (some_inj e) (record { marks = marks.0; lawful = law.0; within = λ f h. inl h })
+  function_in (def_item p x ∷ rest) b marks law zero i d e at = same_function (owners.Func b.functions) (owners.Func i) x d _ (ap owners.Func (omega arith)) (same_Some _ _ e) (record { marks = marks.0; lawful = law.0; within = λ f h. inl h })
   function_in (def_item p x ∷ rest) b marks law (suc j) i d e at = wider (owners.Func i) d _ _ (λ f h. inr h) (function_in rest (before_next m b (def_item p x) marks.0) marks.1 law.1 j i d e (omega arith))
 
   method_in : (base : Class) (c number : ℕ) (before : List (List ℕ)) (ms : List Member) (marks : MembersMarks ms) → LawfulMembers m constants base c number before ms marks → (j i : ℕ) (d : FuncDef) → slice_get (methods_in ms) j ≡ Some d → i ≡ number + j → FunctionIn (owners.Method c i) d (MembersFind m constants c number ms marks)
-  method_in base c number before [] marks law j i d e at = absurd (none_some e)
+  method_in base c number before [] marks law j i d e at = absurd (none-some _ e)
   method_in base c number before (field_member x ∷ ms) marks law j i d e at = wider (owners.Method c i) d _ _ (λ f h. inr (inr h)) (method_in base c number (x.name.text ∷ before) ms marks.rest law.others j i d e at)
-  method_in base c number before (method_member x ∷ ms) marks law zero i d e at = same_function (owners.Method c number) (owners.Method c i) x d _ (ap (owners.Method c) (omega arith)) (some_inj e) (record { marks = marks.method; lawful = law.method; within = λ f h. inl h })
+  method_in base c number before (method_member x ∷ ms) marks law zero i d e at = same_function (owners.Method c number) (owners.Method c i) x d _ (ap (owners.Method c) (omega arith)) (same_Some _ _ e) (record { marks = marks.method; lawful = law.method; within = λ f h. inl h })
   method_in base c number before (method_member x ∷ ms) marks law (suc j) i d e at = wider (owners.Method c i) d _ _ (λ f h. inr (inr h)) (method_in base c (suc number) (x.name.text ∷ before) ms marks.rest law.others j i d e (omega arith))
 
   pub method_of_class_in : (items : List Item) (b : Before) (marks : ItemsMarks items) → LawfulItems m constants b items marks → (j c : ℕ) (class : ClassDef) (i : ℕ) (d : FuncDef) → slice_get (classes_in items) j ≡ Some class → c ≡ b.classes + j → slice_get (methods_in class.members) i ≡ Some d → FunctionIn (owners.Method c i) d (ItemsFind m constants b items marks)
-  method_of_class_in [] b marks law j c class i d e at is = absurd (none_some e)
+  method_of_class_in [] b marks law j c class i d e at is = absurd (none-some _ e)
   method_of_class_in (constant_item p x ∷ rest) b marks law j c class i d e at is = wider (owners.Method c i) d _ _ (λ f h. inr h) (method_of_class_in rest (before_next m b (constant_item p x) marks.0) marks.1 law.1 j c class i d e at is)
   method_of_class_in (def_item p x ∷ rest) b marks law j c class i d e at is = wider (owners.Method c i) d _ _ (λ f h. inr h) (method_of_class_in rest (before_next m b (def_item p x) marks.0) marks.1 law.1 j c class i d e at is)
   method_of_class_in (class_item p x ∷ rest) b marks law (suc j) c class i d e at is = wider (owners.Method c i) d _ _ (λ f h. inr h) (method_of_class_in rest (before_next m b (class_item p x) marks.0) marks.1 law.1 j c class i d e (omega arith) is)
   method_of_class_in (class_item p x ∷ rest) b marks law zero c class i d e at is =
       same_function (owners.Method b.classes i) (owners.Method c i) d d _ (ap (λ z. owners.Method z i) (omega arith)) refl
-      (wider (owners.Method b.classes i) d _ _ (λ f h. inl h) (method_in (base_class m b.classes x) b.classes 0 [] x.members marks.0 law.0 i i d (ap (λ z. slice_get (methods_in z.members) i) (some_inj e) ∙ is) (omega arith)))
+      (wider (owners.Method b.classes i) d _ _ (λ f h. inl h) (method_in (base_class m b.classes x) b.classes 0 [] x.members marks.0 law.0 i i d (ap (λ z. slice_get (methods_in z.members) i) (same_Some _ _ e) ∙ is) (omega arith)))
 
 -- ---- places of all functions and methods
 
 pub of_function_at : (function method : FuncDef → List Place) (items : List Item) (j : ℕ) (d : FuncDef) (p : Place) → slice_get (functions_in items) j ≡ Some d → Contains (function d) p → Contains (of_defs function method items) p
-of_function_at function method [] j d p e c = absurd (none_some e)
+of_function_at function method [] j d p e c = absurd (none-some _ e)
 of_function_at function method (constant_item q x ∷ rest) j d p e c = of_function_at function method rest j d p e c
 of_function_at function method (class_item q x ∷ rest) j d p e c = Contains-append_right (of_members method x.members) (of_defs function method rest) p (of_function_at function method rest j d p e c)
-of_function_at function method (def_item q x ∷ rest) zero d p e c = Contains-append_left (function x) (of_defs function method rest) p (subst (λ f. Contains (function f) p) (sym (some_inj e)) c)
+of_function_at function method (def_item q x ∷ rest) zero d p e c = Contains-append_left (function x) (of_defs function method rest) p (subst (λ f. Contains (function f) p) (sym (same_Some _ _ e)) c)
 of_function_at function method (def_item q x ∷ rest) (suc j) d p e c = Contains-append_right (function x) (of_defs function method rest) p (of_function_at function method rest j d p e c)
 
 of_member_at : (method : FuncDef → List Place) (ms : List Member) (j : ℕ) (d : FuncDef) (p : Place) → slice_get (methods_in ms) j ≡ Some d → Contains (method d) p → Contains (of_members method ms) p
-of_member_at method [] j d p e c = absurd (none_some e)
+of_member_at method [] j d p e c = absurd (none-some _ e)
 of_member_at method (field_member x ∷ ms) j d p e c = of_member_at method ms j d p e c
-of_member_at method (method_member x ∷ ms) zero d p e c = Contains-append_left (method x) (of_members method ms) p (subst (λ f. Contains (method f) p) (sym (some_inj e)) c)
+of_member_at method (method_member x ∷ ms) zero d p e c = Contains-append_left (method x) (of_members method ms) p (subst (λ f. Contains (method f) p) (sym (same_Some _ _ e)) c)
 of_member_at method (method_member x ∷ ms) (suc j) d p e c = Contains-append_right (method x) (of_members method ms) p (of_member_at method ms j d p e c)
 
 pub of_method_at : (function method : FuncDef → List Place) (items : List Item) (j : ℕ) (class : ClassDef) (i : ℕ) (d : FuncDef) (p : Place) → slice_get (classes_in items) j ≡ Some class → slice_get (methods_in class.members) i ≡ Some d → Contains (method d) p → Contains (of_defs function method items) p
-of_method_at function method [] j class i d p e is c = absurd (none_some e)
+of_method_at function method [] j class i d p e is c = absurd (none-some _ e)
 of_method_at function method (constant_item q x ∷ rest) j class i d p e is c = of_method_at function method rest j class i d p e is c
 of_method_at function method (def_item q x ∷ rest) j class i d p e is c = Contains-append_right (function x) (of_defs function method rest) p (of_method_at function method rest j class i d p e is c)
-of_method_at function method (class_item q x ∷ rest) zero class i d p e is c = Contains-append_left (of_members method x.members) (of_defs function method rest) p (of_member_at method x.members i d p (ap (λ z. slice_get (methods_in z.members) i) (some_inj e) ∙ is) c)
+of_method_at function method (class_item q x ∷ rest) zero class i d p e is c = Contains-append_left (of_members method x.members) (of_defs function method rest) p (of_member_at method x.members i d p (ap (λ z. slice_get (methods_in z.members) i) (same_Some _ _ e) ∙ is) c)
 of_method_at function method (class_item q x ∷ rest) (suc j) class i d p e is c = Contains-append_right (of_members method x.members) (of_defs function method rest) p (of_method_at function method rest j class i d p e is c)
 
 -- ---- reserved names
@@ -151,10 +137,6 @@ reserved_found (n ∷ ns) word e r = go (bytes_eq word n.text) refl e (λ f. res
 
 -- ---- a module without errors
 
-append_texts : (xs ys : List Name) → texts (xs ++ ys) ≡ texts xs ++ texts ys
-append_texts [] ys = refl
-append_texts (x ∷ xs) ys = ap (λ l. x.text ∷ l) (append_texts xs ys)
-
 params_named : (ps : List Param) → map name_of_param ps ≡ param_names ps
 params_named [] = refl
 params_named (p ∷ ps) = ap (λ l. p.name ∷ l) (params_named ps)
@@ -174,22 +156,22 @@ module _ (m : Module) (marks : Labelling m) (lawful : IsLawful m marks) (clean :
 
   -- the places of E05 and E29 in a function or method
   pub function_places : (places : FuncDef → List Place) (owner : Owner) (d : FuncDef) (p : Place) → function_of m owner ≡ Some d → Contains (places d) p → Contains (of_defs places places m.items) p
-  function_places places owners.Module d p e c = absurd (none_some e)
+  function_places places owners.Module d p e c = absurd (none-some _ e)
   function_places places (owners.Func i) d p e c = of_function_at places places m.items i d p e c
   function_places places (owners.Method c i) d p e h = go (slice_get (classes_in m.items) c) refl e
     where
       go : (o : Option ClassDef) → slice_get (classes_in m.items) c ≡ o → method_at o i ≡ Some d → Contains (of_defs places places m.items) p
-      go None is e = absurd (none_some e)
+      go None is e = absurd (none-some _ e)
       go (Some class) is e = of_method_at places places m.items c class i d p is e h
 
   -- a function's own labels
   pub function_labels : (owner : Owner) (d : FuncDef) → function_of m owner ≡ Some d → FunctionIn m (constant_types m m.items marks) owner d (ItemsFind m (constant_types m m.items marks) nothing_before m.items marks)
-  function_labels owners.Module d e = absurd (none_some e)
+  function_labels owners.Module d e = absurd (none-some _ e)
   function_labels (owners.Func i) d e = function_in m (constant_types m m.items marks) m.items nothing_before marks lawful i i d e (omega arith)
   function_labels (owners.Method c i) d e = go (slice_get (classes_in m.items) c) refl e
     where
       go : (o : Option ClassDef) → slice_get (classes_in m.items) c ≡ o → method_at o i ≡ Some d → FunctionIn m (constant_types m m.items marks) (owners.Method c i) d (ItemsFind m (constant_types m m.items marks) nothing_before m.items marks)
-      go None is e = absurd (none_some e)
+      go None is e = absurd (none-some _ e)
       go (Some class) is e = method_of_class_in m (constant_types m m.items marks) m.items nothing_before marks lawful c c class i d is (omega arith) e
 
   -- no name that a function binds is reserved
@@ -200,7 +182,7 @@ module _ (m : Module) (marks : Labelling m) (lawful : IsLawful m marks) (clean :
       at_end p c = never_stops E29 tt refl p (Contains-append_right (reserved_among (map stopping.name_of_item m.items)) _ p (Contains-append_right (stopping.reserved_in_classes m.items) (of_defs reserved_in_def reserved_in_def m.items) p (function_places reserved_in_def owner d p e c)))
 
       own : texts (param_names d.params) ++ texts (bound_by d.body) ≡ texts (map name_of_param d.params ++ bound_by d.body)
-      own = sym (append_texts (map name_of_param d.params) (bound_by d.body) ∙ ap (λ l. texts l ++ texts (bound_by d.body)) (params_named d.params))
+      own = sym (texts_append (map name_of_param d.params) (bound_by d.body) ∙ ap (λ l. texts l ++ texts (bound_by d.body)) (params_named d.params))
 
       parts : (owner : Owner) → is_among word (entry_texts owner d ++ texts (bound_by d.body)) ≡ true → is_reserved word ≡ true → (p : Place) × Contains (reserved_in_def d) p
       parts owners.Module a r = reserved_found (map name_of_param d.params ++ bound_by d.body) word (ap (is_among word) (sym own) ∙ a) r
@@ -208,12 +190,16 @@ module _ (m : Module) (marks : Labelling m) (lawful : IsLawful m marks) (clean :
       parts (owners.Method c i) a r = test (bytes_eq word (codes "self")) refl a
         where
           test : (b : Test) → bytes_eq word (codes "self") ≡ b → (b || is_among word (texts (param_names d.params) ++ texts (bound_by d.body))) ≡ true → (p : Place) × Contains (reserved_in_def d) p
-          test true t x = absurd (clash r (ap is_reserved ((bytes_eq-Decides word (codes "self")).0 t) ∙ self_free))
+          test true t x = absurd (not_both r (ap is_reserved ((bytes_eq-Decides word (codes "self")).0 t) ∙ self_free))
           test false t x = reserved_found (map name_of_param d.params ++ bound_by d.body) word (ap (is_among word) (sym own) ∙ x) r
 
       go : (b : Test) → is_reserved word ≡ b → is_reserved word ≡ false
       go true r = let f = parts owner among r in absurd (at_end f.0 f.1)
       go false r = r
+
+  -- a finding of the items is a listed dynamic place
+  pub listed_finding : (f : Finding) → ItemsFind m (constant_types m m.items marks) nothing_before m.items marks f → IsListedPlace m f.place × (¬ (IsError f.code))
+  listed_finding f h = let found : IsFinding m f = record { marks = marks; lawful = lawful; found = inr (inr h) } in (record { finding = f; found = found; dynamic = clean f found; at = refl }, clean f found)
 
   -- each function and method of the module has its lawful labels, in which each finding is a listed dynamic place
   pub labelled_of : ((owner : Owner) (d : FuncDef) (fm : FunctionMarks d) → LawfulFunction m (constant_types m m.items marks) owner d fm → SuiteKeyed d.body fm.body) → (owner : Owner) (d : FuncDef) → function_of m owner ≡ Some d → Labelled m (constant_types m m.items marks) (IsListedPlace m) owner d
@@ -227,6 +213,3 @@ module _ (m : Module) (marks : Labelling m) (lawful : IsLawful m marks) (clean :
         in_loops = λ p c. never_stops E05 tt refl p (function_places loose_in_def owner d p e c);
         free = names_free owner d e;
       }
-    where
-      listed_finding : (f : Finding) → ItemsFind m (constant_types m m.items marks) nothing_before m.items marks f → IsListedPlace m f.place × (¬ (IsError f.code))
-      listed_finding f h = let found : IsFinding m f = record { marks = marks; lawful = lawful; found = inr (inr h) } in (record { finding = f; found = found; dynamic = clean f found; at = refl }, clean f found)

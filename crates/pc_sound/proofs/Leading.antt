@@ -3,7 +3,7 @@ use Rattle.std.proofs.Common.{◌≡◌, ℕ, List, [], refl, sym, ap, ◌∙◌
 use Rattle.std.specs.Prelude.{◌⊎◌}
 use Rattle.pc_source.specs.declared.place.Place.{Place}
 use Rattle.pc_flow.specs.Environment.{Env}
-use Rattle.pc_value.specs.Value.{Value, Stop, Out, Gives, Stops, Raised, Other, Outside, Cut}
+use Rattle.pc_value.specs.Value.{Value, Stop, Out, Gives, Stops}
 use Rattle.pc_value.specs.Actions.{Action, Outcome, Free}
 use Rattle.pc_value.specs.Outcomes.{acted}
 use Rattle.pc_machine.specs.State.{State, Frame}
@@ -13,14 +13,7 @@ use Rattle.pc_machine.specs.Evaluation.{binds_local}
 use Rattle.pc_sound.specs.Values.{HeapTyping, Extends, IsWell}
 use Rattle.pc_sound.specs.Judgment.{HasListed, EndsWell, Around, IsSafe, Goes, Leads, At}
 use Rattle.pc_sound.proofs.ValuesFlow.{extends_refl, extends_through}
-use Rattle.pc_sound.proofs.Steps.{listed_left, listed_right, stands_after}
-
--- an end of the run is well whatever was promised of values
-pub stopped_as : {A B : Type 0} (P : A → Type 0) (Q : B → Type 0) (stop : Stop) → EndsWell P (Stops stop) → EndsWell Q (Stops stop)
-stopped_as P Q (Raised e) h = h
-stopped_as P Q Outside h = h
-stopped_as P Q Other h = h
-stopped_as P Q Cut h = h
+use Rattle.pc_sound.proofs.Steps.{listed_left, listed_right, stands_after, stopped_as}
 
 -- an end is well where less is promised of values
 pub ends_as : {A : Type 0} (P Q : A → Type 0) (out : Out A) → ((a : A) → P a → Q a) → EndsWell P out → EndsWell Q out

@@ -1,3 +1,5 @@
+pub mod TruthValues
+pub mod Lists
 pub mod Expressions
 pub mod Flows
 pub mod Heaps

@@ -3,6 +3,7 @@ use Rattle.std.proofs.Common.{◌≡◌, ℕ, zero, suc, ◌<◌, List, [], ◌�
 use Rattle.std.specs.Prelude.{◌⊎◌, Bool as Test, true, false, nat_le, Option, Some, None, MatchOption, slice_index_or}
 use Rattle.std.proofs.lemmas.List.Elements.{Contains-append_left, Contains-append_right, Contains-append_cases}
 use Rattle.std.proofs.lemmas.Bool.Decides.{nat_tests}
+use Rattle.std.proofs.lemmas.Option.{same_Some}
 use Rattle.pc_source.specs.declared.place.Place.{Place}
 use Rattle.pc_tree.specs.declared.code.Code.{Code}
 use Rattle.pc_tree.specs.declared.code.Code.TheVariants.{E09, E10, E24, E26}
@@ -32,6 +33,7 @@ use Rattle.pc_check.specs.StatementLabels.{OptionMarks, TargetMarks, Behind, Beh
 use Rattle.pc_check.specs.Statements.{Seen, is_first, option_place, OptionFinds, TargetFinds, AnnotationFinds, StmtFinds, SuiteFinds, BranchesFind}
 use Rattle.pc_check.specs.Modules as modules
 use Rattle.pc_check.specs.Modules.{FunctionMarks, FunctionFinds, names_entered, entries_of, MembersMarks, MembersFind, ItemMarks, Before, before_next, ItemFinds}
+use Rattle.pc_sound.proofs.Lists.{among_first, first_among, later_among, none_among}
 
 -- what is found by a rule, as a list
 pub record Listing (P : Finding → Type 0) : Type 0 where
@@ -41,15 +43,6 @@ pub record Listing (P : Finding → Type 0) : Type 0 where
 
 -- ---- lists
 
-pub none_in : {A : Type 0} (x : A) → Contains [] x → ⊥
-none_in x c = omega (arith, c.1)
-
-pub first_in : {A : Type 0} (x : A) (xs : List A) → Contains (x ∷ xs) x
-first_in x xs = (0, omega arith, refl)
-
-pub later_in : {A : Type 0} (x : A) (xs : List A) (y : A) → Contains xs y → Contains (x ∷ xs) y
-later_in x xs y c = Contains-append_right (x ∷ []) xs y c
-
 pub alone : {A : Type 0} (x y : A) → Contains (x ∷ []) y → x ≡ y
 alone {A} x y c = go c.0 c.1 c.2
   where
@@ -57,19 +50,16 @@ alone {A} x y c = go c.0 c.1 c.2
     go zero less is = is
     go (suc k) less is = absurd (omega (arith, less))
 
-pub in_cons : {A : Type 0} (x : A) (xs : List A) (y : A) → Contains (x ∷ xs) y → (x ≡ y) ⊎ Contains xs y
-in_cons x xs y c = elim (Contains-append_cases (x ∷ []) xs y c) [ inl a ↦ inl (alone x y a) | inr b ↦ inr b ]
-
 -- ---- what is found nowhere, at one place, by two rules
 
 abbrev pub none_listed : {P : Finding → Type 0} → ((f : Finding) → P f → ⊥) → Listing P
-none_listed never = record { all = []; into = λ f h. absurd (never f h); from = λ f c. absurd (none_in f c) }
+none_listed never = record { all = []; into = λ f h. absurd (never f h); from = λ f c. absurd (none_among f c) }
 
 abbrev pub nothing_listed : Listing (λ f. ⊥)
 nothing_listed = none_listed (λ f h. h)
 
 pub equal_into : (g f : Finding) → f ≡ g → Contains (g ∷ []) f
-equal_into g f e = subst (λ x. Contains (g ∷ []) x) (sym e) (first_in g [])
+equal_into g f e = subst (λ x. Contains (g ∷ []) x) (sym e) (first_among g [])
 
 abbrev pub equal_listed : (g : Finding) → Listing (λ f. f ≡ g)
 equal_listed g = record { all = g ∷ []; into = equal_into g; from = λ f c. sym (alone g f c) }
@@ -95,20 +85,20 @@ at_codes p [] = []
 at_codes p (c ∷ cs) = finding p c ∷ at_codes p cs
 
 code_into : (p : Place) (cs : List Code) (code : Code) → Contains cs code → Contains (at_codes p cs) (finding p code)
-code_into p [] code c = absurd (none_in code c)
-code_into p (d ∷ cs) code c = elim (in_cons d cs code c) [
-  | inl a ↦ subst (λ x. Contains (finding p d ∷ at_codes p cs) (finding p x)) a (first_in (finding p d) (at_codes p cs))
-  | inr b ↦ later_in (finding p d) (at_codes p cs) (finding p code) (code_into p cs code b)
+code_into p [] code c = absurd (none_among code c)
+code_into p (d ∷ cs) code c = elim (among_first d cs code c) [
+  | inl a ↦ subst (λ x. Contains (finding p d ∷ at_codes p cs) (finding p x)) a (first_among (finding p d) (at_codes p cs))
+  | inr b ↦ later_among (finding p d) (at_codes p cs) (finding p code) (code_into p cs code b)
 ]
 
 pub found_into : (p : Place) (cs : List Code) (f : Finding) → IsFoundAt p cs f → Contains (at_codes p cs) f
 found_into p cs f h = subst (λ x. Contains (at_codes p cs) x) (sym h.is) (code_into p cs h.code h.among)
 
 pub found_from : (p : Place) (cs : List Code) (f : Finding) → Contains (at_codes p cs) f → IsFoundAt p cs f
-found_from p [] f c = absurd (none_in f c)
-found_from p (d ∷ cs) f c = elim (in_cons (finding p d) (at_codes p cs) f c) [
-  | inl a ↦ record { code = d; among = first_in d cs; is = sym a }
-  | inr b ↦ let r = found_from p cs f b in record { code = r.code; among = later_in d cs r.code r.among; is = r.is }
+found_from p [] f c = absurd (none_among f c)
+found_from p (d ∷ cs) f c = elim (among_first (finding p d) (at_codes p cs) f c) [
+  | inl a ↦ record { code = d; among = first_among d cs; is = sym a }
+  | inr b ↦ let r = found_from p cs f b in record { code = r.code; among = later_among d cs r.code r.among; is = r.is }
 ]
 
 abbrev pub found_listed : (p : Place) (cs : List Code) → Listing (IsFoundAt p cs)
@@ -119,26 +109,23 @@ at_flows p [] = []
 at_flows p (None ∷ cs) = at_flows p cs
 at_flows p (Some c ∷ cs) = finding p c ∷ at_flows p cs
 
-some_in : (d code : Code) → Some d ≡ Some code → d ≡ code
-some_in d code e = grind (arith, e)
-
 flow_code_into : (p : Place) (cs : Flowing) (code : Code) → Contains cs (Some code) → Contains (at_flows p cs) (finding p code)
-flow_code_into p [] code c = absurd (none_in (Some code) c)
-flow_code_into p (None ∷ cs) code c = elim (in_cons None cs (Some code) c) [ inl a ↦ absurd (grind (arith, a)) | inr b ↦ flow_code_into p cs code b ]
-flow_code_into p (Some d ∷ cs) code c = elim (in_cons (Some d) cs (Some code) c) [
-  | inl a ↦ subst (λ x. Contains (finding p d ∷ at_flows p cs) (finding p x)) (some_in d code a) (first_in (finding p d) (at_flows p cs))
-  | inr b ↦ later_in (finding p d) (at_flows p cs) (finding p code) (flow_code_into p cs code b)
+flow_code_into p [] code c = absurd (none_among (Some code) c)
+flow_code_into p (None ∷ cs) code c = elim (among_first None cs (Some code) c) [ inl a ↦ absurd (grind (arith, a)) | inr b ↦ flow_code_into p cs code b ]
+flow_code_into p (Some d ∷ cs) code c = elim (among_first (Some d) cs (Some code) c) [
+  | inl a ↦ subst (λ x. Contains (finding p d ∷ at_flows p cs) (finding p x)) (same_Some d code a) (first_among (finding p d) (at_flows p cs))
+  | inr b ↦ later_among (finding p d) (at_flows p cs) (finding p code) (flow_code_into p cs code b)
 ]
 
 pub flow_into : (p : Place) (cs : Flowing) (f : Finding) → IsFlowAt p cs f → Contains (at_flows p cs) f
 flow_into p cs f h = subst (λ x. Contains (at_flows p cs) x) (sym h.is) (flow_code_into p cs h.code h.among)
 
 pub flow_from : (p : Place) (cs : Flowing) (f : Finding) → Contains (at_flows p cs) f → IsFlowAt p cs f
-flow_from p [] f c = absurd (none_in f c)
-flow_from p (None ∷ cs) f c = let r = flow_from p cs f c in record { code = r.code; among = later_in None cs (Some r.code) r.among; is = r.is }
-flow_from p (Some d ∷ cs) f c = elim (in_cons (finding p d) (at_flows p cs) f c) [
-  | inl a ↦ record { code = d; among = first_in (Some d) cs; is = sym a }
-  | inr b ↦ let r = flow_from p cs f b in record { code = r.code; among = later_in (Some d) cs (Some r.code) r.among; is = r.is }
+flow_from p [] f c = absurd (none_among f c)
+flow_from p (None ∷ cs) f c = let r = flow_from p cs f c in record { code = r.code; among = later_among None cs (Some r.code) r.among; is = r.is }
+flow_from p (Some d ∷ cs) f c = elim (among_first (finding p d) (at_flows p cs) f c) [
+  | inl a ↦ record { code = d; among = first_among (Some d) cs; is = sym a }
+  | inr b ↦ let r = flow_from p cs f b in record { code = r.code; among = later_among (Some d) cs (Some r.code) r.among; is = r.is }
 ]
 
 abbrev pub flow_listed : (p : Place) (cs : Flowing) → Listing (IsFlowAt p cs)

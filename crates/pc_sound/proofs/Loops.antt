@@ -1,6 +1,7 @@
 -- Loops: at the head each local that the body binds has its declared type, so each turn finds what the head says.
 use Rattle.std.proofs.Common.{◌≡◌, ℕ, zero, suc, List, [], ◌∷◌, refl, sym, ◌∙◌, subst, inl, inr, arith}
 use Rattle.std.specs.Prelude.{◌⊎◌, Bool as Test, true, false, Option, Some, None}
+use Rattle.std.proofs.lemmas.Option.{same_Some}
 use Rattle.pc_types.specs.Tree.{Tree}
 use Rattle.pc_types.specs.Below.{Bases}
 use Rattle.pc_flow.specs.Environment.{Env, current, declared_type, head_local, loop_head}
@@ -12,9 +13,6 @@ use Rattle.pc_sound.specs.Values.{HeapTyping, HasType, Extends}
 use Rattle.pc_sound.specs.Kept.{HasLocal, HasLocals}
 use Rattle.pc_sound.proofs.ValuesFlow.{later}
 
-some_inj : {A : Type 0} {x y : A} → Some x ≡ Some y → x ≡ y
-some_inj e = grind arith
-
 -- what a local is at a head: assigned before; of its declared type where the body binds it, else of the type before
 record AtHead (bound : Test) (d : Tree) (before : Option Tree) (t : Tree) : Type 0 where
   type : Tree
@@ -23,8 +21,8 @@ record AtHead (bound : Test) (d : Tree) (before : Option Tree) (t : Tree) : Type
 
 head_cases : (bound : Test) (d t : Tree) (before : Option Tree) → head_local bound d before ≡ Some t → AtHead bound d before t
 head_cases bound d t None e = absurd (grind (arith, e))
-head_cases true d t (Some u) e = record { type = u; assigned = refl; is = inl (refl, sym (some_inj e)) }
-head_cases false d t (Some u) e = record { type = u; assigned = refl; is = inr (refl, sym (some_inj e)) }
+head_cases true d t (Some u) e = record { type = u; assigned = refl; is = inl (refl, sym (same_Some _ _ e)) }
+head_cases false d t (Some u) e = record { type = u; assigned = refl; is = inr (refl, sym (same_Some _ _ e)) }
 
 at_head : (bound : ℕ → Test) (ds : List Tree) (env : Env) → (x : ℕ) (t : Tree) → current (loop_head bound ds env) x ≡ Some t → AtHead (bound x) (declared_type ds x) (current env x) t
 at_head bound [] env x t e = absurd (grind (arith, e))
@@ -63,7 +61,7 @@ module _ (bases : Bases) (names : List (List ℕ)) (declared : List Tree) (bound
             is = m.is;
             now = elim h.is [
               | inl b ↦ subst (λ u. HasType bases k' u m.value) (sym b.1) m.always
-              | inr b ↦ subst (λ w. HasType bases k' t w) (some_inj (some_inj (sym l.is ∙ sym (m.same b.0) ∙ m.is))) (later bases grows t l.value l.now)
+              | inr b ↦ subst (λ w. HasType bases k' t w) (same_Some _ _ (same_Some _ _ (sym l.is ∙ sym (m.same b.0) ∙ m.is))) (later bases grows t l.value l.now)
             ];
             always = m.always;
           }

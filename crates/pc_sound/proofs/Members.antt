@@ -1,6 +1,6 @@
 -- Operations member by member: a value of a type is of one of its members, and what the operation gives on that member
 -- is of the join of what it gives on all.
-use Rattle.std.proofs.Common.{◌≡◌, List, [], ◌∷◌, ◌++◌, map, refl, sym, ap, ◌∙◌, subst, inl, inr, arith}
+use Rattle.std.proofs.Common.{◌≡◌, List, [], ◌∷◌, ◌++◌, map, refl, sym, ap, ◌∙◌, subst, inl, inr}
 use Rattle.std.specs.Prelude.{◌⊎◌, if◌then◌else◌, flat_map}
 use Rattle.pc_types.specs.Tree.{Tree, Any}
 use Rattle.pc_types.specs.Below.{Bases, AreSmaller}
@@ -10,20 +10,10 @@ use Rattle.pc_expr.specs.Operations.{Mark, Offer, found_of, offers_mark, operand
 use Rattle.pc_value.specs.Value.{Value, Out, Gives, Stops, Raised, Other, Outside, Cut}
 use Rattle.pc_sound.specs.Values.{HeapTyping, HasType, Extends}
 use Rattle.pc_sound.specs.Judgment.{EndsWell}
+use Rattle.pc_sound.proofs.Lists.{front_empty, rest_empty}
 use Rattle.pc_sound.proofs.ValuesFlow.{later}
 use Rattle.pc_sound.proofs.Narrowing.{HasSome, to_members}
 use Rattle.pc_sound.proofs.Joins.{all_hold}
-
-pub no_codes : {A : Type 0} {c : A} {cs : List A} → c ∷ cs ≡ [] → ⊥
-no_codes e = absurd (grind (arith, e))
-
-pub front_empty : {A : Type 0} (xs ys : List A) → xs ++ ys ≡ [] → xs ≡ []
-front_empty [] ys e = refl
-front_empty (x ∷ xs) ys e = absurd (no_codes e)
-
-pub rest_empty : {A : Type 0} (xs ys : List A) → xs ++ ys ≡ [] → ys ≡ []
-rest_empty [] ys e = e
-rest_empty (x ∷ xs) ys e = absurd (no_codes e)
 
 -- an end that is well for less is well for more
 pub ends_more : {A : Type 0} (P Q : A → Type 0) → ((a : A) → P a → Q a) → (out : Out A) → EndsWell P out → EndsWell Q out

@@ -1,10 +1,13 @@
 -- In a module without errors each member of a class binds its name: none is reserved, stands twice or clashes with an ancestor's.
-use Rattle.std.proofs.Common.{◌≡◌, ℕ, zero, suc, ◌+◌, ◌<◌, List, [], ◌∷◌, ◌++◌, map, refl, sym, ap, ◌∙◌, subst, inl, inr, arith, Contains}
+use Rattle.std.proofs.Common.{◌≡◌, ℕ, zero, suc, ◌+◌, ◌<◌, List, [], ◌∷◌, ◌++◌, map, refl, sym, ap, ◌∙◌, subst, inl, inr, arith, Contains, eq-or-lt_of_le, le_of_suc-le-suc}
 use Rattle.std.specs.Prelude.{◌⊎◌, Bool as Test, true, false, ◌||◌, ◌&&◌, not, cond, if◌then◌else◌, is_some, Option, Some, None, slice_get, bytes_eq, codes}
 use Rattle.std.specs.List.{list_any}
 use Rattle.std.specs.Option.{option_or}
 use Rattle.std.proofs.lemmas.Slice.Eq.{bytes_eq-Decides}
-use Rattle.std.proofs.lemmas.List.Folds.{find-append}
+use Rattle.std.proofs.lemmas.List.Folds.{find-append, list_any-append}
+use Rattle.std.proofs.lemmas.Option.{same_Some}
+use Rattle.std.proofs.lemmas.Bool.{and_parts, false_from_ne_true, false≢true, or_cases, or_left, or_parts, or_right}
+use Rattle.std.proofs.Math.Bool.{and-true}
 use Rattle.pc_source.specs.declared.place.Place.{Place}
 use Rattle.pc_tree.specs.declared.code.Code.TheVariants.{E01, E06, E29}
 use Rattle.pc_tree.specs.Code.{finding}
@@ -25,37 +28,11 @@ use Rattle.pc_class.specs.Findings as findings
 use Rattle.pc_class.specs.Findings.{base_class}
 use Rattle.pc_check.specs.Modules.{Labelling, IsLawful}
 use Rattle.pc_sound.specs.Sound.{HasNoError}
-use Rattle.pc_sound.proofs.Fields.{same_text_back}
+use Rattle.pc_sound.proofs.Lists.{front_empty, rest_empty, same_text_back}
 use Rattle.pc_sound.proofs.Globals.{builtin_text, text_of_builtin}
-use Rattle.pc_sound.proofs.Members.{front_empty, rest_empty}
 use Rattle.pc_sound.proofs.Inheritance.{class_over, class_is, below_class}
 use Rattle.pc_sound.proofs.Binds.{class_named}
 use Rattle.pc_sound.proofs.Classes.{earlier_is}
-
-some_inj : {A : Type 0} {x y : A} → Some x ≡ Some y → x ≡ y
-some_inj e = grind arith
-
-no_truth : false ≡ true → ⊥
-no_truth e = absurd (grind (arith, e))
-
-both_false : (x y : Test) → (x || y) ≡ false → (x ≡ false) × (y ≡ false)
-both_false true y e = absurd (no_truth (sym e))
-both_false false y e = (refl, e)
-
-false_of : (x : Test) → (x ≡ true → ⊥) → x ≡ false
-false_of true h = absurd (h refl)
-false_of false h = refl
-
-or_first : (x y : Test) → x ≡ true → (x || y) ≡ true
-or_first x y e = ap (λ z. z || y) e
-
-or_second : (x y : Test) → y ≡ true → (x || y) ≡ true
-or_second true y e = refl
-or_second false y e = e
-
-either_true : (x y : Test) → (x || y) ≡ true → (x ≡ true) ⊎ (y ≡ true)
-either_true true y e = inl refl
-either_true false y e = inr e
 
 none_there : (x : Test) (p : Place) → one_if x p ≡ [] → x ≡ false
 none_there true p e = absurd (grind (arith, e))
@@ -63,7 +40,8 @@ none_there false p e = refl
 
 -- ---- texts
 
-among_same : (names : List (List ℕ)) (w : List ℕ) → stopping.is_among names w ≡ is_among w names
+-- the two tests of a text among names agree
+pub among_same : (names : List (List ℕ)) (w : List ℕ) → stopping.is_among names w ≡ is_among w names
 among_same [] w = refl
 among_same (n ∷ names) w = ap (λ x. x || stopping.is_among names w) (same_text_back n w) ∙ ap (λ x. bytes_eq w n || x) (among_same names w)
 
@@ -89,17 +67,9 @@ unreserved w e = go (builtin_of w) refl
   where
     go : (o : Option Builtin) → builtin_of w ≡ o → is_some (builtin_of w) ≡ false
     go None is = ap is_some is
-    go (Some b) is = absurd (no_truth (sym e ∙ (ap stopping.is_reserved (text_of_builtin w b is) ∙ reserved_there b)))
+    go (Some b) is = absurd (false≢true (sym e ∙ (ap stopping.is_reserved (text_of_builtin w b is) ∙ reserved_there b)))
 
 -- ---- what a class holds
-
-any_append : (p : Held → Test) (xs ys : List Held) → list_any p (xs ++ ys) ≡ (list_any p xs || list_any p ys)
-any_append p [] ys = refl
-any_append p (x ∷ xs) ys = ap (λ z. p x || z) (any_append p xs ys) ∙ sym (group (p x) (list_any p xs) (list_any p ys))
-  where
-    group : (a b c : Test) → ((a || b) || c) ≡ (a || (b || c))
-    group true b c = refl
-    group false b c = refl
 
 -- the name is held, by a field or by any member
 abbrev HoldsField : List Held → List ℕ → Type 0
@@ -110,14 +80,10 @@ HoldsName hs w = list_any (λ h. bytes_eq h.text w) hs ≡ true
 
 field_is_name : (hs : List Held) (w : List ℕ) → HoldsField hs w → HoldsName hs w
 field_is_name [] w h = h
-field_is_name (x ∷ hs) w h = elim (either_true (is_field_of w x) (list_any (is_field_of w) hs) h) [
-  | inl a ↦ or_first (bytes_eq x.text w) (list_any (λ y. bytes_eq y.text w) hs) (second x.is_field (bytes_eq x.text w) a)
-  | inr b ↦ or_second (bytes_eq x.text w) (list_any (λ y. bytes_eq y.text w) hs) (field_is_name hs w b)
+field_is_name (x ∷ hs) w h = elim (or_cases (is_field_of w x) (list_any (is_field_of w) hs) h) [
+  | inl a ↦ or_left (bytes_eq x.text w) (list_any (λ y. bytes_eq y.text w) hs) (and_parts x.is_field (bytes_eq x.text w) a).1
+  | inr b ↦ or_right (bytes_eq x.text w) (list_any (λ y. bytes_eq y.text w) hs) (field_is_name hs w b)
 ]
-  where
-    second : (a b : Test) → (a && b) ≡ true → b ≡ true
-    second true b e = e
-    second false b e = absurd (no_truth e)
 
 held_texts : (hs : List Held) (w : List ℕ) → stopping.is_among (map held_text hs) w ≡ list_any (λ h. bytes_eq h.text w) hs
 held_texts [] w = refl
@@ -152,30 +118,30 @@ all_held before hs (x ∷ rest) clear =
 module _ (m : Module) where
   -- the fields and methods of a class's own are among its members
   own_field_held : (base : facts.Class) (before : List (List ℕ)) (ms : List Member) (w : List ℕ) → is_some (field_of (own_fields m base before ms) w) ≡ true → HoldsField (map held_by ms) w
-  own_field_held base before [] w h = absurd (no_truth h)
+  own_field_held base before [] w h = absurd (false≢true h)
   own_field_held base before (method_member f ∷ rest) w h = own_field_held base (f.name.text ∷ before) rest w h
   own_field_held base before (field_member f ∷ rest) w h = go (binds_field base before f.name.text) h (λ h'. own_field_held base (f.name.text ∷ before) rest w h')
     where
       found : (x : Test) (p : Parameter) → bytes_eq w f.name.text ≡ x → is_some (cond x (Some p) (field_of (own_fields m base (f.name.text ∷ before) rest) w)) ≡ true → (is_some (field_of (own_fields m base (f.name.text ∷ before) rest) w) ≡ true → HoldsField (map held_by rest) w) → HoldsField (map held_by (field_member f ∷ rest)) w
-      found true p is h others = or_first (bytes_eq f.name.text w) (list_any (is_field_of w) (map held_by rest)) (same_text_back f.name.text w ∙ is)
-      found false p is h others = or_second (bytes_eq f.name.text w) (list_any (is_field_of w) (map held_by rest)) (others h)
+      found true p is h others = or_left (bytes_eq f.name.text w) (list_any (is_field_of w) (map held_by rest)) (same_text_back f.name.text w ∙ is)
+      found false p is h others = or_right (bytes_eq f.name.text w) (list_any (is_field_of w) (map held_by rest)) (others h)
 
       go : (x : Test) → is_some (field_of ((if x then record { name = f.name.text; type = read_ann m (bases_of m) f.annotation; has_default = is_some f.default } ∷ [] else []) ++ own_fields m base (f.name.text ∷ before) rest) w) ≡ true → (is_some (field_of (own_fields m base (f.name.text ∷ before) rest) w) ≡ true → HoldsField (map held_by rest) w) → HoldsField (map held_by (field_member f ∷ rest)) w
       go true h others = found (bytes_eq w f.name.text) (record { name = f.name.text; type = read_ann m (bases_of m) f.annotation; has_default = is_some f.default }) refl h others
-      go false h others = or_second (bytes_eq f.name.text w) (list_any (is_field_of w) (map held_by rest)) (others h)
+      go false h others = or_right (bytes_eq f.name.text w) (list_any (is_field_of w) (map held_by rest)) (others h)
 
   own_method_held : (base : facts.Class) (c number : ℕ) (before : List (List ℕ)) (ms : List Member) (w : List ℕ) → is_some (method_of (own_methods m base c number before ms) w) ≡ true → HoldsName (map held_by ms) w
-  own_method_held base c number before [] w h = absurd (no_truth h)
-  own_method_held base c number before (field_member f ∷ rest) w h = or_second (bytes_eq f.name.text w) (list_any (λ y. bytes_eq y.text w) (map held_by rest)) (own_method_held base c number (f.name.text ∷ before) rest w h)
+  own_method_held base c number before [] w h = absurd (false≢true h)
+  own_method_held base c number before (field_member f ∷ rest) w h = or_right (bytes_eq f.name.text w) (list_any (λ y. bytes_eq y.text w) (map held_by rest)) (own_method_held base c number (f.name.text ∷ before) rest w h)
   own_method_held base c number before (method_member f ∷ rest) w h = go (binds_method base before f.name.text) h (λ h'. own_method_held base c (suc number) (f.name.text ∷ before) rest w h')
     where
       found : (x : Test) (p : Method) → bytes_eq w f.name.text ≡ x → is_some (cond x (Some p) (method_of (own_methods m base c (suc number) (f.name.text ∷ before) rest) w)) ≡ true → (is_some (method_of (own_methods m base c (suc number) (f.name.text ∷ before) rest) w) ≡ true → HoldsName (map held_by rest) w) → HoldsName (map held_by (method_member f ∷ rest)) w
-      found true p is h others = or_first (bytes_eq f.name.text w) (list_any (λ y. bytes_eq y.text w) (map held_by rest)) (same_text_back f.name.text w ∙ is)
-      found false p is h others = or_second (bytes_eq f.name.text w) (list_any (λ y. bytes_eq y.text w) (map held_by rest)) (others h)
+      found true p is h others = or_left (bytes_eq f.name.text w) (list_any (λ y. bytes_eq y.text w) (map held_by rest)) (same_text_back f.name.text w ∙ is)
+      found false p is h others = or_right (bytes_eq f.name.text w) (list_any (λ y. bytes_eq y.text w) (map held_by rest)) (others h)
 
       go : (x : Test) → is_some (method_of ((if x then findings.method_made m c number f ∷ [] else []) ++ own_methods m base c (suc number) (f.name.text ∷ before) rest) w) ≡ true → (is_some (method_of (own_methods m base c (suc number) (f.name.text ∷ before) rest) w) ≡ true → HoldsName (map held_by rest) w) → HoldsName (map held_by (method_member f ∷ rest)) w
       go true h others = found (bytes_eq w f.name.text) (findings.method_made m c number f) refl h others
-      go false h others = or_second (bytes_eq f.name.text w) (list_any (λ y. bytes_eq y.text w) (map held_by rest)) (others h)
+      go false h others = or_right (bytes_eq f.name.text w) (list_any (λ y. bytes_eq y.text w) (map held_by rest)) (others h)
 
   -- each member binds its name
   abbrev pub BindAll : facts.Class → List (List ℕ) → List Member → Type 0
@@ -187,10 +153,10 @@ module _ (m : Module) where
   bind_all base hs covers before [] clear = tt
   bind_all base hs covers before (field_member f ∷ rest) clear =
       let w = f.name.text in
-      let r = both_false (stopping.is_reserved w) (bytes_eq w (codes "mro")) clear.0.0 in
-      let c = both_false (stopping.is_among before w) (stopping.is_among (map held_text hs) w) clear.0.1 in
-      let no_field : is_some (field_of base.fields w) ≡ false = false_of (is_some (field_of base.fields w)) (λ h. no_truth (sym c.1 ∙ (held_texts hs w ∙ field_is_name hs w (covers.fields w h)))) in
-      let no_method : is_some (method_of base.methods w) ≡ false = false_of (is_some (method_of base.methods w)) (λ h. no_truth (sym c.1 ∙ (held_texts hs w ∙ covers.methods w h))) in (
+      let r = or_parts (stopping.is_reserved w) (bytes_eq w (codes "mro")) clear.0.0 in
+      let c = or_parts (stopping.is_among before w) (stopping.is_among (map held_text hs) w) clear.0.1 in
+      let no_field : is_some (field_of base.fields w) ≡ false = false_from_ne_true (is_some (field_of base.fields w)) (λ h. false≢true (sym c.1 ∙ (held_texts hs w ∙ field_is_name hs w (covers.fields w h)))) in
+      let no_method : is_some (method_of base.methods w) ≡ false = false_from_ne_true (is_some (method_of base.methods w)) (λ h. false≢true (sym c.1 ∙ (held_texts hs w ∙ covers.methods w h))) in (
         ap (λ x. not (x || bytes_eq w (codes "mro")) && (not (is_among w before) && not (is_some (field_of base.fields w) || is_some (method_of base.methods w)))) (unreserved w r.0)
             ∙ ap (λ x. not x && (not (is_among w before) && not (is_some (field_of base.fields w) || is_some (method_of base.methods w)))) r.1
             ∙ ap (λ x. not x && not (is_some (field_of base.fields w) || is_some (method_of base.methods w))) (sym (among_same before w) ∙ c.0)
@@ -200,8 +166,8 @@ module _ (m : Module) where
       )
   bind_all base hs covers before (method_member f ∷ rest) clear =
       let w = f.name.text in
-      let c = both_false (stopping.is_among before w) (list_any (is_field_of w) hs) clear.0.1 in
-      let no_field : is_some (field_of base.fields w) ≡ false = false_of (is_some (field_of base.fields w)) (λ h. no_truth (sym c.1 ∙ covers.fields w h)) in (
+      let c = or_parts (stopping.is_among before w) (list_any (is_field_of w) hs) clear.0.1 in
+      let no_field : is_some (field_of base.fields w) ≡ false = false_from_ne_true (is_some (field_of base.fields w)) (λ h. false≢true (sym c.1 ∙ covers.fields w h)) in (
         ap (λ x. not x && (not (is_among w before) && not (is_some (field_of base.fields w)))) (unreserved w clear.0.0)
             ∙ ap (λ x. not x && not (is_some (field_of base.fields w))) (sym (among_same before w) ∙ c.0)
             ∙ ap not no_field,
@@ -231,20 +197,14 @@ module _ (m : Module) where
   ArePlaced (constant_item p c ∷ before) = ArePlaced before
   ArePlaced (def_item p f ∷ before) = ArePlaced before
 
-  same_or_less : (b n : ℕ) → b < suc n → (b ≡ n) ⊎ (b < n)
-  same_or_less zero zero h = inl refl
-  same_or_less zero (suc n) h = inr (omega arith)
-  same_or_less (suc b) zero h = absurd (omega arith)
-  same_or_less (suc b) (suc n) h = elim (same_or_less b n (omega arith)) [ inl e ↦ inl (ap suc e) | inr l ↦ inr (omega arith) ]
-
   -- the name of a class stands among the names of the items
   named_before : (before : List Item) → ArePlaced before → (b : ℕ) (t : ClassDef) → b < count before → slice_get (classes_in m.items) b ≡ Some t → stopping.is_among (names_before before) t.name.text ≡ true
   named_before [] placed b t less is = absurd (omega arith)
-  named_before (constant_item p c ∷ before) placed b t less is = or_second (bytes_eq c.name.text t.name.text) (stopping.is_among (names_before before) t.name.text) (named_before before placed b t less is)
-  named_before (def_item p f ∷ before) placed b t less is = or_second (bytes_eq f.name.text t.name.text) (stopping.is_among (names_before before) t.name.text) (named_before before placed b t less is)
-  named_before (class_item p c ∷ before) placed b t less is = elim (same_or_less b (count before) less) [
-    | inl e ↦ or_first (bytes_eq c.name.text t.name.text) (stopping.is_among (names_before before) t.name.text) ((bytes_eq-Decides c.name.text t.name.text).1 (ap (λ (x : ClassDef). x.name.text) (some_inj (sym placed.0.number ∙ (ap (slice_get (classes_in m.items)) (sym e) ∙ is)))))
-    | inr l ↦ or_second (bytes_eq c.name.text t.name.text) (stopping.is_among (names_before before) t.name.text) (named_before before placed.1 b t l is)
+  named_before (constant_item p c ∷ before) placed b t less is = or_right (bytes_eq c.name.text t.name.text) (stopping.is_among (names_before before) t.name.text) (named_before before placed b t less is)
+  named_before (def_item p f ∷ before) placed b t less is = or_right (bytes_eq f.name.text t.name.text) (stopping.is_among (names_before before) t.name.text) (named_before before placed b t less is)
+  named_before (class_item p c ∷ before) placed b t less is = elim (eq-or-lt_of_le (le_of_suc-le-suc less)) [
+    | inl e ↦ or_left (bytes_eq c.name.text t.name.text) (stopping.is_among (names_before before) t.name.text) ((bytes_eq-Decides c.name.text t.name.text).1 (ap (λ (x : ClassDef). x.name.text) (same_Some _ _ (sym placed.0.number ∙ (ap (slice_get (classes_in m.items)) (sym e) ∙ is)))))
+    | inr l ↦ or_right (bytes_eq c.name.text t.name.text) (stopping.is_among (names_before before) t.name.text) (named_before before placed.1 b t l is)
   ]
 
   find_either : (xs ys : List Parameter) (w : List ℕ) → is_some (field_of (xs ++ ys) w) ≡ true → (is_some (field_of xs w) ≡ true) ⊎ (is_some (field_of ys w) ≡ true)
@@ -264,18 +224,18 @@ module _ (m : Module) where
   -- what is held of a base and of clear members covers the class over that base
   over_covers : (hs : List Held) (c : ℕ) (class : ClassDef) (base : facts.Class) → Covers hs base → IsClear [] hs class.members → Covers (hs ++ own_members [] hs class.members) (class_over m c class base)
   over_covers hs c class base covers clear = record {
-    fields = λ w h. any_append (is_field_of w) hs (own_members [] hs class.members) ∙ elim (find_either base.fields (own_fields m base [] class.members) w h) [
-      | inl a ↦ or_first (list_any (is_field_of w) hs) (list_any (is_field_of w) (own_members [] hs class.members)) (covers.fields w a)
-      | inr b ↦ or_second (list_any (is_field_of w) hs) (list_any (is_field_of w) (own_members [] hs class.members)) (ap (list_any (is_field_of w)) (all_held [] hs class.members clear) ∙ own_field_held base [] class.members w b)
+    fields = λ w h. list_any-append (is_field_of w) hs (own_members [] hs class.members) ∙ elim (find_either base.fields (own_fields m base [] class.members) w h) [
+      | inl a ↦ or_left (list_any (is_field_of w) hs) (list_any (is_field_of w) (own_members [] hs class.members)) (covers.fields w a)
+      | inr b ↦ or_right (list_any (is_field_of w) hs) (list_any (is_field_of w) (own_members [] hs class.members)) (ap (list_any (is_field_of w)) (all_held [] hs class.members clear) ∙ own_field_held base [] class.members w b)
     ];
-    methods = λ w h. any_append (λ x. bytes_eq x.text w) hs (own_members [] hs class.members) ∙ elim (method_either (own_methods m base c 0 [] class.members) base.methods w h) [
-      | inl a ↦ or_second (list_any (λ x. bytes_eq x.text w) hs) (list_any (λ x. bytes_eq x.text w) (own_members [] hs class.members)) (ap (list_any (λ x. bytes_eq x.text w)) (all_held [] hs class.members clear) ∙ own_method_held base c 0 [] class.members w a)
-      | inr b ↦ or_first (list_any (λ x. bytes_eq x.text w) hs) (list_any (λ x. bytes_eq x.text w) (own_members [] hs class.members)) (covers.methods w b)
+    methods = λ w h. list_any-append (λ x. bytes_eq x.text w) hs (own_members [] hs class.members) ∙ elim (method_either (own_methods m base c 0 [] class.members) base.methods w h) [
+      | inl a ↦ or_right (list_any (λ x. bytes_eq x.text w) hs) (list_any (λ x. bytes_eq x.text w) (own_members [] hs class.members)) (ap (list_any (λ x. bytes_eq x.text w)) (all_held [] hs class.members clear) ∙ own_method_held base c 0 [] class.members w a)
+      | inr b ↦ or_left (list_any (λ x. bytes_eq x.text w) hs) (list_any (λ x. bytes_eq x.text w) (own_members [] hs class.members)) (covers.methods w b)
     ];
   }
 
   nothing_covers : (hs : List Held) → Covers hs facts.empty_class
-  nothing_covers hs = record { fields = λ w h. absurd (no_truth h); methods = λ w h. absurd (no_truth h) }
+  nothing_covers hs = record { fields = λ w h. absurd (false≢true h); methods = λ w h. absurd (false≢true h) }
 
   -- so does what is held of a base, where the classes before are covered
   base_covers : (before : List Item) → ArePlaced before → (c : ClassDef) → slice_get (classes_in m.items) (count before) ≡ Some c → ((d : ℕ) (u : ClassDef) → d < count before → slice_get (classes_in m.items) d ≡ Some u → Covers (members_of before (Some u.name.text)) (class_at (classes_of m) d)) → Covers (members_of before (option_text c.base)) (base_class m (count before) c)
@@ -299,14 +259,14 @@ module _ (m : Module) where
   held_covers [] placed b t less is = absurd (omega arith)
   held_covers (constant_item p c ∷ before) placed b t less is = held_covers before placed b t less is
   held_covers (def_item p f ∷ before) placed b t less is = held_covers before placed b t less is
-  held_covers (class_item p c ∷ before) placed b t less is = elim (same_or_less b (count before) less) [
+  held_covers (class_item p c ∷ before) placed b t less is = elim (eq-or-lt_of_le (le_of_suc-le-suc less)) [
     | inl e ↦ here e (base_covers before placed.1 c placed.0.number (λ d u l i. held_covers before placed.1 d u l i))
     | inr l ↦ there l (held_covers before placed.1 b t l is)
   ]
     where
       here : b ≡ count before → Covers (members_of before (option_text c.base)) (base_class m (count before) c) → Covers (members_of (class_item p c ∷ before) (Some t.name.text)) (class_at (classes_of m) b)
       here e base =
-          let same_class : c ≡ t = some_inj (sym placed.0.number ∙ (ap (slice_get (classes_in m.items)) (sym e) ∙ is)) in
+          let same_class : c ≡ t = same_Some _ _ (sym placed.0.number ∙ (ap (slice_get (classes_in m.items)) (sym e) ∙ is)) in
           let found : (bytes_eq c.name.text t.name.text && is_first_binding before c.name) ≡ true = ap (λ x. x && is_first_binding before c.name) ((bytes_eq-Decides c.name.text t.name.text).1 (ap (λ (x : ClassDef). x.name.text) same_class)) ∙ placed.0.first in
           subst (λ hs. Covers hs (class_at (classes_of m) b)) (sym (ap (λ x. if x then members_of before (option_text c.base) ++ own_members [] (members_of before (option_text c.base)) c.members else members_of before (Some t.name.text)) found))
           (subst (λ x. Covers (members_of before (option_text c.base) ++ own_members [] (members_of before (option_text c.base)) c.members) x) (sym (ap (class_at (classes_of m)) e ∙ class_is m (count before) c placed.0.number))
@@ -317,7 +277,7 @@ module _ (m : Module) where
         where
           other : (x : Test) → bytes_eq c.name.text t.name.text ≡ x → (bytes_eq c.name.text t.name.text && is_first_binding before c.name) ≡ false
           other false e = ap (λ x. x && is_first_binding before c.name) e
-          other true e = absurd (no_truth (sym (ap (λ x. not x && not (stopping.is_reserved c.name.text)) (ap (stopping.is_among (names_before before)) ((bytes_eq-Decides c.name.text t.name.text).0 e) ∙ named_before before placed.1 b t l is)) ∙ placed.0.first))
+          other true e = absurd (false≢true (sym (ap (λ x. not x && not (stopping.is_reserved c.name.text)) (ap (stopping.is_among (names_before before)) ((bytes_eq-Decides c.name.text t.name.text).0 e) ∙ named_before before placed.1 b t l is)) ∙ placed.0.first))
 
   -- item by item
   walk :
@@ -354,11 +314,7 @@ module _ (m : Module) where
       free = none_there (stopping.is_reserved c.name.text) c.name.place (front_empty (one_if (stopping.is_reserved c.name.text) c.name.place) (reserved_among (map name_of_item rest)) names)
 
       new : stopping.is_among (names_before before) c.name.text ≡ false
-      new = go (stopping.is_among (names_before before) c.name.text) (sym (ap (λ x. stopping.is_among (names_before before) c.name.text && not x) free) ∙ none_there (stopping.is_among (names_before before) c.name.text && not (stopping.is_reserved c.name.text)) c.name.place (front_empty (one_if (stopping.is_among (names_before before) c.name.text && not (stopping.is_reserved c.name.text)) c.name.place) (bound_again (c.name.text ∷ names_before before) (map name_of_item rest)) again))
-        where
-          go : (x : Test) → (x && true) ≡ false → x ≡ false
-          go true e = e
-          go false e = refl
+      new = sym (and-true (stopping.is_among (names_before before) c.name.text)) ∙ (sym (ap (λ x. stopping.is_among (names_before before) c.name.text && not x) free) ∙ none_there (stopping.is_among (names_before before) c.name.text && not (stopping.is_reserved c.name.text)) c.name.place (front_empty (one_if (stopping.is_among (names_before before) c.name.text && not (stopping.is_reserved c.name.text)) c.name.place) (bound_again (c.name.text ∷ names_before before) (map name_of_item rest)) again))
 
       here : IsPlaced before c
       here = record {
@@ -369,7 +325,7 @@ module _ (m : Module) where
 
       by_number : (j : ℕ) → slice_get (c ∷ classes_in rest) j ≡ Some class → ((k : ℕ) → slice_get (classes_in rest) k ≡ Some class → BindAll (base_class m (suc (count before) + k) class) [] class.members) → BindAll (base_class m (count before + j) class) [] class.members
       by_number zero e others =
-          subst (λ x. BindAll (base_class m (count before + zero) x) [] x.members) (some_inj e)
+          subst (λ x. BindAll (base_class m (count before + zero) x) [] x.members) (same_Some _ _ e)
           (subst (λ k. BindAll (base_class m k c) [] c.members) (omega arith) (bind_all (base_class m (count before) c) held (base_covers before placed c here.number (λ d u l x. held_covers before placed d u l x)) [] c.members here.clear))
       by_number (suc j) e others = subst (λ k. BindAll (base_class m k class) [] class.members) (omega arith) (others j e)
 

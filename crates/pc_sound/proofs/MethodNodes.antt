@@ -1,5 +1,5 @@
 -- Calls of `e.m`: methods of classes, of lists and of dicts, and fields that are called, on each member of the object's type.
-use Rattle.std.proofs.Common.{◌≡◌, ℕ, List, [], ◌∷◌, ◌++◌, map, refl, sym, ap, ◌∙◌, subst, inl, inr, arith}
+use Rattle.std.proofs.Common.{◌≡◌, ℕ, List, [], ◌∷◌, ◌++◌, map, refl, sym, ap, ◌∙◌, subst, inl, inr, append_assoc}
 use Rattle.std.specs.Prelude.{◌⊎◌, true, false, flat_map, Option, Some, None, IsTrue, slice_get}
 use Rattle.pc_source.specs.declared.place.Place.{Place}
 use Rattle.pc_tree.specs.declared.code.Code.{Code}
@@ -31,13 +31,14 @@ use Rattle.pc_machine.specs.Free.{Step, ◌>>=◌, Emits, free}
 use Rattle.pc_machine.specs.Evaluation.{eval_callee, callee_of_attribute, eval_all, eval_keywords, call_callee, call_method}
 use Rattle.pc_sound.specs.Values.{HeapTyping, HasType, IsWell}
 use Rattle.pc_sound.specs.Judgment.{HasListed, EndsWell, Around, Stands, Keeps, IsSafe, Fits}
+use Rattle.pc_sound.proofs.Lists.{front_empty, not_empty, rest_empty}
 use Rattle.pc_sound.proofs.ValuesFlow.{later}
 use Rattle.pc_sound.proofs.Steps.{Stays, bind_safe, comes_safe, looks_safe, emits_safe, may_stop_safe, act_safe, weaken}
 use Rattle.pc_sound.proofs.Keys.{Keyed, IsKeyed, keyed_type, ItemsKeyed, KeywordsKeyed}
 use Rattle.pc_sound.proofs.Expressions.{Covered, GoodEval, allowed, part}
 use Rattle.pc_sound.proofs.Flows.{Evaluates}
 use Rattle.pc_sound.proofs.Narrowing.{HasSome, to_members}
-use Rattle.pc_sound.proofs.Members.{ends_more, front_empty, rest_empty}
+use Rattle.pc_sound.proofs.Members.{ends_more}
 use Rattle.pc_sound.proofs.Seen.{sees_instance}
 use Rattle.pc_sound.proofs.Fields.{Inherits, fields_below, has_field, attribute_ends}
 use Rattle.pc_sound.proofs.Arguments.{ArgumentsHave, KeywordsHave, arguments_later, keywords_later}
@@ -52,9 +53,6 @@ use Rattle.pc_sound.proofs.CallOffers.{IsOffer, offer_left, offer_right, all_qui
 use Rattle.pc_sound.proofs.Calling.{Caller}
 use Rattle.pc_sound.proofs.Dispatching.{method_found, override_call_safe}
 
-full : {A : Type 0} {x : A} {xs : List A} → x ∷ xs ≡ [] → ⊥
-full e = grind (arith, e)
-
 -- an offer on which a code stands at the call
 pub record Fails (offers : List CallOffer) : Type 0 where
   pub offer : CallOffer
@@ -63,18 +61,18 @@ pub record Fails (offers : List CallOffer) : Type 0 where
 
 -- a value of a type that is called
 value_fails : (t : Tree) → (offer : CallOffer) × (value_offer t ≡ offer) × (offer.at_call ≡ [] → ⊥)
-value_fails Any = (_, refl, λ e. full e)
-value_fails Object = (_, refl, λ e. full e)
-value_fails Never = (_, refl, λ e. full e)
-value_fails Int = (_, refl, λ e. full e)
-value_fails Bool = (_, refl, λ e. full e)
-value_fails Str = (_, refl, λ e. full e)
-value_fails NoneType = (_, refl, λ e. full e)
-value_fails (ClassType c) = (_, refl, λ e. full e)
-value_fails (ListOf t) = (_, refl, λ e. full e)
-value_fails (DictOf s t) = (_, refl, λ e. full e)
-value_fails (TupleOf ts) = (_, refl, λ e. full e)
-value_fails (Union a b) = (_, refl, λ e. full e)
+value_fails Any = (_, refl, λ e. not_empty e)
+value_fails Object = (_, refl, λ e. not_empty e)
+value_fails Never = (_, refl, λ e. not_empty e)
+value_fails Int = (_, refl, λ e. not_empty e)
+value_fails Bool = (_, refl, λ e. not_empty e)
+value_fails Str = (_, refl, λ e. not_empty e)
+value_fails NoneType = (_, refl, λ e. not_empty e)
+value_fails (ClassType c) = (_, refl, λ e. not_empty e)
+value_fails (ListOf t) = (_, refl, λ e. not_empty e)
+value_fails (DictOf s t) = (_, refl, λ e. not_empty e)
+value_fails (TupleOf ts) = (_, refl, λ e. not_empty e)
+value_fails (Union a b) = (_, refl, λ e. not_empty e)
 
 -- a value of a type has a member, so a code stands where it is called
 pub values_fail : (bases : Bases) (k : HeapTyping) (t : Tree) (v : Value) → HasType bases k t v → Fails (value_offers t)
@@ -108,11 +106,7 @@ members_keyed (TupleOf ts) h = (h, tt)
 
 codes_append : (xs ys : List CallOffer) → CalleeCodes (xs ++ ys) ≡ CalleeCodes xs ++ CalleeCodes ys
 codes_append [] ys = refl
-codes_append (x ∷ xs) ys = ap (λ l. x.at_callee ++ l) (codes_append xs ys) ∙ sym (associate x.at_callee (CalleeCodes xs) (CalleeCodes ys))
-  where
-    associate : (us vs ws : List Code) → (us ++ vs) ++ ws ≡ us ++ (vs ++ ws)
-    associate [] vs ws = refl
-    associate (u ∷ us) vs ws = ap (λ l. u ∷ l) (associate us vs ws)
+codes_append (x ∷ xs) ys = ap (λ l. x.at_callee ++ l) (codes_append xs ys) ∙ sym (append_assoc x.at_callee (CalleeCodes xs) (CalleeCodes ys))
 
 front_codes : (xs ys : List CallOffer) → CalleeCodes (xs ++ ys) ≡ [] → CalleeCodes xs ≡ []
 front_codes xs ys e = front_empty (CalleeCodes xs) (CalleeCodes ys) (sym (codes_append xs ys) ∙ e)
@@ -208,7 +202,7 @@ module _ (m : Module) (inherits : Inherits (bases_of m) (classes_of m)) (constan
         let d = method_found m constants listed dispatched owner_above k s c v word old well world h e in
         subst (λ o. Names offers g v word k o) (sym d.named) (inr (record { old = old; named = (c, word, e); among = within (called g (method_signature old)) (inl refl); new = d.new; is = d.is; fits = d.fits; receiver = d.receiver }))
     class_ready c h None e (Some f) fe within quiet = field_named c f h fe (named_method s v word) within
-    class_ready c h None e None fe within quiet = absurd (full quiet)
+    class_ready c h None e None fe within quiet = absurd (not_empty quiet)
 
     -- on one member of the object's type
     member_ready : (ctx : Context) → ctx.bases ≡ bases_of m → ctx.classes ≡ classes_of m → (t : Tree) → HasType (bases_of m) k t v → IsKeyed t → ((p : CallOffer) → IsOffer p (method_offers ctx g word t) → IsOffer p offers) → CalleeCodes (method_offers ctx g word t) ≡ [] → Names offers g v word k (named_method s v word)
@@ -220,15 +214,15 @@ module _ (m : Module) (inherits : Inherits (bases_of m) (classes_of m)) (constan
     member_ready ctx bs cs (DictOf a b) h keyed within quiet =
         builtin_ready (dict_offers (bases_of m) g word a b) (subst (λ x. (p : CallOffer) → IsOffer p (dict_offers x g word a b) → IsOffer p offers) bs within)
         (dict_named (bases_of m) (classes_of m) k s well g word a b v keyed.0 h (subst (λ x. CalleeCodes (dict_offers x g word a b) ≡ []) bs quiet))
-    member_ready ctx bs cs Any h keyed within quiet = absurd (full quiet)
-    member_ready ctx bs cs Object h keyed within quiet = absurd (full quiet)
+    member_ready ctx bs cs Any h keyed within quiet = absurd (not_empty quiet)
+    member_ready ctx bs cs Object h keyed within quiet = absurd (not_empty quiet)
     member_ready ctx bs cs Never h keyed within quiet = absurd h
-    member_ready ctx bs cs Int h keyed within quiet = absurd (full quiet)
-    member_ready ctx bs cs Bool h keyed within quiet = absurd (full quiet)
-    member_ready ctx bs cs Str h keyed within quiet = absurd (full quiet)
-    member_ready ctx bs cs NoneType h keyed within quiet = absurd (full quiet)
-    member_ready ctx bs cs (TupleOf ts) h keyed within quiet = absurd (full quiet)
-    member_ready ctx bs cs (Union a b) h keyed within quiet = absurd (full quiet)
+    member_ready ctx bs cs Int h keyed within quiet = absurd (not_empty quiet)
+    member_ready ctx bs cs Bool h keyed within quiet = absurd (not_empty quiet)
+    member_ready ctx bs cs Str h keyed within quiet = absurd (not_empty quiet)
+    member_ready ctx bs cs NoneType h keyed within quiet = absurd (not_empty quiet)
+    member_ready ctx bs cs (TupleOf ts) h keyed within quiet = absurd (not_empty quiet)
+    member_ready ctx bs cs (Union a b) h keyed within quiet = absurd (not_empty quiet)
 
     -- on the member of the type that the object is of
     object_ready : (ctx : Context) → ctx.bases ≡ bases_of m → ctx.classes ≡ classes_of m → (ts : List Tree) → HasSome (bases_of m) k ts v → EachKeyed ts → ((p : CallOffer) → IsOffer p (flat_map (method_offers ctx g word) ts) → IsOffer p offers) → CalleeCodes (flat_map (method_offers ctx g word) ts) ≡ [] → Names offers g v word k (named_method s v word)

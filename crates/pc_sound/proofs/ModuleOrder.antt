@@ -3,6 +3,8 @@ use Rattle.std.proofs.Common.{◌≡◌, ℕ, suc, List, [], ◌∷◌, ◌++◌
 use Rattle.std.specs.Prelude.{◌⊎◌, Bool as Test, true, false, ◌||◌, is_some, nat_lt, Option, Some, None, slice_get, bytes_eq, chars}
 use Rattle.std.proofs.lemmas.Bool.Decides.{nat_tests}
 use Rattle.std.proofs.lemmas.Slice.Eq.{bytes_eq-Decides}
+use Rattle.std.proofs.lemmas.Option.{none-some, same_Some}
+use Rattle.std.proofs.lemmas.Bool.{or_parts}
 use Rattle.pc_source.specs.declared.place.Place.{Place}
 use Rattle.pc_tree.specs.declared.code.Code.{Code}
 use Rattle.pc_tree.specs.declared.code.Finding.{Finding}
@@ -23,7 +25,7 @@ use Rattle.pc_expr.specs.Lawful.{Lawful}
 use Rattle.pc_expr.specs.Signatures.{initializer_context, literal_type, literal_place, LawfulDefault, DefaultFinds, binds_parameter, ParamsMarks, LawfulParams, ParamsFind}
 use Rattle.pc_check.specs.Modules.{constant_type, annotated_types, first_of_types}
 use Rattle.pc_value.specs.Value as value
-use Rattle.pc_value.specs.Value.{Value, boolean, string, Out, Gives, Stops}
+use Rattle.pc_value.specs.Value.{Value, boolean, string, Out, Gives}
 use Rattle.pc_value.specs.Actions as action
 use Rattle.pc_value.specs.Actions.{Action, Outcome, Free}
 use Rattle.pc_value.specs.Outcomes.{acted}
@@ -36,6 +38,8 @@ use Rattle.pc_machine.specs.Free.{Step, act, free}
 use Rattle.pc_machine.specs.Evaluation.{make_literal, make_default, make_parameters, make_function, binds_global, exec_item}
 use Rattle.pc_sound.specs.Values.{HeapTyping, HasType, Extends, IsWell}
 use Rattle.pc_sound.specs.Judgment.{HasListed, EndsWell, Around, Stands, IsSafe}
+use Rattle.pc_sound.proofs.TruthValues.{not_both}
+use Rattle.pc_sound.proofs.Lists.{get_one_more, same_text_back}
 use Rattle.pc_sound.proofs.ValuesFlow.{later, of_static}
 use Rattle.pc_sound.proofs.Leading.{Known, Promised, ends_as}
 use Rattle.pc_sound.proofs.Expressions.{Covered, GoodEval}
@@ -44,14 +48,12 @@ use Rattle.pc_sound.proofs.Keys.{Keyed}
 use Rattle.pc_sound.proofs.Binding.{IsAtom, atom_flow, one_flow}
 use Rattle.pc_sound.proofs.World.{DefaultHas, DefaultsHave, MadeOf, made_later, ClassIs, class_later, ConstantIs, FunctionIs}
 use Rattle.pc_sound.proofs.Proceeding.{Arrives, Proceeds, proceeds_bind, proceeds_comes, proceeds_changes, proceeds_charge}
-use Rattle.pc_sound.proofs.Binds.{bound_more, bound_new, bound_other, get_one_more}
+use Rattle.pc_sound.proofs.Binds.{bound_more, bound_new, bound_other}
 
-clash : {b : Test} → b ≡ true → b ≡ false → ⊥
-clash e f = grind (arith, sym e ∙ f)
-
-neither : (a b : Test) → (a || b) ≡ false → (a ≡ false) × (b ≡ false)
-neither true b e = absurd (grind (arith, e))
-neither false b e = (refl, e)
+-- a code that is there is found at its place
+pub code_found : (p : Place) (code : Option Code) (c : Code) → code ≡ Some c → IsCodeAt p code (finding p c)
+code_found p None c e = absurd (none-some _ e)
+code_found p (Some x) c e = ap (finding p) (sym (same_Some _ _ e))
 
 module _ (m : Module) where
   -- what is known when some items have run: of the constants with these types, of these functions, of so many classes, which have bound these names
@@ -77,18 +79,14 @@ module _ (m : Module) where
 
   still_fresh : (name word : List ℕ) (names : List (List ℕ)) (globals : Globals) (b : state.Bound) → ((u : List ℕ) → is_among u names ≡ false → global_of u globals ≡ None) → is_among word (name ∷ names) ≡ false → global_of word (globals ++ record { name = name; is = b } ∷ []) ≡ None
   still_fresh name word names globals b fresh e =
-      let n = neither (bytes_eq word name) (is_among word names) e in
-      bound_other word globals (record { name = name; is = b }) (fresh word n.1) (flipped (bytes_eq name word) refl n.0)
-    where
-      flipped : (c : Test) → bytes_eq name word ≡ c → bytes_eq word name ≡ false → bytes_eq name word ≡ false
-      flipped true t f = absurd (clash ((bytes_eq-Decides word name).1 (sym ((bytes_eq-Decides name word).0 t))) f)
-      flipped false t f = t
+      let n = or_parts (bytes_eq word name) (is_among word names) e in
+      bound_other word globals (record { name = name; is = b }) (fresh word n.1) (same_text_back name word ∙ n.0)
 
   still_free : (name word : List ℕ) (names : List (List ℕ)) → is_reserved name ≡ false → is_among word names ≡ false → is_reserved word ≡ true → is_among word (name ∷ names) ≡ false
   still_free name word names free others e = go (bytes_eq word name) refl
     where
       go : (c : Test) → bytes_eq word name ≡ c → is_among word (name ∷ names) ≡ false
-      go true t = absurd (clash (ap is_reserved (sym ((bytes_eq-Decides word name).0 t)) ∙ e) free)
+      go true t = absurd (not_both (ap is_reserved (sym ((bytes_eq-Decides word name).0 t)) ∙ e) free)
       go false t = ap (λ b. b || is_among word names) t ∙ others
 
   -- one more constant
@@ -172,14 +170,11 @@ module _ (m : Module) where
       pub frame : s.frame ≡ []
       pub bound : BoundSoFar types defs n names k s.classes s.globals
 
-    none_here : {A : Type 0} {a : A} → None ≡ Some a → ⊥
-    none_here e = grind arith
-
     pub stands_between : (types : List Tree) (defs : List FuncDef) (n : ℕ) (names : List (List ℕ)) (k : HeapTyping) (s : State) → Between types defs n names k s → Stands (around_items types defs n names) [] k s
     stands_between types defs n names k s b = record {
       well = b.well;
-      frame = record { held = λ word x e. absurd (none_here e); others = λ word e. ap (local_of word) b.frame };
-      locals = record { each = λ word x t e f. absurd (none_here e) };
+      frame = record { held = λ word x e. absurd (none-some _ e); others = λ word e. ap (local_of word) b.frame };
+      locals = record { each = λ word x t e f. absurd (none-some _ e) };
       outside = b.bound;
     }
 
@@ -231,13 +226,6 @@ module _ (m : Module) where
     literal_atom (text_literal p bytes) = tt
     literal_atom (truth_literal p t) = tt
     literal_atom (none_literal p) = tt
-
-    code_found : (p : Place) (code : Option Code) (c : Code) → code ≡ Some c → IsCodeAt p code (finding p c)
-    code_found p None c e = absurd (none_here e)
-    code_found p (Some x) c e = ap (finding p) (sym (some_same e))
-      where
-        some_same : Some x ≡ Some c → x ≡ c
-        some_same e = grind arith
 
     -- each finding is a listed dynamic place
     abbrev pub Listed : (Finding → Type 0) → Type 0

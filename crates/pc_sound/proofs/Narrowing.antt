@@ -4,6 +4,8 @@ use Rattle.std.specs.Prelude.{◌⊎◌, Bool as Test, true, false, ◌==◌, �
 use Rattle.std.specs.List.{cons_option}
 use Rattle.std.specs.Option.{option_map_or}
 use Rattle.std.proofs.lemmas.Bool.Decides.{nat_tests, eqb_tells}
+use Rattle.std.proofs.lemmas.Option.{same_Some}
+use Rattle.std.proofs.lemmas.Bool.{and_parts, false≢true, or_left, or_right}
 use Rattle.pc_types.specs.Tree.{Tree, Any, Object, Never, Int, Bool, Str, NoneType, Class, ListOf, DictOf, TupleOf, Union}
 use Rattle.pc_types.specs.Below.{Bases, Below, AreSmaller, base_of, same, through, base}
 use Rattle.pc_types.specs.Shape.{members, union, ahead}
@@ -12,9 +14,10 @@ use Rattle.pc_types.proofs.Structural.{Chain, here, up, Sub, s_class, sub_of}
 use Rattle.pc_types.proofs.Ancestors.{reaches_itself, reaches_base}
 use Rattle.pc_flow.specs.Narrowing.{Tested, for_none, for_type, for_list, is_within, member_within, member_passing, member_failing, passing, failing}
 use Rattle.pc_value.specs.Value as value
-use Rattle.pc_value.specs.Value.{Value, whole, boolean, string, tuple_of, location}
+use Rattle.pc_value.specs.Value.{Value, whole, boolean, string, location}
 use Rattle.pc_sound.specs.Values.{HeapTyping, a_list, a_dict, a_class, HasType}
 use Rattle.pc_sound.specs.Kept.{Passes, IsTestedType, CanFollow, CanFollowAll}
+use Rattle.pc_sound.proofs.TruthValues.{not_both}
 use Rattle.pc_sound.proofs.ValuesFlow.{of_below}
 
 -- ---- members
@@ -97,14 +100,11 @@ chain_of b = go (sub_of b)
     go : {bases : Bases} {c d : ℕ} → Sub bases (Class c) (Class d) → Chain bases c d
     go (s_class h) = h
 
-some_inj : {A : Type 0} {x y : A} → Some x ≡ Some y → x ≡ y
-some_inj e = grind arith
-
 -- of two ancestors of a class one is an ancestor of the other: unrelated classes share no instance
 comparable : {bases : Bases} {e c d : ℕ} → Chain bases e c → Chain bases e d → Chain bases c d ⊎ Chain bases d c
 comparable here q = inl q
 comparable (up e p) here = inr (up e p)
-comparable {bases} {d = d} (up e p) (up e' q) = comparable p (subst (λ x. Chain bases x d) (some_inj (sym e' ∙ e)) q)
+comparable {bases} {d = d} (up e p) (up e' q) = comparable p (subst (λ x. Chain bases x d) (same_Some _ _ (sym e' ∙ e)) q)
 
 module _ (bases : Bases) (ordered : AreSmaller bases) where
   chain_reaches : {c d : ℕ} → Chain bases c d → reaches bases c c d ≡ true
@@ -114,11 +114,12 @@ module _ (bases : Bases) (ordered : AreSmaller bases) where
     | inr h ↦ reaches_base bases ordered d c b e h.1 ∙ chain_reaches p
   ]
 
-reaches_below : (bases : Bases) (n c d : ℕ) → reaches bases n c d ≡ true → Below bases (Class c) (Class d)
-reaches_below bases zero c d e = let is : c ≡ d = grind (arith, nat_tests) in subst (λ x. Below bases (Class c) (Class x)) is same
-reaches_below bases (suc n) c d e = elim (eqb_tells c d) [
+-- a class that reaches another by its ancestors is below it
+pub descends : (bases : Bases) (n c d : ℕ) → reaches bases n c d ≡ true → Below bases (Class c) (Class d)
+descends bases zero c d e = let is : c ≡ d = grind (arith, nat_tests) in subst (λ x. Below bases (Class c) (Class x)) is same
+descends bases (suc n) c d e = elim (eqb_tells c d) [
   | inl h ↦ subst (λ x. Below bases (Class c) (Class x)) h.1 same
-  | inr h ↦ go (λ b e'. reaches_below bases n b d e') (base_of bases c) refl (ap (λ x. x || option_map_or (λ b. reaches bases n b d) (base_of bases c) false) (sym h.0) ∙ e)
+  | inr h ↦ go (λ b e'. descends bases n b d e') (base_of bases c) refl (ap (λ x. x || option_map_or (λ b. reaches bases n b d) (base_of bases c) false) (sym h.0) ∙ e)
 ]
   where
     go : ((b : ℕ) → reaches bases n b d ≡ true → Below bases (Class b) (Class d)) → (o : Option ℕ) → base_of bases c ≡ o → (false || option_map_or (λ b. reaches bases n b d) o false) ≡ true → Below bases (Class c) (Class d)
@@ -126,9 +127,6 @@ reaches_below bases (suc n) c d e = elim (eqb_tells c d) [
     go f (Some b) is e = through (base is) (f b e)
 
 -- ---- tests of a class, int, str, bool
-
-not_true : {b : Test} → b ≡ true → b ≡ false → ⊥
-not_true e e' = absurd (grind (arith, e, e'))
 
 no_list_class : {t : Tree} {c : ℕ} → a_list t ≡ a_class c → ⊥
 no_list_class e = grind arith
@@ -141,9 +139,6 @@ no_list_dict e = grind arith
 
 class_inj : {c d : ℕ} → a_class c ≡ a_class d → c ≡ d
 class_inj e = grind arith
-
-no_false : false ≡ true → ⊥
-no_false e = grind arith
 
 -- a member that tests look at: neither Any nor object, and no union
 abbrev IsFollowed : Tree → Type 0
@@ -182,29 +177,22 @@ module _ (bases : Bases) (ordered : AreSmaller bases) (k : HeapTyping) where
   both_true : (x y : Test) → x ≡ false → y ≡ true → (not x && y) ≡ true
   both_true x y e e' = rw e e'
 
-  or_true : (x y : Test) → y ≡ true → (x || y) ≡ true
-  or_true true y e = refl
-  or_true false y e = e
-
-  or_left : (x y : Test) → x ≡ true → (x || y) ≡ true
-  or_left x y e = rw e refl
-
   classes_apart : (c d l : ℕ) → is_within bases (Class c) (Class d) ≡ false → absorbs bases (Class d) (Class c) ≡ false → HasType bases k (Class d) (location l) → HasType bases k (Class c) (location l) → ⊥
   classes_apart c d l w a h p = elim (eqb_tells d c) [
-    | inl e ↦ not_true (or_left (d == c) (not (d == c) && reaches bases d d c) e.0) w
+    | inl e ↦ not_both (or_left (d == c) (not (d == c) && reaches bases d d c) e.0) w
     | inr n ↦ elim (comparable (chain_of h.below) (subst (λ x. Chain bases x c) one_class (chain_of p.below))) [
-      | inl above ↦ not_true (or_true (d == c) (not (d == c) && reaches bases d d c) (both_true (d == c) (reaches bases d d c) n.0 (chain_reaches bases ordered above))) w
-      | inr down ↦ not_true (both_true (c == d) (reaches bases c c d) (flip c d n.1) (chain_reaches bases ordered down)) a
+      | inl above ↦ not_both (or_right (d == c) (not (d == c) && reaches bases d d c) (both_true (d == c) (reaches bases d d c) n.0 (chain_reaches bases ordered above))) w
+      | inr down ↦ not_both (both_true (c == d) (reaches bases c c d) (flip c d n.1) (chain_reaches bases ordered down)) a
     ]
   ]
     where
       one_class : p.class ≡ h.class
-      one_class = class_inj (some_inj (sym p.is ∙ h.is))
+      one_class = class_inj (same_Some _ _ (sym p.is ∙ h.is))
 
   instance_apart : (c l : ℕ) (m : Tree) → is_within bases (Class c) m ≡ false → absorbs bases m (Class c) ≡ false → HasType bases k m (location l) → HasType bases k (Class c) (location l) → IsFollowed m → ⊥
   instance_apart c l (Class d) w a h p f = classes_apart c d l w a h p
-  instance_apart c l (ListOf u) w a h p f = no_list_class (some_inj (sym h.is ∙ p.is))
-  instance_apart c l (DictOf s u) w a h p f = no_dict_class (some_inj (sym h.is ∙ p.is))
+  instance_apart c l (ListOf u) w a h p f = no_list_class (same_Some _ _ (sym h.is ∙ p.is))
+  instance_apart c l (DictOf s u) w a h p f = no_dict_class (same_Some _ _ (sym h.is ∙ p.is))
   instance_apart c l Any w a h p f = f
   instance_apart c l Object w a h p f = f
   instance_apart c l (Union x y) w a h p f = f
@@ -218,34 +206,30 @@ module _ (bases : Bases) (ordered : AreSmaller bases) (k : HeapTyping) where
 
   -- a member that neither is below the type tested for nor above it shares no value with it
   apart : (c m : Tree) → IsTestedType c → is_within bases c m ≡ false → absorbs bases m c ≡ false → (v : Value) → HasType bases k m v → HasType bases k c v → IsFollowed m → ⊥
-  apart Int m t w a (whole n) h p f = not_true (ap (is_within bases Int) (number_member m n h f)) w
-  apart Int m t w a (boolean b) h p f = elim (truth_member m b h f) [ inl e ↦ not_true (ap (is_within bases Int) e) w | inr e ↦ not_true (ap (is_within bases Int) e) w ]
+  apart Int m t w a (whole n) h p f = not_both (ap (is_within bases Int) (number_member m n h f)) w
+  apart Int m t w a (boolean b) h p f = elim (truth_member m b h f) [ inl e ↦ not_both (ap (is_within bases Int) e) w | inr e ↦ not_both (ap (is_within bases Int) e) w ]
   apart Int m t w a _ h p f = absurd p
-  apart Bool m t w a (boolean b) h p f = elim (truth_member m b h f) [ inl e ↦ not_true (ap (λ u. absorbs bases u Bool) e) a | inr e ↦ not_true (ap (is_within bases Bool) e) w ]
+  apart Bool m t w a (boolean b) h p f = elim (truth_member m b h f) [ inl e ↦ not_both (ap (λ u. absorbs bases u Bool) e) a | inr e ↦ not_both (ap (is_within bases Bool) e) w ]
   apart Bool m t w a _ h p f = absurd p
-  apart Str m t w a (string cs) h p f = not_true (ap (is_within bases Str) (text_member m cs h f)) w
+  apart Str m t w a (string cs) h p f = not_both (ap (is_within bases Str) (text_member m cs h f)) w
   apart Str m t w a _ h p f = absurd p
   apart (Class c) m t w a (location l) h p f = instance_apart c l m w a h p f
   apart (Class c) m t w a _ h p f = absurd p
   apart _ m t w a v h p f = absurd t
 
-  second : (x y : Test) → (x && y) ≡ true → y ≡ true
-  second true y e = e
-  second false y e = absurd (grind arith)
-
   -- a value of a member below the type tested for is of that type
   absorbed : (c m : Tree) → IsTestedType c → absorbs bases c m ≡ true → (v : Value) → HasType bases k m v → HasType bases k c v
   absorbed Int Bool t e (boolean b) h = tt
   absorbed Int Bool t e _ h = absurd h
-  absorbed (Class c) (Class d) t e (location l) h = of_below k (reaches_below bases d d c (second (not (d == c)) (reaches bases d d c) e)) (location l) h
+  absorbed (Class c) (Class d) t e (location l) h = of_below k (descends bases d d c (and_parts (not (d == c)) (reaches bases d d c) e).1) (location l) h
   absorbed (Class c) (Class d) t e _ h = absurd h
-  absorbed _ _ t e v h = absurd (no_false e)
+  absorbed _ _ t e v h = absurd (false≢true e)
 
   equal_type : (m c : Tree) → IsTestedType c → same_tree m c ≡ true → m ≡ c
   equal_type Int Int t e = refl
   equal_type Bool Bool t e = refl
   equal_type Str Str t e = refl
-  equal_type (Class d) (Class c) t e = elim (eqb_tells d c) [ inl n ↦ ap Class n.1 | inr n ↦ absurd (not_true e n.0) ]
+  equal_type (Class d) (Class c) t e = elim (eqb_tells d c) [ inl n ↦ ap Class n.1 | inr n ↦ absurd (not_both e n.0) ]
   equal_type m (ListOf u) t e = absurd t
   equal_type m (DictOf s u) t e = absurd t
   equal_type m (TupleOf us) t e = absurd t
@@ -254,7 +238,7 @@ module _ (bases : Bases) (ordered : AreSmaller bases) (k : HeapTyping) where
   equal_type m Object t e = absurd t
   equal_type m Never t e = absurd t
   equal_type m NoneType t e = absurd t
-  equal_type _ _ t e = absurd (no_false e)
+  equal_type _ _ t e = absurd (false≢true e)
 
   within : (c m : Tree) → IsTestedType c → is_within bases c m ≡ true → (v : Value) → HasType bases k m v → HasType bases k c v
   within c m t e v h = go (same_tree m c) refl e
@@ -303,8 +287,8 @@ module _ (bases : Bases) (ordered : AreSmaller bases) (k : HeapTyping) where
   passing_has for_list Object t v h p = absurd t
   passing_has for_list (ListOf s) t v h p = h
   passing_has for_list (Union a b) t v h p = h
-  passing_has for_list (Class d) t (location l) h p = no_list_class (some_inj (sym p.is ∙ h.is))
-  passing_has for_list (DictOf s u) t (location l) h p = no_list_dict (some_inj (sym p.is ∙ h.is))
+  passing_has for_list (Class d) t (location l) h p = no_list_class (same_Some _ _ (sym p.is ∙ h.is))
+  passing_has for_list (DictOf s u) t (location l) h p = no_list_dict (same_Some _ _ (sym p.is ∙ h.is))
   passing_has for_list _ t (location l) h p = absurd h
   passing_has for_list _ t _ h p = absurd p
 
@@ -378,6 +362,3 @@ HasSome bases k ms v = SomeHas bases k ms v
 
 pub of_members : (bases : Bases) (k : HeapTyping) (ms : List Tree) (v : Value) → HasSome bases k ms v → HasType bases k (union ms) v
 of_members bases k ms v h = of_union bases k ms v h
-
-pub descends : (bases : Bases) (n c d : ℕ) → reaches bases n c d ≡ true → Below bases (Class c) (Class d)
-descends bases n c d e = reaches_below bases n c d e

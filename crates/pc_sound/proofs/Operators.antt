@@ -2,6 +2,7 @@
 use Rattle.std.proofs.Common.{◌≡◌, ℕ, List, [], ◌∷◌, ◌++◌, map, refl, sym, ap, ◌∙◌, subst, inl, inr, arith}
 use Rattle.std.specs.Prelude.{Bool as Test, true, false, not, ◌||◌, if◌then◌else◌, Option, Some, None, ℤ}
 use Rattle.std.proofs.lemmas.Grind.{flat_map-append}
+use Rattle.std.proofs.lemmas.Bool.{false≢true}
 use Rattle.pc_source.specs.declared.place.Place.{Place}
 use Rattle.pc_tree.specs.declared.tree.BinaryOperator.{BinaryOperator}
 use Rattle.pc_tree.specs.declared.tree.BinaryOperator.TheVariants.{Add, Sub, Mul, FloorDiv, Mod}
@@ -31,6 +32,7 @@ use Rattle.pc_machine.specs.Evaluation.{eval_node}
 use Rattle.pc_machine.specs.Free.{Step, free}
 use Rattle.pc_sound.specs.Values.{HeapTyping, HasType, IsWell}
 use Rattle.pc_sound.specs.Judgment.{EndsWell, Around, IsSafe, Fits}
+use Rattle.pc_sound.proofs.Lists.{front_empty, not_empty, rest_empty}
 use Rattle.pc_sound.proofs.ValuesFlow.{later}
 use Rattle.pc_sound.proofs.Steps.{bind_safe, emits_safe, act_safe}
 use Rattle.pc_sound.proofs.Keys.{Keyed}
@@ -38,7 +40,7 @@ use Rattle.pc_sound.proofs.Expressions.{Covered, GoodEval, allowed, part}
 use Rattle.pc_sound.proofs.Flows.{Evaluates}
 use Rattle.pc_sound.proofs.Narrowing.{HasSome, to_members}
 use Rattle.pc_sound.proofs.Seen.{sees_list, sees_dict}
-use Rattle.pc_sound.proofs.Members.{no_codes, front_empty, rest_empty, HasEach, each_later, chosen, one_offer_ends, offers_end}
+use Rattle.pc_sound.proofs.Members.{HasEach, each_later, chosen, one_offer_ends, offers_end}
 use Rattle.pc_sound.proofs.SeveralFlows.{flows_safe}
 
 -- what values of a kind are seen as
@@ -59,9 +61,6 @@ found_right os ps e = rest_empty (found_of os) (found_of ps) (found_both os ps e
 -- what an operator comes to on a pair of members
 abbrev Pair : (Kind → Test) → (Kind → Tree) → Tree → Tree → Offer
 Pair takes result m n = pair_found (row_of_kinds takes result (kind_of m) (kind_of n))
-
-never_true : false ≡ true → ⊥
-never_true e = absurd (grind (arith, e))
 
 module _ (bases : Bases) (k : HeapTyping) (heap : Heap) where
   -- ---- kinds
@@ -84,7 +83,7 @@ module _ (bases : Bases) (k : HeapTyping) (heap : Heap) where
   negative_ends Int _ h e = absurd h
   negative_ends Bool (boolean b) h e = tt
   negative_ends Bool _ h e = absurd h
-  negative_ends _ v h e = absurd (no_codes e)
+  negative_ends _ v h e = absurd (not_empty e)
 
   -- ---- binary operators
 
@@ -105,10 +104,10 @@ module _ (bases : Bases) (k : HeapTyping) (heap : Heap) where
   text_ends Add (a_text x) (a_text y) a b e = tt
   text_ends Add (a_text x) _ a b e = absurd b
   text_ends Add _ t a b e = absurd a
-  text_ends Sub s t a b e = absurd (no_codes e)
-  text_ends Mul s t a b e = absurd (no_codes e)
-  text_ends FloorDiv s t a b e = absurd (no_codes e)
-  text_ends Mod s t a b e = absurd (no_codes e)
+  text_ends Sub s t a b e = absurd (not_empty e)
+  text_ends Mul s t a b e = absurd (not_empty e)
+  text_ends FloorDiv s t a b e = absurd (not_empty e)
+  text_ends Mod s t a b e = absurd (not_empty e)
 
   binary_ends : (o : BinaryOperator) (m n : Tree) (v w : Value) → HasType bases k m v → HasType bases k n w → (Pair (takes_kind o) kind_type m n).found ≡ [] → EndsWell (λ x. HasType bases k (Pair (takes_kind o) kind_type m n).gives x) (value_out (binary_outcome o (seen heap v) (seen heap w)))
   binary_ends o m n v w h g = go (kind_of m) (kind_of n) refl refl
@@ -116,7 +115,7 @@ module _ (bases : Bases) (k : HeapTyping) (heap : Heap) where
       go : (c d : Option Kind) → kind_of m ≡ c → kind_of n ≡ d → (pair_found (row_of_kinds (takes_kind o) kind_type c d)).found ≡ [] → EndsWell (λ x. HasType bases k (pair_found (row_of_kinds (takes_kind o) kind_type c d)).gives x) (value_out (binary_outcome o (seen heap v) (seen heap w)))
       go (Some whole_kind) (Some whole_kind) a b e = whole_ends o (seen heap v) (seen heap w) (kind_seen m whole_kind a v h) (kind_seen n whole_kind b w g)
       go (Some text_kind) (Some text_kind) a b e = text_ends o (seen heap v) (seen heap w) (kind_seen m text_kind a v h) (kind_seen n text_kind b w g) e
-      go _ _ a b e = absurd (no_codes e)
+      go _ _ a b e = absurd (not_empty e)
 
   -- ---- comparisons by order
 
@@ -158,7 +157,7 @@ module _ (bases : Bases) (k : HeapTyping) (heap : Heap) where
       go : (c d : Option Kind) → kind_of m ≡ c → kind_of n ≡ d → (pair_found (row_of_kinds (λ c. true) (λ c. Bool) c d)).found ≡ [] → EndsWell (λ x. HasType bases k (pair_found (row_of_kinds (λ c. true) (λ c. Bool) c d)).gives x) (value_out (compare_outcome answers o (seen heap v) (seen heap w)))
       go (Some whole_kind) (Some whole_kind) a b e = numbers_ordered answers o i (seen heap v) (seen heap w) (kind_seen m whole_kind a v h) (kind_seen n whole_kind b w g)
       go (Some text_kind) (Some text_kind) a b e = texts_ordered answers o i (seen heap v) (seen heap w) (kind_seen m text_kind a v h) (kind_seen n text_kind b w g)
-      go _ _ a b e = absurd (no_codes e)
+      go _ _ a b e = absurd (not_empty e)
 
   -- ---- pairs of members
 
@@ -205,7 +204,7 @@ module _ (bases : Bases) (k : HeapTyping) (heap : Heap) where
 
   not_never : (t : Tree) (v : Value) → is_never t ≡ true → HasType bases k t v → ⊥
   not_never Never v e h = h
-  not_never _ v e h = absurd (never_true e)
+  not_never _ v e h = absurd (false≢true e)
 
   either_never : (s t : Tree) (v w : Value) → (is_never s || is_never t) ≡ true → HasType bases k s v → HasType bases k t w → ⊥
   either_never s t v w e h g = go (is_never s) refl e
@@ -220,8 +219,8 @@ module _ (bases : Bases) (k : HeapTyping) (heap : Heap) where
     where
       go : (x y z : Test) → (is_never s || is_never t) ≡ x → m ≡ (if x then clean Never else (if y then record { type = dynamic; codes = A2 ∷ [] } else (if z then in_error E13 else offers_mark bases (pair_offers takes result (members s) (members t))))) → EndsWell (λ x. HasType bases k m.type x) out
       go true y z never is = absurd (either_never s t v w never h g)
-      go false true z never is = absurd (no_codes (ap (λ x. x.codes) (sym is) ∙ none))
-      go false false true never is = absurd (no_codes (ap (λ x. x.codes) (sym is) ∙ none))
+      go false true z never is = absurd (not_empty (ap (λ x. x.codes) (sym is) ∙ none))
+      go false false true never is = absurd (not_empty (ap (λ x. x.codes) (sym is) ∙ none))
       go false false false never is =
           let offers = pair_offers takes result (members s) (members t) in
           let c = chosen_pair takes result (members s) (members t) v w (to_members bases k s v h) (to_members bases k t w g) (ap (λ x. x.codes) (sym is) ∙ none) in
@@ -264,7 +263,7 @@ module _ (bases : Bases) (k : HeapTyping) (heap : Heap) where
     member_truth (DictOf s u) v _ h e t = absurd h
     member_truth (TupleOf us) v (tuple_of ws) h e t = (in_tuple (seen heap v) ws, refl)
     member_truth (TupleOf us) v _ h e t = absurd h
-    member_truth _ v w h e t = absurd (no_codes e)
+    member_truth _ v w h e t = absurd (not_empty e)
 
     in_ends : (n : Tree) (v w : Value) → HasType bases k n w → (contain_member n).found ≡ [] → HasEach bases k (contain_member n).takes v → EndsWell (λ x. HasType bases k (contain_member n).gives x) (value_out (member_of answers (seen heap v) (seen heap w)))
     in_ends n v w h e t = let c = member_truth n v w h e t in subst (λ u. EndsWell (λ x. HasType bases k u x) (value_out (member_of answers (seen heap v) (seen heap w)))) (sym c.1) c.0.0

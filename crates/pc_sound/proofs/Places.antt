@@ -1,13 +1,13 @@
 -- An expression that ended in a value has evaluated its place.
-use Rattle.std.proofs.Common.{◌≡◌, ℕ, zero, suc, arith}
+use Rattle.std.proofs.Common.{ℕ, zero, suc}
 use Rattle.pc_source.specs.declared.place.Place.{Place}
 use Rattle.pc_tree.specs.Tree.{Expr, Exprs, Keywords, name, number, text, truth, nothing, tuple, list, dict, negative, negation, binary, compare, is_none, is_not_none, conjunction, disjunction, attribute, index, call}
 use Rattle.pc_scope.specs.Expressions.{place_of}
-use Rattle.pc_value.specs.Value.{Value, Stop, Gives, Stops}
 use Rattle.pc_machine.specs.Steps.{Parts}
 use Rattle.pc_machine.specs.Free.{Step, free}
 use Rattle.pc_machine.specs.Evaluation.{CallForm, instance_test, ordinary, call_form, eval_call, eval_node, eval_over, steps}
 use Rattle.pc_sound.proofs.Flows.{Evaluates, emit_evaluates, later_evaluates, first_evaluates}
+use Rattle.pc_sound.proofs.Steps.{gives_not_stops}
 
 module _ (parts : Parts Step) where
   call_evaluates : (p : Place) (callee : Expr) (arguments : Exprs) (by_name : Keywords) (form : CallForm) → Evaluates p (eval_call Step free parts p callee arguments by_name form)
@@ -39,9 +39,6 @@ module _ (parts : Parts Step) where
   pub over_evaluates : (e : Expr) → Evaluates (place_of e) (eval_over Step free parts e)
   over_evaluates e = later_evaluates (place_of e) _ _ λ u. node_evaluates e
 
-not_gives : {a : Value} {stop : Stop} → Gives a ≡ Stops stop → ⊥
-not_gives e = grind arith
-
 pub steps_evaluate : (n : ℕ) (e : Expr) → Evaluates (place_of e) ((steps Step free n).eval e)
-steps_evaluate zero e = record { place = λ s s' events a r. absurd (not_gives r.is) }
+steps_evaluate zero e = record { place = λ s s' events a r. absurd (gives_not_stops r.is) }
 steps_evaluate (suc n) e = over_evaluates (steps Step free n) e

@@ -8,7 +8,8 @@ use Rattle.pc_machine.specs.State.{State}
 use Rattle.pc_machine.specs.Free.{Step, ◌>>=◌, comes, may_stop, look, Changes}
 use Rattle.pc_sound.specs.Values.{HeapTyping}
 use Rattle.pc_sound.specs.Judgment.{HasListed, EndsWell}
-use Rattle.pc_sound.proofs.Leading.{Known, Promised, ends_as, stopped_as}
+use Rattle.pc_sound.proofs.Leading.{Known, Promised, ends_as}
+use Rattle.pc_sound.proofs.Steps.{stopped_as}
 
 -- a run ended well: in a value, and a state as promised, or in another exception, or cut off
 pub record Arrives {A : Type 0} (after : Promised A) (out : Out A) (s : State) : Type 0 where

@@ -1,5 +1,5 @@
 -- What a `for` goes over: values, and `range(..)`, of which the argument is an int.
-use Rattle.std.proofs.Common.{◌≡◌, ℕ, List, [], ◌∷◌, map, refl, sym, ap, ◌∙◌, subst, inl, inr, arith, Contains}
+use Rattle.std.proofs.Common.{◌≡◌, ℕ, List, [], ◌∷◌, map, refl, sym, ap, ◌∙◌, subst, inl, inr, arith, Contains, true≢false}
 use Rattle.std.specs.Prelude.{◌⊎◌, Bool as Test, true, false, if◌then◌else◌, flat_map, slice_get, codes}
 use Rattle.std.proofs.lemmas.Slice.Eq.{bytes_eq-Decides}
 use Rattle.pc_source.specs.declared.place.Place.{Place}
@@ -31,10 +31,10 @@ use Rattle.pc_machine.specs.Evaluation.{IterableForm, range_call, any_iterable, 
 use Rattle.pc_machine.specs.Free.{Step, free}
 use Rattle.pc_sound.specs.Values.{HeapTyping, HasType}
 use Rattle.pc_sound.specs.Judgment.{HasListed, EndsWell, Around, Stands, Keeps, IsSafe, Fits}
-use Rattle.pc_sound.proofs.Steps.{bind_safe, emits_safe, looks_safe, act_safe, may_stop_safe}
+use Rattle.pc_sound.proofs.Steps.{bind_safe, emits_safe, looks_safe, act_safe, may_stop_safe, stopped_as}
 use Rattle.pc_sound.proofs.Keys.{Keyed}
 use Rattle.pc_sound.proofs.Expressions.{Covered, GoodEval, allowed}
-use Rattle.pc_sound.proofs.Flows.{Evaluates, stopped, first_evaluates, later_evaluates, emit_evaluates}
+use Rattle.pc_sound.proofs.Flows.{Evaluates, first_evaluates, later_evaluates, emit_evaluates}
 use Rattle.pc_sound.proofs.Members.{HasEach}
 use Rattle.pc_sound.proofs.Arguments.{ArgumentsHave, KeywordsHave, arguments_later, keywords_later, arguments_safe, keywords_safe, found_in_arguments}
 use Rattle.pc_sound.proofs.Iterations.{GoesOver, iterate_ends_well}
@@ -42,9 +42,6 @@ use Rattle.pc_sound.proofs.Globals.{KnowsNames, reserved_is}
 use Rattle.pc_sound.proofs.OrdinaryCalls.{impossible_safe}
 use Rattle.pc_sound.proofs.BuiltInMethods.{IsOneArgument, one_suits}
 use Rattle.pc_sound.proofs.ForLoops.{GoodIterables}
-
-no_truth : true ≡ false → ⊥
-no_truth e = absurd (grind (arith, e))
 
 -- a step whose end in a value has evaluated a listed place is safe, whatever is wanted of the value
 pub listed_safe : (around : Around) (env : Env) {A : Type 0} (known : HeapTyping → Type 0) (m : Step A) (P Q : HeapTyping → A → Type 0) (p : Place) → around.listed p → Evaluates p m → IsSafe around env known m P → IsSafe around env known m Q
@@ -54,12 +51,12 @@ listed_safe around env {A} known m P Q p here evaluates safe = record { run = go
     go k s s' events (Gives v) knows st r = inl (record { place = p; is = here; event = evaluates.place s s' events v r })
     go k s s' events (Stops stop) knows st r = elim (safe.run k s s' events (Stops stop) knows st r) [
       | inl l ↦ inl l
-      | inr kept ↦ inr (record { typing = kept.typing; grows = kept.grows; well = kept.well; same_frame = kept.same_frame; same_globals = kept.same_globals; same_classes = kept.same_classes; ends = stopped (P kept.typing) (Q kept.typing) stop kept.ends })
+      | inr kept ↦ inr (record { typing = kept.typing; grows = kept.grows; well = kept.well; same_frame = kept.same_frame; same_globals = kept.same_globals; same_classes = kept.same_classes; ends = stopped_as (P kept.typing) (Q kept.typing) stop kept.ends })
     ]
 
 range_resolved : (r : Res) → is_range r ≡ true → r ≡ res.Builtin builtin.Range
 range_resolved (res.Builtin builtin.Range) e = refl
-range_resolved _ e = absurd (no_truth (sym e))
+range_resolved _ e = absurd (true≢false (sym e))
 
 -- what `range` takes
 abbrev range_signature : Signature
@@ -156,7 +153,7 @@ module _ (around : Around) (ctx : Context) (fits : Fits around ctx) (m : Module)
         where
           other : (x : Test) → same_text n.text (codes "range") ≡ x → same_text n.text (codes "range") ≡ false
           other false e = e
-          other true e = absurd (no_truth (sym (ap is_range (ap ctx.resolve ((bytes_eq-Decides n.text (codes "range")).0 e) ∙ range_is)) ∙ is))
+          other true e = absurd (true≢false (sym (ap is_range (ap ctx.resolve ((bytes_eq-Decides n.text (codes "range")).0 e) ∙ range_is)) ∙ is))
   iterable_safe knows range_is (call p c args kws) marks item law covered item_covered keyed = values_safe (call p c args kws) marks item law covered item_covered keyed
   iterable_safe knows range_is e marks item law covered item_covered keyed = values_safe e marks item law covered item_covered keyed
 

@@ -1,9 +1,13 @@
 -- In a module without errors `@dataclass` is known where a class stands, each base is an earlier class, and no field without default
 -- stands behind one with default.
-use Rattle.std.proofs.Common.{◌≡◌, ℕ, zero, suc, ◌<◌, List, [], ◌∷◌, ◌++◌, length, take, append_assoc, refl, sym, ap, ◌∙◌, subst, inl, inr, arith, Contains}
+use Rattle.std.proofs.Common.{◌≡◌, ℕ, zero, suc, ◌<◌, List, [], ◌∷◌, ◌++◌, length, take, append_assoc, refl, sym, ap, ◌∙◌, subst, inl, inr, arith, Contains, append-nil}
 use Rattle.std.specs.Prelude.{Bool as Test, true, false, ◌||◌, ◌&&◌, not, codes, if◌then◌else◌, is_some, Option, Some, None, slice_get, bytes_eq}
 use Rattle.std.specs.List.{list_any}
 use Rattle.std.proofs.lemmas.List.Elements.{Contains-append_right}
+use Rattle.std.proofs.lemmas.Option.{same_Some}
+use Rattle.std.proofs.lemmas.Bool.{false≢true}
+use Rattle.std.proofs.Math.Seq.{take-append_seam}
+use Rattle.std.proofs.Math.Bool.{or-false, or_assoc}
 use Rattle.pc_source.specs.declared.place.Place.{Place}
 use Rattle.pc_tree.specs.declared.code.Code.TheVariants.{E02, E07, E08}
 use Rattle.pc_tree.specs.Code.{finding}
@@ -19,23 +23,17 @@ use Rattle.pc_class.specs.Bases.{bases_of, base_named}
 use Rattle.pc_class.specs.Facts as facts
 use Rattle.pc_class.specs.Facts.{Parameter, inherited, classes_of, class_at, field_of, method_of, binds_field, own_fields}
 use Rattle.pc_class.specs.Findings as findings
-use Rattle.pc_class.specs.Findings.{base_class, member_texts, has_default_before, IsFieldBehind}
+use Rattle.pc_class.specs.Findings.{base_class, member_texts, has_default_before}
 use Rattle.pc_check.specs.Modules.{Labelling, IsLawful}
 use Rattle.pc_sound.specs.Sound.{HasNoError}
+use Rattle.pc_sound.proofs.Lists.{get_at_end}
 use Rattle.pc_sound.proofs.Inheritance.{below_class, class_is, no_class_past}
-use Rattle.pc_sound.proofs.Binds.{get_at_end}
 use Rattle.pc_sound.proofs.Classes.{all_default, fields_last, BaseFound}
 use Rattle.pc_sound.proofs.MembersBind.{BindAll, members_bind}
 
-some_inj : {A : Type 0} {x y : A} → Some x ≡ Some y → x ≡ y
-some_inj e = grind arith
-
-no_truth : false ≡ true → ⊥
-no_truth e = absurd (grind (arith, e))
-
 contains_at : {A : Type 0} (xs : List A) (i : ℕ) (x : A) → slice_get xs i ≡ Some x → Contains xs x
 contains_at [] i x e = absurd (grind (arith, e))
-contains_at (y ∷ ys) zero x e = (0, omega arith, some_inj e)
+contains_at (y ∷ ys) zero x e = (0, omega arith, same_Some _ _ e)
 contains_at (y ∷ ys) (suc i) x e = Contains-append_right (y ∷ []) ys x (contains_at ys i x e)
 
 -- ---- the order of fields
@@ -54,7 +52,7 @@ all_append (p ∷ ps) qs h g = go p.has_default h (λ h'. all_append ps qs h' g)
   where
     go : (x : Test) → (if x then all_default ps else false) ≡ true → (all_default ps ≡ true → all_default (ps ++ qs) ≡ true) → (if x then all_default (ps ++ qs) else false) ≡ true
     go true h rest = rest h
-    go false h rest = absurd (no_truth h)
+    go false h rest = absurd (false≢true h)
 
 last_append : (ps qs : List Parameter) → fields_last ps ≡ true → last_from (has_defaults ps) qs ≡ true → fields_last (ps ++ qs) ≡ true
 last_append [] qs h g = g
@@ -68,10 +66,6 @@ nothing_last : (x : Test) → last_from x [] ≡ true
 nothing_last true = refl
 nothing_last false = refl
 
-no_own : (x : Test) → (x || false) ≡ x
-no_own true = refl
-no_own false = refl
-
 -- one more field: with a default, or where none before has one
 one_more : (x : Test) (p : Parameter) (ps : List Parameter) → last_from (x || p.has_default) ps ≡ true → (p.has_default ≡ false → x ≡ true → ⊥) → last_from x (p ∷ ps) ≡ true
 one_more x p ps h never = go x p.has_default refl refl h
@@ -83,18 +77,6 @@ one_more x p ps h never = go x p.has_default refl refl h
     go false false ex ez h = ap (λ a. last_from a (p ∷ ps)) ex ∙ ap (λ b. if b then all_default ps else fields_last ps) ez ∙ (sym (ap (λ a. last_from a ps) (ap (λ a. a || p.has_default) ex ∙ ez)) ∙ h)
 
 -- ---- members behind others
-
-append_nil : {A : Type 0} (xs : List A) → xs ++ [] ≡ xs
-append_nil [] = refl
-append_nil (x ∷ xs) = ap (λ l. x ∷ l) (append_nil xs)
-
-shifted : {A : Type 0} (xs : List A) (y : A) (ys : List A) → xs ++ y ∷ ys ≡ (xs ++ y ∷ []) ++ ys
-shifted [] y ys = refl
-shifted (x ∷ xs) y ys = ap (λ l. x ∷ l) (shifted xs y ys)
-
-take_front : {A : Type 0} (xs ys : List A) → take (length xs) (xs ++ ys) ≡ xs
-take_front [] ys = refl
-take_front (x ∷ xs) ys = ap (λ l. x ∷ l) (take_front xs ys)
 
 -- the names of members, the nearest first
 abbrev names_behind : List (List ℕ) → List Member → List (List ℕ)
@@ -115,15 +97,11 @@ among_behind before (x ∷ xs) w = among_behind ((name_of_member x).text ∷ bef
     turn false b d = refl
 
 same_names : (xs : List Member) (base : facts.Class) (w : List ℕ) → binds_field base (names_behind [] xs) w ≡ binds_field base (member_texts xs) w
-same_names xs base w = ap (λ x. not (is_reserved w || bytes_eq w (codes "mro")) && (not x && not (is_some (field_of base.fields w) || is_some (method_of base.methods w)))) (among_behind [] xs w ∙ no_own (is_among w (member_texts xs)))
+same_names xs base w = ap (λ x. not (is_reserved w || bytes_eq w (codes "mro")) && (not x && not (is_some (field_of base.fields w) || is_some (method_of base.methods w)))) (among_behind [] xs w ∙ or-false (is_among w (member_texts xs)))
 
 any_append : (ps qs : List Parameter) → has_defaults (ps ++ qs) ≡ (has_defaults ps || has_defaults qs)
 any_append [] qs = refl
-any_append (p ∷ ps) qs = ap (λ z. p.has_default || z) (any_append ps qs) ∙ group p.has_default (has_defaults ps) (has_defaults qs)
-  where
-    group : (a b d : Test) → (a || (b || d)) ≡ ((a || b) || d)
-    group true b d = refl
-    group false b d = refl
+any_append (p ∷ ps) qs = ap (λ z. p.has_default || z) (any_append ps qs) ∙ sym (or_assoc p.has_default (has_defaults ps) (has_defaults qs))
 
 own_append : (m : Module) (base : facts.Class) (before : List (List ℕ)) (xs ys : List Member) → own_fields m base before (xs ++ ys) ≡ own_fields m base before xs ++ own_fields m base (names_behind before xs) ys
 own_append m base before [] ys = refl
@@ -133,7 +111,7 @@ own_append m base before (field_member f ∷ xs) ys =
     ap (λ l. own ++ l) (own_append m base (f.name.text ∷ before) xs ys) ∙ sym (append_assoc own (own_fields m base (f.name.text ∷ before) xs) (own_fields m base (names_behind (f.name.text ∷ before) xs) ys))
 
 defaults_method : (m : Module) (base : facts.Class) (done : List Member) (f : FuncDef) → has_default_before m base (done ++ method_member f ∷ []) ≡ has_default_before m base done
-defaults_method m base done f = ap (λ l. has_defaults base.fields || has_defaults l) (own_append m base [] done (method_member f ∷ []) ∙ append_nil (own_fields m base [] done))
+defaults_method m base done f = ap (λ l. has_defaults base.fields || has_defaults l) (own_append m base [] done (method_member f ∷ []) ∙ append-nil (own_fields m base [] done))
 
 defaults_field : (m : Module) (base : facts.Class) (done : List Member) (f : Field) → binds_field base (names_behind [] done) f.name.text ≡ true → has_default_before m base (done ++ field_member f ∷ []) ≡ (has_default_before m base done || is_some f.default)
 defaults_field m base done f binds =
@@ -145,7 +123,7 @@ defaults_field m base done f binds =
     group : (a b d : Test) → (a || (b || (d || false))) ≡ ((a || b) || d)
     group true b d = refl
     group false true d = refl
-    group false false d = no_own d
+    group false false d = or-false d
 
 module _ (m : Module) (marks : Labelling m) (lawful : IsLawful m marks) (clean : HasNoError m) (constants : List Tree) (listed : Place → Type 0) where
   -- `@dataclass` stands behind its header
@@ -183,7 +161,7 @@ module _ (m : Module) (marks : Labelling m) (lawful : IsLawful m marks) (clean :
     }) refl
       where
         taken : take (length done) class.members ≡ done
-        taken = ap (take (length done)) all ∙ take_front done (field_member f ∷ rest)
+        taken = ap (take (length done)) all ∙ take-append_seam done (field_member f ∷ rest)
 
     -- the fields of a class's own, behind its base's and behind others of its own
     order_from : (done rest : List Member) → class.members ≡ done ++ rest → BindAll m (base_class m c class) (names_behind [] done) rest → last_from (has_default_before m (base_class m c class) done) (own_fields m (base_class m c class) (names_behind [] done) rest) ≡ true
@@ -191,7 +169,7 @@ module _ (m : Module) (marks : Labelling m) (lawful : IsLawful m marks) (clean :
     order_from done (method_member f ∷ rest) all binds =
         subst (λ x. last_from x (own_fields m (base_class m c class) (f.name.text ∷ names_behind [] done) rest) ≡ true) (defaults_method m (base_class m c class) done f)
         (subst (λ l. last_from (has_default_before m (base_class m c class) (done ++ method_member f ∷ [])) (own_fields m (base_class m c class) l rest) ≡ true) (names_last [] done (method_member f))
-        (order_from (done ++ method_member f ∷ []) rest (all ∙ shifted done (method_member f) rest) (subst (λ l. BindAll m (base_class m c class) l rest) (sym (names_last [] done (method_member f))) binds.1)))
+        (order_from (done ++ method_member f ∷ []) rest (all ∙ sym (append_assoc done (method_member f ∷ []) rest)) (subst (λ l. BindAll m (base_class m c class) l rest) (sym (names_last [] done (method_member f))) binds.1)))
     order_from done (field_member f ∷ rest) all binds =
         let base = base_class m c class in
         let names = names_behind [] done in
@@ -199,7 +177,7 @@ module _ (m : Module) (marks : Labelling m) (lawful : IsLawful m marks) (clean :
         let further : last_from (has_default_before m base done || is_some f.default) others ≡ true =
         subst (λ x. last_from x others ≡ true) (defaults_field m base done f binds.0)
         (subst (λ l. last_from (has_default_before m base (done ++ field_member f ∷ [])) (own_fields m base l rest) ≡ true) (names_last [] done (field_member f))
-        (order_from (done ++ field_member f ∷ []) rest (all ∙ shifted done (field_member f) rest) (subst (λ l. BindAll m base l rest) (sym (names_last [] done (field_member f))) binds.1))) in
+        (order_from (done ++ field_member f ∷ []) rest (all ∙ sym (append_assoc done (field_member f ∷ []) rest)) (subst (λ l. BindAll m base l rest) (sym (names_last [] done (field_member f))) binds.1))) in
         ap (λ x. last_from (has_default_before m base done) ((if x then record { name = f.name.text; type = read_ann m (bases_of m) f.annotation; has_default = is_some f.default } ∷ [] else []) ++ others)) binds.0
         ∙ one_more (has_default_before m base done) (record { name = f.name.text; type = read_ann m (bases_of m) f.annotation; has_default = is_some f.default }) others further (λ none behind. behind_error done rest f all binds.0 none behind)
 
@@ -216,7 +194,7 @@ module _ (m : Module) (marks : Labelling m) (lawful : IsLawful m marks) (clean :
       go (Some class) is below =
           ap (λ x. fields_last x.fields) (class_is m c class is)
           ∙ last_append (base_class m c class).fields (own_fields m (base_class m c class) [] class.members) (base_last class is below (base_named m c class.base) refl)
-          (subst (λ x. last_from x (own_fields m (base_class m c class) [] class.members) ≡ true) (no_own (has_defaults (base_class m c class).fields)) (order_from c class is [] class.members refl (members_bind m marks lawful clean c class is)))
+          (subst (λ x. last_from x (own_fields m (base_class m c class) [] class.members) ≡ true) (or-false (has_defaults (base_class m c class).fields)) (order_from c class is [] class.members refl (members_bind m marks lawful clean c class is)))
 
   -- each class has its fields in order
   pub ordered : (c : ℕ) (class : ClassDef) → slice_get (classes_in m.items) c ≡ Some class → fields_last (class_at (classes_of m) c).fields ≡ true

@@ -21,10 +21,10 @@ use Rattle.pc_machine.specs.Free.{Step}
 use Rattle.pc_sound.specs.Values.{HeapTyping, HasType}
 use Rattle.pc_sound.specs.Judgment.{HasListed, Around, Stands, Keeps, IsSafe}
 use Rattle.pc_sound.proofs.ValuesFlow.{of_static}
-use Rattle.pc_sound.proofs.Steps.{weaken}
+use Rattle.pc_sound.proofs.Steps.{weaken, stopped_as}
 use Rattle.pc_sound.proofs.Keys.{Keyed}
 use Rattle.pc_sound.proofs.Expressions.{Covered, GoodEval}
-use Rattle.pc_sound.proofs.Flows.{Evaluates, stopped, found_here, late_code}
+use Rattle.pc_sound.proofs.Flows.{Evaluates, found_here, late_code}
 use Rattle.pc_sound.proofs.Members.{HasEach}
 
 -- a type is static to each of these
@@ -82,5 +82,5 @@ module _ (around : Around) (ctx : Context) (eval : Expr → Step Value) (good : 
       dynamic_run here k s s' events (Gives v) knows st r = inl (record { place = place_of e; is = here; event = (evaluates e).place s s' events v r })
       dynamic_run here k s s' events (Stops stop) knows st r = elim (part.run k s s' events (Stops stop) tt st r) [
         | inl l ↦ inl l
-        | inr kept ↦ inr (record { typing = kept.typing; grows = kept.grows; well = kept.well; same_frame = kept.same_frame; same_globals = kept.same_globals; same_classes = kept.same_classes; ends = stopped (λ v. HasType around.bases kept.typing (type_of e m) v) (λ v. HasType around.bases kept.typing (type_of e m) v × HasEach around.bases kept.typing ts v) stop kept.ends })
+        | inr kept ↦ inr (record { typing = kept.typing; grows = kept.grows; well = kept.well; same_frame = kept.same_frame; same_globals = kept.same_globals; same_classes = kept.same_classes; ends = stopped_as (λ v. HasType around.bases kept.typing (type_of e m) v) (λ v. HasType around.bases kept.typing (type_of e m) v × HasEach around.bases kept.typing ts v) stop kept.ends })
       ]

@@ -12,8 +12,8 @@ use Rattle.pc_machine.specs.Free.{Step, ◌>>=◌, comes, may_end, may_stop, Emi
 use Rattle.pc_sound.specs.Values.{HeapTyping, IsWell}
 use Rattle.pc_sound.specs.Judgment.{HasListed, IsAllowed, EndsWell, Around, Stands, Keeps, IsSafe, Leads}
 use Rattle.pc_sound.proofs.ValuesFlow.{extends_refl, extends_through}
-use Rattle.pc_sound.proofs.Steps.{listed_left, listed_right, stands_after, goes_well}
-use Rattle.pc_sound.proofs.Leading.{Known, Promised, stopped_as, ends_as}
+use Rattle.pc_sound.proofs.Steps.{listed_left, listed_right, stands_after, goes_well, stopped_as}
+use Rattle.pc_sound.proofs.Leading.{Known, Promised, ends_as}
 
 -- from a state as it is known each run of a step evaluates a listed place, or keeps all, and tells this of its value and of the state after it
 pub record Shows (around : Around) (before : Known) {A : Type 0} (m : Step A) (after : Promised A) : Type 0 where

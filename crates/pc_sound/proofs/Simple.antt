@@ -25,6 +25,7 @@ use Rattle.pc_machine.specs.Free.{Step, ◌>>=◌, comes, Changes, free}
 use Rattle.pc_machine.specs.Evaluation.{exec_node, assign as assign_target, fail, condition, choose, binds_local}
 use Rattle.pc_sound.specs.Values.{HeapTyping, HasType, Extends}
 use Rattle.pc_sound.specs.Judgment.{Around, Stands, IsSafe, Fits, Tells, Leads, At, FlowEnds, Lasts}
+use Rattle.pc_sound.proofs.Lists.{first_among}
 use Rattle.pc_sound.proofs.ValuesFlow.{of_static}
 use Rattle.pc_sound.proofs.Expressions.{Covered, GoodEval}
 use Rattle.pc_sound.proofs.Keys.{Keyed}
@@ -34,7 +35,7 @@ use Rattle.pc_sound.proofs.Flows.{Evaluates, flow_safe}
 use Rattle.pc_sound.proofs.Leading.{ends_as, leads_bind, leads_comes, leads_looks, leads_binds, leads_from, leads_to, leads_safe, Promised}
 use Rattle.pc_sound.proofs.Frames.{names_kept, assigned_holds}
 use Rattle.pc_sound.proofs.Binding.{atom_flow, assigned_safe, one_flow}
-use Rattle.pc_sound.proofs.Statements.{Runs, stands_bare, ways_out, GoodStmt, first_of_list}
+use Rattle.pc_sound.proofs.Statements.{Runs, stands_bare, ways_out, GoodStmt}
 
 -- stores into attributes and items go on with the next statement
 pub record GoodStores (around : Around) (m : Module) (ctx : Context) (parts : Parts Step) : Type 0 where
@@ -106,10 +107,10 @@ module _ (around : Around) (ctx : Context) (fits : Fits around ctx) (m : Module)
   pass_runs p = record { runs = λ seen env marks out law covered keyed more lasts. leads_comes around _ (Gives next) _ λ k s at. (record { env = env; is = law; stands = at.stands }, at.known) }
 
   pub breaks_runs : (p : Place) → GoodStmt around ctx m returned (breaks p) (exec_node Step free parts (breaks p))
-  breaks_runs p = record { runs = λ seen env marks out law covered keyed more lasts. leads_comes around _ (Gives breaking) _ λ k s at. ((record { env = marks; is = first_of_list around ctx marks []; stands = subst (λ e. Stands around e k s) (sym law.0) at.stands }, record { place = p; is = first_of_list around ctx p [] }), at.known) }
+  breaks_runs p = record { runs = λ seen env marks out law covered keyed more lasts. leads_comes around _ (Gives breaking) _ λ k s at. ((record { env = marks; is = first_among marks []; stands = subst (λ e. Stands around e k s) (sym law.0) at.stands }, record { place = p; is = first_among p [] }), at.known) }
 
   pub continues_runs : (p : Place) → GoodStmt around ctx m returned (continues p) (exec_node Step free parts (continues p))
-  continues_runs p = record { runs = λ seen env marks out law covered keyed more lasts. leads_comes around _ (Gives continuing) _ λ k s at. ((stands_bare around ctx env k s at.stands, record { place = p; is = first_of_list around ctx p [] }), at.known) }
+  continues_runs p = record { runs = λ seen env marks out law covered keyed more lasts. leads_comes around _ (Gives continuing) _ λ k s at. ((stands_bare around ctx env k s at.stands, record { place = p; is = first_among p [] }), at.known) }
 
   pub evaluates_runs : (p : Place) (e : Expr) → GoodStmt around ctx m returned (evaluates p e) (exec_node Step free parts (evaluates p e))
   evaluates_runs p e = record {
@@ -121,7 +122,7 @@ module _ (around : Around) (ctx : Context) (fits : Fits around ctx) (m : Module)
 
   -- a flow is not in error where each finding is a listed place
   flow_clean : (p : Place) (flows : Flowing) (c : Option Code) → flows ≡ c ∷ [] → Covered around (IsFlowAt p flows) → (d : Code) → c ≡ Some d → ¬ (IsError d)
-  flow_clean p flows c is covered d e = (covered (finding p d) (record { code = d; among = subst (λ l. Contains l (Some d)) (sym is) (subst (λ x. Contains (c ∷ []) x) e (first_of_list around ctx c [])); is = refl })).1
+  flow_clean p flows c is covered d e = (covered (finding p d) (record { code = d; among = subst (λ l. Contains l (Some d)) (sym is) (subst (λ x. Contains (c ∷ []) x) e (first_among c [])); is = refl })).1
 
   pub returns_none_runs : (p : Place) → GoodStmt around ctx m returned (returns p None) (exec_node Step free parts (returns p None))
   returns_none_runs p = record { runs = go }
@@ -160,7 +161,7 @@ module _ (around : Around) (ctx : Context) (fits : Fits around ctx) (m : Module)
   -- ---- assignments to locals
 
   binding_runs : (seen : Seen) (env : Env) (n : Name) (annotation : Option Tree) (e : Expr) (marks : Marks e) (flows : Flowing) (after : Env) (out : Option Env) → LawfulBinding m ctx around.declared env seen n (ctx.resolve n.text) annotation e marks flows after → out ≡ Some after → Covered around (IsFlowAt (place_of e) flows) → Covered around (Finds e marks) → Keyed e marks → Runs around ctx env (ways_out around ctx m returned out [] []) (n ∷ []) (parts.eval e >>= λ v. (Changes (binds_local n.text v) >>= λ u. comes (Gives next)))
-  binding_runs seen env n annotation e marks flows after out law is covered_flow covered keyed more lasts = go (lasts.local n (first_of_list around ctx n [])).number (lasts.local n (first_of_list around ctx n [])).resolves
+  binding_runs seen env n annotation e marks flows after out law is covered_flow covered keyed more lasts = go (lasts.local n (first_among n [])).number (lasts.local n (first_among n [])).resolves
     where
       go : (x : ℕ) → ctx.resolve n.text ≡ res.Local x → Leads around (λ k s. At around env more k s) (parts.eval e >>= λ v. (Changes (binds_local n.text v) >>= λ u. comes (Gives next))) (λ k flow s. FlowEnds around (ways_out around ctx m returned out [] []) k flow s × more k s.frame)
       go x resolves =
@@ -174,7 +175,7 @@ module _ (around : Around) (ctx : Context) (fits : Fits around ctx) (m : Module)
           (leads_safe around env (λ k. Unit {0}) (parts.eval e) (λ k v. HasType around.bases k t v × HasType around.bases k d v) more lasts.grow
           (assigned_safe around ctx parts.eval good evaluates_place env (λ k. Unit {0}) _ e marks d f.0 l.value covered f.2 (subst (λ c. Covered around (IsFlowAt (place_of e) c)) f.1 covered_flow) keyed)))
           λ v. leads_bind around _ _ _ (λ k u s. At around (assign env x t) more k s) _
-          (leads_binds around _ n.text v _ λ k s b. bound_local around ctx fits more (n ∷ []) lasts env n (first_of_list around ctx n []) x t v resolves k s b.0 b.1.0 b.1.1)
+          (leads_binds around _ n.text v _ λ k s b. bound_local around ctx fits more (n ∷ []) lasts env n (first_among n []) x t v resolves k s b.0 b.1.0 b.1.1)
           λ u. leads_comes around _ (Gives next) _ λ k s at. (record { env = assign env x t; is = ends; stands = at.stands }, at.known)
 
   pub annotated_none_runs : (p : Place) (n : Name) (a : Ann) → GoodStmt around ctx m returned (annotated p n a None) (exec_node Step free parts (annotated p n a None))

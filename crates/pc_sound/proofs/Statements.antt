@@ -1,7 +1,8 @@
 -- Statements lead to their ways out, where their parts do.
-use Rattle.std.proofs.Common.{◌≡◌, List, [], ◌∷◌, ◌++◌, refl, sym, subst, inl, inr, arith, Contains}
+use Rattle.std.proofs.Common.{◌≡◌, List, [], ◌++◌, refl, sym, subst, inl, inr, Contains}
 use Rattle.std.specs.Prelude.{◌⊎◌, Bool as Test, true, false, Option, Some, None}
 use Rattle.std.proofs.lemmas.List.Elements.{Contains-append_left, Contains-append_right}
+use Rattle.std.proofs.lemmas.Option.{none-some, same_Some}
 use Rattle.pc_source.specs.declared.place.Place.{Place}
 use Rattle.pc_tree.specs.Tree.{Name, Stmt, Stmts, no_stmts, more_stmts, Module}
 use Rattle.pc_tree.specs.Stopping.{bound_by_stmt, bound_by, loose_in_stmt, loose_in}
@@ -42,15 +43,9 @@ module _ (around : Around) (ctx : Context) where
     bind = λ n x v k frame c. h.bind n x v k frame (Contains-append_right xs ys n c);
   }
 
-  pub first_of_list : {A : Type 0} (x : A) (xs : List A) → Contains (x ∷ xs) x
-  first_of_list x xs = (0, omega arith, refl)
-
   -- of a state that stands no local need be known
   pub stands_bare : (env : Env) (k : HeapTyping) (s : State) → Stands around env k s → Stands around [] k s
-  stands_bare env k s st = record { well = st.well; frame = st.frame; locals = record { each = λ word x t named e. absurd (none_here t e) }; outside = st.outside }
-    where
-      none_here : (t : Tree) → None ≡ Some t → ⊥
-      none_here t e = grind (arith, e)
+  stands_bare env k s st = record { well = st.well; frame = st.frame; locals = record { each = λ word x t named e. absurd (none-some t e) }; outside = st.outside }
 
   -- the ways out of suites and of one more: where each way is one of the wider ones
   pub flow_wider : (k : HeapTyping) (s : State) (ways wider : Ways) → ways.returned ≡ wider.returned → ((env : Env) → ways.out env → wider.out env) → ((env : Env) → ways.breaks env → wider.breaks env) → ((p : Place) → ways.loose p → wider.loose p) → (flow : Flow) → FlowEnds around ways k flow s → FlowEnds around wider k flow s
@@ -75,15 +70,9 @@ module _ (around : Around) (ctx : Context) where
     -- ---- suites
 
     module _ (parts : Parts Step) (node : (s : Stmt) → GoodStmt s (exec_node Step free parts s)) where
-      some_same : {x y : Env} → Some x ≡ Some y → x ≡ y
-      some_same e = grind arith
-
-      some_none : {x : Env} → None ≡ Some x → ⊥
-      some_none e = grind arith
-
       -- behind a statement that leaves the suite nothing runs
       behind_left : (brs more_breaks : List Env) (loose more_loose : List Place) (out : Option Env) (rest : Step Flow) (more : HeapTyping → Frame → Type 0) (flow : Flow) → Leads around (λ k s. FlowEnds around (ways_out None brs loose) k flow s × more k s.frame) (then_follows Step free flow rest) (λ k f s. FlowEnds around (ways_out out (brs ++ more_breaks) (loose ++ more_loose)) k f s × more k s.frame)
-      behind_left brs more_breaks loose more_loose out rest more next = record { run = λ k s s' events o well b r. absurd (some_none b.0.is) }
+      behind_left brs more_breaks loose more_loose out rest more next = record { run = λ k s s' events o well b r. absurd (none-some _ b.0.is) }
       behind_left brs more_breaks loose more_loose out rest more breaking = leads_comes around _ (Gives breaking) _ λ k s b. ((record { env = b.0.0.env; is = Contains-append_left brs more_breaks b.0.0.env b.0.0.is; stands = b.0.0.stands }, record { place = b.0.1.place; is = Contains-append_left loose more_loose b.0.1.place b.0.1.is }), b.1)
       behind_left brs more_breaks loose more_loose out rest more continuing = leads_comes around _ (Gives continuing) _ λ k s b. ((b.0.0, record { place = b.0.1.place; is = Contains-append_left loose more_loose b.0.1.place b.0.1.is }), b.1)
       behind_left brs more_breaks loose more_loose out rest more (leaves v) = leads_comes around _ (Gives (leaves v)) _ λ k s b. b
@@ -91,7 +80,7 @@ module _ (around : Around) (ctx : Context) where
       -- behind one that can complete the rest does
       behind_next : (env : Env) (brs more_breaks : List Env) (loose more_loose : List Place) (out : Option Env) (names : List Name) (rest : Step Flow) → Runs env (ways_out out more_breaks more_loose) names rest → (more : HeapTyping → Frame → Type 0) → Lasts around ctx names more → (flow : Flow) → Leads around (λ k s. FlowEnds around (ways_out (Some env) brs loose) k flow s × more k s.frame) (then_follows Step free flow rest) (λ k f s. FlowEnds around (ways_out out (brs ++ more_breaks) (loose ++ more_loose)) k f s × more k s.frame)
       behind_next env brs more_breaks loose more_loose out names rest runs more lasts next =
-          leads_from around _ (λ k s. At around env more k s) rest _ (λ k s b. record { stands = subst (λ e. Stands around e k s) (sym (some_same b.0.is)) b.0.stands; known = b.1 })
+          leads_from around _ (λ k s. At around env more k s) rest _ (λ k s b. record { stands = subst (λ e. Stands around e k s) (sym (same_Some _ _ b.0.is)) b.0.stands; known = b.1 })
           (leads_to around _ rest (λ k f s. FlowEnds around (ways_out out more_breaks more_loose) k f s × more k s.frame) _ (λ k f s h. (flow_wider k s (ways_out out more_breaks more_loose) (ways_out out (brs ++ more_breaks) (loose ++ more_loose)) refl (λ e i. i) (λ e i. Contains-append_right brs more_breaks e i) (λ p i. Contains-append_right loose more_loose p i) f h.0, h.1))
           (runs more lasts))
       behind_next env brs more_breaks loose more_loose out names rest runs more lasts breaking = leads_comes around _ (Gives breaking) _ λ k s b. ((record { env = b.0.0.env; is = Contains-append_left brs more_breaks b.0.0.env b.0.0.is; stands = b.0.0.stands }, record { place = b.0.1.place; is = Contains-append_left loose more_loose b.0.1.place b.0.1.is }), b.1)

@@ -27,6 +27,21 @@ locals_later {bases} {k} {k'} {names} {declared} {env} {frame} {frame'} x e h = 
 abbrev pub Stays : (HeapTyping → Type 0) → Type 0
 Stays known = (k k' : HeapTyping) → Extends k k' → known k → known k'
 
+-- what gives a value does not stop
+pub gives_not_stops : {A : Type 0} {a : A} {stop : Stop} → Gives a ≡ Stops stop → ⊥
+gives_not_stops e = grind arith
+
+-- what is given is one value
+pub gives_injective : {A : Type 0} {a b : A} → Gives a ≡ Gives b → a ≡ b
+gives_injective e = grind arith
+
+-- an end of the run is well whatever was promised of values
+pub stopped_as : {A B : Type 0} (P : A → Type 0) (Q : B → Type 0) (stop : Stop) → EndsWell P (Stops stop) → EndsWell Q (Stops stop)
+stopped_as P Q (Raised e) h = h
+stopped_as P Q Outside h = h
+stopped_as P Q Other h = h
+stopped_as P Q Cut h = h
+
 -- where a step goes on, what holds then is promised of how it ends
 pub goes_well : (P : Unit {0} → Type 0) (out : Out (Unit {0})) → GoesOn out → P tt → EndsWell P out
 goes_well P (Gives u) g h = h
@@ -50,12 +65,6 @@ module _ (around : Around) (env : Env) where
     locals = locals_later h.grows h.same_frame st.locals;
     outside = subst (λ c. around.outside h.typing c s'.globals) (sym h.same_classes) (subst (λ g. around.outside h.typing s.classes g) (sym h.same_globals) (around.stays k h.typing s.classes s.globals h.grows st.outside));
   }
-
-  stopped_well : {A B : Type 0} (P : A → Type 0) (Q : B → Type 0) (stop : Stop) → EndsWell P (Stops stop) → EndsWell Q (Stops stop)
-  stopped_well P Q (Raised e) h = h
-  stopped_well P Q Outside h = h
-  stopped_well P Q Other h = h
-  stopped_well P Q Cut h = h
 
   -- one step and then another
   pub bind_safe : {A B : Type 0} (known : HeapTyping → Type 0) (m : Step A) (f : A → Step B) (P : HeapTyping → A → Type 0) (Q : HeapTyping → B → Type 0) → Stays known → IsSafe around env known m P → ((a : A) → IsSafe around env (λ k. known k × P k a) (f a) Q) → IsSafe around env known (m >>= f) Q
@@ -86,7 +95,7 @@ module _ (around : Around) (env : Env) where
           same_frame = kept.same_frame;
           same_globals = kept.same_globals;
           same_classes = kept.same_classes;
-          ends = subst (EndsWell (Q kept.typing)) (sym w.is) (stopped_well (P kept.typing) (Q kept.typing) w.stop kept.ends);
+          ends = subst (EndsWell (Q kept.typing)) (sym w.is) (stopped_as (P kept.typing) (Q kept.typing) w.stop kept.ends);
         })
       ]
 

@@ -23,6 +23,7 @@ use Rattle.pc_machine.specs.Free.{Step, ◌>>=◌, free}
 use Rattle.pc_sound.specs.Values.{HeapTyping, HasType, IsWell}
 use Rattle.pc_sound.specs.Kept.{ActsWell}
 use Rattle.pc_sound.specs.Judgment.{Around, IsSafe, Fits}
+use Rattle.pc_sound.proofs.Lists.{front_empty, not_empty, rest_empty}
 use Rattle.pc_sound.proofs.ValuesFlow.{later}
 use Rattle.pc_sound.proofs.Narrowing.{HasSome, to_members}
 use Rattle.pc_sound.proofs.Heaps.{store_keeps}
@@ -32,7 +33,7 @@ use Rattle.pc_sound.proofs.Keys.{IsKeyed, Keyed, keyed_type}
 use Rattle.pc_sound.proofs.KeyedStatements.{TargetKeyed}
 use Rattle.pc_sound.proofs.Expressions.{Covered, GoodEval, allowed, part}
 use Rattle.pc_sound.proofs.Flows.{Evaluates}
-use Rattle.pc_sound.proofs.Members.{no_codes, front_empty, rest_empty, HasEach, each_later, each_left, each_right, AllOf}
+use Rattle.pc_sound.proofs.Members.{HasEach, each_later, each_left, each_right, AllOf}
 use Rattle.pc_sound.proofs.Indexing.{keyed_members}
 use Rattle.pc_sound.proofs.SeveralFlows.{flows_safe}
 use Rattle.pc_sound.proofs.Acting.{acting_safe}
@@ -67,7 +68,7 @@ module _ (bases : Bases) (k : HeapTyping) where
     member_keeps : (t : Tree) (v key w : Value) → IsKeyed t → HasType bases k t v → (store_index_member t).found ≡ [] → HasEach bases k (store_index_member t).takes key → HasEach bases k (stored_type (store_index_member t)) w → ActsWell bases classes k NoneType (store_outcome heap (seen heap v) (seen heap key) key w)
     member_keeps (ListOf t) v key w keyed h e keys values = store_keeps bases classes k heap t v key w well h keys.0 values.0
     member_keeps (DictOf s t) v key w keyed h e keys values = dict_store_keeps bases classes k heap s t v key w keyed.0 well h keys.0 values.0
-    member_keeps _ v key w keyed h e keys values = absurd (no_codes e)
+    member_keeps _ v key w keyed h e keys values = absurd (not_empty e)
 
     -- a store into an object of a type of which nothing is found
     item_store_keeps : (t : Tree) (v key w : Value) → IsKeyed t → HasType bases k t v → found_of (map store_index_member (members t)) ≡ [] → HasEach bases k (operand_types (map store_index_member (members t))) key → HasEach bases k (stored_types (map store_index_member (members t))) w → ActsWell bases classes k NoneType (store_outcome heap (seen heap v) (seen heap key) key w)

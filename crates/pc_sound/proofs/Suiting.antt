@@ -4,6 +4,8 @@ use Rattle.std.specs.Prelude.{◌⊎◌, Bool as Test, true, false, ◌&&◌, �
 use Rattle.std.specs.List.{list_all}
 use Rattle.std.proofs.lemmas.Bool.Decides.{nat_tests}
 use Rattle.std.proofs.lemmas.Slice.Eq.{bytes_eq-Decides}
+use Rattle.std.proofs.lemmas.Option.{same_Some}
+use Rattle.std.proofs.lemmas.Bool.{and_parts, or_right}
 use Rattle.pc_tree.specs.Tree.{Name, Exprs, no_exprs, more_exprs, Keywords, no_keywords, more_keywords}
 use Rattle.pc_scope.specs.Bindings.{texts}
 use Rattle.pc_scope.specs.Expressions.{keyword_names}
@@ -18,14 +20,14 @@ use Rattle.pc_expr.specs.Labels.{ItemsMarks, KeywordsMarks}
 use Rattle.pc_value.specs.Value.{Value}
 use Rattle.pc_value.specs.Texts.{same_text}
 use Rattle.pc_machine.specs.State as state
-use Rattle.pc_machine.specs.State.{Local}
 use Rattle.pc_machine.specs.Calls.{NamedValue, value_named, bound_arguments}
 use Rattle.pc_sound.specs.Values.{HeapTyping}
+use Rattle.pc_sound.proofs.TruthValues.{not_both, or_in_turn}
 use Rattle.pc_sound.proofs.ValuesFlow.{of_static}
 use Rattle.pc_sound.proofs.Members.{HasEach, each_left, each_right}
 use Rattle.pc_sound.proofs.Arguments.{ArgumentsHave, KeywordsHave}
 use Rattle.pc_sound.proofs.World.{DefaultHas, DefaultsHave}
-use Rattle.pc_sound.proofs.Filling.{TakesNamed, Fills, Filled, AllFor, binds, Distinct, NamedBehind, names_of, PositionalHave, once_among, all_at, suited_fills, all_for, both, or_cases, or_right, clash}
+use Rattle.pc_sound.proofs.Filling.{TakesNamed, Fills, Filled, AllFor, binds, Distinct, NamedBehind, names_of, PositionalHave, once_among, all_at, suited_fills, all_for}
 
 -- one of several that are called
 abbrev pub IsOneOf : Signature → List Signature → Type 0
@@ -47,7 +49,7 @@ given_once word before (n ∷ ns) e = go (is_among n.text before) e (given_once 
   where
     go : (b : Test) → is_among word (if b then once_each before ns else n.text ∷ once_each (n.text ∷ before) ns) ≡ true → (is_among word (once_each before ns) ≡ true → is_among word (texts ns) ≡ true) → (is_among word (once_each (n.text ∷ before) ns) ≡ true → is_among word (texts ns) ≡ true) → is_among word (texts (n ∷ ns)) ≡ true
     go true e dropped kept = or_right (bytes_eq word n.text) (is_among word (texts ns)) (dropped e)
-    go false e dropped kept = elim (or_cases (bytes_eq word n.text) (is_among word (once_each (n.text ∷ before) ns)) e) [
+    go false e dropped kept = elim (or_in_turn (bytes_eq word n.text) (is_among word (once_each (n.text ∷ before) ns)) e) [
       | inl c ↦ ap (λ b. b || is_among word (texts ns)) c
       | inr c ↦ or_right (bytes_eq word n.text) (is_among word (texts ns)) (kept c.1)
     ]
@@ -73,24 +75,21 @@ module _ (bases : Bases) (k : HeapTyping) where
   value_seated seat before (more_keywords parameter value rest) m (a ∷ more) h word w new e = go (same_text a.name word) refl e (value_seated seat (parameter.text ∷ before) rest m.rest more h.1.1 word w)
     where
       into : (b : Test) → b ≡ false → HasEach bases k (if b then nowhere else seat parameter.text).into a.value → HasEach bases k (seat parameter.text).into a.value
-      into true e h = absurd (clash refl e)
+      into true e h = absurd (not_both refl e)
       into false e h = h
-
-      some_inj : {x y : Value} → Some x ≡ Some y → x ≡ y
-      some_inj e = grind arith
 
       go : (b : Test) → same_text a.name word ≡ b → (if b then Some a.value else value_named word more) ≡ Some w → (is_among word (parameter.text ∷ before) ≡ false → value_named word more ≡ Some w → HasEach bases k (seat word).into w) → HasEach bases k (seat word).into w
       go true t e others =
           let same : parameter.text ≡ word = sym h.0 ∙ (bytes_eq-Decides a.name word).0 t in
           let here = into (is_among parameter.text before) (ap (λ x. is_among x before) same ∙ new) h.1.0.1 in
-          subst (λ x. HasEach bases k (seat word).into x) (some_inj e) (subst (λ x. HasEach bases k (seat x).into a.value) same here)
+          subst (λ x. HasEach bases k (seat word).into x) (same_Some _ _ e) (subst (λ x. HasEach bases k (seat x).into a.value) same here)
       go false t e others = others ((λ i. differ i || new i)) e
         where
           differ : bytes_eq word parameter.text ≡ false
           differ = test (bytes_eq word parameter.text) refl
             where
               test : (b : Test) → bytes_eq word parameter.text ≡ b → bytes_eq word parameter.text ≡ false
-              test true c = absurd (clash ((bytes_eq-Decides a.name word).1 (h.0 ∙ sym ((bytes_eq-Decides word parameter.text).0 c))) t)
+              test true c = absurd (not_both ((bytes_eq-Decides a.name word).1 (h.0 ∙ sym ((bytes_eq-Decides word parameter.text).0 c))) t)
               test false c = c
 
   -- the values by position go into the types of the parameters there
@@ -119,9 +118,9 @@ module _ (bases : Bases) (k : HeapTyping) where
 
       parts : (nat_le (count_exprs es) (length s.parameters) ≡ true) × (((s.takes_names || has_none (once_each [] (keyword_names kws))) ≡ true) × ((list_all (λ word. is_free (count_exprs es) (position_of s.parameters word)) (once_each [] (keyword_names kws)) ≡ true) × (are_filled (once_each [] (keyword_names kws)) (parameter_names (take (count_exprs es) s.parameters)) (drop (count_exprs es) s.parameters) ≡ true)))
       parts =
-          let a = both (nat_le (count_exprs es) (length s.parameters)) _ suited in
-          let b = both (s.takes_names || has_none (once_each [] (keyword_names kws))) _ a.1 in
-          let c = both (list_all (λ word. is_free (count_exprs es) (position_of s.parameters word)) (once_each [] (keyword_names kws))) _ b.1 in
+          let a = and_parts (nat_le (count_exprs es) (length s.parameters)) _ suited in
+          let b = and_parts (s.takes_names || has_none (once_each [] (keyword_names kws))) _ a.1 in
+          let c = and_parts (list_all (λ word. is_free (count_exprs es) (position_of s.parameters word)) (once_each [] (keyword_names kws))) _ b.1 in
           (a.0, (b.0, (c.0, c.1)))
 
       names_are : names_of named ≡ texts (keyword_names kws)
@@ -153,8 +152,8 @@ module _ (bases : Bases) (k : HeapTyping) where
 
   same_shape : (p q : Parameter) (ps qs : List Parameter) → has_shape_of (p ∷ ps) (q ∷ qs) ≡ true → (p.name ≡ q.name) × (((not p.has_default || q.has_default) ≡ true) × (has_shape_of ps qs ≡ true))
   same_shape p q ps qs e =
-      let a = both (bytes_eq p.name q.name) ((not p.has_default || q.has_default) && has_shape_of ps qs) e in
-      let b = both (not p.has_default || q.has_default) (has_shape_of ps qs) a.1 in
+      let a = and_parts (bytes_eq p.name q.name) ((not p.has_default || q.has_default) && has_shape_of ps qs) e in
+      let b = and_parts (not p.has_default || q.has_default) (has_shape_of ps qs) a.1 in
       ((bytes_eq-Decides p.name q.name).0 a.0, (b.0, b.1))
 
   takes_into : (p q : Parameter) (o : Option Value) → (not p.has_default || q.has_default) ≡ true → Static bases p.type q.type → TakesNamed bases k p o → TakesNamed bases k q o
@@ -228,8 +227,8 @@ module _ (bases : Bases) (k : HeapTyping) where
   shape_untyped [] (q ∷ qs) e = e
   shape_untyped (p ∷ ps) [] e = e
   shape_untyped (p ∷ ps) (q ∷ qs) e =
-      let a = both (bytes_eq p.name q.name) ((not p.has_default || q.has_default) && has_shape_of ps qs) e in
-      let b = both (not p.has_default || q.has_default) (has_shape_of ps qs) a.1 in
+      let a = and_parts (bytes_eq p.name q.name) ((not p.has_default || q.has_default) && has_shape_of ps qs) e in
+      let b = and_parts (not p.has_default || q.has_default) (has_shape_of ps qs) a.1 in
       λ i. a.0 i && (b.0 i && shape_untyped ps qs b.1 i)
 
   pub static_untyped : (ps qs : List Parameter) → StaticInto (map untyped ps) (map untyped qs)

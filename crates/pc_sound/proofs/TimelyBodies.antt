@@ -232,7 +232,17 @@ length_mark_timely bases [] = refl
 length_mark_timely bases (t ∷ []) = operation_timely bases length_member length_timely t
 length_mark_timely bases (t ∷ (s ∷ ts)) = refl
 
+-- a label with the codes of one on time is on time
+so_timely : {m n : Mark} → m ≡ n → OnTime n.codes → OnTime m.codes
+so_timely e h = ap (λ x. is_late x.codes) e ∙ h
+
 module _ (ctx : Context) where
+  -- an attribute of a value of any type is found on time
+  field_timely : (word : List ℕ) (t : Tree) → OnTime (attribute_member ctx.classes word t).found
+  field_timely word (Class c) = attribute_timely (field_of (class_at ctx.classes c).fields word) (method_of (class_at ctx.classes c).methods word)
+  field_timely word Any = refl
+  field_timely word _ = refl
+
   method_timely : (g : Given) (word : List ℕ) (t : Tree) → AllCalls (method_offers ctx g word t)
   method_timely g word (Class c) = class_timely g (method_of (class_at ctx.classes c).methods word) (field_of (class_at ctx.classes c).fields word)
   method_timely g word (ListOf t) = list_call_timely g word t
@@ -306,9 +316,6 @@ module _ (ctx : Context) where
     name_timely env word (res.Builtin b) is = refl
     name_timely env word res.None is = refl
 
-    so_timely : {m n : Mark} → m ≡ n → OnTime n.codes → OnTime m.codes
-    so_timely e h = ap (λ x. is_late x.codes) e ∙ h
-
     -- no label has E03
     pub never_late : (env : Env) (want : Option Tree) (e : Expr) (m : Marks e) → Lawful ctx declared env want e m → is_late (mark_of e m).codes ≡ false
     never_late env want (name n) m law = so_timely law (name_timely env n.text (ctx.resolve n.text) refl)
@@ -328,11 +335,6 @@ module _ (ctx : Context) where
     never_late env want (conjunction p l r) m law = so_timely law.here refl
     never_late env want (disjunction p l r) m law = so_timely law.here refl
     never_late env want (attribute p e n) m law = so_timely law.here (operation_timely ctx.bases (attribute_member ctx.classes n.text) (field_timely n.text) (type_of e m.object))
-      where
-        field_timely : (word : List ℕ) (t : Tree) → OnTime (attribute_member ctx.classes word t).found
-        field_timely word (Class c) = attribute_timely (field_of (class_at ctx.classes c).fields word) (method_of (class_at ctx.classes c).methods word)
-        field_timely word Any = refl
-        field_timely word _ = refl
     never_late env want (index p e i) m law = so_timely law.here (operation_timely ctx.bases (index_member ctx.bases (int_literal i)) (index_timely ctx.bases (int_literal i)) (type_of e m.object))
     never_late env want (call p c args kws) m law = so_timely law.here (whole_call_timely env c args kws (callee_of ctx env (given args kws) c law.value).offers (callee_timely env (given args kws) c law.value) (item_types args m.arguments))
 
@@ -376,32 +378,24 @@ module _ (ctx : Context) where
 -- ---- where some names are late
 
 module _ (ctx : Context) (declared : List Tree) where
-  so_late : {m n : Mark} → m ≡ n → OnTime n.codes → OnTime m.codes
-  so_late e h = ap (λ x. is_late x.codes) e ∙ h
-
   -- a label has no E03 but where a name has it
   pub own_timely : (e : Expr) → ((n : Name) → e ≡ name n → (env : Env) → OnTime (name_mark ctx env (ctx.resolve n.text)).codes) → (env : Env) (want : Option Tree) (m : Marks e) → Lawful ctx declared env want e m → is_late (mark_of e m).codes ≡ false
-  own_timely (name n) names env want m law = so_late law (names n refl env)
-  own_timely (number p d) names env want m law = so_late law refl
-  own_timely (text p d) names env want m law = so_late law refl
-  own_timely (truth p b) names env want m law = so_late law refl
-  own_timely (nothing p) names env want m law = so_late law refl
-  own_timely (tuple p es) names env want m law = so_late law.here (display_timely (TupleOf (trees (item_types es m.items))))
-  own_timely (list p es) names env want m law = so_late law.here (list_timely ctx.bases (list_item (members_of want)) (item_types es m.items))
+  own_timely (name n) names env want m law = so_timely law (names n refl env)
+  own_timely (number p d) names env want m law = so_timely law refl
+  own_timely (text p d) names env want m law = so_timely law refl
+  own_timely (truth p b) names env want m law = so_timely law refl
+  own_timely (nothing p) names env want m law = so_timely law refl
+  own_timely (tuple p es) names env want m law = so_timely law.here (display_timely (TupleOf (trees (item_types es m.items))))
+  own_timely (list p es) names env want m law = so_timely law.here (list_timely ctx.bases (list_item (members_of want)) (item_types es m.items))
   own_timely (dict p es) names env want m law = dict_timely ctx.bases (dict_parts (members_of want)) _ _ m.here law.here
-  own_timely (negative p e) names env want m law = so_late law.here (operation_timely ctx.bases negative_member negative_timely (type_of e m.operand))
-  own_timely (negation p e) names env want m law = so_late law.here refl
-  own_timely (binary p o l r) names env want m law = so_late law.here (pairs_timely (takes_kind o) kind_type ctx.bases Any (type_of l m.left) (type_of r m.right))
-  own_timely (compare p o l r) names env want m law = so_late law.here (compare_timely ctx.bases o (type_of l m.left) (type_of r m.right))
-  own_timely (is_none p e) names env want m law = so_late law.here refl
-  own_timely (is_not_none p e) names env want m law = so_late law.here refl
-  own_timely (conjunction p l r) names env want m law = so_late law.here refl
-  own_timely (disjunction p l r) names env want m law = so_late law.here refl
-  own_timely (attribute p e n) names env want m law = so_late law.here (operation_timely ctx.bases (attribute_member ctx.classes n.text) (field_timely n.text) (type_of e m.object))
-    where
-      field_timely : (word : List ℕ) (t : Tree) → OnTime (attribute_member ctx.classes word t).found
-      field_timely word (Class c) = attribute_timely (field_of (class_at ctx.classes c).fields word) (method_of (class_at ctx.classes c).methods word)
-      field_timely word Any = refl
-      field_timely word _ = refl
-  own_timely (index p e i) names env want m law = so_late law.here (operation_timely ctx.bases (index_member ctx.bases (int_literal i)) (index_timely ctx.bases (int_literal i)) (type_of e m.object))
-  own_timely (call p c args kws) names env want m law = so_late law.here (whole_call_timely ctx env c args kws (callee_of ctx env (given args kws) c law.value).offers (callee_timely ctx env (given args kws) c law.value) (item_types args m.arguments))
+  own_timely (negative p e) names env want m law = so_timely law.here (operation_timely ctx.bases negative_member negative_timely (type_of e m.operand))
+  own_timely (negation p e) names env want m law = so_timely law.here refl
+  own_timely (binary p o l r) names env want m law = so_timely law.here (pairs_timely (takes_kind o) kind_type ctx.bases Any (type_of l m.left) (type_of r m.right))
+  own_timely (compare p o l r) names env want m law = so_timely law.here (compare_timely ctx.bases o (type_of l m.left) (type_of r m.right))
+  own_timely (is_none p e) names env want m law = so_timely law.here refl
+  own_timely (is_not_none p e) names env want m law = so_timely law.here refl
+  own_timely (conjunction p l r) names env want m law = so_timely law.here refl
+  own_timely (disjunction p l r) names env want m law = so_timely law.here refl
+  own_timely (attribute p e n) names env want m law = so_timely law.here (operation_timely ctx.bases (attribute_member ctx.classes n.text) (field_timely ctx n.text) (type_of e m.object))
+  own_timely (index p e i) names env want m law = so_timely law.here (operation_timely ctx.bases (index_member ctx.bases (int_literal i)) (index_timely ctx.bases (int_literal i)) (type_of e m.object))
+  own_timely (call p c args kws) names env want m law = so_timely law.here (whole_call_timely ctx env c args kws (callee_of ctx env (given args kws) c law.value).offers (callee_timely ctx env (given args kws) c law.value) (item_types args m.arguments))

@@ -1,7 +1,9 @@
 -- Loops, turn by turn: each turn begins at the head, and the loop is left at the head or at a `break`.
-use Rattle.std.proofs.Common.{◌≡◌, ℕ, List, [], ◌∷◌, refl, sym, ap, ◌∙◌, subst, inl, inr, arith, Contains}
-use Rattle.std.specs.Prelude.{Bool as Test, true, false, ◌||◌, nat_eq, Option, Some, None}
+use Rattle.std.proofs.Common.{◌≡◌, ℕ, List, [], ◌∷◌, refl, sym, ap, ◌∙◌, subst, inl, inr, Contains, eq-eqb}
+use Rattle.std.specs.Prelude.{Bool as Test, true, false, ◌||◌, Option, Some, None}
 use Rattle.std.specs.List.{list_any}
+use Rattle.std.proofs.lemmas.Option.{none-some, same_Some}
+use Rattle.std.proofs.lemmas.Bool.{or_right}
 use Rattle.pc_source.specs.declared.place.Place.{Place}
 use Rattle.pc_tree.specs.Tree.{Name, Expr, while_loop, Stmts, no_stmts, more_stmts, Module}
 use Rattle.pc_tree.specs.Stopping.{bound_by, loose_in}
@@ -26,6 +28,8 @@ use Rattle.pc_machine.specs.Evaluation.{exec_node, exec_body, after_turn, while_
 use Rattle.pc_sound.specs.Values.{HeapTyping, HasType, Extends}
 use Rattle.pc_sound.specs.Kept.{HasLocals}
 use Rattle.pc_sound.specs.Judgment.{Around, Stands, Fits, Leads, At, Ways, Reaches, FlowEnds, Lasts}
+use Rattle.pc_sound.proofs.TruthValues.{not_both}
+use Rattle.pc_sound.proofs.Lists.{among_first, none_among}
 use Rattle.pc_sound.proofs.ValuesFlow.{later, extends_refl, extends_through}
 use Rattle.pc_sound.proofs.Expressions.{Covered}
 use Rattle.pc_sound.proofs.Keys.{Keyed}
@@ -37,31 +41,15 @@ use Rattle.pc_sound.proofs.Frames.{local_bound, local_kept, same_is, differs_not
 use Rattle.pc_sound.proofs.Leading.{leads_bind, leads_comes, leads_charge, leads_from, leads_to, leads_each}
 use Rattle.pc_sound.proofs.Statements.{Runs, flow_wider, ways_out, GoodExec, GoodStmt}
 use Rattle.pc_sound.proofs.Simple.{decided}
-use Rattle.pc_sound.proofs.Branches.{among_first, some_holds, stands_with}
-
-none_among : {A : Type 0} (x : A) → Contains [] x → ⊥
-none_among x c = let lt = c.1 in absurd (grind (arith, lt))
-
-same_number : (x : ℕ) → nat_eq x x ≡ true
-same_number x = grind arith
+use Rattle.pc_sound.proofs.Branches.{some_holds, stands_with}
 
 -- a local that is bound in the body is told by its number
 pub number_bound : (resolve : List ℕ → Res) (names : List Name) (n : Name) (x : ℕ) → Contains names n → resolve n.text ≡ res.Local x → binds_number resolve names x ≡ true
 number_bound resolve [] n x among is = absurd (none_among n among)
 number_bound resolve (y ∷ ys) n x among is = elim (among_first y ys n among) [
-  | inl same ↦ ap (λ b. b || list_any (λ z. is_number x (resolve z.text)) ys) (ap (λ z. is_number x (resolve z.text)) same ∙ ap (is_number x) is ∙ same_number x)
-  | inr others ↦ right (is_number x (resolve y.text)) (list_any (λ z. is_number x (resolve z.text)) ys) (number_bound resolve ys n x others is)
+  | inl same ↦ ap (λ b. b || list_any (λ z. is_number x (resolve z.text)) ys) (ap (λ z. is_number x (resolve z.text)) same ∙ ap (is_number x) is ∙ eq-eqb x x refl)
+  | inr others ↦ or_right (is_number x (resolve y.text)) (list_any (λ z. is_number x (resolve z.text)) ys) (number_bound resolve ys n x others is)
 ]
-  where
-    right : (a b : Test) → b ≡ true → (a || b) ≡ true
-    right true b e = refl
-    right false b e = e
-
-some_inj : {A : Type 0} {x y : A} → Some x ≡ Some y → x ≡ y
-some_inj e = grind arith
-
-false_or_true : {b : Test} → b ≡ true → b ≡ false → ⊥
-false_or_true e f = grind (arith, sym e ∙ f)
 
 module _ (around : Around) (ctx : Context) (fits : Fits around ctx) where
   -- what a turn keeps of the locals that the loop found at its head
@@ -88,12 +76,12 @@ module _ (around : Around) (ctx : Context) (fits : Fits around ctx) where
           go true t =
               let same = same_is word w t in
               let i = h.each w y u is_named is had in
-              let number : x ≡ y = some_inj (sym named ∙ ap (λ z. index_of z around.names) same ∙ is_named) in
+              let number : x ≡ y = same_Some _ _ (sym named ∙ ap (λ z. index_of z around.names) same ∙ is_named) in
               record {
                 value = v;
                 is = subst (λ z. local_of z (with_local word v new) ≡ Some (Some v)) same (local_bound word v new (Some i.value) (subst (λ z. local_of z new ≡ Some (Some i.value)) (sym same) i.is));
                 always = subst (λ z. HasType around.bases k' (declared_type around.declared z) v) number has;
-                same = λ e. absurd (false_or_true (subst (λ z. bound z ≡ true) number binds) e);
+                same = λ e. absurd (not_both (subst (λ z. bound z ≡ true) number binds) e);
               }
           go false t =
               let i = h.each w y u is_named is had in
@@ -155,10 +143,7 @@ module _ (around : Around) (ctx : Context) (fits : Fits around ctx) where
         → Leads around (λ j t. At around head more j t) again (λ j flow t. FlowEnds around (loop_ways after brs) j flow t × more j t.frame)
         → (flow : Flow) → Leads around (λ j t. FlowEnds around (ways_out around ctx m returned out brs loose) j flow t × AlsoKept bound k s.frame more j t.frame) (after_turn Step free flow again) (λ j f t. FlowEnds around (loop_ways after brs) j f t × more j t.frame)
     turn_ends bound env head after brs loose out k s more again is locals further next =
-        leads_from around _ (λ j t. At around head more j t) again _ (λ j t b. record { stands = head_again bound env head k j s t is locals b.1.1 (stands_with around ctx fits b.0.env [] j t b.0.stands (record { each = λ word x u named e. absurd (none_here u e) })); known = b.1.0 }) further
-      where
-        none_here : (t : Tree) → None ≡ Some t → ⊥
-        none_here t e = grind (arith, e)
+        leads_from around _ (λ j t. At around head more j t) again _ (λ j t b. record { stands = head_again bound env head k j s t is locals b.1.1 (stands_with around ctx fits b.0.env [] j t b.0.stands (record { each = λ word x u named e. absurd (none-some u e) })); known = b.1.0 }) further
     turn_ends bound env head after brs loose out k s more again is locals further continuing =
         leads_from around _ (λ j t. At around head more j t) again _ (λ j t b. record { stands = head_again bound env head k j s t is locals b.1.1 b.0.0; known = b.1.0 }) further
     turn_ends bound env head after brs loose out k s more again is locals further breaking =

@@ -1,8 +1,8 @@
 -- In a module without errors each item, and each parameter of a function, binds its name: it is not reserved, and no earlier one's.
-use Rattle.std.proofs.Common.{◌≡◌, ℕ, List, [], ◌∷◌, ◌++◌, map, refl, sym, ap, ◌∙◌, subst, arith, Contains}
+use Rattle.std.proofs.Common.{◌≡◌, ℕ, List, [], ◌∷◌, ◌++◌, map, refl, sym, ap, ◌∙◌, subst, arith, Contains, append_assoc}
 use Rattle.std.specs.Prelude.{Bool as Test, true, false, ◌&&◌, ◌||◌, not, Option, Some, None, slice_get, bytes_eq, codes}
 use Rattle.std.proofs.lemmas.List.Elements.{Contains-append_left, Contains-append_right}
-use Rattle.std.proofs.lemmas.Slice.Eq.{bytes_eq-Decides}
+use Rattle.std.proofs.lemmas.Option.{none-some}
 use Rattle.pc_source.specs.declared.place.Place.{Place}
 use Rattle.pc_tree.specs.declared.code.Code.TheVariants.{E01, E29}
 use Rattle.pc_tree.specs.Tree.{Name, Param, FuncDef, ClassDef, Module}
@@ -16,15 +16,11 @@ use Rattle.pc_scope.specs.Resolution.{is_among, receiver, method_at, function_of
 use Rattle.pc_class.specs.Facts.{parameters_of}
 use Rattle.pc_check.specs.Modules.{Labelling, IsLawful, binds_item}
 use Rattle.pc_sound.specs.Sound.{HasNoError}
+use Rattle.pc_sound.proofs.TruthValues.{neither}
 use Rattle.pc_sound.proofs.Filling.{Distinct}
 use Rattle.pc_sound.proofs.ModuleOrder.{ParametersBind}
 use Rattle.pc_sound.proofs.LabelledBodies.{never_stops, function_places, of_function_at, of_method_at, reserved_same}
-
-none_some : {A : Type 0} {x : A} → None ≡ Some x → ⊥
-none_some e = grind arith
-
-clash : {b : Test} → b ≡ true → b ≡ false → ⊥
-clash e f = grind (arith, sym e ∙ f)
+use Rattle.pc_sound.proofs.MembersBind.{among_same}
 
 -- ---- names, one after another
 
@@ -32,19 +28,6 @@ clash e f = grind (arith, sym e ∙ f)
 abbrev pub AllBind : List (List ℕ) → List Name → Type 0
 AllBind before [] = Unit {0}
 AllBind before (n ∷ ns) = (binds_item before n ≡ true) × AllBind (n.text ∷ before) ns
-
-flip : (u w : List ℕ) → bytes_eq u w ≡ bytes_eq w u
-flip u w = go (bytes_eq u w) refl (bytes_eq w u) refl
-  where
-    go : (a : Test) → bytes_eq u w ≡ a → (b : Test) → bytes_eq w u ≡ b → bytes_eq u w ≡ bytes_eq w u
-    go true e true f = e ∙ sym f
-    go true e false f = absurd (clash ((bytes_eq-Decides w u).1 (sym ((bytes_eq-Decides u w).0 e))) f)
-    go false e true f = absurd (clash ((bytes_eq-Decides u w).1 (sym ((bytes_eq-Decides w u).0 f))) e)
-    go false e false f = e ∙ sym f
-
-among_same : (before : List (List ℕ)) (word : List ℕ) → stopping.is_among before word ≡ is_among word before
-among_same [] word = refl
-among_same (x ∷ xs) word = λ i. flip x word i || among_same xs word i
 
 pub all_bind : (before : List (List ℕ)) (ns : List Name) → ((p : Place) → Contains (bound_again before ns) p → ⊥) → ((p : Place) → Contains (reserved_among ns) p → ⊥) → AllBind before ns
 all_bind before [] again reserved = tt
@@ -67,12 +50,7 @@ parameters_bind m listed before [] h = tt
 parameters_bind m listed before (p ∷ ps) h = (h.0, parameters_bind m listed (p.name.text ∷ before) ps h.1)
 
 new_name : (before : List (List ℕ)) (n : Name) → binds_item before n ≡ true → is_among n.text before ≡ false
-new_name before n e = go (is_reserved n.text) (is_among n.text before) e
-  where
-    go : (a b : Test) → not (a || b) ≡ true → b ≡ false
-    go true b e = absurd (grind (arith, e))
-    go false true e = absurd (grind (arith, e))
-    go false false e = refl
+new_name before n e = (neither (is_reserved n.text) (is_among n.text before) e).1
 
 fewer : (before less : List (List ℕ)) (ps : List Param) → ((word : List ℕ) → is_among word before ≡ false → is_among word less ≡ false) → AllBind before (map name_of_param ps) → (m : Module) → Distinct less (parameters_of m ps)
 fewer before less [] within h m = tt
@@ -92,13 +70,9 @@ parameters_distinct m before ps h = fewer before [] ps (λ word e. refl) h m
 reserved_front : (xs ys : List Name) (p : Place) → Contains (reserved_among xs) p → Contains (reserved_among (xs ++ ys)) p
 reserved_front xs ys p c = subst (λ l. Contains l p) (sym (split xs)) (Contains-append_left (reserved_among xs) (reserved_among ys) p c)
   where
-    associate : (us vs ws : List Place) → (us ++ vs) ++ ws ≡ us ++ (vs ++ ws)
-    associate [] vs ws = refl
-    associate (u ∷ us) vs ws = ap (λ l. u ∷ l) (associate us vs ws)
-
     split : (xs : List Name) → reserved_among (xs ++ ys) ≡ reserved_among xs ++ reserved_among ys
     split [] = refl
-    split (x ∷ xs) = ap (λ l. one_if (stopping.is_reserved x.text) x.place ++ l) (split xs) ∙ sym (associate (one_if (stopping.is_reserved x.text) x.place) (reserved_among xs) (reserved_among ys))
+    split (x ∷ xs) = ap (λ l. one_if (stopping.is_reserved x.text) x.place ++ l) (split xs) ∙ sym (append_assoc (one_if (stopping.is_reserved x.text) x.place) (reserved_among xs) (reserved_among ys))
 
 module _ (m : Module) (marks : Labelling m) (lawful : IsLawful m marks) (clean : HasNoError m) where
   -- each item binds its name
@@ -108,12 +82,12 @@ module _ (m : Module) (marks : Labelling m) (lawful : IsLawful m marks) (clean :
       (λ p c. never_stops m marks lawful clean E29 tt refl p (Contains-append_left (reserved_among (map name_of_item m.items)) _ p c))
 
   again_places : (owner : Owner) (d : FuncDef) (p : Place) → function_of m owner ≡ Some d → Contains (params_again (receiver owner) d) p → Contains (of_defs (params_again []) (params_again (codes "self" ∷ [])) m.items) p
-  again_places owners.Module d p e c = absurd (none_some e)
+  again_places owners.Module d p e c = absurd (none-some _ e)
   again_places (owners.Func i) d p e c = of_function_at (params_again []) (params_again (codes "self" ∷ [])) m.items i d p e c
   again_places (owners.Method c i) d p e h = go (slice_get (classes_in m.items) c) refl e
     where
       go : (o : Option ClassDef) → slice_get (classes_in m.items) c ≡ o → method_at o i ≡ Some d → Contains (of_defs (params_again []) (params_again (codes "self" ∷ [])) m.items) p
-      go None is e = absurd (none_some e)
+      go None is e = absurd (none-some _ e)
       go (Some class) is e = of_method_at (params_again []) (params_again (codes "self" ∷ [])) m.items c class i d p is e h
 
   -- each parameter of a function binds its name, behind `self` in a method

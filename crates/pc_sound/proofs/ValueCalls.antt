@@ -1,7 +1,7 @@
 -- Calls of values: a code stands at each, so where none is found no value comes to be called. And what an ordinary call's labels say.
-use Rattle.std.proofs.Common.{◌≡◌, ℕ, List, [], ◌∷◌, ◌++◌, map, refl, sym, ap, ◌∙◌, subst, inl, inr, arith}
-use Rattle.std.specs.Prelude.{◌⊎◌, Bool as Test, true, false, ◌&&◌, if◌then◌else◌, codes, None, bytes_eq}
-use Rattle.std.proofs.lemmas.Slice.Eq.{bytes_eq-Decides}
+use Rattle.std.proofs.Common.{◌≡◌, ℕ, List, [], ◌∷◌, ◌++◌, map, refl, sym, ap, ◌∙◌, subst, inl, inr}
+use Rattle.std.specs.Prelude.{◌⊎◌, false, if◌then◌else◌, codes, None, bytes_eq}
+use Rattle.std.proofs.Math.Bool.{and-true}
 use Rattle.pc_source.specs.declared.place.Place.{Place}
 use Rattle.pc_tree.specs.Tree.{Name, Expr, name, number, text, truth, nothing, tuple, list, dict, negative, negation, binary, compare, is_none, is_not_none, conjunction, disjunction, attribute, index, call, Exprs, no_exprs, more_exprs, Keywords, no_keywords, more_keywords}
 use Rattle.pc_scope.specs.Expressions.{place_of, is_instance_test}
@@ -14,7 +14,6 @@ use Rattle.pc_expr.specs.Calls.{given, CallOffer, value_offer, value_offers, cal
 use Rattle.pc_expr.specs.Labels.{Marks, ItemsMarks, KeywordsMarks, mark_of, type_of, with_mark, Finds, ItemsFind, ArgumentsFind, KeywordsFind, IsFoundAt}
 use Rattle.pc_expr.specs.Lawful.{Lawful, LawfulItems, LawfulKeywords, is_length_of_one, whole_call_mark}
 use Rattle.pc_value.specs.Value.{Value, Stop, Raised, Other, Outside, Cut, Out, Gives, Stops}
-use Rattle.pc_value.specs.Texts.{same_text}
 use Rattle.pc_machine.specs.State.{State}
 use Rattle.pc_machine.specs.Names.{Meaning, means_value, means_unbound, means_function, means_class, means_reserved, means_nothing, meaning}
 use Rattle.pc_machine.specs.Calls.{Callee, calls_value, callee_of_meaning, value_of_meaning}
@@ -23,6 +22,7 @@ use Rattle.pc_machine.specs.Free.{Step, ◌>>=◌, comes, Emits, look, free}
 use Rattle.pc_machine.specs.Evaluation.{call_form, instance_test, ordinary, eval_callee, eval_all, eval_keywords, call_callee}
 use Rattle.pc_sound.specs.Values.{HeapTyping, HasType}
 use Rattle.pc_sound.specs.Judgment.{HasListed, EndsWell, Around, Stands, Keeps, IsSafe, Fits}
+use Rattle.pc_sound.proofs.Lists.{same_text_back}
 use Rattle.pc_sound.proofs.Steps.{bind_safe, comes_safe, may_stop_safe, weaken}
 use Rattle.pc_sound.proofs.Keys.{Keyed, ItemsKeyed, KeywordsKeyed}
 use Rattle.pc_sound.proofs.Expressions.{Covered, GoodEval, part}
@@ -64,18 +64,7 @@ ordinary_call n no_exprs kws e = refl
 ordinary_call n (more_exprs a no_exprs) kws e = refl
 ordinary_call n (more_exprs a (more_exprs b (more_exprs c rest))) kws e = refl
 ordinary_call n (more_exprs a (more_exprs b no_exprs)) (more_keywords w x rest) e = refl
-ordinary_call n (more_exprs a (more_exprs b no_exprs)) no_keywords e = ap (λ t. if t then instance_test n a b else ordinary) (flipped (same_text n.text (codes "isinstance")) refl)
-  where
-    clash : {t : Test} → t ≡ true → t ≡ false → ⊥
-    clash e f = grind (arith, sym e ∙ f)
-
-    both_false : (t : Test) → (t && true) ≡ false → t ≡ false
-    both_false true e = absurd (grind (arith, e))
-    both_false false e = refl
-
-    flipped : (t : Test) → same_text n.text (codes "isinstance") ≡ t → same_text n.text (codes "isinstance") ≡ false
-    flipped true t = absurd (clash ((bytes_eq-Decides (codes "isinstance") n.text).1 (sym ((bytes_eq-Decides n.text (codes "isinstance")).0 t))) (both_false (bytes_eq (codes "isinstance") n.text) e))
-    flipped false t = t
+ordinary_call n (more_exprs a (more_exprs b no_exprs)) no_keywords e = ap (λ t. if t then instance_test n a b else ordinary) (same_text_back n.text (codes "isinstance") ∙ (sym (and-true (bytes_eq (codes "isinstance") n.text)) ∙ e))
 
 -- its label is that of its offers
 pub ordinary_mark : (ctx : Context) (env : Env) (c : Expr) (args : Exprs) (kws : Keywords) (offers : List CallOffer) (types : List Tree) (here : Mark) → is_instance_test c args kws ≡ false → is_length_of_one (given args kws) ctx.resolve c ≡ false → here ≡ whole_call_mark ctx env c args kws offers types → here ≡ call_mark ctx.bases offers

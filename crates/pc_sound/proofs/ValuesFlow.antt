@@ -1,10 +1,10 @@
 -- A value goes wherever its type is static to.
-use Rattle.std.proofs.Common.{◌≡◌, ℕ, refl, sym, ap, subst, inl, inr}
+use Rattle.std.proofs.Common.{◌≡◌, ℕ, refl, sym, ap, subst, inl, inr, List, [], ◌∷◌}
 use Rattle.pc_types.specs.Tree.{Tree, Trees, Any, Object, Never, Int, Bool, Str, NoneType, Class, ListOf, DictOf, TupleOf, Union, end, more, erase, erase_each}
 use Rattle.pc_types.specs.Below.{Bases, Below, EachBelow, Static, same, through, never, object, bool_int, base, left, right, both, tuple, list, dict, none, one}
 use Rattle.pc_value.specs.Value as value
 use Rattle.pc_value.specs.Value.{Value, Values, whole, boolean, string, tuple_of, location, no_values, more_values}
-use Rattle.pc_sound.specs.Values.{HeapTyping, Extends, Equal, IsList, IsDict, HasType, HaveTypes}
+use Rattle.pc_sound.specs.Values.{HeapTyping, Extends, Equal, IsList, IsDict, HasType, HaveTypes, AllHave}
 
 abbrev mutual
   pub erase_twice : (t : Tree) → erase (erase t) ≡ erase t
@@ -171,3 +171,8 @@ module _ (bases : Bases) {k k' : HeapTyping} (grows : Extends k k') where
     later_each end no_values h = tt
     later_each (more t ts) (more_values v vs) h = (later t v h.0, later_each ts vs h.1)
     later_each _ vs h = absurd h
+
+-- values of a list keep their type
+pub all_later : (bases : Bases) {k k' : HeapTyping} → Extends k k' → (t : Tree) (vs : List Value) → AllHave bases k t vs → AllHave bases k' t vs
+all_later bases x t [] h = tt
+all_later bases x t (v ∷ vs) h = (later bases x t v h.0, all_later bases x t vs h.1)

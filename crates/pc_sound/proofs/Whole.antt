@@ -1,7 +1,8 @@
 -- The whole: where each form is safe in each body, a run of a module that ends in a fault has evaluated a listed dynamic place.
 use Rattle.std.proofs.Common.{◌≡◌, ℕ, List, [], length, refl, sym, subst, inl, inr, arith, Contains}
-use Rattle.std.specs.Prelude.{true, nat_lt, codes, Some, None}
+use Rattle.std.specs.Prelude.{true, nat_lt, codes, Some}
 use Rattle.std.proofs.lemmas.Bool.Decides.{nat_tests}
+use Rattle.std.proofs.lemmas.Option.{none-some}
 use Rattle.pc_source.specs.declared.place.Place.{Place}
 use Rattle.pc_tree.specs.declared.code.Finding.{Finding}
 use Rattle.pc_tree.specs.Code.{IsError}
@@ -59,9 +60,6 @@ module _ (m : Module) (marks : Labelling m) where
   body_ctx (of_function owner d lab) = context_of m (constant_types m m.items marks) (IsListedPlace m) owner d
   body_ctx (of_items types defs n names) = initializer_context m types n
 
-  pub none_here : {A : Type 0} {a : A} → None ≡ Some a → ⊥
-  none_here e = grind arith
-
   pub body_fits : (b : BodyOf) → Fits (body_around b) (body_ctx b)
   body_fits (of_function owner d lab) = fits_of m (constant_types m m.items marks) (IsListedPlace m) owner d lab
   body_fits (of_items types defs n names) = record {
@@ -69,7 +67,7 @@ module _ (m : Module) (marks : Labelling m) where
     classes = refl;
     smaller = smaller m;
     local = λ word x e. absurd (module_local m word x e);
-    named = λ word x e. absurd (none_here e);
+    named = λ word x e. absurd (none-some _ e);
   }
 
   abbrev pub body_returned : BodyOf → Tree
@@ -129,11 +127,11 @@ module _ (m : Module) (marks : Labelling m) where
     -- before the first item
     begins : Between m (IsListedPlace m) [] [] 0 [] [] nothing_bound
     begins = record {
-      well = record { long = refl; each = λ l r e. absurd (none_here e) };
+      well = record { long = refl; each = λ l r e. absurd (none-some _ e) };
       frame = refl;
       bound = record {
-        constant = λ word i t r e. absurd (none_here e);
-        function = λ word i d r e. absurd (none_here e);
+        constant = λ word i t r e. absurd (none-some _ e);
+        function = λ word i d r e. absurd (none-some _ e);
         class = λ word c r l. absurd (lt_zero c l);
         classes = λ c t l e. absurd (lt_zero c l);
         count = refl;
