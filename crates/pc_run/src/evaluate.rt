@@ -1,4 +1,4 @@
-ghost use Rattle.std.specs.Prelude.{◌≡◌, ◌≤◌, ◌<◌, ◌≢◌, ℕ, [], map, OnOk};
+ghost use Rattle.std.specs.Prelude.{◌≡◌, ◌≤◌, ◌<◌, ◌≢◌, ℕ, [], map, OnOk, if◌then◌else◌};
 ghost use Rattle.pc_tree.specs.Tree.{expr_of, stmts_of_list, stmt_of_kind, target_of};
 ghost use Rattle.pc_value.specs.Meaning.{value_of};
 ghost use Rattle.pc_value.specs.Doing.{iteration_of};
@@ -10,12 +10,16 @@ ghost use Rattle.pc_run.specs.Traced.{values_of_vec, entries_of_vec, named_of_ve
 ghost use Rattle.pc_tree.specs.Lists.{branches_of_list, exprs_of_list, entries_of_list, keywords_of_list};
 ghost use Rattle.pc_source.specs.declared.place.Place.{Place as PlaceOf};
 ghost use Rattle.pc_tree.specs.Tree.{asserts, option_expr_of};
+ghost use Rattle.pc_tree.specs.Tree.{tuple, list, dict, binary, compare, is_none, is_not_none, conjunction, disjunction, index};
 
 use crate::collecting::{keep, keep_entry, keep_named};
 use crate::forms::{instance_test, is_nothing, next_turn, range_call, value_of_flow};
 use pc_machine::{Callee, Flow, Halt, Machine, NamedValue, Stop, raised};
 use pc_source::Place;
-use pc_tree::{Branch, Entry, Expr, FuncDef, KeywordArgument, Stmt, StmtKind, Target};
+use pc_tree::{
+    BinaryOperator, Branch, ComparisonOperator, Entry, Expr, FuncDef, KeywordArgument, Stmt,
+    StmtKind, Target,
+};
 use pc_value::{Action, Exception, Iteration, Value};
 use std::alloc::Global as Allocator;
 
@@ -43,18 +47,9 @@ fn eval_node<'m>(machine: &mut Machine<'m>, alloc: Allocator, e: &'m Expr) -> Re
         Expr::True(place) => machine.give(*place, Value::Bool(true)),
         Expr::False(place) => machine.give(*place, Value::Bool(false)),
         Expr::NoneValue(place) => machine.give(*place, Value::None),
-        Expr::Tuple(place, items) => {
-            let values = eval_all(machine, alloc, items)?;
-            machine.give(*place, Value::Tuple(values))
-        }
-        Expr::List(place, items) => {
-            let values = eval_all(machine, alloc, items)?;
-            machine.perform(alloc, *place, &Action::NewList(values))
-        }
-        Expr::Dict(place, items) => {
-            let entries = eval_entries(machine, alloc, items)?;
-            machine.perform(alloc, *place, &Action::NewDict(entries))
-        }
+        Expr::Tuple(place, items) => eval_tuple(machine, alloc, *place, items),
+        Expr::List(place, items) => eval_list(machine, alloc, *place, items),
+        Expr::Dict(place, items) => eval_dict(machine, alloc, *place, items),
         Expr::Negative(place, operand) => {
             let v = eval(machine, alloc, operand)?;
             machine.perform(alloc, *place, &Action::Negative(v))
@@ -64,52 +59,181 @@ fn eval_node<'m>(machine: &mut Machine<'m>, alloc: Allocator, e: &'m Expr) -> Re
             machine.perform(alloc, *place, &Action::Not(v))
         }
         Expr::Binary(place, operator, left, right) => {
-            let v = eval(machine, alloc, left)?;
-            let w = eval(machine, alloc, right)?;
-            machine.perform(alloc, *place, &Action::Binary(*operator, v, w))
+            eval_binary(machine, alloc, *place, *operator, left, right)
         }
         Expr::Compare(place, operator, left, right) => {
-            let v = eval(machine, alloc, left)?;
-            let w = eval(machine, alloc, right)?;
-            machine.perform(alloc, *place, &Action::Compare(*operator, v, w))
+            eval_compare(machine, alloc, *place, *operator, left, right)
         }
-        Expr::IsNone(place, operand) => {
-            let v = eval(machine, alloc, operand)?;
-            machine.give(*place, Value::Bool(is_nothing(&v)))
-        }
-        Expr::IsNotNone(place, operand) => {
-            let v = eval(machine, alloc, operand)?;
-            machine.give(*place, Value::Bool(!is_nothing(&v)))
-        }
-        Expr::And(place, left, right) => {
-            let v = eval(machine, alloc, left)?;
-            if !machine.is_true(&v) {
-                return machine.give(*place, v);
-            }
-            let w = eval(machine, alloc, right)?;
-            machine.give(*place, w)
-        }
-        Expr::Or(place, left, right) => {
-            let v = eval(machine, alloc, left)?;
-            if machine.is_true(&v) {
-                return machine.give(*place, v);
-            }
-            let w = eval(machine, alloc, right)?;
-            machine.give(*place, w)
-        }
+        Expr::IsNone(place, operand) => eval_none_test(machine, alloc, *place, operand, false),
+        Expr::IsNotNone(place, operand) => eval_none_test(machine, alloc, *place, operand, true),
+        Expr::And(place, left, right) => eval_and(machine, alloc, *place, left, right),
+        Expr::Or(place, left, right) => eval_or(machine, alloc, *place, left, right),
         Expr::Attribute(place, object, field) => {
             let v = eval(machine, alloc, object)?;
             machine.read_attribute(alloc, *place, v, field.text.as_str())
         }
-        Expr::Index(place, object, key) => {
-            let v = eval(machine, alloc, object)?;
-            let k = eval(machine, alloc, key)?;
-            machine.perform(alloc, *place, &Action::ReadItem(v, k))
-        }
+        Expr::Index(place, object, key) => eval_index(machine, alloc, *place, object, key),
         Expr::Call(place, callee, arguments, by_name) => {
             eval_call(machine, alloc, *place, callee, arguments, by_name)
         }
     }
+}
+
+/// A tuple display: its items, its event, the tuple.
+#[cycle(evaluate)]
+fn eval_tuple<'m>(
+    machine: &mut Machine<'m>,
+    alloc: Allocator,
+    place: Place,
+    items: &'m [Expr],
+) -> Result<Value, Halt>
+    ensures plain { (n : ℕ) → machine.old.fuel < n → Tells value_of result machine.new (node n (tuple place (exprs_of_list items.now)) (progress_of machine.old)) }
+    ensures fuel { machine.new.fuel ≤ machine.old.fuel }
+{
+    let values = eval_all(machine, alloc, items)?;
+    machine.give(place, Value::Tuple(values))
+}
+
+/// A list display: its items, its event, its action. Language Reference 6.2.5 "List displays".
+#[cycle(evaluate)]
+fn eval_list<'m>(
+    machine: &mut Machine<'m>,
+    alloc: Allocator,
+    place: Place,
+    items: &'m [Expr],
+) -> Result<Value, Halt>
+    ensures plain { (n : ℕ) → machine.old.fuel < n → Tells value_of result machine.new (node n (list place (exprs_of_list items.now)) (progress_of machine.old)) }
+    ensures fuel { machine.new.fuel ≤ machine.old.fuel }
+{
+    let values = eval_all(machine, alloc, items)?;
+    machine.perform(alloc, place, &Action::NewList(values))
+}
+
+/// A dict display: its entries, its event, its action. Language Reference 6.2.7 "Dictionary displays".
+#[cycle(evaluate)]
+fn eval_dict<'m>(
+    machine: &mut Machine<'m>,
+    alloc: Allocator,
+    place: Place,
+    items: &'m [Entry],
+) -> Result<Value, Halt>
+    ensures plain { (n : ℕ) → machine.old.fuel < n → Tells value_of result machine.new (node n (dict place (entries_of_list items.now)) (progress_of machine.old)) }
+    ensures fuel { machine.new.fuel ≤ machine.old.fuel }
+{
+    let entries = eval_entries(machine, alloc, items)?;
+    machine.perform(alloc, place, &Action::NewDict(entries))
+}
+
+/// An operator with two operands, the left one first. Language Reference 6.7 "Binary arithmetic operations".
+#[cycle(evaluate)]
+fn eval_binary<'m>(
+    machine: &mut Machine<'m>,
+    alloc: Allocator,
+    place: Place,
+    operator: BinaryOperator,
+    left: &'m Expr,
+    right: &'m Expr,
+) -> Result<Value, Halt>
+    ensures plain { (n : ℕ) → machine.old.fuel < n → Tells value_of result machine.new (node n (binary place operator (expr_of left.now) (expr_of right.now)) (progress_of machine.old)) }
+    ensures fuel { machine.new.fuel ≤ machine.old.fuel }
+{
+    let v = eval(machine, alloc, left)?;
+    let w = eval(machine, alloc, right)?;
+    machine.perform(alloc, place, &Action::Binary(operator, v, w))
+}
+
+/// A comparison, its left operand first. Language Reference 6.10 "Comparisons".
+#[cycle(evaluate)]
+fn eval_compare<'m>(
+    machine: &mut Machine<'m>,
+    alloc: Allocator,
+    place: Place,
+    operator: ComparisonOperator,
+    left: &'m Expr,
+    right: &'m Expr,
+) -> Result<Value, Halt>
+    ensures plain { (n : ℕ) → machine.old.fuel < n → Tells value_of result machine.new (node n (compare place operator (expr_of left.now) (expr_of right.now)) (progress_of machine.old)) }
+    ensures fuel { machine.new.fuel ≤ machine.old.fuel }
+{
+    let v = eval(machine, alloc, left)?;
+    let w = eval(machine, alloc, right)?;
+    machine.perform(alloc, place, &Action::Compare(operator, v, w))
+}
+
+/// A test `e is None`, or `e is not None`.
+#[cycle(evaluate)]
+fn eval_none_test<'m>(
+    machine: &mut Machine<'m>,
+    alloc: Allocator,
+    place: Place,
+    operand: &'m Expr,
+    negated: bool,
+) -> Result<Value, Halt>
+    ensures plain { (n : ℕ) → machine.old.fuel < n → Tells value_of result machine.new (node n (if negated then is_not_none place (expr_of operand.now) else is_none place (expr_of operand.now)) (progress_of machine.old)) }
+    ensures fuel { machine.new.fuel ≤ machine.old.fuel }
+{
+    let v = eval(machine, alloc, operand)?;
+    if negated {
+        return machine.give(place, Value::Bool(!is_nothing(&v)));
+    }
+    machine.give(place, Value::Bool(is_nothing(&v)))
+}
+
+/// `and`: the right operand only where the left one is true. Language Reference 6.11 "Boolean operations".
+#[cycle(evaluate)]
+fn eval_and<'m>(
+    machine: &mut Machine<'m>,
+    alloc: Allocator,
+    place: Place,
+    left: &'m Expr,
+    right: &'m Expr,
+) -> Result<Value, Halt>
+    ensures plain { (n : ℕ) → machine.old.fuel < n → Tells value_of result machine.new (node n (conjunction place (expr_of left.now) (expr_of right.now)) (progress_of machine.old)) }
+    ensures fuel { machine.new.fuel ≤ machine.old.fuel }
+{
+    let first = eval(machine, alloc, left)?;
+    if !machine.is_true(&first) {
+        return machine.give(place, first);
+    }
+    let second = eval(machine, alloc, right)?;
+    machine.give(place, second)
+}
+
+/// `or`: the right operand only where the left one is false. Language Reference 6.11 "Boolean operations".
+#[cycle(evaluate)]
+fn eval_or<'m>(
+    machine: &mut Machine<'m>,
+    alloc: Allocator,
+    place: Place,
+    left: &'m Expr,
+    right: &'m Expr,
+) -> Result<Value, Halt>
+    ensures plain { (n : ℕ) → machine.old.fuel < n → Tells value_of result machine.new (node n (disjunction place (expr_of left.now) (expr_of right.now)) (progress_of machine.old)) }
+    ensures fuel { machine.new.fuel ≤ machine.old.fuel }
+{
+    let first = eval(machine, alloc, left)?;
+    if machine.is_true(&first) {
+        return machine.give(place, first);
+    }
+    let second = eval(machine, alloc, right)?;
+    machine.give(place, second)
+}
+
+/// An item that is read: the object, the key, its event, its action. Language Reference 6.3.2 "Subscriptions".
+#[cycle(evaluate)]
+fn eval_index<'m>(
+    machine: &mut Machine<'m>,
+    alloc: Allocator,
+    place: Place,
+    object: &'m Expr,
+    key: &'m Expr,
+) -> Result<Value, Halt>
+    ensures plain { (n : ℕ) → machine.old.fuel < n → Tells value_of result machine.new (node n (index place (expr_of object.now) (expr_of key.now)) (progress_of machine.old)) }
+    ensures fuel { machine.new.fuel ≤ machine.old.fuel }
+{
+    let v = eval(machine, alloc, object)?;
+    let k = eval(machine, alloc, key)?;
+    machine.perform(alloc, place, &Action::ReadItem(v, k))
 }
 
 /// Expressions, from left to right.

@@ -13,7 +13,7 @@ use Rattle.pc_machine.specs.Runs.{plain_parts}
 use Rattle.pc_run.specs.Traced.{node, exec_one, branches_in}
 use Rattle.pc_machine.specs.Performed.{empty_charged}
 use Rattle.pc_machine.specs.Machine.{progress_of, unit, flow_of, item_of}
-use Rattle.pc_run.specs.Traced.{values_of_vec, entries_of_vec}
+use Rattle.pc_run.specs.Traced.{values_of_vec}
 use Rattle.pc_tree.specs.Lists.{branches_of_list}
 use Rattle.pc_machine.specs.Steps.{item_out}
 use Rattle.pc_machine.specs.Evaluation as text
@@ -49,36 +49,25 @@ eval-returns-clause-plain t c n lt =
 pub eval_callee-returns-in-Name-clause-plain : goal.eval_callee-returns-in-Name-clause-plain
 eval_callee-returns-in-Name-clause-plain t c n lt = rw c.in-Name.is (c.callee_of_name.ensures.plain n)
 
-pub eval_node-returns-in_err-values-in-Tuple-clause-plain : goal.eval_node-returns-in_err-values-in-Tuple-clause-plain
-eval_node-returns-in_err-values-in-Tuple-clause-plain t c n lt =
-    let is : c.from_residual.result ≡ Err c.in_err-values-in-Tuple.field-0.0 = search rules in
-    rw (is, c.in-Tuple.is) (tells_as value_of (Err c.in_err-values-in-Tuple.field-0.0) c.eval_all.new.machine _ _ (ap (λ x. node n x (progress_of c.args.machine.now)) (tuple_tree c.in-Tuple.place c.in-Tuple.items)) (ends values_of_vec value_of c.in_err-values-in-Tuple.field-0.0 c.eval_all.new.machine _ _ (rw c.deref.ensures.value at (c.in_err-values-in-Tuple.ensures.plain n lt))))
+pub eval_node-returns-in-Tuple-clause-plain : goal.eval_node-returns-in-Tuple-clause-plain
+eval_node-returns-in-Tuple-clause-plain t c n lt =
+    rw c.in-Tuple.is (tells_as value_of c.eval_tuple.result c.eval_tuple.new.machine _ _ (ap (λ x. node n x (progress_of c.args.machine.now)) (tuple_tree c.in-Tuple.place c.in-Tuple.items)) (rw c.deref.ensures.value at (c.eval_tuple.ensures.plain n lt)))
 
-pub eval_node-returns-in_ok-values-in-Tuple-clause-plain : goal.eval_node-returns-in_ok-values-in-Tuple-clause-plain
-eval_node-returns-in_ok-values-in-Tuple-clause-plain t c n lt =
-    rw c.in-Tuple.is (tells_as value_of c.give-in-Tuple.result c.give-in-Tuple.new.self _ _ (ap (λ x. node n x (progress_of c.args.machine.now)) (tuple_tree c.in-Tuple.place c.in-Tuple.items)) (went value_of c.give-in-Tuple.result c.give-in-Tuple.new.self _ _ (values_of_vec c.in_ok-values-in-Tuple.values) (progress_of c.eval_all.new.machine) (rw c.deref.ensures.value at (c.in_ok-values-in-Tuple.ensures.plain n lt)) (tells_as value_of c.give-in-Tuple.result c.give-in-Tuple.new.self _ _ (ap (λ v. Came v (emitted c.in-Tuple.place (progress_of c.eval_all.new.machine))) (sym (tuple_value c.in_ok-values-in-Tuple.values))) c.give-in-Tuple.ensures.plain)))
+pub eval_node-returns-in-List-clause-plain : goal.eval_node-returns-in-List-clause-plain
+eval_node-returns-in-List-clause-plain t c n lt =
+    rw c.in-List.is (tells_as value_of c.eval_list.result c.eval_list.new.machine _ _ (ap (λ x. node n x (progress_of c.args.machine.now)) (list_tree c.in-List.place c.in-List.items)) (rw c.deref-in-List.ensures.value at (c.eval_list.ensures.plain n lt)))
 
-pub eval_node-returns-in_err-values-in-List-clause-plain : goal.eval_node-returns-in_err-values-in-List-clause-plain
-eval_node-returns-in_err-values-in-List-clause-plain t c n lt =
-    let is : c.from_residual-in_err-values-in-List.result ≡ Err c.in_err-values-in-List.field-0.0 = search rules in
-    rw (is, c.in-List.is) (tells_as value_of (Err c.in_err-values-in-List.field-0.0) c.eval_all-in-List.new.machine _ _ (ap (λ x. node n x (progress_of c.args.machine.now)) (list_tree c.in-List.place c.in-List.items)) (ends values_of_vec value_of c.in_err-values-in-List.field-0.0 c.eval_all-in-List.new.machine _ _ (rw c.deref-in-List.ensures.value at (c.in_err-values-in-List.ensures.plain n lt))))
-
-pub eval_node-returns-in_ok-values-in-List-clause-plain : goal.eval_node-returns-in_ok-values-in-List-clause-plain
-eval_node-returns-in_ok-values-in-List-clause-plain t c n lt =
-    rw c.in-List.is (tells_as value_of c.perform.result c.perform.new.self _ _ (ap (λ x. node n x (progress_of c.args.machine.now)) (list_tree c.in-List.place c.in-List.items)) (went value_of c.perform.result c.perform.new.self _ _ (values_of_vec c.in_ok-values-in-List.values) (progress_of c.eval_all-in-List.new.machine) (rw c.deref-in-List.ensures.value at (c.in_ok-values-in-List.ensures.plain n lt)) c.perform.ensures.plain))
-
-pub eval_node-returns-in_err-entries-in-Dict-clause-plain : goal.eval_node-returns-in_err-entries-in-Dict-clause-plain
-eval_node-returns-in_err-entries-in-Dict-clause-plain t c n lt =
-    let is : c.from_residual-in_err-entries-in-Dict.result ≡ Err c.in_err-entries-in-Dict.field-0.0 = search rules in
-    rw (is, c.in-Dict.is) (tells_as value_of (Err c.in_err-entries-in-Dict.field-0.0) c.eval_entries.new.machine _ _ (ap (λ x. node n x (progress_of c.args.machine.now)) (dict_tree c.in-Dict.place c.in-Dict.items)) (ends entries_of_vec value_of c.in_err-entries-in-Dict.field-0.0 c.eval_entries.new.machine _ _ (rw c.deref-in-Dict.ensures.value at (c.in_err-entries-in-Dict.ensures.plain n lt))))
-
-pub eval_node-returns-in_ok-entries-in-Dict-clause-plain : goal.eval_node-returns-in_ok-entries-in-Dict-clause-plain
-eval_node-returns-in_ok-entries-in-Dict-clause-plain t c n lt =
-    rw c.in-Dict.is (tells_as value_of c.perform-in-Dict.result c.perform-in-Dict.new.self _ _ (ap (λ x. node n x (progress_of c.args.machine.now)) (dict_tree c.in-Dict.place c.in-Dict.items)) (went value_of c.perform-in-Dict.result c.perform-in-Dict.new.self _ _ (entries_of_vec c.in_ok-entries-in-Dict.entries) (progress_of c.eval_entries.new.machine) (rw c.deref-in-Dict.ensures.value at (c.in_ok-entries-in-Dict.ensures.plain n lt)) c.perform-in-Dict.ensures.plain))
+pub eval_node-returns-in-Dict-clause-plain : goal.eval_node-returns-in-Dict-clause-plain
+eval_node-returns-in-Dict-clause-plain t c n lt =
+    rw c.in-Dict.is (tells_as value_of c.eval_dict.result c.eval_dict.new.machine _ _ (ap (λ x. node n x (progress_of c.args.machine.now)) (dict_tree c.in-Dict.place c.in-Dict.items)) (rw c.deref-in-Dict.ensures.value at (c.eval_dict.ensures.plain n lt)))
 
 pub eval_node-returns-in-Call-clause-plain : goal.eval_node-returns-in-Call-clause-plain
 eval_node-returns-in-Call-clause-plain t c n lt =
     rw c.in-Call.is (tells_as value_of c.eval_call.result c.eval_call.new.machine _ _ (ap (λ x. node n x (progress_of c.args.machine.now)) (call_tree c.in-Call.place c.in-Call.callee c.in-Call.arguments c.in-Call.by_name)) (rw (c.deref-in-Call.ensures, c.deref-in-Call-2.ensures.value, c.deref-in-Call-3.ensures.value) at (c.eval_call.ensures.plain n lt)))
+
+pub eval_tuple-returns-clause-plain : goal.eval_tuple-returns-clause-plain
+eval_tuple-returns-clause-plain t c n lt =
+    went value_of c.give.result c.give.new.self _ _ (values_of_vec c.in_ok-values.values) (progress_of c.eval_all.new.machine) (c.in_ok-values.ensures.plain n lt) (tells_as value_of c.give.result c.give.new.self _ _ (ap (λ v. Came v (emitted c.args.place (progress_of c.eval_all.new.machine))) (sym (tuple_value c.in_ok-values.values))) c.give.ensures.plain)
 
 pub exec-returns-in_err-charge-clause-plain : goal.exec-returns-in_err-charge-clause-plain
 exec-returns-in_err-charge-clause-plain t c n lt =

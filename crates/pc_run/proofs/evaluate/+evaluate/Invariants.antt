@@ -17,6 +17,33 @@ decreases-eval l = 16 * l.machine.now.fuel + 0
 abbrev pub decreases-eval_node : goal.decreases-eval_node
 decreases-eval_node l = 16 * l.machine.now.fuel + 12
 
+abbrev pub decreases-eval_tuple : goal.decreases-eval_tuple
+decreases-eval_tuple l = 16 * l.machine.now.fuel + 2
+
+abbrev pub decreases-eval_list : goal.decreases-eval_list
+decreases-eval_list l = 16 * l.machine.now.fuel + 2
+
+abbrev pub decreases-eval_dict : goal.decreases-eval_dict
+decreases-eval_dict l = 16 * l.machine.now.fuel + 2
+
+abbrev pub decreases-eval_binary : goal.decreases-eval_binary
+decreases-eval_binary l = 16 * l.machine.now.fuel + 1
+
+abbrev pub decreases-eval_compare : goal.decreases-eval_compare
+decreases-eval_compare l = 16 * l.machine.now.fuel + 1
+
+abbrev pub decreases-eval_none_test : goal.decreases-eval_none_test
+decreases-eval_none_test l = 16 * l.machine.now.fuel + 1
+
+abbrev pub decreases-eval_and : goal.decreases-eval_and
+decreases-eval_and l = 16 * l.machine.now.fuel + 1
+
+abbrev pub decreases-eval_or : goal.decreases-eval_or
+decreases-eval_or l = 16 * l.machine.now.fuel + 1
+
+abbrev pub decreases-eval_index : goal.decreases-eval_index
+decreases-eval_index l = 16 * l.machine.now.fuel + 1
+
 abbrev pub decreases-eval_all : goal.decreases-eval_all
 decreases-eval_all l = 16 * l.machine.now.fuel + 1
 
