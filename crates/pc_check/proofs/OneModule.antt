@@ -24,11 +24,11 @@ use Rattle.pc_class.specs.Findings.{OverrideRule, base_class}
 use Rattle.pc_flow.specs.Environment.{Env, declared_type, none_assigned}
 use Rattle.pc_expr.specs.Context.{Context, FlowsInto}
 use Rattle.pc_expr.specs.Labels.{mark_of}
-use Rattle.pc_expr.specs.Signatures.{body_context, initializer_context, LawfulDefault, binds_parameter, ParamsMarks, LawfulParams}
+use Rattle.pc_expr.specs.Signatures.{body_context, initializer_context, LawfulDefault, binds_name, ParamsMarks, LawfulParams}
 use Rattle.pc_expr.proofs.Same.{SameWhere}
 use Rattle.pc_expr.proofs.One.{flows_one, into_one, one, static_assignable}
 use Rattle.pc_check.specs.Statements.{Seen}
-use Rattle.pc_check.specs.Modules.{entries_of, names_entered, DeclaredEntry, LawfulEntry, entered, entry_env, ReturnsWell, leaves, may_complete, may_not, FunctionMarks, LawfulFunction, MembersMarks, LawfulMembers, ItemMarks, ItemsMarks, item_constants, constant_types, annotated_types, first_of_types, binds_item, Before, before_next, nothing_before, LawfulItem, LawfulItems, HasOneLabelling}
+use Rattle.pc_check.specs.Modules.{entries_of, names_entered, DeclaredEntry, LawfulEntry, entered, entry_env, ReturnsWell, leaves, may_complete, may_not, FunctionMarks, LawfulFunction, MembersMarks, LawfulMembers, ItemMarks, ItemsMarks, item_constants, constant_types, annotated_types, first_of_types, Before, before_next, nothing_before, LawfulItem, LawfulItems, HasOneLabelling}
 use Rattle.pc_check.proofs.OneStatement.{IsAmong, among_right, assign_kept, SameSeen, suite_one}
 
 some_inj : {A : Type 0} {x y : A} → Some x ≡ Some y → x ≡ y
@@ -203,7 +203,7 @@ default_one bases true (Some l) t c d h h' = flows_one h h'
 params_one : (m : Module) (before : List (List ℕ)) (ps : List Param) (mk mk' : ParamsMarks ps) → LawfulParams m before ps mk → LawfulParams m before ps mk' → mk ≡ mk'
 params_one m before [] mk mk' h h' = refl
 params_one m before (p ∷ ps) mk mk' h h' =
-    let c = default_one (bases_of m) (binds_parameter before p.name) p.default (read_option m (bases_of m) p.annotation) mk.default mk'.default h.default h'.default in
+    let c = default_one (bases_of m) (binds_name before p.name) p.default (read_option m (bases_of m) p.annotation) mk.default mk'.default h.default h'.default in
     let r = params_one m (p.name.text ∷ before) ps mk.rest mk'.rest h.rest h'.rest in
     λ i. record { default = c i; rest = r i }
 
@@ -274,7 +274,7 @@ members_one m constants base c number before (method_member d ∷ ms) mk mk' h h
 
 constant_one : (m : Module) (all all' : List Tree) (b : Before) (p : _) (c : Constant) (mk mk' : ItemMarks (constant_item p c)) → LawfulItem m all b (constant_item p c) mk → LawfulItem m all' b (constant_item p c) mk' → mk ≡ mk'
 constant_one m all all' b p c mk mk' h h' =
-    let want = annotated_types m (binds_item b.names c.name) c.annotation in
+    let want = annotated_types m (binds_name b.names c.name) c.annotation in
     let q = one (initializer_context m b.constants b.classes) [] [] [] tt (first_of_types want) c.value mk.value mk'.value h.value h'.value in
     let f : mk.flows ≡ mk'.flows = into_one (bases_of m) (mark_of c.value mk'.value) want mk.flows mk'.flows (subst (λ x. FlowsInto (bases_of m) (mark_of c.value x) want mk.flows) q h.flow) h'.flow in
     λ i. record { value = q i; flows = f i }

@@ -1,17 +1,16 @@
 -- The lawful labelling of functions, classes and a module, and the findings of a module.
 -- Language Reference 3.12, 8.7 "Function definitions", 8.8 "Class definitions"; own rules of the profile.
-use Rattle.std.specs.Prelude.{◌≡◌, ◌⊎◌, ℕ, suc, List, [], ◌∷◌, ◌++◌, length, Bool as Test, true, false, ◌||◌, not, Option, Some, None, codes}
+use Rattle.std.specs.Prelude.{◌≡◌, ◌⊎◌, ℕ, suc, List, [], ◌∷◌, ◌++◌, length, Bool as Test, true, false, not, Option, Some, None, codes}
 use Rattle.pc_tree.specs.declared.code.Code.{Code}
 use Rattle.pc_tree.specs.declared.code.Code.TheVariants.{E21}
 use Rattle.pc_tree.specs.declared.code.Finding.{Finding}
-use Rattle.pc_tree.specs.Tree.{Name, Ann, FuncDef, Member, field_member, method_member, Item, constant_item, class_item, def_item, Module}
+use Rattle.pc_tree.specs.Tree.{Ann, FuncDef, Member, field_member, method_member, Item, constant_item, class_item, def_item, Module}
+use Rattle.pc_tree.specs.Depth.{place_of}
 use Rattle.pc_scope.specs.declared.resolution.Owner.{Owner}
 use Rattle.pc_scope.specs.declared.resolution.Owner.TheVariants as owners
-use Rattle.pc_scope.specs.Reserved.{is_reserved}
 use Rattle.pc_scope.specs.Resolution.{is_among, receiver, locals, resolve_among}
 use Rattle.pc_scope.specs.declared.resolution.Res.{Res}
 use Rattle.pc_scope.specs.declared.resolution.Res.TheVariants as res
-use Rattle.pc_scope.specs.Expressions.{place_of}
 use Rattle.pc_scope.specs.Findings.{ScopeFinds}
 use Rattle.pc_types.specs.Tree.{Tree, NoneType}
 use Rattle.pc_types.specs.Tree as tree
@@ -24,21 +23,21 @@ use Rattle.pc_flow.specs.Environment.{Env, none_assigned, assign, declared_type}
 use Rattle.pc_expr.specs.Context.{FlowsInto}
 use Rattle.pc_expr.specs.Labels.{Flowing, Marks, mark_of, type_of, Finds, IsFlowAt, IsCodeAt}
 use Rattle.pc_expr.specs.Lawful.{Lawful}
-use Rattle.pc_expr.specs.Signatures.{body_context, initializer_context, LawfulDefault, DefaultFinds, ParamsMarks, LawfulParams, ParamsFind}
+use Rattle.pc_expr.specs.Signatures.{body_context, initializer_context, LawfulDefault, DefaultFinds, ParamsMarks, LawfulParams, ParamsFind, binds_name}
 use Rattle.pc_check.specs.StatementLabels.{SuiteMarks}
 use Rattle.pc_check.specs.Statements.{Seen, LawfulSuite, SuiteFinds}
 
 -- ---- functions
 
 -- what a method is entered with before its parameters: `self`, of its class
-abbrev pub receiver_type : Owner → List Parameter
-receiver_type owners.Module = []
-receiver_type (owners.Func i) = []
-receiver_type (owners.Method c i) = record { name = codes "self"; type = tree.Class c; has_default = false } ∷ []
+abbrev pub receiver_parameter : Owner → List Parameter
+receiver_parameter owners.Module = []
+receiver_parameter (owners.Func i) = []
+receiver_parameter (owners.Method c i) = record { name = codes "self"; type = tree.Class c; has_default = false } ∷ []
 
 -- what a function is entered with: `self` in a method, then its parameters
 abbrev pub entries_of : Module → Owner → FuncDef → List Parameter
-entries_of m owner f = receiver_type owner ++ parameters_of m f.params
+entries_of m owner f = receiver_parameter owner ++ parameters_of m f.params
 
 -- the names that a function has at its entry
 abbrev pub names_entered : Seen → List Parameter → Seen
@@ -159,10 +158,6 @@ abbrev pub first_of_types : List Tree → Option Tree
 first_of_types [] = None
 first_of_types (t ∷ ts) = Some t
 
--- an item binds its name: not reserved, and no earlier item's
-abbrev pub binds_item : List (List ℕ) → Name → Test
-binds_item before n = not (is_reserved n.text || is_among n.text before)
-
 -- what stands before an item: constants' types, the numbers of classes and functions, names
 pub record Before : Type 0 where
   pub constants : List Tree
@@ -183,8 +178,8 @@ before_next m b (def_item p f) marks = record { constants = b.constants; classes
 -- the labels of an item are lawful: of an initializer with its flow, of a class's members, of a function
 abbrev pub LawfulItem : Module → (constants : List Tree) → Before → (i : Item) → ItemMarks i → Type 0
 LawfulItem m constants b (constant_item p c) marks = record {
-  value : Lawful (initializer_context m b.constants b.classes) [] [] (first_of_types (annotated_types m (binds_item b.names c.name) c.annotation)) c.value marks.value;
-  flow : FlowsInto (bases_of m) (mark_of c.value marks.value) (annotated_types m (binds_item b.names c.name) c.annotation) marks.flows;
+  value : Lawful (initializer_context m b.constants b.classes) [] [] (first_of_types (annotated_types m (binds_name b.names c.name) c.annotation)) c.value marks.value;
+  flow : FlowsInto (bases_of m) (mark_of c.value marks.value) (annotated_types m (binds_name b.names c.name) c.annotation) marks.flows;
 }
 LawfulItem m constants b (class_item p c) marks = LawfulMembers m constants (base_class m b.classes c) b.classes 0 [] c.members marks
 LawfulItem m constants b (def_item p f) marks = LawfulFunction m constants (owners.Func b.functions) f marks

@@ -12,10 +12,10 @@ use Rattle.pc_scope.specs.declared.resolution.Builtin.TheVariants as builtin
 use Rattle.pc_scope.specs.declared.resolution.Res.{Res}
 use Rattle.pc_scope.specs.declared.resolution.Res.TheVariants as res
 use Rattle.pc_tree.specs.Stopping.{bound_by_stmt, bound_by, bound_by_branches}
+use Rattle.pc_tree.specs.Depth.{place_of}
 use Rattle.pc_scope.specs.Bindings.{texts}
 use Rattle.pc_scope.specs.Resolution.{is_among}
 use Rattle.pc_scope.specs.Reach.{completes}
-use Rattle.pc_scope.specs.Expressions.{place_of}
 use Rattle.pc_types.specs.Tree.{Tree, Any, Object, Int, NoneType}
 use Rattle.pc_types.specs.Shape.{members}
 use Rattle.pc_types.specs.Annotations.{read_ann, AnnFinds}

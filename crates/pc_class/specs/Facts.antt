@@ -78,6 +78,10 @@ parameters_of m params = map (parameter_of m) params
 abbrev pub returned : Module → FuncDef → Tree
 returned m f = read_option m (bases_of m) f.returns
 
+-- a method of a class, with its number there, its parameters and what it returns
+abbrev pub method_made : Module → ℕ → ℕ → FuncDef → Method
+method_made m c number f = record { name = f.name.text; owner = c; number = number; place = f.name.place; parameters = parameters_of m f.params; returns = returned m f }
+
 module _ (m : Module) (base : Class) where
   -- the fields that members bind, behind members of these names
   abbrev pub own_fields : List (List ℕ) → List Member → List Parameter
@@ -92,10 +96,7 @@ module _ (m : Module) (base : Class) where
   own_methods c number before [] = []
   own_methods c number before (field_member f ∷ rest) = own_methods c number (f.name.text ∷ before) rest
   own_methods c number before (method_member f ∷ rest) =
-      (if binds_method base before f.name.text
-      then record { name = f.name.text; owner = c; number = number; place = f.name.place; parameters = parameters_of m f.params; returns = returned m f } ∷ []
-      else [])
-      ++ own_methods c (suc number) (f.name.text ∷ before) rest
+      (if binds_method base before f.name.text then method_made m c number f ∷ [] else []) ++ own_methods c (suc number) (f.name.text ∷ before) rest
 
 -- a class of this number, behind earlier ones
 abbrev pub class_behind : Module → List Class → ℕ → ClassDef → Class

@@ -10,7 +10,7 @@ use Rattle.pc_tree.specs.Stopping.{IsStopping, name_of_member}
 use Rattle.pc_tree.specs.Tree.{Name, FuncDef, Field, Member, field_member, method_member, ClassDef, Module}
 use Rattle.pc_scope.specs.Bindings.{classes_in}
 use Rattle.pc_class.specs.Bases.{bases_of, base_named}
-use Rattle.pc_class.specs.Facts.{Method, Class, inherited, classes_of, binds_field, binds_method, own_fields, parameters_of, returned}
+use Rattle.pc_class.specs.Facts.{Class, inherited, classes_of, binds_field, binds_method, own_fields, method_made}
 use Rattle.pc_class.specs.Overrides.{Judges, overridden}
 
 -- a class of the module, with its number
@@ -50,10 +50,6 @@ pub record IsFieldBehind (m : Module) (class : ClassDef) (c : ℕ) (f : Finding)
   pub none : IsFalse (is_some field.default)
   pub behind : IsTrue (has_default_before m (base_class m c class) (take at class.members))
   pub is : f ≡ finding field.name.place E08
-
--- a method of a class as its facts say it
-abbrev pub method_made : Module → ℕ → ℕ → FuncDef → Method
-method_made m c number f = record { name = f.name.text; owner = c; number = number; place = f.name.place; parameters = parameters_of m f.params; returns = returned m f }
 
 -- what an override is judged as, where the method binds its name
 abbrev pub OverrideRule : Module → Class → ℕ → (before : List (List ℕ)) → ℕ → FuncDef → Option Code → Type 0

@@ -11,7 +11,7 @@ use Rattle.pc_types.specs.Assignable as fills
 use Rattle.pc_flow.specs.Environment.{Env, join_or_object}
 use Rattle.pc_flow.specs.Narrowing.{narrow}
 use Rattle.pc_expr.specs.Operations.{Mark, offers_mark, operand_types, negative_member, binary_mark, display_mark, attribute_member, index_member}
-use Rattle.pc_expr.specs.Context.{Context, Flows, static, dynamic, wrong, FlowUnless, FlowsInto, is_late}
+use Rattle.pc_expr.specs.Context.{Context, Flows, static, dynamic, wrong, FlowUnless, FlowsInto, is_early}
 use Rattle.pc_expr.specs.Calls.{given, count_exprs, Seat, positional_seat, named_seat}
 use Rattle.pc_expr.specs.Labels.{Flowing, Marks, ItemsMarks, EntriesMarks, KeywordsMarks, mark_of, type_of, with_mark, item_types, key_types, value_types}
 use Rattle.pc_expr.specs.Lawful.{list_item, dict_parts, tuple_parts, members_of, KeyValue, item_seat, part_seat, list_mark, DictMark, no_keys, int_keys, str_keys, other_keys, DictRule, key_seat, value_seat, int_literal, compare_mark, compare_types, callee_of, whole_call_mark, whole_second_code, keyword_seat, Lawful, LawfulItems, LawfulEntries, LawfulKeywords}
@@ -72,7 +72,7 @@ flows_one {bases} {s} {t} (wrong n) (static b) = absurd (n (static_assignable ba
 flows_one (wrong n) (dynamic m b) = absurd (n b)
 flows_one (wrong n) (wrong m) = refl
 
-unless_one : (late : Test) (bases : Bases) (s t : Tree) (c d : Option Code) → FlowUnless late bases s t c → FlowUnless late bases s t d → c ≡ d
+unless_one : (early : Test) (bases : Bases) (s t : Tree) (c d : Option Code) → FlowUnless early bases s t c → FlowUnless early bases s t d → c ≡ d
 unless_one true bases s t c d h k = h ∙ sym k
 unless_one false bases s t c d h k = flows_one h k
 
@@ -82,7 +82,7 @@ into_one bases m [] [] (d ∷ ds) h k = absurd k
 into_one bases m [] (c ∷ cs) ds h k = absurd h
 into_one bases m (t ∷ ts) [] ds h k = absurd h
 into_one bases m (t ∷ ts) (c ∷ cs) [] h k = absurd k
-into_one bases m (t ∷ ts) (c ∷ cs) (d ∷ ds) h k = λ i. unless_one (is_late m.codes) bases m.type t c d h.0 k.0 i ∷ into_one bases m ts cs ds h.1 k.1 i
+into_one bases m (t ∷ ts) (c ∷ cs) (d ∷ ds) h k = λ i. unless_one (is_early m.codes) bases m.type t c d h.0 k.0 i ∷ into_one bases m ts cs ds h.1 k.1 i
 
 -- a dict display has one label
 dict_one : {bases : Bases} {values keys : List Tree} {m m' : Mark} → DictMark bases values keys m → DictMark bases values keys m' → m ≡ m'

@@ -6,6 +6,7 @@ use Rattle.std.specs.Option.{option_map}
 use Rattle.pc_tree.specs.declared.code.Code.{Code}
 use Rattle.pc_tree.specs.declared.code.Code.TheVariants.{A4, A6, A7, E03, E14, E15, E20, E25, E27}
 use Rattle.pc_tree.specs.Tree.{Name, Exprs, Keywords, no_exprs, more_exprs}
+use Rattle.pc_tree.specs.Stopping.{has_none}
 use Rattle.pc_scope.specs.declared.resolution.Builtin.{Builtin}
 use Rattle.pc_scope.specs.declared.resolution.Builtin.TheVariants as builtin
 use Rattle.pc_scope.specs.declared.resolution.Res.{Res}
@@ -61,11 +62,6 @@ are_filled named before (p ∷ ps) = (p.has_default || (is_among p.name named &&
 -- the names of parameters, in order
 abbrev pub parameter_names : List Parameter → List (List ℕ)
 parameter_names ps = map (λ p. p.name) ps
-
--- the list is empty
-abbrev pub has_none : {A : Type 0} → List A → Test
-has_none [] = true
-has_none (x ∷ xs) = false
 
 -- a call suits: not too many arguments by position, each by name for a free parameter, no parameter left over
 abbrev pub is_suited : Given → Signature → Test
@@ -301,7 +297,7 @@ test_mark ctx env arguments = record {
 }
 
 -- E25: what stands second tests for nothing; where E03 stands there, that is the only finding
-abbrev pub second_code : Option Tested → (late : Test) → Option Code
-second_code (Some test) late = None
+abbrev pub second_code : Option Tested → (early : Test) → Option Code
+second_code (Some test) early = None
 second_code None true = None
 second_code None false = Some E25

@@ -56,18 +56,18 @@ name_mark ctx env (res.Builtin b) = in_error E20
 name_mark ctx env res.None = in_error E02
 
 -- the codes of a node are those of E03, in place of all other findings at it
-abbrev pub is_late : List Code → Test
-is_late (E03 ∷ rest) = true
-is_late _ = false
+abbrev pub is_early : List Code → Test
+is_early (E03 ∷ rest) = true
+is_early _ = false
 
 -- the flow of a labelled expression into a type; where E03 stands at it, that is the only finding
-abbrev pub FlowUnless : (late : Test) → Bases → Tree → Tree → Option Code → Type 0
+abbrev pub FlowUnless : (early : Test) → Bases → Tree → Tree → Option Code → Type 0
 FlowUnless true bases s t code = code ≡ None
 FlowUnless false bases s t code = Flows bases s t code
 
 -- the flow of an expression with this label into one type, with its code
 abbrev pub FlowAt : Bases → Mark → Tree → Option Code → Type 0
-FlowAt bases m t code = FlowUnless (is_late m.codes) bases m.type t code
+FlowAt bases m t code = FlowUnless (is_early m.codes) bases m.type t code
 
 -- its flow into several types, one after another
 abbrev pub FlowsInto : Bases → Mark → List Tree → List (Option Code) → Type 0

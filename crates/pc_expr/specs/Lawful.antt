@@ -17,7 +17,7 @@ use Rattle.pc_types.specs.Shape.{members, listed, trees, count}
 use Rattle.pc_flow.specs.Environment.{Env, join_or_object, join_all}
 use Rattle.pc_flow.specs.Narrowing.{narrow, test_of_argument, second_argument}
 use Rattle.pc_expr.specs.Operations.{Mark, clean, in_error, Offer, offers_mark, operand_types, index_member, attribute_member, contain_member, negative_member, binary_mark, order_mark, display_mark}
-use Rattle.pc_expr.specs.Context.{Context, FlowsInto, name_mark, is_late}
+use Rattle.pc_expr.specs.Context.{Context, FlowsInto, name_mark, is_early}
 use Rattle.pc_expr.specs.Calls.{Given, given, count_exprs, is_one, CallOffer, Callee, value_callee, name_callee, method_callee, call_mark, Seat, nowhere, positional_seat, named_seat, length_mark, test_mark, second_code}
 use Rattle.pc_expr.specs.Labels.{Marks, ItemsMarks, EntriesMarks, KeywordsMarks, mark_of, type_of, with_mark, item_types, key_types, value_types}
 
@@ -146,15 +146,15 @@ whole_call_mark ctx env callee arguments keywords offers types =
     else (if is_length_of_one (given arguments keywords) ctx.resolve callee then length_mark ctx.bases types else call_mark ctx.bases offers)
 
 -- whether an initializer names the second argument too early
-abbrev pub late_second : (es : Exprs) → ItemsMarks es → Test
-late_second no_exprs m = false
-late_second (more_exprs e no_exprs) m = false
-late_second (more_exprs e (more_exprs f rest)) m = is_late (mark_of f m.rest.first).codes
+abbrev pub early_second : (es : Exprs) → ItemsMarks es → Test
+early_second no_exprs m = false
+early_second (more_exprs e no_exprs) m = false
+early_second (more_exprs e (more_exprs f rest)) m = is_early (mark_of f m.rest.first).codes
 
 -- the code at the second argument of a test of an instance
 abbrev pub whole_second_code : Context → Expr → (arguments : Exprs) → Keywords → ItemsMarks arguments → Option Code
 whole_second_code ctx callee arguments keywords m =
-    if is_instance_test callee arguments keywords then second_code (test_of_argument ctx.resolve (second_argument arguments)) (late_second arguments m) else None
+    if is_instance_test callee arguments keywords then second_code (test_of_argument ctx.resolve (second_argument arguments)) (early_second arguments m) else None
 
 -- the seat of an argument by name, behind arguments of these names: nowhere where its own is among them
 abbrev pub keyword_seat : (List ℕ → Seat) → List (List ℕ) → Name → Seat

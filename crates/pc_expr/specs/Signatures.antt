@@ -77,9 +77,9 @@ abbrev pub DefaultFinds : Option Literal → Option Code → Finding → Type 0
 DefaultFinds None code f = ⊥
 DefaultFinds (Some l) code f = IsCodeAt (literal_place l) code f
 
--- a parameter binds its name: not reserved, and no earlier parameter's, nor the receiver's
-abbrev pub binds_parameter : List (List ℕ) → Name → Test
-binds_parameter before n = not (is_reserved n.text || is_among n.text before)
+-- a name is bound where it stands: not reserved, and none of those before it
+abbrev pub binds_name : List (List ℕ) → Name → Test
+binds_name before n = not (is_reserved n.text || is_among n.text before)
 
 -- a code for the default of each parameter
 abbrev pub ParamsMarks : List Param → Type 0
@@ -90,7 +90,7 @@ ParamsMarks (p ∷ ps) = record { default : Option Code; rest : ParamsMarks ps }
 abbrev pub LawfulParams : Module → (before : List (List ℕ)) → (ps : List Param) → ParamsMarks ps → Type 0
 LawfulParams m before [] marks = Unit {0}
 LawfulParams m before (p ∷ ps) marks = record {
-  default : LawfulDefault (bases_of m) (binds_parameter before p.name) p.default (read_option m (bases_of m) p.annotation) marks.default;
+  default : LawfulDefault (bases_of m) (binds_name before p.name) p.default (read_option m (bases_of m) p.annotation) marks.default;
   rest : LawfulParams m (p.name.text ∷ before) ps marks.rest;
 }
 

@@ -180,11 +180,6 @@ meaning_seen rust_meaning.Nothing = means_nothing
 
 -- ---- calls
 
--- the value that the program found, if it found one
-abbrev pub value_seen : Option (Bor RustValue) → Option Value
-value_seen None = None
-value_seen (Some v) = Some (value_of v.now)
-
 -- the parameters with their values that the program collected, where the arguments suited them
 abbrev pub locals_of : Option (Vec RustLocal Allocator) → Option (List Local)
 locals_of None = None

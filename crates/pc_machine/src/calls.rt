@@ -1,8 +1,9 @@
 ghost use Rattle.std.specs.Prelude.{◌≡◌, map, IfOk, chars, string_bytes};
 ghost use Rattle.pc_tree.specs.Tree.{literal_of, param_of};
 ghost use Rattle.pc_value.specs.Meaning.{value_of};
+ghost use Rattle.pc_value.specs.Keys.{option_value};
 ghost use Rattle.pc_machine.specs.Calls.{value_named, is_parameter, are_parameters, bound_arguments, taken};
-ghost use Rattle.pc_machine.specs.Machine.{literal_value, parameter_of, parameter_of_param, named_of, item_of, locals_of, value_seen, default_of};
+ghost use Rattle.pc_machine.specs.Machine.{literal_value, parameter_of, parameter_of_param, named_of, item_of, locals_of, default_of};
 
 use crate::names::is_same;
 use crate::state::{Local, NamedValue, Parameter};
@@ -60,7 +61,7 @@ pub fn parameters<'m>(alloc: Global, params: &'m [Param]) -> Result<Vec<Paramete
 
 /// The first argument of a name.
 fn value_named<'a>(name: &str, named: &'a [NamedValue<'_>]) -> Option<&'a Value>
-    ensures { value_seen result ≡ value_named name.now (map named_of named.now) }
+    ensures { option_value result ≡ value_named name.now (map named_of named.now) }
 {
     for argument in named {
         if is_same(argument.name, name) {
@@ -111,7 +112,7 @@ fn take(
     by_position: Option<&Value>,
     by_name: Option<&Value>,
 ) -> Result<Option<Value>, OutOfMemory>
-    ensures { IfOk result (λ o. item_of o ≡ taken (parameter_of parameter.entry) (value_seen by_position.entry) (value_seen by_name.entry)) }
+    ensures { IfOk result (λ o. item_of o ≡ taken (parameter_of parameter.entry) (option_value by_position.entry) (option_value by_name.entry)) }
 {
     match (by_position, by_name) {
         (Some(_), Some(_)) => Ok(None),

@@ -21,13 +21,14 @@ use Rattle.pc_tree.specs.Machine.Kinds.{same_kind, a_form}
 use Rattle.pc_tree.specs.Machine.States.{Owner, of_module, of_class, DefStart, DefHead, Block, def_body, AnnContext, of_return, State, fixed, def_due, self_read, param_due, params_read, Turn, stuck, on}
 use Rattle.pc_tree.specs.Machine.Finishing.{suite_of}
 use Rattle.pc_tree.specs.Machine.Lines.{params_of}
+use Rattle.pc_tree.specs.Fronts.Lines.{is_method}
 use Rattle.pc_reader.specs.declared.reader.Reader.{Reader}
 use Rattle.pc_parse.specs.declared.parser.Parser.{Parser}
 use Rattle.pc_reader.specs.Reading.{Blames, IsAhead, lexeme, Came, Onward, Takes, NeedsKind}
 use Rattle.pc_reader.specs.Descent.{GivesName}
 use Rattle.pc_reader.specs.Standing.{Stands, Reached}
 use Rattle.pc_parse.specs.Whole.{noted, Kept}
-use Rattle.pc_parse.specs.Signatures.{opens_ann, or_ann, is_method, GivesOpened, GivesParams, ReadsParamsFrom, GivesSignature, ReadsSignature, GivesFunction}
+use Rattle.pc_parse.specs.Signatures.{opens_ann, or_ann, GivesOpened, GivesParams, ReadsParamsFrom, GivesSignature, ReadsSignature, GivesFunction}
 use Rattle.pc_parse.specs.Suites.{GivesSuite}
 use Rattle.pc_reader.specs.Words.{TakesForm}
 use Rattle.pc_parse.proofs.Depths.{noted_more, none_before}

@@ -14,10 +14,10 @@ use Rattle.pc_tree.specs.Tree.{Name, Expr, Ann, Stmt, annotated, assigns, while_
 use Rattle.pc_tree.specs.Depth.{Whole, whole_expr, whole_ann, wholes_of_stmt, wholes_of_stmts, wholes_of_branches}
 use Rattle.pc_tree.specs.Machine.States.{Part}
 use Rattle.pc_tree.specs.Machine.Finishing.{add_stmt, add_branch, if_plain, target_of_tree}
+use Rattle.pc_tree.specs.Lists.{branches_of_list}
 use Rattle.pc_reader.specs.declared.operand.Operand.{Operand}
 use Rattle.pc_reader.specs.Operands.{Keeps}
 use Rattle.pc_parse.specs.Whole.{noted, Kept}
-use Rattle.pc_parse.specs.Suites.{branches_in}
 use Rattle.pc_parse.proofs.Depths.{noted_more, none_before, kept_tree, wholes_add, wholes_branch}
 use Rattle.pc_parse.proofs.StatementRows.{while_is, for_is, push_stmts, push_branches}
 use Rattle.pc_parse.proofs.Targets.{IsTarget, same_target}
@@ -77,18 +77,18 @@ keep_more {before = before} {v = v} {s = s} {ss = ss} {t = t} i k l = record {
 
 -- a branch behind others
 pub keep_branch : {before between after : Option ℕ} {v w : List RustBranch} {bs : Branches} {c : Expr} {ss : Stmts} (b : RustBranch) (e : RustExpr) (body : Vec RustStmt Global) → w ≡ v ++ (b ∷ [])
-    → branches_in (b ∷ []) ≡ more_branches (expr_of e) (stmts_of_list body.items) no_branches → Kept branches_in wholes_of_branches before between v bs
+    → branches_of_list (b ∷ []) ≡ more_branches (expr_of e) (stmts_of_list body.items) no_branches → Kept branches_of_list wholes_of_branches before between v bs
     → after ≡ noted between (whole_expr c ∷ wholes_of_stmts ss) → (after ≡ None → expr_of e ≡ c) → (after ≡ None → stmts_of_list body.items ≡ ss)
-    → Kept branches_in wholes_of_branches before after w (add_branch bs c ss)
+    → Kept branches_of_list wholes_of_branches before after w (add_branch bs c ss)
 keep_branch {before = before} {v = v} {bs = bs} {c = c} {ss = ss} b e body i j k d f g = record {
   deep = noted_then before (wholes_of_branches bs) (whole_expr c ∷ wholes_of_stmts ss) k.deep d ∙ ap (noted before) (sym (wholes_branch bs c ss));
-  kept = λ n. ap branches_in i ∙ push_branches v e body b j ∙ ap (λ z. add_branch z (expr_of e) (stmts_of_list body.items)) (k.kept (none_then (whole_expr c ∷ wholes_of_stmts ss) d n))
+  kept = λ n. ap branches_of_list i ∙ push_branches v e body b j ∙ ap (λ z. add_branch z (expr_of e) (stmts_of_list body.items)) (k.kept (none_then (whole_expr c ∷ wholes_of_stmts ss) d n))
       ∙ ap (λ z. add_branch bs z (stmts_of_list body.items)) (f n) ∙ ap (add_branch bs c) (g n);
 }
 
 -- an `if` of these branches
-pub keep_if : {before between after : Option ℕ} {v : List RustBranch} {w : List RustStmt} {bs : Branches} {ss : Stmts} (s : RustStmt) (first : Place) → stmt_of s ≡ conditional first (branches_in v) (stmts_of_list w)
-    → Kept branches_in wholes_of_branches before between v bs → Kept stmts_of_list wholes_of_stmts between after w ss → Kept stmt_of wholes_of_stmt before after s (conditional first bs ss)
+pub keep_if : {before between after : Option ℕ} {v : List RustBranch} {w : List RustStmt} {bs : Branches} {ss : Stmts} (s : RustStmt) (first : Place) → stmt_of s ≡ conditional first (branches_of_list v) (stmts_of_list w)
+    → Kept branches_of_list wholes_of_branches before between v bs → Kept stmts_of_list wholes_of_stmts between after w ss → Kept stmt_of wholes_of_stmt before after s (conditional first bs ss)
 keep_if {before = before} {w = w} {bs = bs} {ss = ss} s first i k l = record {
   deep = noted_then before (wholes_of_branches bs) (wholes_of_stmts ss) k.deep l.deep;
   kept = λ e. i ∙ ap (λ z. conditional first z (stmts_of_list w)) (k.kept (none_then (wholes_of_stmts ss) l.deep e)) ∙ ap (conditional first bs) (l.kept e);

@@ -157,7 +157,7 @@ module _ {X I : Type 0} {text : X → List ℕ} {steps : I → Option (Result (T
   }
 
   pub method_fails : {a m : Reader X I} {t : Token X} {e : Fault} → Takes text steps can left a m t → t.kind ≡ kind.Keyword word.Def
-      → Blames e (λ o. (owner : Rattle.pc_tree.specs.Machine.States.Owner) (first : Place) → Rattle.pc_parse.specs.Signatures.is_method owner ≡ true → Came text steps m (at (def_due owner first)) o)
+      → Blames e (λ o. (owner : Rattle.pc_tree.specs.Machine.States.Owner) (first : Place) → Rattle.pc_tree.specs.Fronts.Lines.is_method owner ≡ true → Came text steps m (at (def_due owner first)) o)
       → Blames e (λ o. (c : ClassStart) (ms : List Member) → GoOn a c ms → Came text steps a (at (members c ms)) o)
   method_fails {t = t} h k w = blame (λ o u. λ c ms g. step_to (members c ms) (def_due (of_class c ms) t.place) h (ap (turn (members c ms) (lexeme text t)) k) o (u (of_class c ms) t.place refl)) w
 

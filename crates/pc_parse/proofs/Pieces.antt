@@ -26,6 +26,7 @@ use Rattle.pc_tree.specs.Machine.Kinds.{same_kind, a_kind}
 use Rattle.pc_tree.specs.Machine.States.{after_headers, Top, of_module, AnnContext, of_constant, Context, in_constant, whole, ann_whole, part_due, State, fixed, items, importing, item_named, decorator_due, def_due, operand, have, ended, Turn, stuck, go, on}
 use Rattle.pc_tree.specs.Machine.Finishing.{add_item, at_line_end}
 use Rattle.pc_tree.specs.Machine.Lines.{due, module_of as module_over}
+use Rattle.pc_tree.specs.Fronts.Lines.{is_method}
 use Rattle.pc_reader.specs.declared.operand.Operand.{Operand}
 use Rattle.pc_reader.specs.declared.reader.Reader.{Reader}
 use Rattle.pc_parse.specs.declared.parser.Parser.{Parser}
@@ -35,7 +36,7 @@ use Rattle.pc_reader.specs.Descent.{GivesName}
 use Rattle.pc_reader.specs.Standing.{Stands, Reached}
 use Rattle.pc_reader.specs.Words.{GivesFixed}
 use Rattle.pc_parse.specs.Whole.{noted, GivesWhole, ending_of}
-use Rattle.pc_parse.specs.Signatures.{opens_ann, or_ann, is_method, GivesOpened, GivesFunction}
+use Rattle.pc_parse.specs.Signatures.{opens_ann, or_ann, GivesOpened, GivesFunction}
 use Rattle.pc_parse.specs.Classes.{GivesClass}
 use Rattle.pc_parse.specs.Modules.{IsNoLastLine, top_of, GivesConstant, GivesItem, GivesLast, ItemsSoFar}
 use Rattle.pc_parse.proofs.Depths.{noted_more, none_before, kept_tree}

@@ -1,5 +1,5 @@
 -- What the functions promise that read parameters and functions.
-use Rattle.std.specs.Prelude.{ℕ, ◌≡◌, ◌≤◌, ◌<◌, Bool, true, false, List, [], map, Option, Some, None, Result, MatchResult, Vec, codes}
+use Rattle.std.specs.Prelude.{ℕ, ◌≡◌, ◌≤◌, ◌<◌, Bool, false, List, [], map, Option, Some, None, Result, MatchResult, Vec, codes}
 use Rattle.std.specs.declared.alloc.Global.{Global}
 use Rattle.std.specs.Iterator.{Count}
 use Rattle.pc_source.specs.declared.fault.Fault.{Fault}
@@ -16,9 +16,10 @@ use Rattle.pc_tree.specs.Tree.{Ann, no_anns, Param, FuncDef, option_ann_of, para
 use Rattle.pc_tree.specs.Depth.{optional_anns, wholes_of_params, wholes_of_def}
 use Rattle.pc_tree.specs.Machine.{at}
 use Rattle.pc_tree.specs.Machine.Kinds.{same_kind, a_form}
-use Rattle.pc_tree.specs.Machine.States.{Owner, of_module, of_class, DefStart, AnnContext, ann_whole, State, fixed, def_due, self_read, param_due, params_read, part_due, Turn, on}
+use Rattle.pc_tree.specs.Machine.States.{Owner, DefStart, AnnContext, ann_whole, State, fixed, def_due, self_read, param_due, params_read, part_due, Turn, on}
 use Rattle.pc_tree.specs.Machine.Finishing.{finish_ann, param_end, after_def}
 use Rattle.pc_tree.specs.Machine.Lines.{params_of}
+use Rattle.pc_tree.specs.Fronts.Lines.{is_method}
 use Rattle.pc_parse.specs.declared.parser.Parser.{Parser}
 use Rattle.pc_reader.specs.Reading.{Blames, IsAhead, Came, Onward, IsReady, left_in}
 use Rattle.pc_reader.specs.Standing.{Stands, Reached}
@@ -32,11 +33,6 @@ opens_ann opener c other k = on (same_kind k (kind.Operator opener)) (part_due n
 abbrev pub or_ann : AnnContext → (TokenKind → Turn) → Option Ann → TokenKind → Turn
 or_ann c other None k = other k
 or_ann c other (Some a) k = finish_ann c a k
-
--- the function stands in a class
-abbrev pub is_method : Owner → Bool
-is_method (of_module top) = false
-is_method (of_class c ms) = true
 
 module _ {X I : Type 0} (text : X → List ℕ) (steps : I → Option (Result (Token X) Fault) → I → Type 0) (can : I → Type 0) (left : I → Count) where
   -- an annotation that may be left out was read

@@ -11,14 +11,15 @@ use Rattle.pc_tree.specs.declared.tree.Expr.{Expr as RustExpr}
 use Rattle.pc_tree.specs.declared.tree.Name.{Name as RustName}
 use Rattle.pc_tree.specs.declared.tree.Stmt.{Stmt as RustStmt}
 use Rattle.pc_tree.specs.declared.tree.StmtKind.{StmtKind}
-use Rattle.pc_tree.specs.declared.tree.Branch.{Branch as RustBranch, Branch'}
-use Rattle.pc_tree.specs.Tree.{Expr, no_anns, Stmt, conditional, Stmts, no_stmts, Branches, no_branches, more_branches, name_of, expr_of, stmt_of, stmt_of_kind, stmts_of, stmts_of_list}
+use Rattle.pc_tree.specs.declared.tree.Branch.{Branch as RustBranch}
+use Rattle.pc_tree.specs.Tree.{Expr, no_anns, Stmt, conditional, Stmts, no_stmts, Branches, name_of, expr_of, stmt_of, stmt_of_kind, stmts_of_list}
 use Rattle.pc_tree.specs.Depth.{whole_expr, wholes_of_stmt, wholes_of_stmts, wholes_of_branches}
 use Rattle.pc_tree.specs.Machine.{at, turn, stop_at, short}
 use Rattle.pc_tree.specs.Machine.Kinds.{Lead as Joint, leads_pass, leads_break, leads_continue, leads_return, leads_assert, leads_while, leads_for, leads_if, leads_out, leads_other, lead_of, same_kind, Ending}
 use Rattle.pc_tree.specs.Machine.States.{Part, Nest, Block, Site, Begun, branching, in_statement, of_local, whole, ann_whole, State, stmts, after_branch, part_due, operand, stuck, go, on}
 use Rattle.pc_tree.specs.Machine.Finishing.{add_stmt, suite_of, after_suite, after_stmt, nested_in, at_colon, finish_stmt}
 use Rattle.pc_tree.specs.Machine.Lines.{line_ends, lead_turn}
+use Rattle.pc_tree.specs.Lists.{branches_of_list}
 use Rattle.pc_parse.specs.declared.parser.Parser.{Parser}
 use Rattle.pc_parse.specs.declared.statement.Lead.{Lead}
 use Rattle.pc_parse.specs.declared.statement.Lead.TheVariants as rust
@@ -49,11 +50,6 @@ Heads begun nest = (p : Part) (site : Site) (e : Ending) → finish_stmt begun p
 -- a statement without expressions
 abbrev pub HasNoWhole : StmtKind → Type 0
 HasNoWhole k = (first : Place) → wholes_of_stmt (stmt_of_kind first k) ≡ []
-
--- the branches of a list
-abbrev pub branches_in : List RustBranch → Branches
-branches_in [] = no_branches
-branches_in (Branch' condition shape body ∷ bs) = more_branches (expr_of condition) (stmts_of body) (branches_in bs)
 
 -- if a token is ahead, it begins a statement in this way
 abbrev pub HasLead : {X I : Type 0} → Joint → Parser X I → Type 0
@@ -162,7 +158,7 @@ module _ {X I : Type 0} (text : X → List ℕ) (steps : I → Option (Result (T
   -- the branches of an `if` so far, before a condition
   pub record BranchesSoFar (first : Place) (a b : Parser X I) (v : List RustBranch) : Type 0 where
     pub branches : Branches
-    pub keeps : Kept branches_in wholes_of_branches a.deep b.deep v branches
+    pub keeps : Kept branches_of_list wholes_of_branches a.deep b.deep v branches
     pub ready : IsReady can left b.reader
     pub later : left_in left b.reader < left_in left a.reader
     pub leads : (done : Stmts) (block : Block) → HasLead leads_if a → Onward text steps a.reader b.reader (at (stmts done block)) (at (operand (whole (in_statement (branching branches) (site_at first done block)))))

@@ -6,8 +6,9 @@ use Rattle.pc_tree.specs.Machine.{turn}
 use Rattle.pc_tree.specs.Machine.Kinds.{Link, Follow, link}
 use Rattle.pc_tree.specs.Machine.States.{Part, Prefix, minus, denial, Stack, applying, operand, go, on, stuck}
 use Rattle.pc_tree.specs.Machine.Expressions.{prefix_level, rank, applied, have_turn, left_of_link, own_of_link}
+use Rattle.pc_tree.specs.Fronts.Expressions.{prefix_kind}
 use Rattle.pc_reader.specs.Operands.{signs_on, applied_all, starts_of}
-use Rattle.pc_reader.specs.Descent.{TakesSign, Undotted, sign_kind, wrapped_level}
+use Rattle.pc_reader.specs.Descent.{TakesSign, Undotted, wrapped_level}
 use Rattle.pc_reader.proofs.Frames.{is_le, apply_turn, own_left, link_low, not_two}
 
 pub signs_more : (x : Prefix) (ts : List Lexeme) (t : Lexeme) (s : Stack) → signs_on x (ts ++ (t ∷ [])) s ≡ applying x (t ∷ []) (signs_on x ts s)
@@ -31,7 +32,7 @@ pub signs_rank : (x : Prefix) (ts : List Lexeme) (s : Stack) (n : ℕ) → rank 
 signs_rank x [] s n h g = h
 signs_rank x (t ∷ ts) s n h g = signs_rank x ts (applying x (t ∷ []) s) n g g
 
-pub sign_turn : (x : Prefix) (s : Stack) (t : Lexeme) (k : TokenKind) → k ≡ sign_kind x → TakesSign x s → turn (operand s) t k ≡ go (operand (applying x (t ∷ []) s))
+pub sign_turn : (x : Prefix) (s : Stack) (t : Lexeme) (k : TokenKind) → k ≡ prefix_kind x → TakesSign x s → turn (operand s) t k ≡ go (operand (applying x (t ∷ []) s))
 sign_turn minus s t k e h = ap (turn (operand s) t) e
 sign_turn denial s t k e h = ap (turn (operand s) t) e ∙ ap (λ z. on z (operand (applying denial (t ∷ []) s)) stuck) (is_le (rank s) 2 h)
 

@@ -4,7 +4,6 @@ use Rattle.std.specs.declared.alloc.Global.{Global}
 use Rattle.std.specs.Iterator.{Count}
 use Rattle.pc_source.specs.declared.fault.Fault.{Fault}
 use Rattle.pc_token.specs.declared.token.Token.{Token}
-use Rattle.pc_token.specs.declared.token.TokenKind.{TokenKind}
 use Rattle.pc_token.specs.declared.token.TokenKind.TheVariants as kind
 use Rattle.pc_token.specs.declared.token.Keyword.TheVariants as word
 use Rattle.pc_token.specs.declared.token.Operator.TheVariants as sign
@@ -56,11 +55,6 @@ pub record HasLink {X : Type 0} (need level : ℕ) (l : Joint) (a : Option (Toke
   pub is : follow_of token.kind ≡ link l
   pub binds : need ≤ own_of_link l
   pub goes : left_of_link l ≤ level
-
--- the token of a sign before an operand: `-` or `not`
-abbrev pub sign_kind : Sign → TokenKind
-sign_kind minus = kind.Operator sign.Minus
-sign_kind denial = kind.Keyword word.Not
 
 -- what signs ask of what stands around them
 abbrev pub TakesSign : Sign → Stack → Type 0

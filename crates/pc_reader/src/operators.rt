@@ -3,10 +3,11 @@ ghost use Rattle.std.specs.Prelude.{◌≡◌, List, [], ◌∷◌, ◌≤◌, M
 ghost use Rattle.pc_source.specs.declared.fault.Fault.TheVariants as fault;
 ghost use Rattle.pc_token.specs.Lexeme.{Lexeme};
 ghost use Rattle.pc_tree.specs.Machine.States.{Part, identified, dotted};
+ghost use Rattle.pc_tree.specs.Fronts.Expressions.{prefix_kind};
 ghost use Rattle.pc_reader.specs.Operands.{Keeps, prefix_of, starts_of, applied_all};
 ghost use Rattle.pc_reader.specs.Reading.{IsReady, IsAhead};
 ghost use Rattle.pc_reader.specs.Links.{link_view};
-ghost use Rattle.pc_reader.specs.Descent.{NextIs, Over, HasLink, ReadsInfix, ReadsOn, ReadsSigns, sign_kind, wrapped_level};
+ghost use Rattle.pc_reader.specs.Descent.{NextIs, Over, HasLink, ReadsInfix, ReadsOn, ReadsSigns, wrapped_level};
 
 use crate::link::{Link, link_of};
 use crate::operand::{Infix, Operand, Prefix, member, none_test, wrap};
@@ -20,7 +21,7 @@ use std::convert::AsStr;
 impl Prefix {
     /// The kind of its token.
     fn kind(self) -> TokenKind
-        ensures { result ≡ sign_kind (prefix_of self) }
+        ensures { result ≡ prefix_kind (prefix_of self) }
     {
         match self {
             Prefix::Minus => TokenKind::Operator(Operator::Minus),
@@ -96,7 +97,7 @@ impl<X: AsStr + Drop, I: Iterator<Item = Result<Token<X>, Fault>> + Drop> Reader
     pub(crate) fn signs(&mut self, alloc: Global, prefix: Prefix) -> Result<Vec<usize>, Fault>
         requires { IsReady I.can_next I.remaining self.old }
         ensures reads { ReadsSigns X.text I.next_gives I.can_next I.remaining (prefix_of prefix) self.old self.new result }
-        ensures over { IfOk result (λ _. IsAhead (sign_kind (prefix_of prefix)) self.new.ahead ≡ false) }
+        ensures over { IfOk result (λ _. IsAhead (prefix_kind (prefix_of prefix)) self.new.ahead ≡ false) }
     {
         let kind = prefix.kind();
         let mut signs = Vec::new(alloc);

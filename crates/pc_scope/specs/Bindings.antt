@@ -1,7 +1,7 @@
 -- The positions at which a module, a function and a class bind names.
 -- Language Reference 3.12, 4.2.1 "Binding of names".
 use Rattle.std.specs.Prelude.{ℕ, suc, List, [], ◌∷◌, ◌++◌, map, Option, Some, None, filter_map}
-use Rattle.pc_tree.specs.Tree.{Name, Param, FuncDef, Field, Member, field_member, method_member, ClassDef, Constant, Item, constant_item, class_item, def_item, Module}
+use Rattle.pc_tree.specs.Tree.{Name, Param, FuncDef, Member, field_member, method_member, ClassDef, Constant, Item, constant_item, class_item, def_item, Module}
 use Rattle.pc_scope.specs.declared.resolution.Owner.{Owner}
 use Rattle.pc_scope.specs.declared.resolution.Owner.TheVariants as owners
 
@@ -37,11 +37,6 @@ as_function (def_item p f) = Some f
 abbrev pub as_method : Member → Option FuncDef
 as_method (field_member f) = None
 as_method (method_member f) = Some f
-
--- the field that a member is, if it is one
-abbrev pub as_field : Member → Option Field
-as_field (field_member f) = Some f
-as_field (method_member f) = None
 
 -- the constants among items, in text order
 abbrev pub constants_in : List Item → List Constant

@@ -3,29 +3,8 @@
 use Rattle.std.specs.Prelude.{ℕ, List, [], ◌∷◌, ◌++◌, Bool, true, false, ◌&&◌, ◌||◌, not, if◌then◌else◌, Option, Some, None, codes, bytes_eq}
 use Rattle.pc_source.specs.declared.place.Place.{Place}
 use Rattle.pc_tree.specs.Tree.{Name, Expr, Exprs, Entries, Keywords, name, number, text, truth, nothing, tuple, list, dict, negative, negation, binary, compare, is_none, is_not_none, conjunction, disjunction, attribute, index, call, no_exprs, more_exprs, no_entries, more_entries, no_keywords, more_keywords, Target, to_name, to_attribute, to_index, Stmt, Stmts, Branches, pass, breaks, continues, returns, asserts, annotated, assigns, evaluates, while_loop, for_loop, conditional, no_stmts, more_stmts, no_branches, more_branches}
+use Rattle.pc_tree.specs.Depth.{place_of}
 use Rattle.pc_scope.specs.Reach.{completes}
-
--- the place of an expression
-abbrev pub place_of : Expr → Place
-place_of (name n) = n.place
-place_of (number p digits) = p
-place_of (text p characters) = p
-place_of (truth p value) = p
-place_of (nothing p) = p
-place_of (tuple p items) = p
-place_of (list p items) = p
-place_of (dict p pairs) = p
-place_of (negative p e) = p
-place_of (negation p e) = p
-place_of (binary p operator l r) = p
-place_of (compare p operator l r) = p
-place_of (is_none p e) = p
-place_of (is_not_none p e) = p
-place_of (conjunction p l r) = p
-place_of (disjunction p l r) = p
-place_of (attribute p e field) = p
-place_of (index p e i) = p
-place_of (call p callee arguments by_name) = p
 
 -- whether an expression is a name, and this one
 abbrev pub is_name : Expr → Bool
@@ -46,10 +25,10 @@ are_two _ _ = false
 abbrev pub is_instance_test : Expr → Exprs → Keywords → Bool
 is_instance_test callee arguments keywords = is_named (codes "isinstance") callee && are_two arguments keywords
 
--- the first argument alone
-abbrev pub only_first : List Expr → List Expr → Bool → List Expr
-only_first first all true = first
-only_first first all false = all
+-- the parts of the first argument alone where a test holds, else those of all arguments
+abbrev pub first_or_all : List Expr → List Expr → Bool → List Expr
+first_or_all first all true = first
+first_or_all first all false = all
 
 -- an expression and its parts; where it is judged, without those of the second argument of a test of an instance
 abbrev mutual
@@ -74,7 +53,7 @@ abbrev mutual
   parts_in j (index p e i) = index p e i ∷ (parts_in j e ++ parts_in j i)
   parts_in j (call p callee arguments keywords) =
       call p callee arguments keywords
-      ∷ (parts_in j callee ++ (only_first (parts_in_first j arguments) (parts_in_all j arguments) (j && is_instance_test callee arguments keywords) ++ parts_in_keywords j keywords))
+      ∷ (parts_in j callee ++ (first_or_all (parts_in_first j arguments) (parts_in_all j arguments) (j && is_instance_test callee arguments keywords) ++ parts_in_keywords j keywords))
 
   pub parts_in_all : (judged : Bool) → Exprs → List Expr
   parts_in_all j no_exprs = []
@@ -91,11 +70,6 @@ abbrev mutual
   pub parts_in_keywords : (judged : Bool) → Keywords → List Expr
   parts_in_keywords j no_keywords = []
   parts_in_keywords j (more_keywords parameter value rest) = parts_in j value ++ parts_in_keywords j rest
-
--- the name that an expression is, if it is one
-abbrev pub as_name : Expr → Option Name
-as_name (name n) = Some n
-as_name _ = None
 
 -- the names of the arguments by name, in text order
 abbrev pub keyword_names : Keywords → List Name

@@ -8,6 +8,7 @@ use Rattle.pc_tree.specs.declared.code.Finding.{Finding}
 use Rattle.pc_tree.specs.Code.{finding}
 use Rattle.pc_tree.specs.Stopping.{IsStopping}
 use Rattle.pc_tree.specs.Tree.{Name, Expr, ClassDef, Constant, constant_item, Module}
+use Rattle.pc_tree.specs.Machine.Finishing.{name_of_tree}
 use Rattle.pc_scope.specs.declared.resolution.Owner.{Owner}
 use Rattle.pc_scope.specs.declared.resolution.Owner.TheVariants as owners
 use Rattle.pc_scope.specs.declared.resolution.Res.{Res}
@@ -15,7 +16,7 @@ use Rattle.pc_scope.specs.declared.resolution.Res.TheVariants as res
 use Rattle.pc_scope.specs.Bindings.{constants_in, classes_in, Body, bodies}
 use Rattle.pc_scope.specs.Resolution.{resolve, resolve_in_module}
 use Rattle.pc_scope.specs.Reach.{unreached}
-use Rattle.pc_scope.specs.Expressions.{parts_in, as_name, other_callee, exprs_in_all}
+use Rattle.pc_scope.specs.Expressions.{parts_in, other_callee, exprs_in_all}
 
 -- E01, E05, E28, E29, E31: those of the codes that stop a run which are not of classes
 abbrev pub IsScopeCode : Code → Type 0
@@ -29,7 +30,7 @@ IsScopeCode _ = ⊥
 -- a name of an expression, the second argument of a test of an instance aside, means nothing to its owner
 pub record IsUnknownIn (m : Module) (owner : Owner) (e : Expr) (f : Finding) : Type 0 where
   pub n : Name
-  pub named : Contains (filter_map as_name (parts_in true e)) n
+  pub named : Contains (filter_map name_of_tree (parts_in true e)) n
   pub unknown : resolve m owner n.text ≡ res.None
   pub is : f ≡ finding n.place E02
 
@@ -40,21 +41,21 @@ pub data IsUnknown (m : Module) (f : Finding) : Type 0 where
   decorator : (c : ClassDef) → m.imports_dataclass ≡ false → Contains (classes_in m.items) c → f ≡ finding c.decorator E02 → IsUnknown m f
 
 -- what an initializer may not name behind so many constants and classes: a function, and a constant or class that is not one of them
-abbrev pub IsLate : (constants classes : ℕ) → Res → Type 0
-IsLate k c (res.Func i) = Unit {0}
-IsLate k c (res.Const i) = k ≤ i
-IsLate k c (res.Class i) = c ≤ i
-IsLate k c _ = ⊥
+abbrev pub IsEarlyMeaning : (constants classes : ℕ) → Res → Type 0
+IsEarlyMeaning k c (res.Func i) = Unit {0}
+IsEarlyMeaning k c (res.Const i) = k ≤ i
+IsEarlyMeaning k c (res.Class i) = c ≤ i
+IsEarlyMeaning k c _ = ⊥
 
 -- a name in an initializer means what it may not name behind so many constants and classes
-pub record IsLateName (m : Module) (constants classes : ℕ) (e : Expr) (f : Finding) : Type 0 where
+pub record IsEarlyName (m : Module) (constants classes : ℕ) (e : Expr) (f : Finding) : Type 0 where
   pub n : Name
-  pub named : Contains (filter_map as_name (parts_in false e)) n
-  pub late : IsLate constants classes (resolve_in_module m n.text)
+  pub named : Contains (filter_map name_of_tree (parts_in false e)) n
+  pub early : IsEarlyMeaning constants classes (resolve_in_module m n.text)
   pub is : f ≡ finding n.place E03
 
 -- a callee in an initializer is no name
-pub record IsLateCallee (e : Expr) (f : Finding) : Type 0 where
+pub record IsEarlyCallee (e : Expr) (f : Finding) : Type 0 where
   pub place : Place
   pub callee : Contains (filter_map other_callee (parts_in false e)) place
   pub is : f ≡ finding place E03
@@ -65,7 +66,7 @@ pub record IsEarly (m : Module) (f : Finding) : Type 0 where
   pub first : Place
   pub constant : Constant
   pub item : slice_get m.items at ≡ Some (constant_item first constant)
-  pub found : IsLateName m (length (constants_in (take at m.items))) (length (classes_in (take at m.items))) constant.value f ⊎ IsLateCallee constant.value f
+  pub found : IsEarlyName m (length (constants_in (take at m.items))) (length (classes_in (take at m.items))) constant.value f ⊎ IsEarlyCallee constant.value f
 
 -- E30: the first statement of a suite behind one that cannot complete
 pub record IsUnreachable (m : Module) (f : Finding) : Type 0 where

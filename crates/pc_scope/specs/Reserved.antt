@@ -1,6 +1,6 @@
 -- The names that a module may not bind, and what each of them means.
 -- Own rule of the profile; Language Reference 3.12, 4.2.2 "Resolution of names".
-use Rattle.std.specs.Prelude.{ℕ, List, [], ◌∷◌, Bool, if◌then◌else◌, Option, Some, None, is_some, codes, bytes_eq, IsTrue}
+use Rattle.std.specs.Prelude.{ℕ, List, [], ◌∷◌, Bool, if◌then◌else◌, Option, Some, None, is_some, codes, bytes_eq}
 use Rattle.pc_scope.specs.declared.resolution.Builtin.{Builtin}
 use Rattle.pc_scope.specs.declared.resolution.Builtin.TheVariants as builtin
 
@@ -35,7 +35,3 @@ builtin_of text = beside reserved text
 -- whether a text is a reserved name
 abbrev pub is_reserved : List ℕ → Bool
 is_reserved text = is_some (builtin_of text)
-
--- the text is a reserved name, as a proposition
-abbrev pub IsReserved : List ℕ → Type 0
-IsReserved text = IsTrue (is_reserved text)

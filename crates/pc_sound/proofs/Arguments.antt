@@ -3,7 +3,7 @@ use Rattle.std.proofs.Common.{◌≡◌, ℕ, suc, List, [], ◌∷◌, refl, sy
 use Rattle.std.specs.Prelude.{false}
 use Rattle.pc_tree.specs.declared.code.Finding.{Finding}
 use Rattle.pc_tree.specs.Tree.{Expr, Exprs, Keywords, no_exprs, more_exprs, no_keywords, more_keywords}
-use Rattle.pc_scope.specs.Expressions.{place_of}
+use Rattle.pc_tree.specs.Depth.{place_of}
 use Rattle.pc_types.specs.Below.{Bases}
 use Rattle.pc_flow.specs.Environment.{Env}
 use Rattle.pc_expr.specs.Context.{Context, FlowsInto}

@@ -6,7 +6,7 @@ use Rattle.pc_tree.specs.declared.code.Code.{Code}
 use Rattle.pc_tree.specs.declared.code.Code.TheVariants.{E03, E12}
 use Rattle.pc_tree.specs.Code.{finding, IsError}
 use Rattle.pc_tree.specs.Tree.{Expr}
-use Rattle.pc_scope.specs.Expressions.{place_of}
+use Rattle.pc_tree.specs.Depth.{place_of}
 use Rattle.pc_types.specs.Tree.{Tree, Any, Object, Never, Int, Bool, Str, NoneType, Class, ListOf, DictOf, TupleOf, Union, erase}
 use Rattle.pc_types.specs.Below.{Bases, Below, Static, same, through, object, bool_int, left, right}
 use Rattle.pc_types.specs.Assignable.{Assignable}
@@ -14,7 +14,7 @@ use Rattle.pc_types.proofs.Meets.{Meets, m_from_any, m_to_any, m_never, m_object
 use Rattle.pc_types.proofs.Complete.{meets_from_assignable}
 use Rattle.pc_flow.specs.Environment.{Env, assigned_type}
 use Rattle.pc_expr.specs.Operations.{Mark}
-use Rattle.pc_expr.specs.Context.{Context, Flows, static, dynamic, wrong, FlowUnless, FlowAt, FlowsInto, is_late}
+use Rattle.pc_expr.specs.Context.{Context, Flows, static, dynamic, wrong, FlowUnless, FlowAt, FlowsInto, is_early}
 use Rattle.pc_expr.specs.Labels.{Flowing, Marks, mark_of, type_of, Finds, IsFlowAt}
 use Rattle.pc_expr.specs.Lawful.{Lawful}
 use Rattle.pc_value.specs.Value.{Value, Out, Gives, Stops}
@@ -26,7 +26,7 @@ use Rattle.pc_sound.proofs.ValuesFlow.{of_static}
 use Rattle.pc_sound.proofs.Steps.{weaken, stopped_as}
 use Rattle.pc_sound.proofs.Expressions.{Covered, GoodEval}
 use Rattle.pc_sound.proofs.Keys.{Keyed}
-use Rattle.pc_sound.proofs.Flows.{Evaluates, found_here, late_code, flow_safe}
+use Rattle.pc_sound.proofs.Flows.{Evaluates, found_here, early_code, flow_safe}
 
 -- ---- types of literals
 
@@ -135,7 +135,7 @@ module _ (around : Around) (ctx : Context) (eval : Expr → Step Value) (good : 
       weaken around env known known (eval e) (λ k v. HasType around.bases k d v) (λ k v. HasType around.bases k (assigned_type d (type_of e m) (Some c)) v × HasType around.bases k d v) (λ k h. h)
       (λ k v h. (subst (λ t. HasType around.bases k t v) (sym (assigned_found d (type_of e m) c)) h, h))
       (flow_safe around ctx eval good evaluates env known want e m d (Some c) law covered flow allowed keyed)
-  assigned_safe known want e m d None law covered flow allowed keyed = go (is_late (mark_of e m).codes) refl flow
+  assigned_safe known want e m d None law covered flow allowed keyed = go (is_early (mark_of e m).codes) refl flow
     where
       by_flow : Flows around.bases (type_of e m) d None → IsSafe around env known (eval e) (λ k v. HasType around.bases k (assigned_type d (type_of e m) None) v × HasType around.bases k d v)
       by_flow (static below) =
@@ -143,6 +143,6 @@ module _ (around : Around) (ctx : Context) (eval : Expr → Step Value) (good : 
           (λ k v h. let to = of_static around.bases k (type_of e m) d below v h in (assigned_has around.bases k d (type_of e m) v h to, to))
           (part known want e m law covered keyed)
 
-      go : (late : Test) → is_late (mark_of e m).codes ≡ late → FlowUnless late around.bases (type_of e m) d None → IsSafe around env known (eval e) (λ k v. HasType around.bases k (assigned_type d (type_of e m) None) v × HasType around.bases k d v)
-      go true is f = absurd ((covered (finding (place_of e) E03) (found_here e m (finding (place_of e) E03) (record { code = E03; among = late_code (mark_of e m).codes is; is = refl }))).1 refl)
+      go : (early : Test) → is_early (mark_of e m).codes ≡ early → FlowUnless early around.bases (type_of e m) d None → IsSafe around env known (eval e) (λ k v. HasType around.bases k (assigned_type d (type_of e m) None) v × HasType around.bases k d v)
+      go true is f = absurd ((covered (finding (place_of e) E03) (found_here e m (finding (place_of e) E03) (record { code = E03; among = early_code (mark_of e m).codes is; is = refl }))).1 refl)
       go false is f = by_flow f

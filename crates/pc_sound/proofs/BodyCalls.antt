@@ -4,13 +4,14 @@ use Rattle.std.specs.Prelude.{Bool as Test, true, false, ◌&&◌, if◌then◌e
 use Rattle.std.specs.Option.{option_map}
 use Rattle.std.proofs.lemmas.Option.{slice_get-map}
 use Rattle.pc_source.specs.declared.place.Place.{Place}
+use Rattle.pc_token.specs.Keywords.{is_reserved}
 use Rattle.pc_tree.specs.declared.code.Code.TheVariants.{E03}
 use Rattle.pc_tree.specs.Tree.{Name, Expr, name, number, text, truth, nothing, tuple, list, dict, negative, negation, binary, compare, is_none, is_not_none, conjunction, disjunction, attribute, index, call, Exprs, Keywords, FuncDef, Module}
 use Rattle.pc_scope.specs.declared.resolution.Owner.{Owner}
 use Rattle.pc_scope.specs.declared.resolution.Owner.TheVariants as owners
 use Rattle.pc_scope.specs.declared.resolution.Res.{Res}
 use Rattle.pc_scope.specs.declared.resolution.Res.TheVariants as res
-use Rattle.pc_scope.specs.Expressions.{place_of, is_instance_test}
+use Rattle.pc_scope.specs.Expressions.{is_instance_test}
 use Rattle.pc_scope.specs.Bindings.{functions_in, classes_in}
 use Rattle.pc_scope.specs.Resolution.{index_of, locals, function_of, local_of, or_else, resolve_in_module}
 use Rattle.pc_types.specs.Tree.{Tree}
@@ -27,7 +28,7 @@ use Rattle.pc_expr.specs.Labels.{Marks, mark_of, type_of, with_mark, item_types,
 use Rattle.pc_expr.specs.Lawful.{Lawful, LawfulItems, LawfulKeywords, callee_of, is_length, is_length_of_one}
 use Rattle.pc_value.specs.Value.{Gives}
 use Rattle.pc_machine.specs.Names.{meaning_of_global}
-use Rattle.pc_tree.specs.Stopping.{is_reserved}
+use Rattle.pc_tree.specs.Depth.{place_of}
 use Rattle.pc_machine.specs.Calls.{calls_value}
 use Rattle.pc_machine.specs.Steps.{Parts}
 use Rattle.pc_machine.specs.Free.{Step, ◌>>=◌, comes, Emits, free}

@@ -7,10 +7,12 @@ use Rattle.pc_tree.specs.declared.code.Code.{Code}
 use Rattle.pc_tree.specs.declared.code.Code.TheVariants.{E14, E20, E27}
 use Rattle.pc_tree.specs.Code.{IsError}
 use Rattle.pc_tree.specs.Tree.{Expr, Exprs, Keywords, Name, name, call, no_exprs, more_exprs, no_keywords, more_keywords}
+use Rattle.pc_tree.specs.Depth.{place_of}
+use Rattle.pc_tree.specs.Stopping.{has_none}
 use Rattle.pc_scope.specs.declared.resolution.Builtin.{Builtin}
 use Rattle.pc_scope.specs.declared.resolution.Builtin.TheVariants as builtin
 use Rattle.pc_scope.specs.declared.resolution.Res.TheVariants as res
-use Rattle.pc_scope.specs.Expressions.{place_of, is_instance_test, are_two}
+use Rattle.pc_scope.specs.Expressions.{is_instance_test, are_two}
 use Rattle.pc_types.specs.Tree.{Tree, Int, Str, NoneType, ListOf, DictOf, TupleOf}
 use Rattle.pc_types.specs.Below.{Bases}
 use Rattle.pc_types.specs.Shape.{members}
@@ -18,7 +20,7 @@ use Rattle.pc_class.specs.Facts as facts
 use Rattle.pc_flow.specs.Environment.{Env}
 use Rattle.pc_expr.specs.Operations.{Mark, in_error, offers_mark, length_member}
 use Rattle.pc_expr.specs.Context.{Context}
-use Rattle.pc_expr.specs.Calls.{Given, given, count_exprs, has_none, is_one, plain_call, fails_at_call, Seat, builtin_offer, is_callable_builtin, good_callee, value_callee, name_callee, call_mark, length_mark, test_mark, positional_seat, named_seat}
+use Rattle.pc_expr.specs.Calls.{Given, given, count_exprs, is_one, plain_call, fails_at_call, Seat, builtin_offer, is_callable_builtin, good_callee, value_callee, name_callee, call_mark, length_mark, test_mark, positional_seat, named_seat}
 use Rattle.pc_expr.specs.Labels.{Marks, type_of, item_types, ItemsMarks, KeywordsMarks, Finds, ItemsFind, ArgumentsFind, IsFoundAt}
 use Rattle.pc_expr.specs.Lawful.{Lawful, callee_of, whole_call_mark, is_length, is_length_of_one}
 use Rattle.pc_value.specs.Value as value

@@ -2,12 +2,13 @@
 use Rattle.std.proofs.Common.{◌≡◌, List, [], ◌∷◌, ◌++◌, map, refl, sym, ap, ◌∙◌, subst, inl, inr}
 use Rattle.std.specs.Prelude.{◌⊎◌, Bool as Test, true, false, if◌then◌else◌, flat_map}
 use Rattle.pc_tree.specs.declared.code.Code.TheVariants.{E14}
+use Rattle.pc_tree.specs.Stopping.{has_none}
 use Rattle.pc_types.specs.Tree.{Any}
 use Rattle.pc_types.specs.Below.{Bases, AreSmaller}
 use Rattle.pc_flow.specs.Environment.{join_all}
 use Rattle.pc_expr.specs.Operations.{has_error}
 use Rattle.pc_expr.specs.Context.{Signature}
-use Rattle.pc_expr.specs.Calls.{Given, has_none, is_suited, CallOffer, called, fails_at_call, call_codes, all_codes, call_mark, signatures}
+use Rattle.pc_expr.specs.Calls.{Given, is_suited, CallOffer, called, fails_at_call, call_codes, all_codes, call_mark, signatures}
 use Rattle.pc_value.specs.Value.{Value}
 use Rattle.pc_sound.specs.Values.{HeapTyping, HasType}
 use Rattle.pc_sound.proofs.Lists.{front_empty, not_empty, rest_empty}

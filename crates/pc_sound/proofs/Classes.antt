@@ -5,6 +5,7 @@ use Rattle.std.proofs.lemmas.Bool.Decides.{nat_tests}
 use Rattle.std.proofs.lemmas.Option.{same_Some}
 use Rattle.std.proofs.lemmas.Bool.{false≢true, or_cases, or_left, or_right}
 use Rattle.pc_source.specs.declared.place.Place.{Place}
+use Rattle.pc_token.specs.Keywords.{is_reserved}
 use Rattle.pc_tree.specs.Tree.{Name, FuncDef, Member, field_member, method_member, ClassDef, class_item, Module}
 use Rattle.pc_scope.specs.declared.resolution.Owner.TheVariants as owners
 use Rattle.pc_scope.specs.declared.resolution.Res.{Res}
@@ -20,15 +21,14 @@ use Rattle.pc_types.specs.Below.{Bases, Below, same, through}
 use Rattle.pc_types.proofs.Structural.{Chain, here, up, Sub, s_class, sub_of}
 use Rattle.pc_class.specs.Bases.{bases_of, base_named, earlier_class}
 use Rattle.pc_class.specs.Facts as facts
-use Rattle.pc_class.specs.Facts.{Parameter, Method, inherited, classes_of, class_at, binds_field, binds_method, own_fields, own_methods}
-use Rattle.pc_class.specs.Findings.{base_class, method_made}
+use Rattle.pc_class.specs.Facts.{Parameter, Method, inherited, classes_of, class_at, binds_field, binds_method, own_fields, own_methods, method_made}
+use Rattle.pc_class.specs.Findings.{base_class}
 use Rattle.pc_value.specs.Value.{Value, Gives, Stops, Raised, TypeError}
 use Rattle.pc_machine.specs.State as state
 use Rattle.pc_machine.specs.State.{State, Function, Class, a_class}
 use Rattle.pc_machine.specs.Calls as run
 use Rattle.pc_machine.specs.Calls.{is_ancestor}
 use Rattle.pc_machine.specs.Names.{means_class, meaning, meaning_of_local, meaning_of_global, local_of, global_of}
-use Rattle.pc_tree.specs.Stopping.{is_reserved}
 use Rattle.pc_machine.specs.Steps.{Parts}
 use Rattle.pc_machine.specs.Free.{Step, free}
 use Rattle.pc_machine.specs.Evaluation as evaluation

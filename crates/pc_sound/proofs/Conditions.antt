@@ -5,6 +5,7 @@ use Rattle.std.specs.List.{list_any}
 use Rattle.std.proofs.lemmas.Slice.Eq.{bytes_eq-Decides}
 use Rattle.std.proofs.lemmas.Bool.{and_parts, or_parts}
 use Rattle.pc_source.specs.declared.place.Place.{Place}
+use Rattle.pc_token.specs.Keywords.{is_reserved}
 use Rattle.pc_tree.specs.declared.code.Code.{Code}
 use Rattle.pc_tree.specs.declared.code.Code.TheVariants.{A7}
 use Rattle.pc_scope.specs.Expressions.{is_instance_test}
@@ -27,7 +28,6 @@ use Rattle.pc_value.specs.Value.{Value, boolean, Out, Gives, Stops, Cut, Heap, i
 use Rattle.pc_value.specs.Actions as action
 use Rattle.pc_machine.specs.State.{State, Frame, Class}
 use Rattle.pc_machine.specs.Names.{meaning, meaning_of_local, meaning_of_global, global_of, local_of}
-use Rattle.pc_tree.specs.Stopping.{is_reserved}
 use Rattle.pc_machine.specs.Calls.{value_of_meaning, Test, tests_int, tests_str, tests_bool, tests_class, test_of, passes}
 use Rattle.pc_machine.specs.Steps.{Parts, value_out}
 use Rattle.pc_machine.specs.Evaluation.{eval_node, eval_over, eval_call, instance_test, ordinary, call_form, steps, choose, is_nothing}

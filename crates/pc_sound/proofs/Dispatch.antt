@@ -18,8 +18,8 @@ use Rattle.pc_types.specs.Below as subtyping
 use Rattle.pc_types.specs.Below.{Bases, Below, Static, same, through}
 use Rattle.pc_types.proofs.Structural.{Chain, here, up, Sub, s_class, sub_of}
 use Rattle.pc_class.specs.Bases.{bases_of, base_named}
-use Rattle.pc_class.specs.Facts.{Parameter, Method, Class, class_in, class_at, inherited, classes_of, method_of, binds_method, own_methods}
-use Rattle.pc_class.specs.Findings.{OverrideRule, base_class, method_made}
+use Rattle.pc_class.specs.Facts.{Parameter, Method, Class, class_in, class_at, inherited, classes_of, method_of, binds_method, own_methods, method_made}
+use Rattle.pc_class.specs.Findings.{OverrideRule, base_class}
 use Rattle.pc_class.specs.Overrides.{has_shape_of, Flow, parameter_flows, IsGood, IsStatic, Judges, static, dynamic, wrong, overridden}
 use Rattle.pc_sound.proofs.Inheritance.{HasBase, has_base, base_known, below_class, class_over, class_is, class_over_base, no_class_past}
 

@@ -4,7 +4,7 @@ use Rattle.std.specs.Prelude.{Bool as Test, true, false, if◌then◌else◌, na
 use Rattle.pc_source.specs.declared.place.Place.{Place}
 use Rattle.pc_tree.specs.declared.code.Code.TheVariants.{E26}
 use Rattle.pc_tree.specs.Tree.{Expr, Exprs, Entries, tuple, list, dict, no_exprs, more_exprs, no_entries, more_entries}
-use Rattle.pc_scope.specs.Expressions.{place_of}
+use Rattle.pc_tree.specs.Depth.{place_of}
 use Rattle.pc_types.specs.Tree.{Tree, Any, Int, Str, ListOf, DictOf, TupleOf}
 use Rattle.pc_types.specs.Below.{Bases, Static}
 use Rattle.pc_types.specs.Normal.{IsKey}

@@ -10,8 +10,7 @@ use Rattle.pc_scope.specs.Resolution.{is_among, receiver, method_at}
 use Rattle.pc_types.specs.Annotations.{read_ann}
 use Rattle.pc_class.specs.Bases.{bases_of, base_named}
 use Rattle.pc_class.specs.Facts as facts
-use Rattle.pc_class.specs.Facts.{Parameter, Method, field_of, method_of, class_in, class_at, inherited, classes_of, parameters_of, binds_field, binds_method, own_fields, own_methods}
-use Rattle.pc_class.specs.Findings.{method_made}
+use Rattle.pc_class.specs.Facts.{Parameter, Method, field_of, method_of, class_in, class_at, inherited, classes_of, parameters_of, binds_field, binds_method, own_fields, own_methods, method_made}
 use Rattle.pc_check.specs.Modules.{Labelling, IsLawful}
 use Rattle.pc_sound.specs.Sound.{HasNoError}
 use Rattle.pc_sound.proofs.Inheritance.{no_class_past, class_is, class_over, below_class}

@@ -10,17 +10,18 @@ use Rattle.pc_source.specs.declared.place.Place.{Place}
 use Rattle.pc_tree.specs.declared.code.Code.TheVariants.{E03, E20}
 use Rattle.pc_tree.specs.Code.{finding}
 use Rattle.pc_tree.specs.Tree.{Name, Expr, name, number, text, truth, nothing, tuple, list, dict, negative, negation, binary, compare, is_none, is_not_none, conjunction, disjunction, attribute, index, call, Constant, Exprs, no_exprs, more_exprs, Entries, no_entries, more_entries, Keywords, no_keywords, more_keywords, Item, constant_item, class_item, def_item, Module}
+use Rattle.pc_tree.specs.Machine.Finishing.{name_of_tree}
 use Rattle.pc_scope.specs.declared.resolution.Res.{Res}
 use Rattle.pc_scope.specs.declared.resolution.Res.TheVariants as res
-use Rattle.pc_scope.specs.Expressions.{as_name, parts_in, parts_in_all, parts_in_entries, parts_in_keywords}
+use Rattle.pc_scope.specs.Expressions.{parts_in, parts_in_all, parts_in_entries, parts_in_keywords}
 use Rattle.pc_scope.specs.Bindings.{constants_in, classes_in}
 use Rattle.pc_scope.specs.Resolution.{resolve_in_module}
 use Rattle.pc_scope.specs.Findings as scope
-use Rattle.pc_scope.specs.Findings.{IsLate}
+use Rattle.pc_scope.specs.Findings.{IsEarlyMeaning}
 use Rattle.pc_types.specs.Tree.{Tree}
 use Rattle.pc_flow.specs.Environment.{Env, current}
 use Rattle.pc_expr.specs.Operations.{in_error}
-use Rattle.pc_expr.specs.Context.{Context, local_mark, name_mark, constant_mark, is_late}
+use Rattle.pc_expr.specs.Context.{Context, local_mark, name_mark, constant_mark, is_early}
 use Rattle.pc_expr.specs.Signatures.{initializer_context}
 use Rattle.pc_check.specs.Modules.{Labelling, IsLawful, ItemsMarks, Before, before_next, nothing_before}
 use Rattle.pc_sound.specs.Sound.{HasNoError}
@@ -36,27 +37,27 @@ cons_both : (o : Option Name) (us vs : List Name) → cons_option o (us ++ vs) �
 cons_both None us vs = refl
 cons_both (Some n) us vs = refl
 
-names_both : (xs ys : List Expr) → filter_map as_name (xs ++ ys) ≡ filter_map as_name xs ++ filter_map as_name ys
+names_both : (xs ys : List Expr) → filter_map name_of_tree (xs ++ ys) ≡ filter_map name_of_tree xs ++ filter_map name_of_tree ys
 names_both [] ys = refl
-names_both (x ∷ xs) ys = ap (cons_option (as_name x)) (names_both xs ys) ∙ cons_both (as_name x) (filter_map as_name xs) (filter_map as_name ys)
+names_both (x ∷ xs) ys = ap (cons_option (name_of_tree x)) (names_both xs ys) ∙ cons_both (name_of_tree x) (filter_map name_of_tree xs) (filter_map name_of_tree ys)
 
 module _ (ctx : Context) (declared : List Tree) where
   -- a name reads in time in each environment
   abbrev pub InTime : Name → Type 0
-  InTime n = (env : Env) → is_late (name_mark ctx env (ctx.resolve n.text)).codes ≡ false
+  InTime n = (env : Env) → is_early (name_mark ctx env (ctx.resolve n.text)).codes ≡ false
 
   -- so does each name among expressions
   abbrev pub NamesInTime : List Expr → Type 0
-  NamesInTime xs = (n : Name) → Contains (filter_map as_name xs) n → InTime n
+  NamesInTime xs = (n : Name) → Contains (filter_map name_of_tree xs) n → InTime n
 
   left_of : (xs ys : List Expr) → NamesInTime (xs ++ ys) → NamesInTime xs
-  left_of xs ys h n c = h n (subst (λ l. Contains l n) (sym (names_both xs ys)) (Contains-append_left (filter_map as_name xs) (filter_map as_name ys) n c))
+  left_of xs ys h n c = h n (subst (λ l. Contains l n) (sym (names_both xs ys)) (Contains-append_left (filter_map name_of_tree xs) (filter_map name_of_tree ys) n c))
 
   right_of : (xs ys : List Expr) → NamesInTime (xs ++ ys) → NamesInTime ys
-  right_of xs ys h n c = h n (subst (λ l. Contains l n) (sym (names_both xs ys)) (Contains-append_right (filter_map as_name xs) (filter_map as_name ys) n c))
+  right_of xs ys h n c = h n (subst (λ l. Contains l n) (sym (names_both xs ys)) (Contains-append_right (filter_map name_of_tree xs) (filter_map name_of_tree ys) n c))
 
   own : (e : Expr) → NamesInTime (parts_in false e) → (n : Name) → e ≡ name n → InTime n
-  own e h n is = h n (subst (λ x. Contains (filter_map as_name (parts_in false x)) n) (sym is) (0, omega arith, refl))
+  own e h n is = h n (subst (λ x. Contains (filter_map name_of_tree (parts_in false x)) n) (sym is) (0, omega arith, refl))
 
   second : (args : Exprs) → NamesInTime (parts_in_all false args) → SecondTimely ctx declared args
   second no_exprs h = tt
@@ -109,30 +110,30 @@ past_end [] i e = omega arith
 past_end (x ∷ xs) zero e = absurd (none-some _ (sym e))
 past_end (x ∷ xs) (suc i) e = let h = past_end xs i e in omega (arith, h)
 
--- a name of an initializer that is not late reads in time
-in_time : (m : Module) (constants : List Tree) (known : ℕ) (r : Res) → (IsLate (length constants) known r → ⊥) → (env : Env) → is_late (name_mark (initializer_context m constants known) env r).codes ≡ false
+-- a name of an initializer that is not early reads in time
+in_time : (m : Module) (constants : List Tree) (known : ℕ) (r : Res) → (IsEarlyMeaning (length constants) known r → ⊥) → (env : Env) → is_early (name_mark (initializer_context m constants known) env r).codes ≡ false
 in_time m constants known (res.Local x) h env = of_local (current env x)
   where
-    of_local : (o : Option Tree) → is_late (local_mark o).codes ≡ false
+    of_local : (o : Option Tree) → is_early (local_mark o).codes ≡ false
     of_local None = refl
     of_local (Some t) = refl
 in_time m constants known (res.Const i) h env = go (slice_get constants i) refl
   where
-    go : (o : Option Tree) → slice_get constants i ≡ o → is_late (constant_mark o).codes ≡ false
+    go : (o : Option Tree) → slice_get constants i ≡ o → is_early (constant_mark o).codes ≡ false
     go None e = absurd (h (past_end constants i e))
     go (Some t) e = refl
 in_time m constants known (res.Func i) h env = absurd (h tt)
 in_time m constants known (res.Class c) h env = go (nat_lt c known) refl
   where
-    go : (b : Test) → nat_lt c known ≡ b → is_late (if b then in_error E20 else in_error E03).codes ≡ false
+    go : (b : Test) → nat_lt c known ≡ b → is_early (if b then in_error E20 else in_error E03).codes ≡ false
     go true e = refl
     go false e = absurd (h (grind (arith, nat_tests, e)))
 in_time m constants known (res.Builtin b) h env = refl
 in_time m constants known res.None h env = refl
 
 module _ (m : Module) (marks : Labelling m) (lawful : IsLawful m marks) (clean : HasNoError m) where
-  none_late : (done : List Item) (p : Place) (c : Constant) (rest : List Item) → done ++ constant_item p c ∷ rest ≡ m.items → (n : Name) → Contains (filter_map as_name (parts_in false c.value)) n → IsLate (length (constants_in done)) (length (classes_in done)) (resolve_in_module m n.text) → ⊥
-  none_late done p c rest whole n named late =
+  none_early : (done : List Item) (p : Place) (c : Constant) (rest : List Item) → done ++ constant_item p c ∷ rest ≡ m.items → (n : Name) → Contains (filter_map name_of_tree (parts_in false c.value)) n → IsEarlyMeaning (length (constants_in done)) (length (classes_in done)) (resolve_in_module m n.text) → ⊥
+  none_early done p c rest whole n named early =
       clean (finding n.place E03) (record {
         marks = marks;
         lawful = lawful;
@@ -141,7 +142,7 @@ module _ (m : Module) (marks : Labelling m) (lawful : IsLawful m marks) (clean :
           first = p;
           constant = c;
           item = subst (λ l. slice_get l (length done) ≡ Some (constant_item p c)) whole (get_at_end done (constant_item p c) rest);
-          found = inl (record { n = n; named = named; late = subst (λ l. IsLate (length (constants_in l)) (length (classes_in l)) (resolve_in_module m n.text)) (sym taken) late; is = refl });
+          found = inl (record { n = n; named = named; early = subst (λ l. IsEarlyMeaning (length (constants_in l)) (length (classes_in l)) (resolve_in_module m n.text)) (sym taken) early; is = refl });
         }));
       }) refl
     where
@@ -152,8 +153,8 @@ module _ (m : Module) (marks : Labelling m) (lawful : IsLawful m marks) (clean :
   timely_items done b [] marks whole constants classes = tt
   timely_items done b (constant_item p c ∷ rest) marks whole constants classes = (
     timely_of (initializer_context m b.constants b.classes) [] c.value
-        (λ n named. in_time m b.constants b.classes (resolve_in_module m n.text) (λ late. none_late done p c rest whole n named
-        (subst (λ k. IsLate k (length (classes_in done)) (resolve_in_module m n.text)) constants (subst (λ k. IsLate (length b.constants) k (resolve_in_module m n.text)) classes late)))),
+        (λ n named. in_time m b.constants b.classes (resolve_in_module m n.text) (λ early. none_early done p c rest whole n named
+        (subst (λ k. IsEarlyMeaning k (length (classes_in done)) (resolve_in_module m n.text)) constants (subst (λ k. IsEarlyMeaning (length b.constants) k (resolve_in_module m n.text)) classes early)))),
     timely_items (done ++ constant_item p c ∷ []) (before_next m b (constant_item p c) marks.0) rest marks.1 (append_assoc done (constant_item p c ∷ []) rest ∙ whole)
         (one_longer b.constants _ ∙ (ap suc constants ∙ (sym (one_longer (constants_in done) c) ∙ ap length (sym (constants_append done (constant_item p c ∷ []))))))
         (classes ∙ ap length (sym (classes_append done (constant_item p c ∷ []) ∙ append-nil (classes_in done)))),

@@ -11,6 +11,7 @@ use Rattle.pc_tree.specs.declared.code.Finding.{Finding}
 use Rattle.pc_tree.specs.Code.{finding}
 use Rattle.pc_tree.specs.Stopping.{has_none, twice, outside_loop, clashing_members, no_main, reserved_bound, default_order, IsStopping, is_runnable}
 use Rattle.pc_tree.specs.Tree.{Expr, ClassDef, Item, constant_item, class_item, def_item, Module}
+use Rattle.pc_tree.specs.Machine.Finishing.{name_of_tree}
 use Rattle.pc_scope.specs.declared.resolution.Owner.{Owner}
 use Rattle.pc_scope.specs.declared.resolution.Owner.TheVariants as owners
 use Rattle.pc_scope.specs.declared.resolution.Res.{Res}
@@ -18,9 +19,9 @@ use Rattle.pc_scope.specs.declared.resolution.Res.TheVariants as res
 use Rattle.pc_scope.specs.Bindings.{constants_in, classes_in, bodies}
 use Rattle.pc_scope.specs.Resolution.{resolve, resolve_in_module}
 use Rattle.pc_scope.specs.Reach.{unreached}
-use Rattle.pc_scope.specs.Expressions.{parts_in, as_name, other_callee, exprs_in_all}
+use Rattle.pc_scope.specs.Expressions.{parts_in, other_callee, exprs_in_all}
 use Rattle.pc_scope.specs.Findings as scope
-use Rattle.pc_scope.specs.Findings.{IsUnknownIn, IsUnknown, IsLate, IsLateName, IsLateCallee, IsEarly, IsUnreachable, ScopeFinds}
+use Rattle.pc_scope.specs.Findings.{IsUnknownIn, IsUnknown, IsEarlyMeaning, IsEarlyName, IsEarlyCallee, IsEarly, IsUnreachable, ScopeFinds}
 use Rattle.pc_class.specs.Findings as class
 use Rattle.pc_class.specs.Findings.{ClassFinds}
 use Rattle.pc_check.specs.Modules.{Labelling, IsLawful, IsFinding, ItemsFind, constant_types, nothing_before}
@@ -110,7 +111,7 @@ nothing_meant (res.Builtin b) g = none_listed (λ f h. known (res.Builtin b) ref
 
 module _ (m : Module) where
   abbrev pub unknown_in : (owner : Owner) (e : Expr) → Listing (IsUnknownIn m owner e)
-  unknown_in owner e = like (among_listed (filter_map as_name (parts_in true e)) (λ n. nothing_meant (resolve m owner n.text) (finding n.place E02)))
+  unknown_in owner e = like (among_listed (filter_map name_of_tree (parts_in true e)) (λ n. nothing_meant (resolve m owner n.text) (finding n.place E02)))
       (λ f h. record { n = h.element; named = h.among; unknown = h.found.0; is = h.found.1 })
       (λ f h. record { element = h.n; among = h.named; found = (h.unknown, h.is) })
 
@@ -151,42 +152,42 @@ module _ (m : Module) where
   pub is_past : (k i : ℕ) → nat_le k i ≡ false → k ≤ i → ⊥
   is_past k i e l = grind (arith, nat_tests)
 
-  -- it is late, and stands there
-  abbrev pub LateAt : (constants classes : ℕ) → Finding → Res → Finding → Type 0
-  LateAt k c g r f = IsLate k c r × (f ≡ g)
+  -- it is early, and stands there
+  abbrev pub EarlyMeaningAt : (constants classes : ℕ) → Finding → Res → Finding → Type 0
+  EarlyMeaningAt k c g r f = IsEarlyMeaning k c r × (f ≡ g)
 
-  abbrev pub late_from : (k i : ℕ) (g : Finding) (late : Test) → nat_le k i ≡ late → Listing (λ f. (k ≤ i) × (f ≡ g))
-  late_from k i g true e = like (equal_listed g) (λ f h. (is_within k i e, h)) (λ f h. h.1)
-  late_from k i g false e = none_listed (λ f h. is_past k i e h.0)
+  abbrev pub early_from : (k i : ℕ) (g : Finding) (early : Test) → nat_le k i ≡ early → Listing (λ f. (k ≤ i) × (f ≡ g))
+  early_from k i g true e = like (equal_listed g) (λ f h. (is_within k i e, h)) (λ f h. h.1)
+  early_from k i g false e = none_listed (λ f h. is_past k i e h.0)
 
-  abbrev pub late_at : (k c : ℕ) (g : Finding) (r : Res) → Listing (LateAt k c g r)
-  late_at k c g (res.Func i) = like (equal_listed g) (λ f h. (tt, h)) (λ f h. h.1)
-  late_at k c g (res.Const i) = late_from k i g (nat_le k i) refl
-  late_at k c g (res.Class i) = late_from c i g (nat_le c i) refl
-  late_at k c g (res.Local x) = none_listed (λ f h. h.0)
-  late_at k c g (res.Builtin b) = none_listed (λ f h. h.0)
-  late_at k c g res.None = none_listed (λ f h. h.0)
+  abbrev pub early_meaning_at : (k c : ℕ) (g : Finding) (r : Res) → Listing (EarlyMeaningAt k c g r)
+  early_meaning_at k c g (res.Func i) = like (equal_listed g) (λ f h. (tt, h)) (λ f h. h.1)
+  early_meaning_at k c g (res.Const i) = early_from k i g (nat_le k i) refl
+  early_meaning_at k c g (res.Class i) = early_from c i g (nat_le c i) refl
+  early_meaning_at k c g (res.Local x) = none_listed (λ f h. h.0)
+  early_meaning_at k c g (res.Builtin b) = none_listed (λ f h. h.0)
+  early_meaning_at k c g res.None = none_listed (λ f h. h.0)
 
-  abbrev pub late_names : (k c : ℕ) (e : Expr) → Listing (IsLateName m k c e)
-  late_names k c e = like (among_listed (filter_map as_name (parts_in false e)) (λ n. late_at k c (finding n.place E03) (resolve_in_module m n.text)))
-      (λ f h. record { n = h.element; named = h.among; late = h.found.0; is = h.found.1 })
-      (λ f h. record { element = h.n; among = h.named; found = (h.late, h.is) })
+  abbrev pub early_names : (k c : ℕ) (e : Expr) → Listing (IsEarlyName m k c e)
+  early_names k c e = like (among_listed (filter_map name_of_tree (parts_in false e)) (λ n. early_meaning_at k c (finding n.place E03) (resolve_in_module m n.text)))
+      (λ f h. record { n = h.element; named = h.among; early = h.found.0; is = h.found.1 })
+      (λ f h. record { element = h.n; among = h.named; found = (h.early, h.is) })
 
-  abbrev pub late_callees : (e : Expr) → Listing (IsLateCallee e)
-  late_callees e = like (among_listed (filter_map other_callee (parts_in false e)) (λ p. equal_listed (finding p E03)))
+  abbrev pub early_callees : (e : Expr) → Listing (IsEarlyCallee e)
+  early_callees e = like (among_listed (filter_map other_callee (parts_in false e)) (λ p. equal_listed (finding p E03)))
       (λ f h. record { place = h.element; callee = h.among; is = h.found })
       (λ f h. record { element = h.place; among = h.callee; found = h.is })
 
   -- what is found at an item
   abbrev pub EarlyAt : ℕ → Option Item → Finding → Type 0
   EarlyAt at None f = ⊥
-  EarlyAt at (Some (constant_item p c)) f = IsLateName m (length (constants_in (take at m.items))) (length (classes_in (take at m.items))) c.value f ⊎ IsLateCallee c.value f
+  EarlyAt at (Some (constant_item p c)) f = IsEarlyName m (length (constants_in (take at m.items))) (length (classes_in (take at m.items))) c.value f ⊎ IsEarlyCallee c.value f
   EarlyAt at (Some (class_item p c)) f = ⊥
   EarlyAt at (Some (def_item p d)) f = ⊥
 
   abbrev pub early_at : (at : ℕ) (i : Option Item) → Listing (EarlyAt at i)
   early_at at None = nothing_listed
-  early_at at (Some (constant_item p c)) = both_listed (late_names (length (constants_in (take at m.items))) (length (classes_in (take at m.items))) c.value) (late_callees c.value)
+  early_at at (Some (constant_item p c)) = both_listed (early_names (length (constants_in (take at m.items))) (length (classes_in (take at m.items))) c.value) (early_callees c.value)
   early_at at (Some (class_item p c)) = nothing_listed
   early_at at (Some (def_item p d)) = nothing_listed
 

@@ -8,10 +8,10 @@ use Rattle.pc_tree.specs.declared.code.Code.TheVariants.{A1, E03, E12}
 use Rattle.pc_tree.specs.declared.code.Finding.{Finding}
 use Rattle.pc_tree.specs.Code.{finding, IsError}
 use Rattle.pc_tree.specs.Tree.{Expr, name, number, text, truth, nothing, tuple, list, dict, negative, negation, binary, compare, is_none, is_not_none, conjunction, disjunction, attribute, index, call}
-use Rattle.pc_scope.specs.Expressions.{place_of}
+use Rattle.pc_tree.specs.Depth.{place_of}
 use Rattle.pc_types.specs.Tree.{Tree}
 use Rattle.pc_flow.specs.Environment.{Env}
-use Rattle.pc_expr.specs.Context.{Context, Flows, static, dynamic, wrong, FlowUnless, FlowAt, is_late}
+use Rattle.pc_expr.specs.Context.{Context, Flows, static, dynamic, wrong, FlowUnless, FlowAt, is_early}
 use Rattle.pc_expr.specs.Labels.{Marks, mark_of, type_of, Finds, IsFoundAt, IsFlowAt}
 use Rattle.pc_expr.specs.Lawful.{Lawful}
 use Rattle.pc_value.specs.Value.{Value, Out, Gives, Stops}
@@ -70,15 +70,15 @@ found_here (index p a b) m f h = inl h
 found_here (call p c args kws) m f h = inl h
 
 -- a node with E03 is in error
-pub late_code : (codes : List Code) → is_late codes ≡ true → Contains codes E03
-late_code [] e = absurd (grind (arith, e))
-late_code (E03 ∷ cs) e = (0, omega arith, refl)
-late_code (c ∷ cs) e = absurd (grind (arith, e))
+pub early_code : (codes : List Code) → is_early codes ≡ true → Contains codes E03
+early_code [] e = absurd (grind (arith, e))
+early_code (E03 ∷ cs) e = (0, omega arith, refl)
+early_code (c ∷ cs) e = absurd (grind (arith, e))
 
 module _ (around : Around) (ctx : Context) (eval : Expr → Step Value) (good : GoodEval around ctx eval) (evaluates : (e : Expr) → Evaluates (place_of e) (eval e)) (env : Env) where
   -- an expression that flows into a type, whose flow's code is allowed
   pub flow_safe : (known : HeapTyping → Type 0) (want : Option Tree) (e : Expr) (m : Marks e) (t : Tree) (c : Option Code) → Lawful ctx around.declared env want e m → Covered around (Finds e m) → FlowAt around.bases (mark_of e m) t c → Covered around (IsFlowAt (place_of e) (c ∷ [])) → Keyed e m → IsSafe around env known (eval e) (λ k v. HasType around.bases k t v)
-  flow_safe known want e m t c law covered flow allowed keyed = go (is_late (mark_of e m).codes) refl flow
+  flow_safe known want e m t c law covered flow allowed keyed = go (is_early (mark_of e m).codes) refl flow
     where
       part : IsSafe around env known (eval e) (λ k v. HasType around.bases k (type_of e m) v)
       part = weaken around env known (λ k. Unit {0}) (eval e) (λ k v. HasType around.bases k (type_of e m) v) (λ k v. HasType around.bases k (type_of e m) v) (λ k h. tt) (λ k v h. h) (good.safe env want e m law covered keyed)
@@ -98,6 +98,6 @@ module _ (around : Around) (ctx : Context) (eval : Expr → Step Value) (good : 
       by_flow _ is (dynamic n a) = record { run = dynamic_run (allowed (finding (place_of e) A1) (record { code = A1; among = (0, omega arith, is); is = refl })).0 }
       by_flow _ is (wrong n) = absurd (no_error E12 is refl)
 
-      go : (late : Test) → is_late (mark_of e m).codes ≡ late → FlowUnless late around.bases (type_of e m) t c → IsSafe around env known (eval e) (λ k v. HasType around.bases k t v)
-      go true is f = absurd ((covered (finding (place_of e) E03) (found_here e m (finding (place_of e) E03) (record { code = E03; among = late_code (mark_of e m).codes is; is = refl }))).1 refl)
+      go : (early : Test) → is_early (mark_of e m).codes ≡ early → FlowUnless early around.bases (type_of e m) t c → IsSafe around env known (eval e) (λ k v. HasType around.bases k t v)
+      go true is f = absurd ((covered (finding (place_of e) E03) (found_here e m (finding (place_of e) E03) (record { code = E03; among = early_code (mark_of e m).codes is; is = refl }))).1 refl)
       go false is f = by_flow c refl f

@@ -7,8 +7,8 @@ use Rattle.pc_tree.specs.declared.code.Code.{Code}
 use Rattle.pc_tree.specs.Code.{finding}
 use Rattle.pc_tree.specs.Tree.{Name, Expr, for_loop, Stmts, Module}
 use Rattle.pc_tree.specs.Stopping.{bound_by, loose_in}
+use Rattle.pc_tree.specs.Depth.{place_of}
 use Rattle.pc_scope.specs.declared.resolution.Res.TheVariants as res
-use Rattle.pc_scope.specs.Expressions.{place_of}
 use Rattle.pc_types.specs.Tree.{Tree}
 use Rattle.pc_types.specs.Below.{Bases}
 use Rattle.pc_flow.specs.Environment.{Env, declared_type, assign, assigned_type, loop_head}

@@ -4,6 +4,7 @@ use Rattle.std.specs.Prelude.{Bool as Test, true, false, if◌then◌else◌, na
 use Rattle.std.proofs.lemmas.Slice.Eq.{bytes_eq-Decides}
 use Rattle.std.proofs.lemmas.Option.{same_Some}
 use Rattle.pc_source.specs.declared.place.Place.{Place}
+use Rattle.pc_token.specs.Keywords.{is_reserved}
 use Rattle.pc_tree.specs.declared.code.Code.{Code}
 use Rattle.pc_tree.specs.declared.code.Code.TheVariants.{E02, E03, E20}
 use Rattle.pc_tree.specs.Code.{finding, IsError}
@@ -23,7 +24,6 @@ use Rattle.pc_expr.specs.Labels.{IsFoundAt}
 use Rattle.pc_value.specs.Value.{Value}
 use Rattle.pc_machine.specs.State.{State, Class, Globals, a_value, a_class}
 use Rattle.pc_machine.specs.Names.{means_class, means_reserved, meaning, meaning_of_local, meaning_of_global, local_of, global_of}
-use Rattle.pc_tree.specs.Stopping.{is_reserved}
 use Rattle.pc_machine.specs.Calls.{value_of_meaning}
 use Rattle.pc_machine.specs.Steps.{Parts}
 use Rattle.pc_machine.specs.Evaluation.{eval_node}

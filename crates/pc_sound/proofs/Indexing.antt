@@ -5,7 +5,7 @@ use Rattle.std.specs.Prelude.{◌⊎◌, Bool as Test, true, false, if◌then◌
 use Rattle.std.proofs.lemmas.Option.{same_Some}
 use Rattle.pc_source.specs.declared.place.Place.{Place}
 use Rattle.pc_tree.specs.Tree.{Expr, number, index}
-use Rattle.pc_scope.specs.Expressions.{place_of}
+use Rattle.pc_tree.specs.Depth.{place_of}
 use Rattle.pc_types.specs.Tree.{Tree, Trees, Any, Object, Never, Int, Bool, Str, NoneType, Class, ListOf, DictOf, TupleOf, Union, end, more}
 use Rattle.pc_types.specs.Below.{Bases, AreSmaller}
 use Rattle.pc_types.specs.Shape.{members, listed}

@@ -7,17 +7,18 @@ use Rattle.pc_source.specs.declared.place.Place.{Place}
 use Rattle.pc_tree.specs.declared.code.Code.TheVariants.{E20, E25, E03}
 use Rattle.pc_tree.specs.Code.{finding}
 use Rattle.pc_tree.specs.Tree.{Expr, Exprs, Keywords, Name, name, call, no_exprs, more_exprs, no_keywords}
+use Rattle.pc_tree.specs.Depth.{place_of}
 use Rattle.pc_scope.specs.declared.resolution.Builtin.{Builtin}
 use Rattle.pc_scope.specs.declared.resolution.Builtin.TheVariants as builtin
 use Rattle.pc_scope.specs.declared.resolution.Res.{Res}
 use Rattle.pc_scope.specs.declared.resolution.Res.TheVariants as res
-use Rattle.pc_scope.specs.Expressions.{place_of, is_instance_test}
+use Rattle.pc_scope.specs.Expressions.{is_instance_test}
 use Rattle.pc_types.specs.Tree.{Tree, Bool}
 use Rattle.pc_flow.specs.Environment.{Env}
 use Rattle.pc_flow.specs.Narrowing as narrowing
 use Rattle.pc_flow.specs.Narrowing.{Tested, test_named}
 use Rattle.pc_expr.specs.Operations.{Mark, in_error}
-use Rattle.pc_expr.specs.Context.{Context, name_mark, is_late}
+use Rattle.pc_expr.specs.Context.{Context, name_mark, is_early}
 use Rattle.pc_expr.specs.Calls.{given, Seat, second_code, positional_seat, test_mark}
 use Rattle.pc_expr.specs.Labels.{Marks, mark_of, type_of, Finds, ArgumentsFind, IsCodeAt}
 use Rattle.pc_expr.specs.Lawful.{Lawful, callee_of}
@@ -53,28 +54,28 @@ module _ (around : Around) (ctx : Context) (fits : Fits around ctx) (knows : Kno
       go _ e = absurd (none-some _ e)
 
   -- a class that is tested for is bound where no E03 stands
-  class_known : (c : ℕ) (m : Mark) → m ≡ name_mark ctx env (res.Class c) → is_late m.codes ≡ false → nat_lt c ctx.known ≡ true
-  class_known c m law late = go (nat_lt c ctx.known) refl law
+  class_known : (c : ℕ) (m : Mark) → m ≡ name_mark ctx env (res.Class c) → is_early m.codes ≡ false → nat_lt c ctx.known ≡ true
+  class_known c m law early = go (nat_lt c ctx.known) refl law
     where
       go : (x : Test) → nat_lt c ctx.known ≡ x → m ≡ (if x then in_error E20 else in_error E03) → nat_lt c ctx.known ≡ true
       go true is e = is
-      go false is e = absurd (false≢true (sym late ∙ ap (λ y. is_late y.codes) e))
+      go false is e = absurd (false≢true (sym early ∙ ap (λ y. is_early y.codes) e))
 
   -- what a name tests for is found
-  name_tests : (word : List ℕ) (test : Tested) (m : Mark) → test_named (ctx.resolve word) ≡ Some test → m ≡ name_mark ctx env (ctx.resolve word) → is_late m.codes ≡ false → (k : HeapTyping) (s : State) → Stands around env k s → EndsWell (λ t. Unit {0}) (test_of_meaning word (meaning word s))
-  name_tests word test m named law late k s st = go (ctx.resolve word) refl named law
+  name_tests : (word : List ℕ) (test : Tested) (m : Mark) → test_named (ctx.resolve word) ≡ Some test → m ≡ name_mark ctx env (ctx.resolve word) → is_early m.codes ≡ false → (k : HeapTyping) (s : State) → Stands around env k s → EndsWell (λ t. Unit {0}) (test_of_meaning word (meaning word s))
+  name_tests word test m named law early k s st = go (ctx.resolve word) refl named law
     where
       go : (r : Res) → ctx.resolve word ≡ r → test_named r ≡ Some test → m ≡ name_mark ctx env r → EndsWell (λ t. Unit {0}) (test_of_meaning word (meaning word s))
-      go (res.Class c) is e law' = subst (λ x. EndsWell (λ t. Unit {0}) (test_of_meaning word x)) (sym (means_a_class around ctx fits knows env word c is (class_known c m law' late) k s st)) tt
+      go (res.Class c) is e law' = subst (λ x. EndsWell (λ t. Unit {0}) (test_of_meaning word x)) (sym (means_a_class around ctx fits knows env word c is (class_known c m law' early) k s st)) tt
       go (res.Builtin b) is e law' = subst (λ x. EndsWell (λ t. Unit {0}) (test_of_meaning word x)) (sym (means_a_builtin around ctx fits knows env word b is k s st)) (reserved_test word b test is e)
       go (res.Local x) is e law' = absurd (none-some _ e)
       go (res.Const i) is e law' = absurd (none-some _ e)
       go (res.Func i) is e law' = absurd (none-some _ e)
       go res.None is e law' = absurd (none-some _ e)
 
-  second_tests : (want : Option Tree) (t : Expr) (m : Marks t) (test : Tested) → narrowing.test_of ctx.resolve t ≡ Some test → Lawful ctx around.declared env want t m → is_late (mark_of t m).codes ≡ false → (k : HeapTyping) (s : State) → Stands around env k s → EndsWell (λ x. Unit {0}) (test_of t s)
-  second_tests want (name w) m test named law late k s st = name_tests w.text test m named law late k s st
-  second_tests want _ m test named law late k s st = absurd (none-some _ named)
+  second_tests : (want : Option Tree) (t : Expr) (m : Marks t) (test : Tested) → narrowing.test_of ctx.resolve t ≡ Some test → Lawful ctx around.declared env want t m → is_early (mark_of t m).codes ≡ false → (k : HeapTyping) (s : State) → Stands around env k s → EndsWell (λ x. Unit {0}) (test_of t s)
+  second_tests want (name w) m test named law early k s st = name_tests w.text test m named law early k s st
+  second_tests want _ m test named law early k s st = absurd (none-some _ named)
 
   module _ (parts : Parts Step) (good : GoodEval around ctx parts.eval) where
     two_safe : (want : Option Tree) (p : Place) (n : Name) (e t : Expr) (m : Marks (call p (name n) (more_exprs e (more_exprs t no_exprs)) no_keywords)) → bytes_eq (codes "isinstance") n.text ≡ true → Lawful ctx around.declared env want (call p (name n) (more_exprs e (more_exprs t no_exprs)) no_keywords) m → Covered around (Finds (call p (name n) (more_exprs e (more_exprs t no_exprs)) no_keywords) m) → Keyed (call p (name n) (more_exprs e (more_exprs t no_exprs)) no_keywords) m → IsSafe around env (λ k. Unit {0}) (eval_node Step free parts (call p (name n) (more_exprs e (more_exprs t no_exprs)) no_keywords)) (λ k v. HasType around.bases k m.here.type v)
@@ -104,18 +105,18 @@ module _ (around : Around) (ctx : Context) (fits : Fits around ctx) (knows : Kno
         type : m.here.type ≡ Bool
         type = ap (λ x. x.type) (law.here ∙ picked (is_instance_test (name n) args no_keywords) (test_mark ctx env args) _ test_is)
 
-        late : is_late (mark_of t m.arguments.rest.first).codes ≡ false
-        late = keyed.0.1 test_is
+        early : is_early (mark_of t m.arguments.rest.first).codes ≡ false
+        early = keyed.0.1 test_is
 
         second : m.second ≡ second_code (narrowing.test_of ctx.resolve t) false
-        second = law.second ∙ ap (λ x. if x then second_code (narrowing.test_of ctx.resolve t) (is_late (mark_of t m.arguments.rest.first).codes) else None) test_is ∙ ap (second_code (narrowing.test_of ctx.resolve t)) late
+        second = law.second ∙ ap (λ x. if x then second_code (narrowing.test_of ctx.resolve t) (is_early (mark_of t m.arguments.rest.first).codes) else None) test_is ∙ ap (second_code (narrowing.test_of ctx.resolve t)) early
 
         tested : (k : HeapTyping) (s : State) → Stands around env k s → EndsWell (λ x. Unit {0}) (test_of t s)
         tested k s st = go (narrowing.test_of ctx.resolve t) refl second
           where
             go : (o : Option Tested) → narrowing.test_of ctx.resolve t ≡ o → m.second ≡ second_code o false → EndsWell (λ x. Unit {0}) (test_of t s)
             go None is e = absurd ((covered (finding (place_of t) E25) (inr (inr (inl (subst (λ c. IsCodeAt (place_of t) c (finding (place_of t) E25)) (sym e) refl))))).1 refl)
-            go (Some test) is e = second_tests _ t m.arguments.rest.first test is law.arguments.rest.first late k s st
+            go (Some test) is e = second_tests _ t m.arguments.rest.first test is law.arguments.rest.first early k s st
 
     -- a test of an instance is safe
     pub instance_safe : (want : Option Tree) (p : Place) (c : Expr) (args : Exprs) (kws : Keywords) (m : Marks (call p c args kws)) → is_instance_test c args kws ≡ true → Lawful ctx around.declared env want (call p c args kws) m → Covered around (Finds (call p c args kws) m) → Keyed (call p c args kws) m → IsSafe around env (λ k. Unit {0}) (eval_node Step free parts (call p c args kws)) (λ k v. HasType around.bases k m.here.type v)

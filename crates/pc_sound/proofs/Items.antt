@@ -4,6 +4,7 @@ use Rattle.std.specs.Prelude.{Bool as Test, true, false, not, nat_lt, if◌then�
 use Rattle.std.proofs.lemmas.Option.{same_Some}
 use Rattle.std.proofs.lemmas.Bool.{and_parts, not-true}
 use Rattle.pc_source.specs.declared.place.Place.{Place}
+use Rattle.pc_token.specs.Keywords as keywords
 use Rattle.pc_tree.specs.Tree.{Name, Expr, ClassDef, FuncDef, Param, Item, constant_item, class_item, def_item, Module}
 use Rattle.pc_tree.specs.Stopping.{is_plain_def, has_none}
 use Rattle.pc_scope.specs.declared.resolution.Owner.TheVariants as owners
@@ -11,19 +12,18 @@ use Rattle.pc_scope.specs.declared.resolution.Res.TheVariants as res
 use Rattle.pc_scope.specs.Reserved.{builtin_of, is_reserved}
 use Rattle.pc_scope.specs.Bindings.{constants_in, classes_in, functions_in}
 use Rattle.pc_scope.specs.Resolution.{is_among, bound_first, or_else, builtin_res, resolve_in_module}
-use Rattle.pc_scope.specs.Expressions.{place_of}
 use Rattle.pc_types.specs.Tree.{Tree}
 use Rattle.pc_class.specs.Bases.{bases_of}
 use Rattle.pc_class.specs.Facts.{Parameter, parameters_of, returned, classes_of}
 use Rattle.pc_expr.specs.Context.{FlowsInto}
 use Rattle.pc_expr.specs.Labels.{mark_of}
 use Rattle.pc_expr.specs.Lawful.{Lawful}
-use Rattle.pc_expr.specs.Signatures.{initializer_context}
-use Rattle.pc_check.specs.Modules.{annotated_types, first_of_types, binds_item, Before, before_next, ItemMarks, ItemsMarks, LawfulItem, LawfulItems, ItemFinds, ItemsFind}
+use Rattle.pc_expr.specs.Signatures.{initializer_context, binds_name}
+use Rattle.pc_check.specs.Modules.{annotated_types, first_of_types, Before, before_next, ItemMarks, ItemsMarks, LawfulItem, LawfulItems, ItemFinds, ItemsFind}
 use Rattle.pc_value.specs.Value.{Gives}
 use Rattle.pc_machine.specs.State.{State, Function, Class, Globals}
 use Rattle.pc_machine.specs.Names.{meaning, meaning_of_global, meaning_of_local, global_of}
-use Rattle.pc_tree.specs.Stopping as stopping
+use Rattle.pc_tree.specs.Depth.{place_of}
 use Rattle.pc_machine.specs.Calls.{Callee, calls_value, calls_function, calls_class, calls_reserved, calls_method, calls_builtin_method, callee_of_meaning, bound_arguments}
 use Rattle.pc_machine.specs.Steps.{Parts}
 use Rattle.pc_machine.specs.Free.{Step, free}
@@ -47,15 +47,15 @@ use Rattle.pc_sound.proofs.Proceeding.{Proceeds, proceeds_bind, proceeds_comes}
 use Rattle.pc_sound.proofs.Binds.{constants_append, classes_append, functions_append, constant_named, function_named, class_named}
 use Rattle.pc_sound.proofs.ModuleOrder.{BoundSoFar, bound_later, around_items, Between, Listed, ParametersBind, def_proceeds, constant_proceeds}
 
-binds_parts : (names : List (List ℕ)) (n : Name) → binds_item names n ≡ true → (is_among n.text names ≡ false) × (is_reserved n.text ≡ false)
+binds_parts : (names : List (List ℕ)) (n : Name) → binds_name names n ≡ true → (is_among n.text names ≡ false) × (is_reserved n.text ≡ false)
 binds_parts names n e = let h = neither (is_reserved n.text) (is_among n.text names) e in (h.1, h.0)
 
 module _ (m : Module) (constants : List Tree) (listed : Place → Type 0) where
   -- what is known of each item before it runs: its name is bound by nothing, its labels' dicts have int or str as key, its parameters bind their names
   abbrev pub ItemReady : Before → (i : Item) → ItemMarks i → Type 0
-  ItemReady b (constant_item p c) marks = (binds_item b.names c.name ≡ true) × Keyed c.value marks.value
-  ItemReady b (class_item p c) marks = binds_item b.names c.name ≡ true
-  ItemReady b (def_item p f) marks = (binds_item b.names f.name ≡ true) × ParametersBind m listed [] f.params
+  ItemReady b (constant_item p c) marks = (binds_name b.names c.name ≡ true) × Keyed c.value marks.value
+  ItemReady b (class_item p c) marks = binds_name b.names c.name ≡ true
+  ItemReady b (def_item p f) marks = (binds_name b.names f.name ≡ true) × ParametersBind m listed [] f.params
 
   abbrev pub ItemsReady : Before → (items : List Item) → ItemsMarks items → Type 0
   ItemsReady b [] marks = Unit {0}
@@ -216,8 +216,8 @@ module _ (m : Module) (constants : List Tree) (listed : Place → Type 0) where
         found : (k : HeapTyping) (s : State) → Stands (around_items m listed types (functions_in m.items) n names) [] k s → EndsWell (λ c. IsMain main.function k c) (callee_of_meaning (codes "main") (meaning (codes "main") s))
         found k s st =
             let f = st.outside.function (codes "main") main.number main.function main.resolves main.is in
-            subst (λ o. EndsWell (λ c. IsMain main.function k c) (callee_of_meaning (codes "main") (meaning_of_local (meaning_of_global (stopping.is_reserved (codes "main")) (global_of (codes "main") s.globals)) o))) (sym (st.frame.others (codes "main") refl))
-            (subst (λ o. EndsWell (λ c. IsMain main.function k c) (callee_of_meaning (codes "main") (meaning_of_global (stopping.is_reserved (codes "main")) o))) (sym f.is) f.made)
+            subst (λ o. EndsWell (λ c. IsMain main.function k c) (callee_of_meaning (codes "main") (meaning_of_local (meaning_of_global (keywords.is_reserved (codes "main")) (global_of (codes "main") s.globals)) o))) (sym (st.frame.others (codes "main") refl))
+            (subst (λ o. EndsWell (λ c. IsMain main.function k c) (callee_of_meaning (codes "main") (meaning_of_global (keywords.is_reserved (codes "main")) o))) (sym f.is) f.made)
 
         none_left : (ps : List Parameter) → ps ≡ [] → (k : HeapTyping) (f : Function) → DefaultsHave (bases_of m) k f.parameters ps → Filled (bases_of m) k ps (bound_arguments f.parameters [] [])
         none_left ps e k f d = suited_bound (bases_of m) k f.parameters ps [] [] d (subst (λ l. Suits (bases_of m) k l [] []) (sym e) (record { fills = tt; all_for = tt }))

@@ -6,8 +6,8 @@ use Rattle.pc_tree.specs.Tree.{Ann, Item, constant_item, class_item, def_item, M
 use Rattle.pc_types.specs.Tree.{Tree}
 use Rattle.pc_class.specs.Bases.{bases_of}
 use Rattle.pc_expr.specs.Labels.{type_of}
-use Rattle.pc_expr.specs.Signatures.{initializer_context}
-use Rattle.pc_check.specs.Modules.{ItemsMarks, LawfulItems, Before, before_next, nothing_before, binds_item, annotated_types, first_of_types, constant_type, constant_types, Labelling, IsLawful}
+use Rattle.pc_expr.specs.Signatures.{initializer_context, binds_name}
+use Rattle.pc_check.specs.Modules.{ItemsMarks, LawfulItems, Before, before_next, nothing_before, annotated_types, first_of_types, constant_type, constant_types, Labelling, IsLawful}
 use Rattle.pc_sound.proofs.Lists.{get_one_more}
 use Rattle.pc_sound.proofs.Keys.{IsKeyed, keyed_type}
 use Rattle.pc_sound.proofs.KeyedTypes.{OptionKeyed}
@@ -46,7 +46,7 @@ module _ (m : Module) where
   both_keyed : (all : List Tree) (b : Before) (items : List Item) (marks : ItemsMarks items) → LawfulItems m all b items marks → InitializersTimely b items marks → AllTypesKeyed b.constants → BothKeyed b items marks
   both_keyed all b [] marks law timely keyed = record { labels = tt; types = subst AllTypesKeyed (sym (append-nil b.constants)) keyed }
   both_keyed all b (constant_item p c ∷ rest) marks law timely keyed =
-      let here = labels_keyed (initializer_context m b.constants b.classes) [] (initializer_keyed m b.constants b.classes keyed) [] (λ x t e. absurd (none-some _ e)) (first_of_types (annotated_types m (binds_item b.names c.name) c.annotation)) (want_keyed (binds_item b.names c.name) c.annotation) c.value timely.0 marks.0.value law.0.value in
+      let here = labels_keyed (initializer_context m b.constants b.classes) [] (initializer_keyed m b.constants b.classes keyed) [] (λ x t e. absurd (none-some _ e)) (first_of_types (annotated_types m (binds_name b.names c.name) c.annotation)) (want_keyed (binds_name b.names c.name) c.annotation) c.value timely.0 marks.0.value law.0.value in
       let t = constant_type m c.annotation (type_of c.value marks.0.value) in
       let r = both_keyed all (before_next m b (constant_item p c) marks.0) rest marks.1 law.1 timely.1 (one_more_keyed b.constants t keyed (type_keyed c.annotation (type_of c.value marks.0.value) (keyed_type c.value marks.0.value here))) in
       record { labels = (here, r.labels); types = subst AllTypesKeyed (append_assoc b.constants (t ∷ []) (constant_types m rest marks.1)) r.types }

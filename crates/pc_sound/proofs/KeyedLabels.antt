@@ -6,6 +6,7 @@ use Rattle.pc_tree.specs.declared.code.Code.TheVariants.{A2, E03, E13, E14, E15,
 use Rattle.pc_tree.specs.declared.tree.ComparisonOperator.{ComparisonOperator}
 use Rattle.pc_tree.specs.declared.tree.ComparisonOperator.TheVariants.{Equal, NotEqual, In, NotIn}
 use Rattle.pc_tree.specs.Tree.{Name, Expr, Exprs, Entries, Keywords, name, number, text, truth, nothing, tuple, list, dict, negative, negation, binary, compare, is_none, is_not_none, conjunction, disjunction, attribute, index, call, no_exprs, more_exprs, no_entries, more_entries, no_keywords, more_keywords}
+use Rattle.pc_tree.specs.Stopping.{has_none}
 use Rattle.pc_scope.specs.declared.resolution.Builtin.{Builtin}
 use Rattle.pc_scope.specs.declared.resolution.Builtin.TheVariants as builtin
 use Rattle.pc_scope.specs.declared.resolution.Res.{Res}
@@ -20,10 +21,10 @@ use Rattle.pc_class.specs.Facts.{Parameter, Method, field_of, method_of, class_a
 use Rattle.pc_flow.specs.Environment.{Env, current, join_or_object, join_all}
 use Rattle.pc_flow.specs.Narrowing.{narrow}
 use Rattle.pc_expr.specs.Operations.{Mark, clean, in_error, Offer, has_error, found_of, offers_mark, tuple_item, index_member, attribute_found, attribute_member, contain_member, length_member, negative_member, Kind, whole_kind, text_kind, kind_of, kind_type, row_of_kinds, pair_found, pair_offers, pairs_mark, takes_kind, is_never, is_any, is_dynamic, display_mark}
-use Rattle.pc_expr.specs.Context.{Context, Signature, local_mark, constant_mark, name_mark, is_late}
-use Rattle.pc_expr.specs.Calls.{Given, given, has_none, plain_call, fails_at_call, fails_at_callee, count_exprs, CallOffer, Callee, called, is_suited, value_offer, value_callee, class_signature, method_signature, builtin_signature, class_offers, list_offers, dict_offers, method_offers, builtin_offer, is_callable_builtin, function_offer, good_callee, name_callee, method_callee, is_one, call_mark, all_codes, signatures, Seat, only_member, wanted, type_at, positional_seat, named_seat, nowhere, length_mark, test_mark}
+use Rattle.pc_expr.specs.Context.{Context, Signature, local_mark, constant_mark, name_mark, is_early}
+use Rattle.pc_expr.specs.Calls.{Given, given, plain_call, fails_at_call, fails_at_callee, count_exprs, CallOffer, Callee, called, is_suited, value_offer, value_callee, class_signature, method_signature, builtin_signature, class_offers, list_offers, dict_offers, method_offers, builtin_offer, is_callable_builtin, function_offer, good_callee, name_callee, method_callee, is_one, call_mark, all_codes, signatures, Seat, only_member, wanted, type_at, positional_seat, named_seat, nowhere, length_mark, test_mark}
 use Rattle.pc_expr.specs.Labels.{Marks, ItemsMarks, EntriesMarks, KeywordsMarks, mark_of, type_of, with_mark, item_types, key_types, value_types}
-use Rattle.pc_expr.specs.Lawful.{Lawful, LawfulItems, LawfulEntries, LawfulKeywords, KeyValue, list_item, dict_parts, tuple_parts, members_of, item_seat, part_seat, list_mark, DictMark, no_keys, int_keys, str_keys, other_keys, DictRule, key_seat, value_seat, int_literal, compare_mark, callee_of, is_length_of_one, whole_call_mark, late_second, keyword_seat}
+use Rattle.pc_expr.specs.Lawful.{Lawful, LawfulItems, LawfulEntries, LawfulKeywords, KeyValue, list_item, dict_parts, tuple_parts, members_of, item_seat, part_seat, list_mark, DictMark, no_keys, int_keys, str_keys, other_keys, DictRule, key_seat, value_seat, int_literal, compare_mark, callee_of, is_length_of_one, whole_call_mark, early_second, keyword_seat}
 use Rattle.pc_sound.proofs.Keys.{IsKeyed, AreKeyed, Keyed, ItemsKeyed, EntriesKeyed, KeywordsKeyed, keyed_type}
 use Rattle.pc_sound.proofs.Members.{AllOf}
 use Rattle.pc_sound.proofs.Indexing.{keyed_members}
@@ -443,7 +444,7 @@ module _ (ctx : Context) (declared : List Tree) where
   abbrev pub SecondTimely : Exprs → Type 0
   SecondTimely no_exprs = Unit {0}
   SecondTimely (more_exprs e no_exprs) = Unit {0}
-  SecondTimely (more_exprs e (more_exprs f rest)) = (env : Env) (want : Option Tree) (m : Marks f) → Lawful ctx declared env want f m → is_late (mark_of f m).codes ≡ false
+  SecondTimely (more_exprs e (more_exprs f rest)) = (env : Env) (want : Option Tree) (m : Marks f) → Lawful ctx declared env want f m → is_early (mark_of f m).codes ≡ false
 
   abbrev mutual
     pub Timely : Expr → Type 0
@@ -479,7 +480,7 @@ module _ (ctx : Context) (declared : List Tree) where
     KeywordsTimely no_keywords = Unit {0}
     KeywordsTimely (more_keywords n e rest) = Timely e × KeywordsTimely rest
 
-  pub second_timely : (env : Env) (seat : ℕ → Seat) (es : Exprs) (m : ItemsMarks es) → LawfulItems ctx declared env seat es m → SecondTimely es → late_second es m ≡ false
+  pub second_timely : (env : Env) (seat : ℕ → Seat) (es : Exprs) (m : ItemsMarks es) → LawfulItems ctx declared env seat es m → SecondTimely es → early_second es m ≡ false
   second_timely env seat no_exprs m law t = refl
   second_timely env seat (more_exprs e no_exprs) m law t = refl
   second_timely env seat (more_exprs e (more_exprs f rest)) m law t = t env (seat 1).want m.rest.first law.rest.first
@@ -549,9 +550,9 @@ module _ (ctx : Context) (declared : List Tree) where
     methods_keyed g word [] h = tt
     methods_keyed g word (m ∷ ms) h = offers_append (method_offers ctx g word m) (flat_map (method_offers ctx g word) ms) (method_offers_keyed g word m h.0) (methods_keyed g word ms h.1)
 
-    value_or_late : (m : Mark) → IsKeyed m.type → (x : Test) → CalleeKeyed (if x then value_callee m else value_callee (in_error E03))
-    value_or_late m h true = value_callee_keyed m h
-    value_or_late m h false = value_callee_keyed (in_error E03) tt
+    value_or_early : (m : Mark) → IsKeyed m.type → (x : Test) → CalleeKeyed (if x then value_callee m else value_callee (in_error E03))
+    value_or_early m h true = value_callee_keyed m h
+    value_or_early m h false = value_callee_keyed (in_error E03) tt
 
     callee_keyed : (env : Env) → EnvKeyed declared env → (g : Given) (e : Expr) (m : Marks e) → Keyed e m → CalleeKeyed (callee_of ctx env g e m)
     callee_keyed env h g (name n) m k = name_callee_keyed env h g (ctx.resolve n.text)
@@ -560,7 +561,7 @@ module _ (ctx : Context) (declared : List Tree) where
         go : (x : Test) → CalleeKeyed (if x then method_callee ctx g field.text (type_of e m.object) else value_callee (in_error E03))
         go true = (tt, methods_keyed g field.text (members (type_of e m.object)) (keyed_members (type_of e m.object) (keyed_type e m.object k.1)))
         go false = value_callee_keyed (in_error E03) tt
-    callee_keyed env h g e m k = value_or_late (mark_of e m) (keyed_type e m k) ctx.in_body
+    callee_keyed env h g e m k = value_or_early (mark_of e m) (keyed_type e m k) ctx.in_body
 
     field_offer_keyed : (word : List ℕ) (m : Tree) → IsKeyed m → IsKeyed (attribute_member ctx.classes word m).gives
     field_offer_keyed word (Class c) h = attribute_keyed (field_of (class_at ctx.classes c).fields word) (method_of (class_at ctx.classes c).methods word) (field_keyed (class_at ctx.classes c).fields word (keyed.fields c))

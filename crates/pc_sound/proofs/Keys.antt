@@ -6,7 +6,7 @@ use Rattle.pc_types.specs.Tree.{Tree, Trees, ListOf, DictOf, TupleOf, Union, end
 use Rattle.pc_types.specs.Normal.{IsKey}
 use Rattle.pc_scope.specs.Expressions.{is_instance_test}
 use Rattle.pc_expr.specs.Labels.{Marks, ItemsMarks, EntriesMarks, KeywordsMarks, type_of}
-use Rattle.pc_expr.specs.Lawful.{late_second}
+use Rattle.pc_expr.specs.Lawful.{early_second}
 
 -- each dict, anywhere in a type, has int or str as its key
 abbrev mutual
@@ -23,7 +23,7 @@ abbrev mutual
 
 -- the second argument of a test of an instance has no E03
 abbrev pub IsPunctual : Expr → (arguments : Exprs) → Keywords → ItemsMarks arguments → Type 0
-IsPunctual callee arguments keywords m = is_instance_test callee arguments keywords ≡ true → late_second arguments m ≡ false
+IsPunctual callee arguments keywords m = is_instance_test callee arguments keywords ≡ true → early_second arguments m ≡ false
 
 -- each label of an expression and of its parts is so, and each test of an instance in it
 abbrev mutual

@@ -6,6 +6,7 @@ use Rattle.std.proofs.lemmas.List.Elements.{Contains-append_left, Contains-appen
 use Rattle.std.proofs.lemmas.Slice.Eq.{bytes_eq-Decides}
 use Rattle.std.proofs.lemmas.Option.{none-some, same_Some}
 use Rattle.pc_source.specs.declared.place.Place.{Place}
+use Rattle.pc_token.specs.Keywords as keywords
 use Rattle.pc_tree.specs.declared.code.Code.{Code}
 use Rattle.pc_tree.specs.declared.code.Code.TheVariants.{E05, E28, E29}
 use Rattle.pc_tree.specs.declared.code.Finding.{Finding}
@@ -31,6 +32,7 @@ use Rattle.pc_sound.proofs.World.{Labelled}
 use Rattle.pc_sound.proofs.Items.{last_of}
 use Rattle.pc_sound.proofs.Whole.{IsListedPlace}
 use Rattle.pc_sound.proofs.Entry.{texts_append}
+use Rattle.pc_sound.proofs.Lists.{same_text_back}
 
 -- ---- what is at the end of the items
 
@@ -108,16 +110,16 @@ of_method_at function method (class_item q x ∷ rest) (suc j) class i d p e is 
 
 -- ---- reserved names
 
-besides : {A : Type 0} (es : List (List ℕ × A)) (word : List ℕ) → is_some (beside es word) ≡ list_any (λ x. bytes_eq x word) (map (λ e. e.0) es)
+besides : {A : Type 0} (es : List (List ℕ × A)) (word : List ℕ) → is_some (beside es word) ≡ list_any (λ x. bytes_eq word x) (map (λ e. e.0) es)
 besides [] word = refl
-besides (e ∷ es) word = go (bytes_eq e.0 word) (besides es word)
+besides (e ∷ es) word = go (bytes_eq e.0 word) (besides es word) ∙ ap (λ b. b || list_any (λ x. bytes_eq word x) (map (λ e. e.0) es)) (same_text_back e.0 word)
   where
-    go : (b : Test) → is_some (beside es word) ≡ list_any (λ x. bytes_eq x word) (map (λ e. e.0) es) → is_some (if b then Some e.1 else beside es word) ≡ (b || list_any (λ x. bytes_eq x word) (map (λ e. e.0) es))
+    go : (b : Test) → is_some (beside es word) ≡ list_any (λ x. bytes_eq word x) (map (λ e. e.0) es) → is_some (if b then Some e.1 else beside es word) ≡ (b || list_any (λ x. bytes_eq word x) (map (λ e. e.0) es))
     go true h = refl
     go false h = h
 
 -- scopes and the codes that stop a run have the same reserved names
-pub reserved_same : (word : List ℕ) → is_reserved word ≡ stopping.is_reserved word
+pub reserved_same : (word : List ℕ) → is_reserved word ≡ keywords.is_reserved word
 unfolding builtin_of
 reserved_same word = besides reserved word
 
@@ -131,9 +133,9 @@ reserved_found (n ∷ ns) word e r = go (bytes_eq word n.text) refl e (λ f. res
   where
     go : (b : Test) → bytes_eq word n.text ≡ b → (b || is_among word (texts ns)) ≡ true → (is_among word (texts ns) ≡ true → (p : Place) × Contains (reserved_among ns) p) → (p : Place) × Contains (reserved_among (n ∷ ns)) p
     go true t e others =
-        let here : stopping.is_reserved n.text ≡ true = sym (reserved_same n.text) ∙ ap is_reserved (sym ((bytes_eq-Decides word n.text).0 t)) ∙ r in
+        let here : keywords.is_reserved n.text ≡ true = sym (reserved_same n.text) ∙ ap is_reserved (sym ((bytes_eq-Decides word n.text).0 t)) ∙ r in
         (n.place, subst (λ b. Contains (one_if b n.place ++ reserved_among ns) n.place) (sym here) (0, omega arith, refl))
-    go false t e others = let o = others e in (o.0, Contains-append_right (one_if (stopping.is_reserved n.text) n.place) (reserved_among ns) o.0 o.1)
+    go false t e others = let o = others e in (o.0, Contains-append_right (one_if (keywords.is_reserved n.text) n.place) (reserved_among ns) o.0 o.1)
 
 -- ---- a module without errors
 

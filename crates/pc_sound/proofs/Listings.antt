@@ -12,6 +12,7 @@ use Rattle.pc_tree.specs.Code.{finding}
 use Rattle.pc_tree.specs.Tree as tree
 use Rattle.pc_tree.specs.Tree.{Name, Expr, Exprs, Entries, Keywords, name, number, text, truth, nothing, tuple, list, dict, negative, negation, binary, compare, is_none, is_not_none, conjunction, disjunction, attribute, index, call, no_exprs, more_exprs, no_entries, more_entries, no_keywords, more_keywords, Ann, Anns, named, none_type, applied, applied_empty, no_anns, more_anns, Literal, Target, to_name, to_attribute, to_index, Stmt, Stmts, Branches, pass, breaks, continues, returns, asserts, annotated, assigns, evaluates, while_loop, for_loop, conditional, no_stmts, more_stmts, no_branches, more_branches, Param, FuncDef, Member, field_member, method_member, Item, constant_item, class_item, def_item, Module}
 use Rattle.pc_tree.specs.Stopping.{bound_by_stmt, bound_by, bound_by_branches}
+use Rattle.pc_tree.specs.Depth.{place_of_ann, place_of}
 use Rattle.pc_scope.specs.declared.resolution.Owner.{Owner}
 use Rattle.pc_scope.specs.declared.resolution.Owner.TheVariants as owners
 use Rattle.pc_scope.specs.declared.resolution.Res.{Res}
@@ -19,12 +20,12 @@ use Rattle.pc_scope.specs.declared.resolution.Res.TheVariants as res
 use Rattle.pc_scope.specs.Bindings.{texts}
 use Rattle.pc_scope.specs.Resolution.{locals, resolve_in_module}
 use Rattle.pc_scope.specs.Reach.{completes}
-use Rattle.pc_scope.specs.Expressions.{place_of, is_instance_test}
+use Rattle.pc_scope.specs.Expressions.{is_instance_test}
 use Rattle.pc_types.specs.Tree.{Tree}
 use Rattle.pc_types.specs.Below.{Bases}
 use Rattle.pc_types.specs.Shape.{nodes, limit}
 use Rattle.pc_types.specs.Annotations as ann
-use Rattle.pc_types.specs.Annotations.{ann_place, named_type, applied_type, empty_type, union_type, reading, readings, PartFinds, PartsFind, IsTooLarge, AnnFinds}
+use Rattle.pc_types.specs.Annotations.{named_type, applied_type, empty_type, union_type, reading, readings, PartFinds, PartsFind, IsTooLarge, AnnFinds}
 use Rattle.pc_class.specs.Bases.{bases_of}
 use Rattle.pc_expr.specs.Context.{Context}
 use Rattle.pc_expr.specs.Labels.{Flowing, Marks, ItemsMarks, EntriesMarks, KeywordsMarks, IsFoundAt, IsFlowAt, IsCodeAt, second_place, Finds, ItemsFind, ArgumentsFind, EntriesFind, KeywordsFind}
@@ -212,7 +213,7 @@ module _ (m : Module) (bases : Bases) where
 
   abbrev pub size_listed_by : (a : Ann) (fits : Test) → nat_le (nodes (reading m bases a)) limit ≡ fits → Listing (IsTooLarge m bases a)
   size_listed_by a true e = none_listed (λ f h. too_large a e f h)
-  size_listed_by a false e = like (equal_listed (finding (ann_place a) E26)) (λ f h. record { large = is_large a e; is = h }) (λ f h. h.is)
+  size_listed_by a false e = like (equal_listed (finding (place_of_ann a) E26)) (λ f h. record { large = is_large a e; is = h }) (λ f h. h.is)
 
   abbrev pub ann_listed : (a : Ann) → Listing (AnnFinds m bases a)
   ann_listed a = both_listed (part_listed a) (size_listed_by a (nat_le (nodes (reading m bases a)) limit) refl)

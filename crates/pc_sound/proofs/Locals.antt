@@ -1,6 +1,7 @@
 -- A read of a local: where no code stands there, the local is bound to a value of its current type (definite assignment).
 use Rattle.std.proofs.Common.{◌≡◌, ℕ, [], refl, sym, ap, ◌∙◌, subst, arith}
 use Rattle.std.specs.Prelude.{Option, Some, None}
+use Rattle.pc_token.specs.Keywords.{is_reserved}
 use Rattle.pc_tree.specs.Tree.{Name, name}
 use Rattle.pc_scope.specs.declared.resolution.Res.TheVariants as res
 use Rattle.pc_scope.specs.Resolution.{index_of}
@@ -10,7 +11,6 @@ use Rattle.pc_expr.specs.Operations.{Mark}
 use Rattle.pc_expr.specs.Context.{Context, name_mark, local_mark}
 use Rattle.pc_machine.specs.State.{State}
 use Rattle.pc_machine.specs.Names.{meaning, meaning_of_local, meaning_of_global, global_of}
-use Rattle.pc_tree.specs.Stopping.{is_reserved}
 use Rattle.pc_machine.specs.Calls.{value_of_meaning}
 use Rattle.pc_machine.specs.Steps.{Parts}
 use Rattle.pc_machine.specs.Evaluation.{eval_node}

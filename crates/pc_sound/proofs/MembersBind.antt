@@ -9,6 +9,7 @@ use Rattle.std.proofs.lemmas.Option.{same_Some}
 use Rattle.std.proofs.lemmas.Bool.{and_parts, false_from_ne_true, false≢true, or_cases, or_left, or_parts, or_right}
 use Rattle.std.proofs.Math.Bool.{and-true}
 use Rattle.pc_source.specs.declared.place.Place.{Place}
+use Rattle.pc_token.specs.Keywords as keywords
 use Rattle.pc_tree.specs.declared.code.Code.TheVariants.{E01, E06, E29}
 use Rattle.pc_tree.specs.Code.{finding}
 use Rattle.pc_tree.specs.Stopping as stopping
@@ -45,7 +46,7 @@ pub among_same : (names : List (List ℕ)) (w : List ℕ) → stopping.is_among 
 among_same [] w = refl
 among_same (n ∷ names) w = ap (λ x. x || stopping.is_among names w) (same_text_back n w) ∙ ap (λ x. bytes_eq w n || x) (among_same names w)
 
-reserved_there : (b : Builtin) → stopping.is_reserved (builtin_text b) ≡ true
+reserved_there : (b : Builtin) → keywords.is_reserved (builtin_text b) ≡ true
 reserved_there builtin.Any = refl
 reserved_there builtin.Annotations = refl
 reserved_there builtin.Bool = refl
@@ -62,12 +63,12 @@ reserved_there builtin.Str = refl
 reserved_there builtin.Tuple = refl
 
 -- a name that is not reserved to the tree is none to the scope
-pub unreserved : (w : List ℕ) → stopping.is_reserved w ≡ false → is_reserved w ≡ false
+pub unreserved : (w : List ℕ) → keywords.is_reserved w ≡ false → is_reserved w ≡ false
 unreserved w e = go (builtin_of w) refl
   where
     go : (o : Option Builtin) → builtin_of w ≡ o → is_some (builtin_of w) ≡ false
     go None is = ap is_some is
-    go (Some b) is = absurd (false≢true (sym e ∙ (ap stopping.is_reserved (text_of_builtin w b is) ∙ reserved_there b)))
+    go (Some b) is = absurd (false≢true (sym e ∙ (ap keywords.is_reserved (text_of_builtin w b is) ∙ reserved_there b)))
 
 -- ---- what a class holds
 
@@ -139,8 +140,8 @@ module _ (m : Module) where
       found true p is h others = or_left (bytes_eq f.name.text w) (list_any (λ y. bytes_eq y.text w) (map held_by rest)) (same_text_back f.name.text w ∙ is)
       found false p is h others = or_right (bytes_eq f.name.text w) (list_any (λ y. bytes_eq y.text w) (map held_by rest)) (others h)
 
-      go : (x : Test) → is_some (method_of ((if x then findings.method_made m c number f ∷ [] else []) ++ own_methods m base c (suc number) (f.name.text ∷ before) rest) w) ≡ true → (is_some (method_of (own_methods m base c (suc number) (f.name.text ∷ before) rest) w) ≡ true → HoldsName (map held_by rest) w) → HoldsName (map held_by (method_member f ∷ rest)) w
-      go true h others = found (bytes_eq w f.name.text) (findings.method_made m c number f) refl h others
+      go : (x : Test) → is_some (method_of ((if x then facts.method_made m c number f ∷ [] else []) ++ own_methods m base c (suc number) (f.name.text ∷ before) rest) w) ≡ true → (is_some (method_of (own_methods m base c (suc number) (f.name.text ∷ before) rest) w) ≡ true → HoldsName (map held_by rest) w) → HoldsName (map held_by (method_member f ∷ rest)) w
+      go true h others = found (bytes_eq w f.name.text) (facts.method_made m c number f) refl h others
       go false h others = or_right (bytes_eq f.name.text w) (list_any (λ y. bytes_eq y.text w) (map held_by rest)) (others h)
 
   -- each member binds its name
@@ -153,7 +154,7 @@ module _ (m : Module) where
   bind_all base hs covers before [] clear = tt
   bind_all base hs covers before (field_member f ∷ rest) clear =
       let w = f.name.text in
-      let r = or_parts (stopping.is_reserved w) (bytes_eq w (codes "mro")) clear.0.0 in
+      let r = or_parts (keywords.is_reserved w) (bytes_eq w (codes "mro")) clear.0.0 in
       let c = or_parts (stopping.is_among before w) (stopping.is_among (map held_text hs) w) clear.0.1 in
       let no_field : is_some (field_of base.fields w) ≡ false = false_from_ne_true (is_some (field_of base.fields w)) (λ h. false≢true (sym c.1 ∙ (held_texts hs w ∙ field_is_name hs w (covers.fields w h)))) in
       let no_method : is_some (method_of base.methods w) ≡ false = false_from_ne_true (is_some (method_of base.methods w)) (λ h. false≢true (sym c.1 ∙ (held_texts hs w ∙ covers.methods w h))) in (
@@ -277,7 +278,7 @@ module _ (m : Module) where
         where
           other : (x : Test) → bytes_eq c.name.text t.name.text ≡ x → (bytes_eq c.name.text t.name.text && is_first_binding before c.name) ≡ false
           other false e = ap (λ x. x && is_first_binding before c.name) e
-          other true e = absurd (false≢true (sym (ap (λ x. not x && not (stopping.is_reserved c.name.text)) (ap (stopping.is_among (names_before before)) ((bytes_eq-Decides c.name.text t.name.text).0 e) ∙ named_before before placed.1 b t l is)) ∙ placed.0.first))
+          other true e = absurd (false≢true (sym (ap (λ x. not x && not (keywords.is_reserved c.name.text)) (ap (stopping.is_among (names_before before)) ((bytes_eq-Decides c.name.text t.name.text).0 e) ∙ named_before before placed.1 b t l is)) ∙ placed.0.first))
 
   -- item by item
   walk :
@@ -287,12 +288,12 @@ module _ (m : Module) where
   walk before [] placed at clash members names again i class is = absurd (grind (arith, is))
   walk before (constant_item p c ∷ rest) placed at clash members names again i class is =
       walk (constant_item p c ∷ before) rest placed at clash members
-      (rest_empty (one_if (stopping.is_reserved c.name.text) c.name.place) (reserved_among (map name_of_item rest)) names)
-      (rest_empty (one_if (stopping.is_among (names_before before) c.name.text && not (stopping.is_reserved c.name.text)) c.name.place) (bound_again (c.name.text ∷ names_before before) (map name_of_item rest)) again) i class is
+      (rest_empty (one_if (keywords.is_reserved c.name.text) c.name.place) (reserved_among (map name_of_item rest)) names)
+      (rest_empty (one_if (stopping.is_among (names_before before) c.name.text && not (keywords.is_reserved c.name.text)) c.name.place) (bound_again (c.name.text ∷ names_before before) (map name_of_item rest)) again) i class is
   walk before (def_item p f ∷ rest) placed at clash members names again i class is =
       walk (def_item p f ∷ before) rest placed at clash members
-      (rest_empty (one_if (stopping.is_reserved f.name.text) f.name.place) (reserved_among (map name_of_item rest)) names)
-      (rest_empty (one_if (stopping.is_among (names_before before) f.name.text && not (stopping.is_reserved f.name.text)) f.name.place) (bound_again (f.name.text ∷ names_before before) (map name_of_item rest)) again) i class is
+      (rest_empty (one_if (keywords.is_reserved f.name.text) f.name.place) (reserved_among (map name_of_item rest)) names)
+      (rest_empty (one_if (stopping.is_among (names_before before) f.name.text && not (keywords.is_reserved f.name.text)) f.name.place) (bound_again (f.name.text ∷ names_before before) (map name_of_item rest)) again) i class is
   walk before (class_item p c ∷ rest) placed at clash members names again i class is = by_number i is (λ j e. walk (class_item p c ∷ before) rest (here, placed) (λ k. ap (slice_get (classes_in m.items)) (omega arith) ∙ at (suc k)) clash_rest members_rest names_rest again_rest j class e)
     where
       held : List Held
@@ -305,21 +306,21 @@ module _ (m : Module) where
       members_rest = rest_empty (reserved_members c.members) (reserved_in_classes rest) members
 
       names_rest : reserved_among (map name_of_item rest) ≡ []
-      names_rest = rest_empty (one_if (stopping.is_reserved c.name.text) c.name.place) (reserved_among (map name_of_item rest)) names
+      names_rest = rest_empty (one_if (keywords.is_reserved c.name.text) c.name.place) (reserved_among (map name_of_item rest)) names
 
       again_rest : bound_again (c.name.text ∷ names_before before) (map name_of_item rest) ≡ []
-      again_rest = rest_empty (one_if (stopping.is_among (names_before before) c.name.text && not (stopping.is_reserved c.name.text)) c.name.place) (bound_again (c.name.text ∷ names_before before) (map name_of_item rest)) again
+      again_rest = rest_empty (one_if (stopping.is_among (names_before before) c.name.text && not (keywords.is_reserved c.name.text)) c.name.place) (bound_again (c.name.text ∷ names_before before) (map name_of_item rest)) again
 
-      free : stopping.is_reserved c.name.text ≡ false
-      free = none_there (stopping.is_reserved c.name.text) c.name.place (front_empty (one_if (stopping.is_reserved c.name.text) c.name.place) (reserved_among (map name_of_item rest)) names)
+      free : keywords.is_reserved c.name.text ≡ false
+      free = none_there (keywords.is_reserved c.name.text) c.name.place (front_empty (one_if (keywords.is_reserved c.name.text) c.name.place) (reserved_among (map name_of_item rest)) names)
 
       new : stopping.is_among (names_before before) c.name.text ≡ false
-      new = sym (and-true (stopping.is_among (names_before before) c.name.text)) ∙ (sym (ap (λ x. stopping.is_among (names_before before) c.name.text && not x) free) ∙ none_there (stopping.is_among (names_before before) c.name.text && not (stopping.is_reserved c.name.text)) c.name.place (front_empty (one_if (stopping.is_among (names_before before) c.name.text && not (stopping.is_reserved c.name.text)) c.name.place) (bound_again (c.name.text ∷ names_before before) (map name_of_item rest)) again))
+      new = sym (and-true (stopping.is_among (names_before before) c.name.text)) ∙ (sym (ap (λ x. stopping.is_among (names_before before) c.name.text && not x) free) ∙ none_there (stopping.is_among (names_before before) c.name.text && not (keywords.is_reserved c.name.text)) c.name.place (front_empty (one_if (stopping.is_among (names_before before) c.name.text && not (keywords.is_reserved c.name.text)) c.name.place) (bound_again (c.name.text ∷ names_before before) (map name_of_item rest)) again))
 
       here : IsPlaced before c
       here = record {
         number = ap (slice_get (classes_in m.items)) (omega arith) ∙ at 0;
-        first = ap (λ x. not x && not (stopping.is_reserved c.name.text)) new ∙ ap not free;
+        first = ap (λ x. not x && not (keywords.is_reserved c.name.text)) new ∙ ap not free;
         clear = clear_of [] held c.members (front_empty (clashing [] held c.members) (clashing_in (class_item p c ∷ before) rest) clash) (front_empty (reserved_members c.members) (reserved_in_classes rest) members);
       }
 

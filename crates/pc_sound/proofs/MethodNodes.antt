@@ -4,9 +4,9 @@ use Rattle.std.specs.Prelude.{◌⊎◌, true, false, flat_map, Option, Some, No
 use Rattle.pc_source.specs.declared.place.Place.{Place}
 use Rattle.pc_tree.specs.declared.code.Code.{Code}
 use Rattle.pc_tree.specs.Tree.{Name, Expr, attribute, Exprs, Keywords, FuncDef, Module}
+use Rattle.pc_tree.specs.Depth.{place_of}
 use Rattle.pc_scope.specs.declared.resolution.Owner.{Owner}
 use Rattle.pc_scope.specs.declared.resolution.Owner.TheVariants as owners
-use Rattle.pc_scope.specs.Expressions.{place_of}
 use Rattle.pc_scope.specs.Resolution.{function_of}
 use Rattle.pc_types.specs.Tree.{Tree, Any, Object, Never, Int, Bool, Str, NoneType, Class as ClassType, ListOf, DictOf, TupleOf, Union}
 use Rattle.pc_types.specs.Tree as tree

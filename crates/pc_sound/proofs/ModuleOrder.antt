@@ -10,11 +10,11 @@ use Rattle.pc_tree.specs.declared.code.Code.{Code}
 use Rattle.pc_tree.specs.declared.code.Finding.{Finding}
 use Rattle.pc_tree.specs.Code.{finding, IsError}
 use Rattle.pc_tree.specs.Tree.{Ann, Expr, Literal, number_literal, negative_literal, text_literal, truth_literal, none_literal, Param, Constant, ClassDef, FuncDef, constant_item, def_item, Module}
+use Rattle.pc_tree.specs.Depth.{place_of}
 use Rattle.pc_scope.specs.declared.resolution.Res.TheVariants as res
 use Rattle.pc_scope.specs.Reserved.{is_reserved}
 use Rattle.pc_scope.specs.Bindings.{classes_in}
 use Rattle.pc_scope.specs.Resolution.{is_among, resolve_in_module}
-use Rattle.pc_scope.specs.Expressions.{place_of}
 use Rattle.pc_types.specs.Tree.{Tree}
 use Rattle.pc_types.specs.Annotations.{read_ann, read_option}
 use Rattle.pc_class.specs.Bases.{bases_of}
@@ -22,7 +22,7 @@ use Rattle.pc_class.specs.Facts.{parameters_of, classes_of}
 use Rattle.pc_expr.specs.Labels.{Flowing, Marks, mark_of, type_of, Finds, IsFlowAt, IsCodeAt}
 use Rattle.pc_expr.specs.Context.{FlowsInto}
 use Rattle.pc_expr.specs.Lawful.{Lawful}
-use Rattle.pc_expr.specs.Signatures.{initializer_context, literal_type, literal_place, LawfulDefault, DefaultFinds, binds_parameter, ParamsMarks, LawfulParams, ParamsFind}
+use Rattle.pc_expr.specs.Signatures.{initializer_context, literal_type, literal_place, LawfulDefault, DefaultFinds, binds_name, ParamsMarks, LawfulParams, ParamsFind}
 use Rattle.pc_check.specs.Modules.{constant_type, annotated_types, first_of_types}
 use Rattle.pc_value.specs.Value as value
 use Rattle.pc_value.specs.Value.{Value, boolean, string, Out, Gives}
@@ -243,7 +243,7 @@ module _ (m : Module) where
     -- no parameter's name stands twice or is reserved
     abbrev pub ParametersBind : List (List ℕ) → List Param → Type 0
     ParametersBind names [] = Unit {0}
-    ParametersBind names (p ∷ ps) = (binds_parameter names p.name ≡ true) × ParametersBind (p.name.text ∷ names) ps
+    ParametersBind names (p ∷ ps) = (binds_name names p.name ≡ true) × ParametersBind (p.name.text ∷ names) ps
 
     -- the parameters of a def, with their defaults
     parameters_made : (before : Known) (names : List (List ℕ)) (ps : List Param) (marks : ParamsMarks ps) → LawfulParams m names ps marks → ParametersBind names ps → Listed (ParamsFind m ps marks) → Proceeds listed before (make_parameters Step free ps) (λ k qs s. before k s × DefaultsHave (bases_of m) k qs (parameters_of m ps))

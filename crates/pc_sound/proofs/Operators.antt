@@ -10,7 +10,7 @@ use Rattle.pc_tree.specs.declared.tree.ComparisonOperator.{ComparisonOperator}
 use Rattle.pc_tree.specs.declared.tree.ComparisonOperator.TheVariants.{Equal, NotEqual, Less, LessEqual, Greater, GreaterEqual, In, NotIn}
 use Rattle.pc_tree.specs.declared.code.Code.TheVariants.{A2, E13}
 use Rattle.pc_tree.specs.Tree.{Expr, negative, binary, compare}
-use Rattle.pc_scope.specs.Expressions.{place_of}
+use Rattle.pc_tree.specs.Depth.{place_of}
 use Rattle.pc_types.specs.Tree.{Tree, Any, Never, Int, Bool, Str, NoneType, ListOf, DictOf, TupleOf, Union}
 use Rattle.pc_types.specs.Below.{Bases, AreSmaller}
 use Rattle.pc_types.specs.Shape.{members}

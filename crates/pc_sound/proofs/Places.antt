@@ -2,7 +2,7 @@
 use Rattle.std.proofs.Common.{ℕ, zero, suc}
 use Rattle.pc_source.specs.declared.place.Place.{Place}
 use Rattle.pc_tree.specs.Tree.{Expr, Exprs, Keywords, name, number, text, truth, nothing, tuple, list, dict, negative, negation, binary, compare, is_none, is_not_none, conjunction, disjunction, attribute, index, call}
-use Rattle.pc_scope.specs.Expressions.{place_of}
+use Rattle.pc_tree.specs.Depth.{place_of}
 use Rattle.pc_machine.specs.Steps.{Parts}
 use Rattle.pc_machine.specs.Free.{Step, free}
 use Rattle.pc_machine.specs.Evaluation.{CallForm, instance_test, ordinary, call_form, eval_call, eval_node, eval_over, steps}

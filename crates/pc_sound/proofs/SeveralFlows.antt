@@ -7,12 +7,12 @@ use Rattle.pc_tree.specs.declared.code.Code.{Code}
 use Rattle.pc_tree.specs.declared.code.Code.TheVariants.{A1, E03, E12}
 use Rattle.pc_tree.specs.Code.{finding}
 use Rattle.pc_tree.specs.Tree.{Expr}
-use Rattle.pc_scope.specs.Expressions.{place_of}
+use Rattle.pc_tree.specs.Depth.{place_of}
 use Rattle.pc_types.specs.Tree.{Tree}
 use Rattle.pc_types.specs.Below.{Bases, Static}
 use Rattle.pc_flow.specs.Environment.{Env}
 use Rattle.pc_expr.specs.Operations.{Mark}
-use Rattle.pc_expr.specs.Context.{Context, Flows, static, dynamic, wrong, FlowUnless, FlowAt, FlowsInto, is_late}
+use Rattle.pc_expr.specs.Context.{Context, Flows, static, dynamic, wrong, FlowUnless, FlowAt, FlowsInto, is_early}
 use Rattle.pc_expr.specs.Labels.{Flowing, Marks, mark_of, type_of, Finds, IsFlowAt}
 use Rattle.pc_expr.specs.Lawful.{Lawful}
 use Rattle.pc_value.specs.Value.{Value, Out, Gives, Stops}
@@ -24,7 +24,7 @@ use Rattle.pc_sound.proofs.ValuesFlow.{of_static}
 use Rattle.pc_sound.proofs.Steps.{weaken, stopped_as}
 use Rattle.pc_sound.proofs.Keys.{Keyed}
 use Rattle.pc_sound.proofs.Expressions.{Covered, GoodEval}
-use Rattle.pc_sound.proofs.Flows.{Evaluates, found_here, late_code}
+use Rattle.pc_sound.proofs.Flows.{Evaluates, found_here, early_code}
 use Rattle.pc_sound.proofs.Members.{HasEach}
 
 -- a type is static to each of these
@@ -41,20 +41,20 @@ module _ (around : Around) (p : Place) where
   later_codes : (c : Option Code) (cs : Flowing) → Covered around (IsFlowAt p (c ∷ cs)) → Covered around (IsFlowAt p cs)
   later_codes c cs covered f h = covered f (record { code = h.code; among = Contains-append_right (c ∷ []) cs (Some h.code) h.among; is = h.is })
 
-  one_flow : (m : Mark) → (is_late m.codes ≡ true → ⊥) → (t : Tree) (c : Option Code) (cs : Flowing) → FlowAt around.bases m t c → Covered around (IsFlowAt p (c ∷ cs)) → Static around.bases m.type t ⊎ around.listed p
-  one_flow m punctual t c cs flow covered = go (is_late m.codes) refl flow
+  one_flow : (m : Mark) → (is_early m.codes ≡ true → ⊥) → (t : Tree) (c : Option Code) (cs : Flowing) → FlowAt around.bases m t c → Covered around (IsFlowAt p (c ∷ cs)) → Static around.bases m.type t ⊎ around.listed p
+  one_flow m punctual t c cs flow covered = go (is_early m.codes) refl flow
     where
       by_flow : (d : Option Code) → c ≡ d → Flows around.bases m.type t d → Static around.bases m.type t ⊎ around.listed p
       by_flow _ is (static below) = inl below
       by_flow _ is (dynamic n a) = inr (covered (finding p A1) (record { code = A1; among = (0, omega arith, is); is = refl })).0
       by_flow _ is (wrong n) = absurd ((covered (finding p E12) (record { code = E12; among = (0, omega arith, is); is = refl })).1 refl)
 
-      go : (late : Test) → is_late m.codes ≡ late → FlowUnless late around.bases m.type t c → Static around.bases m.type t ⊎ around.listed p
+      go : (early : Test) → is_early m.codes ≡ early → FlowUnless early around.bases m.type t c → Static around.bases m.type t ⊎ around.listed p
       go true is f = absurd (punctual is)
       go false is f = by_flow c refl f
 
   -- where all flows are allowed, they are static or the place is listed
-  pub settled_flows : (m : Mark) → (is_late m.codes ≡ true → ⊥) → (ts : List Tree) (cs : Flowing) → FlowsInto around.bases m ts cs → Covered around (IsFlowAt p cs) → AllStatic around.bases m.type ts ⊎ around.listed p
+  pub settled_flows : (m : Mark) → (is_early m.codes ≡ true → ⊥) → (ts : List Tree) (cs : Flowing) → FlowsInto around.bases m ts cs → Covered around (IsFlowAt p cs) → AllStatic around.bases m.type ts ⊎ around.listed p
   settled_flows m punctual [] [] flows covered = inl tt
   settled_flows m punctual [] (c ∷ cs) flows covered = absurd flows
   settled_flows m punctual (t ∷ ts) [] flows covered = absurd flows
@@ -64,8 +64,8 @@ module _ (around : Around) (p : Place) where
   ]
 
 -- an expression of which all findings are allowed is not one with E03
-pub is_punctual : (around : Around) (e : Expr) (m : Marks e) → Covered around (Finds e m) → is_late (mark_of e m).codes ≡ true → ⊥
-is_punctual around e m covered is = (covered (finding (place_of e) E03) (found_here e m (finding (place_of e) E03) (record { code = E03; among = late_code (mark_of e m).codes is; is = refl }))).1 refl
+pub is_punctual : (around : Around) (e : Expr) (m : Marks e) → Covered around (Finds e m) → is_early (mark_of e m).codes ≡ true → ⊥
+is_punctual around e m covered is = (covered (finding (place_of e) E03) (found_here e m (finding (place_of e) E03) (record { code = E03; among = early_code (mark_of e m).codes is; is = refl }))).1 refl
 
 module _ (around : Around) (ctx : Context) (eval : Expr → Step Value) (good : GoodEval around ctx eval) (evaluates : (e : Expr) → Evaluates (place_of e) (eval e)) (env : Env) where
   -- an expression that flows into several types, whose flows' codes are allowed

@@ -7,6 +7,7 @@ use Rattle.std.proofs.lemmas.Slice.Eq.{bytes_eq-Decides}
 use Rattle.std.proofs.lemmas.Option.{same_Some}
 use Rattle.std.proofs.lemmas.Bool.{and_parts, or_right}
 use Rattle.pc_tree.specs.Tree.{Name, Exprs, no_exprs, more_exprs, Keywords, no_keywords, more_keywords}
+use Rattle.pc_tree.specs.Stopping.{has_none}
 use Rattle.pc_scope.specs.Bindings.{texts}
 use Rattle.pc_scope.specs.Expressions.{keyword_names}
 use Rattle.pc_scope.specs.Resolution.{is_among}
@@ -15,7 +16,7 @@ use Rattle.pc_types.specs.Below.{Bases, Static, same}
 use Rattle.pc_class.specs.Facts.{Parameter, field_of}
 use Rattle.pc_class.specs.Overrides.{has_shape_of}
 use Rattle.pc_expr.specs.Context.{Signature}
-use Rattle.pc_expr.specs.Calls.{count_exprs, once_each, given, position_of, is_free, are_filled, parameter_names, has_none, is_suited, Seat, nowhere, type_at, CallOffer, signatures, positional_seat, named_seat}
+use Rattle.pc_expr.specs.Calls.{count_exprs, once_each, given, position_of, is_free, are_filled, parameter_names, is_suited, Seat, nowhere, type_at, CallOffer, signatures, positional_seat, named_seat}
 use Rattle.pc_expr.specs.Labels.{ItemsMarks, KeywordsMarks}
 use Rattle.pc_value.specs.Value.{Value}
 use Rattle.pc_value.specs.Texts.{same_text}

@@ -7,6 +7,7 @@ use Rattle.pc_tree.specs.declared.code.Code.TheVariants.{A2, A7, E03, E13, E14, 
 use Rattle.pc_tree.specs.declared.tree.ComparisonOperator.{ComparisonOperator}
 use Rattle.pc_tree.specs.declared.tree.ComparisonOperator.TheVariants.{Equal, NotEqual, In, NotIn}
 use Rattle.pc_tree.specs.Tree.{Name, Expr, Exprs, Entries, Keywords, name, number, text, truth, nothing, tuple, list, dict, negative, negation, binary, compare, is_none, is_not_none, conjunction, disjunction, attribute, index, call, no_exprs, more_exprs, no_entries, more_entries, no_keywords, more_keywords}
+use Rattle.pc_tree.specs.Stopping.{has_none}
 use Rattle.pc_scope.specs.declared.resolution.Builtin.{Builtin}
 use Rattle.pc_scope.specs.declared.resolution.Builtin.TheVariants as builtin
 use Rattle.pc_scope.specs.declared.resolution.Res.{Res}
@@ -19,8 +20,8 @@ use Rattle.pc_class.specs.Facts.{Parameter, Method, field_of, method_of, class_a
 use Rattle.pc_flow.specs.Environment.{Env, current, join_or_object}
 use Rattle.pc_flow.specs.Narrowing.{Tested, for_list, test_of_argument, local_of_argument, first_argument, second_argument}
 use Rattle.pc_expr.specs.Operations.{Mark, clean, in_error, Offer, found_of, offers_mark, index_member, attribute_found, attribute_member, contain_member, length_member, negative_member, Kind, kind_of, kind_type, row_of_kinds, pair_found, pair_offers, pairs_mark, takes_kind, is_never, is_any, is_dynamic, display_mark}
-use Rattle.pc_expr.specs.Context.{Context, Signature, local_mark, constant_mark, name_mark, is_late}
-use Rattle.pc_expr.specs.Calls.{Given, given, has_none, CallOffer, called, is_suited, plain_call, fails_at_call, fails_at_callee, value_offer, class_signature, method_signature, builtin_signature, class_offers, list_offers, dict_offers, method_offers, builtin_offer, is_callable_builtin, function_offer, name_callee, method_callee, value_callee, good_callee, is_one, call_mark, call_codes, length_mark, test_mark, test_codes, any_list_codes, current_of, is_object_or_any}
+use Rattle.pc_expr.specs.Context.{Context, Signature, local_mark, constant_mark, name_mark, is_early}
+use Rattle.pc_expr.specs.Calls.{Given, given, CallOffer, called, is_suited, plain_call, fails_at_call, fails_at_callee, value_offer, class_signature, method_signature, builtin_signature, class_offers, list_offers, dict_offers, method_offers, builtin_offer, is_callable_builtin, function_offer, name_callee, method_callee, value_callee, good_callee, is_one, call_mark, call_codes, length_mark, test_mark, test_codes, any_list_codes, current_of, is_object_or_any}
 use Rattle.pc_expr.specs.Labels.{Marks, mark_of, type_of, item_types}
 use Rattle.pc_expr.specs.Lawful.{Lawful, KeyValue, list_item, dict_parts, members_of, list_mark, DictMark, no_keys, int_keys, str_keys, other_keys, DictRule, int_literal, compare_mark, callee_of, is_length_of_one, whole_call_mark}
 use Rattle.pc_sound.proofs.KeyedLabels.{Timely, ItemsTimely, EntriesTimely, KeywordsTimely}
@@ -32,7 +33,7 @@ pub record NamesTimely (ctx : Context) : Type 0 where
   pub classes : (word : List ℕ) (c : ℕ) → ctx.resolve word ≡ res.Class c → nat_lt c ctx.known ≡ true
 
 abbrev OnTime : List Code → Type 0
-OnTime cs = is_late cs ≡ false
+OnTime cs = is_early cs ≡ false
 
 append_timely : (cs ds : List Code) → OnTime cs → OnTime ds → OnTime (cs ++ ds)
 append_timely [] ds h k = k
@@ -143,7 +144,7 @@ keys_timely bases values _ _ (str_keys apart all) = display_timely (DictOf Str _
 keys_timely bases values _ _ (other_keys apart others) = refl
 
 dict_timely : (bases : Bases) (o : Option KeyValue) (keys values : List Tree) (m : Mark) → DictRule bases o keys values m → OnTime m.codes
-dict_timely bases (Some kv) keys values m is = ap (λ x. is_late x.codes) is
+dict_timely bases (Some kv) keys values m is = ap (λ x. is_early x.codes) is
 dict_timely bases None keys values m rule = keys_timely bases values keys m rule
 
 -- ---- calls
@@ -234,7 +235,7 @@ length_mark_timely bases (t ∷ (s ∷ ts)) = refl
 
 -- a label with the codes of one on time is on time
 so_timely : {m n : Mark} → m ≡ n → OnTime n.codes → OnTime m.codes
-so_timely e h = ap (λ x. is_late x.codes) e ∙ h
+so_timely e h = ap (λ x. is_early x.codes) e ∙ h
 
 module _ (ctx : Context) where
   -- an attribute of a value of any type is found on time
@@ -317,26 +318,26 @@ module _ (ctx : Context) where
     name_timely env word res.None is = refl
 
     -- no label has E03
-    pub never_late : (env : Env) (want : Option Tree) (e : Expr) (m : Marks e) → Lawful ctx declared env want e m → is_late (mark_of e m).codes ≡ false
-    never_late env want (name n) m law = so_timely law (name_timely env n.text (ctx.resolve n.text) refl)
-    never_late env want (number p d) m law = so_timely law refl
-    never_late env want (text p d) m law = so_timely law refl
-    never_late env want (truth p b) m law = so_timely law refl
-    never_late env want (nothing p) m law = so_timely law refl
-    never_late env want (tuple p es) m law = so_timely law.here (display_timely (TupleOf (trees (item_types es m.items))))
-    never_late env want (list p es) m law = so_timely law.here (list_timely ctx.bases (list_item (members_of want)) (item_types es m.items))
-    never_late env want (dict p es) m law = dict_timely ctx.bases (dict_parts (members_of want)) _ _ m.here law.here
-    never_late env want (negative p e) m law = so_timely law.here (operation_timely ctx.bases negative_member negative_timely (type_of e m.operand))
-    never_late env want (negation p e) m law = so_timely law.here refl
-    never_late env want (binary p o l r) m law = so_timely law.here (pairs_timely (takes_kind o) kind_type ctx.bases Any (type_of l m.left) (type_of r m.right))
-    never_late env want (compare p o l r) m law = so_timely law.here (compare_timely ctx.bases o (type_of l m.left) (type_of r m.right))
-    never_late env want (is_none p e) m law = so_timely law.here refl
-    never_late env want (is_not_none p e) m law = so_timely law.here refl
-    never_late env want (conjunction p l r) m law = so_timely law.here refl
-    never_late env want (disjunction p l r) m law = so_timely law.here refl
-    never_late env want (attribute p e n) m law = so_timely law.here (operation_timely ctx.bases (attribute_member ctx.classes n.text) (field_timely n.text) (type_of e m.object))
-    never_late env want (index p e i) m law = so_timely law.here (operation_timely ctx.bases (index_member ctx.bases (int_literal i)) (index_timely ctx.bases (int_literal i)) (type_of e m.object))
-    never_late env want (call p c args kws) m law = so_timely law.here (whole_call_timely env c args kws (callee_of ctx env (given args kws) c law.value).offers (callee_timely env (given args kws) c law.value) (item_types args m.arguments))
+    pub never_early : (env : Env) (want : Option Tree) (e : Expr) (m : Marks e) → Lawful ctx declared env want e m → is_early (mark_of e m).codes ≡ false
+    never_early env want (name n) m law = so_timely law (name_timely env n.text (ctx.resolve n.text) refl)
+    never_early env want (number p d) m law = so_timely law refl
+    never_early env want (text p d) m law = so_timely law refl
+    never_early env want (truth p b) m law = so_timely law refl
+    never_early env want (nothing p) m law = so_timely law refl
+    never_early env want (tuple p es) m law = so_timely law.here (display_timely (TupleOf (trees (item_types es m.items))))
+    never_early env want (list p es) m law = so_timely law.here (list_timely ctx.bases (list_item (members_of want)) (item_types es m.items))
+    never_early env want (dict p es) m law = dict_timely ctx.bases (dict_parts (members_of want)) _ _ m.here law.here
+    never_early env want (negative p e) m law = so_timely law.here (operation_timely ctx.bases negative_member negative_timely (type_of e m.operand))
+    never_early env want (negation p e) m law = so_timely law.here refl
+    never_early env want (binary p o l r) m law = so_timely law.here (pairs_timely (takes_kind o) kind_type ctx.bases Any (type_of l m.left) (type_of r m.right))
+    never_early env want (compare p o l r) m law = so_timely law.here (compare_timely ctx.bases o (type_of l m.left) (type_of r m.right))
+    never_early env want (is_none p e) m law = so_timely law.here refl
+    never_early env want (is_not_none p e) m law = so_timely law.here refl
+    never_early env want (conjunction p l r) m law = so_timely law.here refl
+    never_early env want (disjunction p l r) m law = so_timely law.here refl
+    never_early env want (attribute p e n) m law = so_timely law.here (operation_timely ctx.bases (attribute_member ctx.classes n.text) (field_timely n.text) (type_of e m.object))
+    never_early env want (index p e i) m law = so_timely law.here (operation_timely ctx.bases (index_member ctx.bases (int_literal i)) (index_timely ctx.bases (int_literal i)) (type_of e m.object))
+    never_early env want (call p c args kws) m law = so_timely law.here (whole_call_timely env c args kws (callee_of ctx env (given args kws) c law.value).offers (callee_timely env (given args kws) c law.value) (item_types args m.arguments))
 
     -- so each test of an instance is timely
     mutual
@@ -361,7 +362,7 @@ module _ (ctx : Context) where
       all_timely (index p e i) = (all_timely e, all_timely i)
       all_timely (call p c no_exprs kws) = (λ is. tt, (all_timely c, (tt, keywords_timely kws)))
       all_timely (call p c (more_exprs e no_exprs) kws) = (λ is. tt, (all_timely c, ((all_timely e, tt), keywords_timely kws)))
-      all_timely (call p c (more_exprs e (more_exprs f rest)) kws) = (λ is env want m law. never_late env want f m law, (all_timely c, ((all_timely e, (all_timely f, items_timely rest)), keywords_timely kws)))
+      all_timely (call p c (more_exprs e (more_exprs f rest)) kws) = (λ is env want m law. never_early env want f m law, (all_timely c, ((all_timely e, (all_timely f, items_timely rest)), keywords_timely kws)))
 
       items_timely : (es : Exprs) → ItemsTimely ctx declared es
       items_timely no_exprs = tt
@@ -375,11 +376,11 @@ module _ (ctx : Context) where
       keywords_timely no_keywords = tt
       keywords_timely (more_keywords n e rest) = (all_timely e, keywords_timely rest)
 
--- ---- where some names are late
+-- ---- where some names are early
 
 module _ (ctx : Context) (declared : List Tree) where
   -- a label has no E03 but where a name has it
-  pub own_timely : (e : Expr) → ((n : Name) → e ≡ name n → (env : Env) → OnTime (name_mark ctx env (ctx.resolve n.text)).codes) → (env : Env) (want : Option Tree) (m : Marks e) → Lawful ctx declared env want e m → is_late (mark_of e m).codes ≡ false
+  pub own_timely : (e : Expr) → ((n : Name) → e ≡ name n → (env : Env) → OnTime (name_mark ctx env (ctx.resolve n.text)).codes) → (env : Env) (want : Option Tree) (m : Marks e) → Lawful ctx declared env want e m → is_early (mark_of e m).codes ≡ false
   own_timely (name n) names env want m law = so_timely law (names n refl env)
   own_timely (number p d) names env want m law = so_timely law refl
   own_timely (text p d) names env want m law = so_timely law refl

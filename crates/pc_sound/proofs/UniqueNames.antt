@@ -4,6 +4,7 @@ use Rattle.std.specs.Prelude.{Bool as Test, true, false, ◌&&◌, ◌||◌, not
 use Rattle.std.proofs.lemmas.List.Elements.{Contains-append_left, Contains-append_right}
 use Rattle.std.proofs.lemmas.Option.{none-some}
 use Rattle.pc_source.specs.declared.place.Place.{Place}
+use Rattle.pc_token.specs.Keywords as keywords
 use Rattle.pc_tree.specs.declared.code.Code.TheVariants.{E01, E29}
 use Rattle.pc_tree.specs.Tree.{Name, Param, FuncDef, ClassDef, Module}
 use Rattle.pc_tree.specs.Stopping as stopping
@@ -14,7 +15,8 @@ use Rattle.pc_scope.specs.Reserved.{is_reserved}
 use Rattle.pc_scope.specs.Bindings.{classes_in}
 use Rattle.pc_scope.specs.Resolution.{is_among, receiver, method_at, function_of}
 use Rattle.pc_class.specs.Facts.{parameters_of}
-use Rattle.pc_check.specs.Modules.{Labelling, IsLawful, binds_item}
+use Rattle.pc_expr.specs.Signatures.{binds_name}
+use Rattle.pc_check.specs.Modules.{Labelling, IsLawful}
 use Rattle.pc_sound.specs.Sound.{HasNoError}
 use Rattle.pc_sound.proofs.TruthValues.{neither}
 use Rattle.pc_sound.proofs.Filling.{Distinct}
@@ -27,19 +29,19 @@ use Rattle.pc_sound.proofs.MembersBind.{among_same}
 -- each name is bound: it is not reserved, and not among those before it
 abbrev pub AllBind : List (List ℕ) → List Name → Type 0
 AllBind before [] = Unit {0}
-AllBind before (n ∷ ns) = (binds_item before n ≡ true) × AllBind (n.text ∷ before) ns
+AllBind before (n ∷ ns) = (binds_name before n ≡ true) × AllBind (n.text ∷ before) ns
 
 pub all_bind : (before : List (List ℕ)) (ns : List Name) → ((p : Place) → Contains (bound_again before ns) p → ⊥) → ((p : Place) → Contains (reserved_among ns) p → ⊥) → AllBind before ns
 all_bind before [] again reserved = tt
 all_bind before (n ∷ ns) again reserved = (
   binds (is_reserved n.text) refl (is_among n.text before) refl,
-  all_bind (n.text ∷ before) ns (λ p c. again p (Contains-append_right (one_if (stopping.is_among before n.text && not (stopping.is_reserved n.text)) n.place) (bound_again (n.text ∷ before) ns) p c)) (λ p c. reserved p (Contains-append_right (one_if (stopping.is_reserved n.text) n.place) (reserved_among ns) p c)),
+  all_bind (n.text ∷ before) ns (λ p c. again p (Contains-append_right (one_if (stopping.is_among before n.text && not (keywords.is_reserved n.text)) n.place) (bound_again (n.text ∷ before) ns) p c)) (λ p c. reserved p (Contains-append_right (one_if (keywords.is_reserved n.text) n.place) (reserved_among ns) p c)),
 )
   where
     here : {b : Test} → b ≡ true → (rest : List Place) → Contains (one_if b n.place ++ rest) n.place
     here e rest = subst (λ b. Contains (one_if b n.place ++ rest) n.place) (sym e) (0, omega arith, refl)
 
-    binds : (r : Test) → is_reserved n.text ≡ r → (a : Test) → is_among n.text before ≡ a → binds_item before n ≡ true
+    binds : (r : Test) → is_reserved n.text ≡ r → (a : Test) → is_among n.text before ≡ a → binds_name before n ≡ true
     binds true e a f = absurd (reserved n.place (here (sym (reserved_same n.text) ∙ e) (reserved_among ns)))
     binds false e true f = absurd (again n.place (here (λ i. (among_same before n.text ∙ f) i && not ((sym (reserved_same n.text) ∙ e) i)) (bound_again (n.text ∷ before) ns)))
     binds false e false f = λ i. not (e i || f i)
@@ -49,7 +51,7 @@ pub parameters_bind : (m : Module) (listed : Place → Type 0) (before : List (L
 parameters_bind m listed before [] h = tt
 parameters_bind m listed before (p ∷ ps) h = (h.0, parameters_bind m listed (p.name.text ∷ before) ps h.1)
 
-new_name : (before : List (List ℕ)) (n : Name) → binds_item before n ≡ true → is_among n.text before ≡ false
+new_name : (before : List (List ℕ)) (n : Name) → binds_name before n ≡ true → is_among n.text before ≡ false
 new_name before n e = (neither (is_reserved n.text) (is_among n.text before) e).1
 
 fewer : (before less : List (List ℕ)) (ps : List Param) → ((word : List ℕ) → is_among word before ≡ false → is_among word less ≡ false) → AllBind before (map name_of_param ps) → (m : Module) → Distinct less (parameters_of m ps)
@@ -72,7 +74,7 @@ reserved_front xs ys p c = subst (λ l. Contains l p) (sym (split xs)) (Contains
   where
     split : (xs : List Name) → reserved_among (xs ++ ys) ≡ reserved_among xs ++ reserved_among ys
     split [] = refl
-    split (x ∷ xs) = ap (λ l. one_if (stopping.is_reserved x.text) x.place ++ l) (split xs) ∙ sym (append_assoc (one_if (stopping.is_reserved x.text) x.place) (reserved_among xs) (reserved_among ys))
+    split (x ∷ xs) = ap (λ l. one_if (keywords.is_reserved x.text) x.place ++ l) (split xs) ∙ sym (append_assoc (one_if (keywords.is_reserved x.text) x.place) (reserved_among xs) (reserved_among ys))
 
 module _ (m : Module) (marks : Labelling m) (lawful : IsLawful m marks) (clean : HasNoError m) where
   -- each item binds its name

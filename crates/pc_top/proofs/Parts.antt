@@ -144,7 +144,7 @@ pub record IsOperated (op : Option Operator) (l r : Option Expr) (p : Place) (e 
   pub right_is : r ≡ Some right
   pub is : e ≡ binary p operator left right
 
-some_is : {A : Type 0} {x y : A} → Some x ≡ Some y → x ≡ y
+pub some_is : {A : Type 0} {x y : A} → Some x ≡ Some y → x ≡ y
 some_is e = grind arith
 
 pub operated_is : (p : Place) (op : Option Operator) (l r : Option Expr) (e : Expr) → operated p op l r ≡ Some e → IsOperated op l r p e
@@ -171,12 +171,12 @@ expr_none (tree.binary p op l r) x h =
 expr_none _ x h = absurd (grind (arith, h))
 
 -- what a statement evaluates
-record IsValued (f : Expr → Stmt) (e : Option Expr) (s : Stmt) : Type 0 where
-  value : Expr
-  value_is : e ≡ Some value
-  is : s ≡ f value
+pub record IsValued (f : Expr → Stmt) (e : Option Expr) (s : Stmt) : Type 0 where
+  pub value : Expr
+  pub value_is : e ≡ Some value
+  pub is : s ≡ f value
 
-valued : (f : Expr → Stmt) (e : Option Expr) (s : Stmt) → with_value f e ≡ Some s → IsValued f e s
+pub valued : (f : Expr → Stmt) (e : Option Expr) (s : Stmt) → with_value f e ≡ Some s → IsValued f e s
 valued f None s h = absurd (grind (arith, h))
 valued f (Some e) s h = record { value = e; value_is = refl; is = sym (some_is h) }
 

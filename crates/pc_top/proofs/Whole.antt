@@ -7,8 +7,8 @@ use Rattle.pc_tree.specs.declared.tree.BinaryOperator.{BinaryOperator}
 use Rattle.pc_tree.specs.declared.tree.BinaryOperator.TheVariants as sign
 use Rattle.pc_tree.specs.Tree as tree
 use Rattle.pc_top.specs.Fragment.{Operator, Add, Sub, Expr, int, str, binary, Stmt, pass, returns, returns_value, evaluates, Module}
-use Rattle.pc_top.specs.Part.{part_operator, part_expr, with_value, part_stmt, part_body, module_with, when_main, part_def, part_items, part_of}
-use Rattle.pc_top.proofs.Parts.{operated_is, before_is}
+use Rattle.pc_top.specs.Part.{part_operator, part_expr, part_stmt, part_body, module_with, when_main, part_def, part_items, part_of}
+use Rattle.pc_top.proofs.Parts.{operated_is, before_is, some_is, valued}
 
 abbrev pub whole_operator : Operator → BinaryOperator
 whole_operator Add = sign.Add
@@ -37,9 +37,6 @@ whole_def name ss = record { name = record { place = name; text = codes "main" }
 abbrev pub whole_module : (dataclass any : Bool) → (first name main : Place) → List Stmt → tree.Module
 whole_module dataclass any first name main ss = record { imports_dataclass = dataclass; imports_any = any; items = tree.def_item first (whole_def name ss) ∷ []; main = main }
 
-some_is : {A : Type 0} {x y : A} → Some x ≡ Some y → x ≡ y
-some_is e = grind arith
-
 operator_whole : (op : BinaryOperator) (o : Operator) → part_operator op ≡ Some o → op ≡ whole_operator o
 operator_whole sign.Add Add h = refl
 operator_whole sign.Add Sub h = absurd (grind (arith, h))
@@ -58,23 +55,13 @@ expr_whole (tree.binary p op l r) x h =
     ∙ ap whole_expr (sym o.is)
 expr_whole _ x h = absurd (grind (arith, h))
 
--- the value of a statement
-record HasValue (f : Expr → Stmt) (e : Option Expr) (s : Stmt) : Type 0 where
-  value : Expr
-  value_is : e ≡ Some value
-  is : s ≡ f value
-
-has_value : (f : Expr → Stmt) (e : Option Expr) (s : Stmt) → with_value f e ≡ Some s → HasValue f e s
-has_value f None s h = absurd (grind (arith, h))
-has_value f (Some e) s h = record { value = e; value_is = refl; is = sym (some_is h) }
-
 stmt_whole : (s : tree.Stmt) (x : Stmt) → part_stmt s ≡ Some x → s ≡ whole_stmt x
 stmt_whole (tree.pass p) x h = ap whole_stmt (some_is h)
 stmt_whole (tree.returns p None) x h = ap whole_stmt (some_is h)
 stmt_whole (tree.returns p (Some e)) x h =
-    let v = has_value (returns_value p) (part_expr e) x h in ap (λ y. tree.returns p (Some y)) (expr_whole e v.value v.value_is) ∙ ap whole_stmt (sym v.is)
+    let v = valued (returns_value p) (part_expr e) x h in ap (λ y. tree.returns p (Some y)) (expr_whole e v.value v.value_is) ∙ ap whole_stmt (sym v.is)
 stmt_whole (tree.evaluates p e) x h =
-    let v = has_value (evaluates p) (part_expr e) x h in ap (λ y. tree.evaluates p y) (expr_whole e v.value v.value_is) ∙ ap whole_stmt (sym v.is)
+    let v = valued (evaluates p) (part_expr e) x h in ap (λ y. tree.evaluates p y) (expr_whole e v.value v.value_is) ∙ ap whole_stmt (sym v.is)
 stmt_whole _ x h = absurd (grind (arith, h))
 
 body_whole : (b : tree.Stmts) (ss : List Stmt) → part_body b ≡ Some ss → b ≡ whole_body ss

@@ -9,7 +9,8 @@ use Rattle.pc_tree.specs.declared.code.Finding.{Finding}
 use Rattle.pc_tree.specs.Code.{finding}
 use Rattle.pc_tree.specs.Tree as tree
 use Rattle.pc_tree.specs.Stopping.{given_in, given_in_stmts, loose_in, IsStopping, stopping_places, reserved_among, bound_by}
-use Rattle.pc_scope.specs.Expressions.{parts_in, as_name, exprs_in_all}
+use Rattle.pc_tree.specs.Machine.Finishing.{name_of_tree}
+use Rattle.pc_scope.specs.Expressions.{parts_in, exprs_in_all}
 use Rattle.pc_scope.specs.Reach.{unreached, first_places}
 use Rattle.pc_scope.specs.Bindings.{Body, bodies}
 use Rattle.pc_scope.specs.declared.resolution.Owner.TheVariants as owners
@@ -156,11 +157,11 @@ loose_none (returns p ∷ ss) = loose_none ss
 loose_none (returns_value p e ∷ ss) = loose_none ss
 loose_none (evaluates p e ∷ ss) = loose_none ss
 
-names_none : (x : Expr) → filter_map as_name (parts_in true (whole_expr x)) ≡ []
+names_none : (x : Expr) → filter_map name_of_tree (parts_in true (whole_expr x)) ≡ []
 names_none (int p digits) = refl
 names_none (str p characters) = refl
 names_none (binary p op l r) =
-    filter_map-append as_name (parts_in true (whole_expr l)) (parts_in true (whole_expr r)) ∙ ap (λ xs. xs ++ filter_map as_name (parts_in true (whole_expr r))) (names_none l) ∙ names_none r
+    filter_map-append name_of_tree (parts_in true (whole_expr l)) (parts_in true (whole_expr r)) ∙ ap (λ xs. xs ++ filter_map name_of_tree (parts_in true (whole_expr r))) (names_none l) ∙ names_none r
 
 -- an expression of a body is one of the part
 record IsPartOf (e : tree.Expr) : Type 0 where
@@ -196,7 +197,7 @@ module _ (dataclass any : Bool) (first name main : Place) (ss : List Stmt) where
   no_name : (f : Finding) (b : Body) (e : tree.Expr) → Contains (bodies whole) b → Contains (exprs_in_all true b.function.body) e → IsUnknownIn whole b.owner e f → ⊥
   no_name f b e of among h =
       let here = expr_of_part ss e (subst (λ x. Contains (exprs_in_all true x.function.body) e) (only_body b of) among) in
-      contains_none h.n (subst (λ xs. Contains xs h.n) (ap (λ x. filter_map as_name (parts_in true x)) here.is ∙ names_none here.value) h.named)
+      contains_none h.n (subst (λ xs. Contains xs h.n) (ap (λ x. filter_map name_of_tree (parts_in true x)) here.is ∙ names_none here.value) h.named)
 
   no_constant : (at : ℕ) (p : Place) (c : tree.Constant) → slice_get whole.items at ≡ Some (tree.constant_item p c) → ⊥
   no_constant zero p c h = absurd (grind (arith, h))

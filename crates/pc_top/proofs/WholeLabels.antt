@@ -13,7 +13,7 @@ use Rattle.pc_types.specs.Tree as types
 use Rattle.pc_types.specs.Below.{Bases, object}
 use Rattle.pc_flow.specs.Environment.{Env, none_assigned}
 use Rattle.pc_expr.specs.Operations.{Mark, clean, binary_mark}
-use Rattle.pc_expr.specs.Context.{Context, is_late, FlowUnless, static, FlowsInto}
+use Rattle.pc_expr.specs.Context.{Context, is_early, FlowUnless, static, FlowsInto}
 use Rattle.pc_expr.specs.Labels.{Marks, mark_of, type_of}
 use Rattle.pc_expr.specs.Lawful.{Lawful}
 use Rattle.pc_expr.specs.Signatures.{body_context}
@@ -56,25 +56,25 @@ operator_lawful bases Sub Str Int = refl
 operator_lawful bases Sub Str Any = refl
 operator_lawful bases Sub Str Str = refl
 
-operator_not_late : (op : Operator) (s t : Ty) → is_late (operator_mark op s t).codes ≡ false
-operator_not_late Add Int Int = refl
-operator_not_late Add Int Any = refl
-operator_not_late Add Int Str = refl
-operator_not_late Add Any Int = refl
-operator_not_late Add Any Any = refl
-operator_not_late Add Any Str = refl
-operator_not_late Add Str Int = refl
-operator_not_late Add Str Any = refl
-operator_not_late Add Str Str = refl
-operator_not_late Sub Int Int = refl
-operator_not_late Sub Int Any = refl
-operator_not_late Sub Int Str = refl
-operator_not_late Sub Any Int = refl
-operator_not_late Sub Any Any = refl
-operator_not_late Sub Any Str = refl
-operator_not_late Sub Str Int = refl
-operator_not_late Sub Str Any = refl
-operator_not_late Sub Str Str = refl
+operator_not_early : (op : Operator) (s t : Ty) → is_early (operator_mark op s t).codes ≡ false
+operator_not_early Add Int Int = refl
+operator_not_early Add Int Any = refl
+operator_not_early Add Int Str = refl
+operator_not_early Add Any Int = refl
+operator_not_early Add Any Any = refl
+operator_not_early Add Any Str = refl
+operator_not_early Add Str Int = refl
+operator_not_early Add Str Any = refl
+operator_not_early Add Str Str = refl
+operator_not_early Sub Int Int = refl
+operator_not_early Sub Int Any = refl
+operator_not_early Sub Int Str = refl
+operator_not_early Sub Any Int = refl
+operator_not_early Sub Any Any = refl
+operator_not_early Sub Any Str = refl
+operator_not_early Sub Str Int = refl
+operator_not_early Sub Str Any = refl
+operator_not_early Sub Str Str = refl
 
 -- ---- expressions
 
@@ -88,14 +88,14 @@ type_is (int p digits) = refl
 type_is (str p characters) = refl
 type_is (binary p op l r) = refl
 
-not_late : (x : Expr) → is_late (mark_of (whole_expr x) (expr_marks x)).codes ≡ false
-not_late (int p digits) = refl
-not_late (str p characters) = refl
-not_late (binary p op l r) = operator_not_late op (type_in l) (type_in r)
+not_early : (x : Expr) → is_early (mark_of (whole_expr x) (expr_marks x)).codes ≡ false
+not_early (int p digits) = refl
+not_early (str p characters) = refl
+not_early (binary p op l r) = operator_not_early op (type_in l) (type_in r)
 
 -- anything flows into Any
-flows_into_any : (bases : Bases) (m : Mark) → is_late m.codes ≡ false → FlowsInto bases m (types.Any ∷ []) (None ∷ [])
-flows_into_any bases m h = (subst (λ late. FlowUnless late bases m.type types.Any None) (sym h) (static object), tt)
+flows_into_any : (bases : Bases) (m : Mark) → is_early m.codes ≡ false → FlowsInto bases m (types.Any ∷ []) (None ∷ [])
+flows_into_any bases m h = (subst (λ early. FlowUnless early bases m.type types.Any None) (sym h) (static object), tt)
 
 module _ (ctx : Context) (declared : List Tree) (env : Env) where
   expr_lawful : (want : Option Tree) (x : Expr) → Lawful ctx declared env want (whole_expr x) (expr_marks x)
@@ -141,7 +141,7 @@ module _ (m : tree.Module) (ctx : Context) (declared : List Tree) (env : Env) wh
   suite_lawful seen (pass p ∷ ss) = (refl, suite_lawful seen ss)
   suite_lawful seen (returns p ∷ ss) = ((flows_into_any ctx.bases (clean types.NoneType) refl, refl), undeclared seen ss, refl)
   suite_lawful seen (returns_value p e ∷ ss) =
-      (((expr_lawful ctx declared env (Some types.Any) e, flows_into_any ctx.bases (mark_of (whole_expr e) (expr_marks e)) (not_late e)), refl), undeclared seen ss, refl)
+      (((expr_lawful ctx declared env (Some types.Any) e, flows_into_any ctx.bases (mark_of (whole_expr e) (expr_marks e)) (not_early e)), refl), undeclared seen ss, refl)
   suite_lawful seen (evaluates p e ∷ ss) = ((expr_lawful ctx declared env None e, refl), suite_lawful seen ss)
 
 -- ---- the module

@@ -8,6 +8,7 @@ use Rattle.pc_tree.specs.declared.tree.BinaryOperator.{BinaryOperator}
 use Rattle.pc_tree.specs.declared.tree.BinaryOperator.TheVariants as sign
 use Rattle.pc_tree.specs.Tree as tree
 use Rattle.pc_tree.specs.Depth.{place_of, place_of_ann}
+use Rattle.pc_scope.specs.Reach.{first_of}
 use Rattle.pc_top.specs.Fragment.{Operator, Add, Sub, Expr, int, str, binary, Stmt, pass, returns, returns_value, evaluates, Module}
 
 -- ---- the modules of the part
@@ -96,20 +97,6 @@ other_in (tree.number p digits) = None
 other_in (tree.text p characters) = None
 other_in (tree.binary p op l r) = other_operator p (part_operator op) (least (other_in l) (other_in r))
 other_in e = Some (place_of e).start
-
--- the place of a statement's first token
-abbrev pub first_of : tree.Stmt → Place
-first_of (tree.pass p) = p
-first_of (tree.breaks p) = p
-first_of (tree.continues p) = p
-first_of (tree.returns p value) = p
-first_of (tree.asserts p condition message) = p
-first_of (tree.annotated p n annotation value) = p
-first_of (tree.assigns p target value) = p
-first_of (tree.evaluates p value) = p
-first_of (tree.while_loop p condition body) = p
-first_of (tree.for_loop p n iterable body) = p
-first_of (tree.conditional p parts otherwise) = p
 
 -- of a statement
 abbrev pub other_in_stmt : tree.Stmt → Option ℕ

@@ -4,8 +4,9 @@ use Rattle.std.specs.Prelude.{◌&&◌, ◌||◌, not, bytes_eq, if◌then◌els
 use Rattle.std.specs.List.{list_any}
 use Rattle.std.proofs.lemmas.List.Folds.{list_any-append}
 use Rattle.pc_source.specs.declared.place.Place.{Place}
+use Rattle.pc_token.specs.Keywords.{is_reserved}
 use Rattle.pc_tree.specs.Tree.{Name, ClassDef, Member, field_member, method_member, Item, constant_item, class_item, def_item}
-use Rattle.pc_tree.specs.Stopping.{has_none, is_among, is_reserved, name_of_item, name_of_member, is_reserved_member, Held, held_text, held_by, is_field, is_field_of, is_clash, own_members, is_first_binding, members_of, option_text, clashing, clashing_in, bound_again, reserved_among, reserved_members, reserved_in_classes}
+use Rattle.pc_tree.specs.Stopping.{has_none, is_among, name_of_item, name_of_member, is_reserved_member, Held, held_text, held_by, is_field, is_field_of, is_clash, own_members, is_first_binding, members_of, option_text, clashing, clashing_in, bound_again, reserved_among, reserved_members, reserved_in_classes}
 use Rattle.pc_tree.specs.Runnable.{is_held, has_member, holds, are_apart, all_apart}
 use Rattle.pc_tree.proofs.Stops.{has_none_both, none_first}
 

@@ -25,12 +25,13 @@ use Rattle.pc_tree.specs.Runnable.{member_text, are_apart, holds, held_in, class
 use Rattle.pc_tree.specs.Stopping.{given_in, given_in_all, given_in_keywords, given_in_stmts, given_in_branches, loose_in_branches, bound_by_branches, is_field}
 use Rattle.std.specs.Borrow.{Bor}
 use Rattle.std.specs.Option.{option_copied}
+use Rattle.pc_token.specs.Keywords.{is_reserved}
 use Rattle.pc_tree.specs.Tree.{ClassDef, option_name_of}
 use Rattle.pc_tree.specs.declared.tree.Name.{Name as RustName}
 use Rattle.pc_tree.specs.Stopping.{option_text}
 use Rattle.pc_tree.specs.Runnable.{has_member, base_text}
 use Rattle.pc_tree.proofs.Trees.{stmts_next, branches_next, call_tree}
-use Rattle.pc_tree.specs.Stopping.{loose_in, loose_in_stmt, bound_by, bound_by_stmt, has_none, one_if, is_among, is_reserved, bound_again, given_again, reserved_among}
+use Rattle.pc_tree.specs.Stopping.{loose_in, loose_in_stmt, bound_by, bound_by_stmt, has_none, one_if, is_among, bound_again, given_again, reserved_among}
 
 pub has_none_both : {X : Type 0} (a b : List X) → has_none (a ++ b) ≡ (has_none a && has_none b)
 has_none_both [] b = refl

@@ -3,6 +3,7 @@
 use Rattle.std.specs.Prelude.{ℕ, ◌&&◌, ◌||◌, not, Bool, true, false, if◌then◌else◌, List, [], ◌∷◌, ◌++◌, map, Option, Some, None, is_some, is_none, Contains, bytes_eq, codes}
 use Rattle.std.specs.List.{list_any}
 use Rattle.pc_source.specs.declared.place.Place.{Place}
+use Rattle.pc_token.specs.Keywords.{is_reserved}
 use Rattle.pc_tree.specs.declared.code.Code.{Code}
 use Rattle.pc_tree.specs.declared.code.Code.TheVariants.{E01, E05, E06, E28, E29, E31}
 use Rattle.pc_tree.specs.Tree.{Name, Expr, name, number, text, truth, nothing, tuple, list, dict, negative, negation, binary, compare, is_none as is_none_of, is_not_none, conjunction, disjunction, attribute, index, call, Exprs, no_exprs, more_exprs, Entries, no_entries, more_entries, Keywords, no_keywords, more_keywords, Target, to_name, to_attribute, to_index, Stmt, pass, breaks, continues, returns, asserts, annotated, assigns, evaluates, while_loop, for_loop, conditional, Stmts, no_stmts, more_stmts, Branches, no_branches, more_branches, Param, FuncDef, Member, field_member, method_member, Item, constant_item, class_item, def_item, Module}
@@ -13,22 +14,9 @@ use Rattle.pc_tree.specs.Tree.{Name, Expr, name, number, text, truth, nothing, t
 abbrev pub is_among : List (List ℕ) → List ℕ → Bool
 is_among texts sought = list_any (λ x. bytes_eq x sought) texts
 
--- the names that nothing may bind
-abbrev pub reserved_names : List (List ℕ)
-reserved_names = codes "Any" ∷ codes "annotations" ∷ codes "bool" ∷ codes "dataclass" ∷ codes "dict" ∷ codes "int" ∷ codes "isinstance"
-    ∷ codes "len" ∷ codes "list" ∷ codes "object" ∷ codes "print" ∷ codes "range" ∷ codes "str" ∷ codes "tuple" ∷ []
-
--- the text is a reserved name
-abbrev pub is_reserved : List ℕ → Bool
-is_reserved sought = is_among reserved_names sought
-
 -- a place where a test holds, else no place
 abbrev pub one_if : Bool → Place → List Place
 one_if test place = if test then place ∷ [] else []
-
--- the text of a name
-abbrev pub text_of : Name → List ℕ
-text_of n = n.text
 
 -- the name that an item of the module binds
 abbrev pub name_of_item : Item → Name

@@ -1,11 +1,13 @@
 #![tactic(auto, using(crate::proofs::Stops::has_none_both, crate::proofs::Stops::none_first))]
 
-ghost use Rattle.std.specs.Prelude.{◌≡◌, ◌++◌, ◌&&◌, not, map, [], false};
+ghost use Rattle.std.specs.Prelude.{◌≡◌, ◌++◌, ◌&&◌, not, map, [], false, bytes_eq};
+ghost use Rattle.std.specs.List.{list_any};
 ghost use Rattle.pc_source.specs.declared.place.Place.{Place as PlaceOf};
+ghost use Rattle.pc_token.specs.Keywords.{is_reserved};
 ghost use Rattle.pc_tree.specs.Tree.{name_of, param_of, func_of, item_of, member_of, target_of, stmt_of_kind, stmts_of_list};
 ghost use Rattle.pc_tree.specs.Lists.{branches_of_list};
 ghost use Rattle.pc_tree.specs.Runnable.{item_text, param_text, self_before, is_fine};
-ghost use Rattle.pc_tree.specs.Stopping.{has_none, is_among, is_reserved, name_of_item, name_of_param, bound_again, reserved_among, reserved_in_def, loose_in, loose_in_stmt, loose_in_branches, bound_by, bound_by_stmt, bound_by_branches, name_of_target, late_plain};
+ghost use Rattle.pc_tree.specs.Stopping.{has_none, is_among, name_of_item, name_of_param, bound_again, reserved_among, reserved_in_def, loose_in, loose_in_stmt, loose_in_branches, bound_by, bound_by_stmt, bound_by_branches, name_of_target, late_plain};
 
 use crate::given::body_gives_once;
 use crate::tree::{Branch, FuncDef, Item, ItemKind, Name, Param, Stmt, StmtKind, Target};
@@ -30,10 +32,10 @@ const RESERVED: [&str; 14] = [
 
 /// A name is one of these.
 fn is_among(names: &[&str], name: &str) -> bool
-    ensures { result ≡ is_among (map (λ n. n.now) names.now) name.now }
+    ensures { result ≡ list_any (λ n. bytes_eq name.now n) (map (λ n. n.now) names.now) }
 {
     for other in names {
-        if *other == name {
+        if name == *other {
             return true;
         }
     }

@@ -2,12 +2,12 @@
 -- Typing specification, "Type annotations"; PEP 484, PEP 563, PEP 604; the codes are own rules of the profile.
 use Rattle.std.specs.Prelude.{◌≡◌, ◌⊎◌, ◌<◌, List, [], ◌∷◌, Bool as Test, true, false, ◌&&◌, not, if◌then◌else◌, nat_le, ◌==◌, Option, Some, None, unwrap_or, MatchOption}
 use Rattle.std.specs.List.{list_all}
-use Rattle.pc_source.specs.declared.place.Place.{Place}
 use Rattle.pc_tree.specs.declared.code.Code.TheVariants.{E09, E10, E26}
 use Rattle.pc_tree.specs.declared.code.Finding.{Finding}
 use Rattle.pc_tree.specs.Code.{finding}
 use Rattle.pc_tree.specs.Tree.{Name, Ann, Anns, named, none_type, applied, applied_empty, no_anns, more_anns, Module}
 use Rattle.pc_tree.specs.Tree as tree
+use Rattle.pc_tree.specs.Depth.{place_of_ann}
 use Rattle.pc_scope.specs.declared.resolution.Builtin.{Builtin}
 use Rattle.pc_scope.specs.declared.resolution.Builtin.TheVariants as builtin
 use Rattle.pc_scope.specs.declared.resolution.Res.{Res}
@@ -18,14 +18,6 @@ use Rattle.pc_types.specs.Below.{Bases}
 use Rattle.pc_types.specs.Shape.{nodes, limit, trees, union}
 use Rattle.pc_types.specs.Normal.{rank}
 use Rattle.pc_types.specs.Join.{absorbs, is_before}
-
--- the place of an annotation
-abbrev pub ann_place : Ann → Place
-ann_place (named n) = n.place
-ann_place (none_type p) = p
-ann_place (applied p head arguments) = p
-ann_place (applied_empty p head) = p
-ann_place (tree.union p parts) = p
 
 -- `int`, `bool`, `str`, `object`, and `Any` where its header is there
 abbrev pub atom : (imports_any : Test) → Builtin → Option Tree
@@ -136,7 +128,7 @@ module _ (m : Module) (bases : Bases) where
   -- E26: the whole annotation is too large
   pub record IsTooLarge (a : Ann) (f : Finding) : Type 0 where
     pub large : limit < nodes (reading a)
-    pub is : f ≡ finding (ann_place a) E26
+    pub is : f ≡ finding (place_of_ann a) E26
 
   -- the findings of an annotation
   abbrev pub AnnFinds : Ann → Finding → Type 0

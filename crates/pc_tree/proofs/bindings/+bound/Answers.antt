@@ -1,7 +1,8 @@
 use Rattle.std.proofs.Common.{◌∙◌, sym, ap}
 use Rattle.std.specs.Prelude.{not, string_bytes}
+use Rattle.pc_token.specs.Keywords.{is_reserved}
 use Rattle.pc_tree.specs.Tree.{Stmt, stmts_of_list}
-use Rattle.pc_tree.specs.Stopping.{has_none, is_reserved, reserved_among, bound_by, bound_by_stmt, bound_by_branches}
+use Rattle.pc_tree.specs.Stopping.{has_none, reserved_among, bound_by, bound_by_stmt, bound_by_branches}
 use Rattle.pc_tree.specs.Lists.{branches_of_list}
 use Rattle.pc_tree.proofs.Trees.{if_tree, while_tree, for_tree}
 use Rattle.pc_tree.proofs.Stops.{none_first, reserved_both, bound_next, bound_branch, first_no, first_yes}

@@ -13,7 +13,7 @@ use Rattle.pc_tree.specs.Machine.Finishing.{add_stmt, add_branch, after_stmt, af
 use Rattle.pc_tree.specs.Machine.Lines.{lead_turn}
 use Rattle.pc_reader.specs.Reading.{lexeme}
 use Rattle.pc_parse.specs.Whole.{ending_of}
-use Rattle.pc_parse.specs.Suites.{lead_view, site_at, branches_in}
+use Rattle.pc_parse.specs.Suites.{lead_view, site_at}
 use Rattle.pc_reader.proofs.Streams.{blame}
 use Rattle.pc_reader.proofs.Steps.{step_to, alike, needs, meets, kind_seen, not_seen}
 use Rattle.pc_parse.proofs.Statements.{colon_turn, suite_ends, suite_stuck, on_unseen, on_go}
@@ -21,6 +21,7 @@ use Rattle.pc_parse.proofs.Lines.{refit, seen_kind, no_statements, else_read}
 use Rattle.pc_parse.proofs.Depths.{noted_nothing, kept_tree}
 use Rattle.pc_parse.proofs.Keeping.{noted_then, none_then, keep_more, keep_branch, keep_if, keep_while, keep_for}
 use Rattle.pc_tree.specs.Machine.Kinds.{a_kind}
+use Rattle.pc_tree.specs.Lists.{branches_of_list}
 use Rattle.pc_parse.proofs.StatementRows.{if_is, branch_is}
 use Rattle.pc_parse.proofs.parser.Parser.+statements.Goals as goal
 
@@ -172,7 +173,7 @@ conditional-returns-in_err-first g t c = let p = err_from_is_err_and c.from_resi
 pub conditional-loop-branches-init : goal.conditional-loop-branches-init
 conditional-loop-branches-init g t c = let u = c.in_ok-first.ensures in let p = c.in_ok-first.first.place in record {
   branches = no_branches;
-  keeps = record { deep = sym (noted_nothing _); kept = λ e. ap branches_in c.new-branches.ensures.items };
+  keeps = record { deep = sym (noted_nothing _); kept = λ e. ap branches_of_list c.new-branches.ensures.items };
   ready = u.ready;
   later = u.later;
   leads = λ d b f. step_to (stmts d b) (operand (whole (in_statement (branching no_branches) (site_at p d b)))) u (ap (lead_turn (site_at p d b) _ _) (f _ u.here));

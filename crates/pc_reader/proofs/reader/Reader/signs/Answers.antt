@@ -7,9 +7,9 @@ use Rattle.pc_reader.specs.Reading.{lexeme, Came}
 use Rattle.pc_reader.proofs.Streams.{blame}
 use Rattle.pc_reader.proofs.Steps.{same_place, step_to, kind_seen}
 use Rattle.pc_reader.proofs.Signs.{some_sign, signs_more, starts_push, takes_signs, sign_turn}
-use Rattle.pc_reader.specs.Descent.{sign_kind}
 use Rattle.std.proofs.Common.{append_assoc}
 use Rattle.pc_tree.specs.Grammar.{first_place}
+use Rattle.pc_tree.specs.Fronts.Expressions.{prefix_kind}
 use Rattle.pc_reader.specs.Reading.{IsAhead}
 use Rattle.pc_reader.proofs.reader.Reader.signs.Goals as goal
 
@@ -26,7 +26,7 @@ loop-kind-preserved g c = let v = c.loop-kind.invariant in let h = c.in_ok-sign.
   same = λ e. absurd (some_sign _ _ (sym c.in_ok-push.ensures.items ∙ e));
   begins = λ us f u e. ap first_place (append_assoc v.tokens ((lexeme g.X.AsStr.text c.in_ok-sign.sign) ∷ []) us) ∙ v.begins ((lexeme g.X.AsStr.text c.in_ok-sign.sign) ∷ us) (λ z d. same_place h.here d) u e;
   leads = λ s w o x. v.leads s w o (step_to (operand (signs_on (prefix_of c.args.prefix) v.tokens s)) (operand (applying (prefix_of c.args.prefix) ((lexeme g.X.AsStr.text c.in_ok-sign.sign) ∷ []) (signs_on (prefix_of c.args.prefix) v.tokens s))) h
-      (sign_turn (prefix_of c.args.prefix) (signs_on (prefix_of c.args.prefix) v.tokens s) (lexeme g.X.AsStr.text c.in_ok-sign.sign) _ (kind_seen (sign_kind (prefix_of c.args.prefix)) (ap (λ z. IsAhead z c.loop-kind.self.ahead) (sym c.kind-kind.ensures) ∙ sym c.sees.ensures ∙ c.loop-kind-test.true) h.here) (takes_signs (prefix_of c.args.prefix) v.tokens s w)) o
+      (sign_turn (prefix_of c.args.prefix) (signs_on (prefix_of c.args.prefix) v.tokens s) (lexeme g.X.AsStr.text c.in_ok-sign.sign) _ (kind_seen (prefix_kind (prefix_of c.args.prefix)) (ap (λ z. IsAhead z c.loop-kind.self.ahead) (sym c.kind-kind.ensures) ∙ sym c.sees.ensures ∙ c.loop-kind-test.true) h.here) (takes_signs (prefix_of c.args.prefix) v.tokens s w)) o
       (subst (λ z. Came g.X.AsStr.text g.I.Iterator.next_gives c.take.new.self (at (operand z)) o) (signs_more (prefix_of c.args.prefix) v.tokens (lexeme g.X.AsStr.text c.in_ok-sign.sign) s) x));
 }
 
@@ -39,7 +39,7 @@ loop-kind-preserved-in_ok-push g c = let v = c.loop-kind.invariant in let h = c.
   same = λ e. absurd (some_sign _ _ (sym c.in_ok-push.ensures.items ∙ e));
   begins = λ us f u e. ap first_place (append_assoc v.tokens ((lexeme g.X.AsStr.text c.in_ok-sign.sign) ∷ []) us) ∙ v.begins ((lexeme g.X.AsStr.text c.in_ok-sign.sign) ∷ us) (λ z d. same_place h.here d) u e;
   leads = λ s w o x. v.leads s w o (step_to (operand (signs_on (prefix_of c.args.prefix) v.tokens s)) (operand (applying (prefix_of c.args.prefix) ((lexeme g.X.AsStr.text c.in_ok-sign.sign) ∷ []) (signs_on (prefix_of c.args.prefix) v.tokens s))) h
-      (sign_turn (prefix_of c.args.prefix) (signs_on (prefix_of c.args.prefix) v.tokens s) (lexeme g.X.AsStr.text c.in_ok-sign.sign) _ (kind_seen (sign_kind (prefix_of c.args.prefix)) (ap (λ z. IsAhead z c.loop-kind.self.ahead) (sym c.kind-kind.ensures) ∙ sym c.sees.ensures ∙ c.loop-kind-test.true) h.here) (takes_signs (prefix_of c.args.prefix) v.tokens s w)) o
+      (sign_turn (prefix_of c.args.prefix) (signs_on (prefix_of c.args.prefix) v.tokens s) (lexeme g.X.AsStr.text c.in_ok-sign.sign) _ (kind_seen (prefix_kind (prefix_of c.args.prefix)) (ap (λ z. IsAhead z c.loop-kind.self.ahead) (sym c.kind-kind.ensures) ∙ sym c.sees.ensures ∙ c.loop-kind-test.true) h.here) (takes_signs (prefix_of c.args.prefix) v.tokens s w)) o
       (subst (λ z. Came g.X.AsStr.text g.I.Iterator.next_gives c.take.new.self (at (operand z)) o) (signs_more (prefix_of c.args.prefix) v.tokens (lexeme g.X.AsStr.text c.in_ok-sign.sign) s) x));
 }
 
