@@ -1,1 +1,4 @@
 pub mod Unbound
+pub mod TextSets
+pub mod TextMaps
+pub mod Meanings

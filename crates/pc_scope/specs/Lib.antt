@@ -4,3 +4,5 @@ pub mod Findings
 pub mod Reach
 pub mod Reserved
 pub mod Resolution
+pub mod Tables
+pub mod Walking

@@ -39,4 +39,6 @@ mod near_misses_of_statements;
 #[cfg(test)]
 mod near_misses_of_suites;
 #[cfg(test)]
+mod scopes_tests;
+#[cfg(test)]
 mod tests;

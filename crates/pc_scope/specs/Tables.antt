@@ -1,0 +1,52 @@
+-- The tables of the names of a module, and what a name means by them.
+use Rattle.std.specs.Prelude.{ℕ, Bool, List, [], ◌++◌, map, Option, Some, None, true, false, slice_get, ◌≡◌}
+use Rattle.pc_tree.specs.Tree.{FuncDef, ClassDef, Module}
+use Rattle.pc_tree.specs.Runnable.{self_before}
+use Rattle.pc_tree.specs.Stopping.{bound_by}
+use Rattle.pc_scope.specs.declared.resolution.Res.{Res}
+use Rattle.pc_scope.specs.Bindings.{texts, param_names, methods_in, functions_in, classes_in}
+use Rattle.pc_scope.specs.declared.resolution.Owner.{Owner}
+use Rattle.pc_scope.specs.declared.resolution.Owner.TheVariants as owners
+use Rattle.pc_scope.specs.declared.resolution.Res.TheVariants as res
+use Rattle.pc_scope.specs.Reserved.{builtin_of, beside}
+use Rattle.pc_scope.specs.Resolution.{first_of_each, index_of, bound_first, or_else, local_of, builtin_res}
+
+-- the locals of a function or a method, by its parameters and its body
+abbrev pub locals_by : (is_method : Bool) → FuncDef → List (List ℕ)
+locals_by is_method f = first_of_each [] (self_before is_method ++ (texts (param_names f.params) ++ texts (bound_by f.body)))
+
+-- the locals of the methods of a class
+abbrev pub methods_locals : ClassDef → List (List (List ℕ))
+methods_locals c = map (locals_by true) (methods_in c.members)
+
+-- what a scan of a module holds of its names: what it binds first, and the locals of each function and of each method
+pub record Tables : Type 0 where
+  pub globals : List (List ℕ × Res)
+  pub functions : List (List (List ℕ))
+  pub methods : List (List (List (List ℕ)))
+
+-- the locals of a number, none where there are not that many
+abbrev pub locals_at : Option (List (List ℕ)) → List (List ℕ)
+locals_at None = []
+locals_at (Some names) = names
+
+-- the locals of a class's method of a number
+abbrev pub method_locals : Option (List (List (List ℕ))) → ℕ → List (List ℕ)
+method_locals None i = []
+method_locals (Some methods) i = locals_at (slice_get methods i)
+
+-- the locals that tables have for an owner
+abbrev pub locals_for : Tables → Owner → List (List ℕ)
+locals_for t owners.Module = []
+locals_for t (owners.Func i) = locals_at (slice_get t.functions i)
+locals_for t (owners.Method c i) = method_locals (slice_get t.methods c) i
+
+-- what a name means by tables: a local, a built-in, what the module binds first, or nothing
+abbrev pub meaning : Tables → Owner → List ℕ → Res
+meaning t owner text = or_else (local_of (index_of text (locals_for t owner))) (or_else (builtin_res (builtin_of text)) (or_else (beside t.globals text) res.None))
+
+-- the tables are those of the module
+pub record AreTables (m : Module) (t : Tables) : Type 0 where
+  pub globals : (text : List ℕ) → beside t.globals text ≡ bound_first 0 0 0 m.items text
+  pub functions : t.functions ≡ map (locals_by false) (functions_in m.items)
+  pub methods : t.methods ≡ map methods_locals (classes_in m.items)

@@ -1,0 +1,71 @@
+ghost use Rattle.std.specs.Prelude.{◌≡◌, map, Option, OnOk, IfOk, List, ℕ};
+ghost use Rattle.pc_tree.specs.Tree.{item_of};
+ghost use Rattle.pc_scope.specs.Resolution.{bound_first};
+ghost use Rattle.pc_scope.specs.Walking.{at_text, first_res, bound_as};
+
+use crate::resolution::Res;
+use indexmap::IndexMap;
+use pc_source::OutOfMemory;
+use pc_tree::{Item, ItemKind};
+use std::alloc::Global as Allocator;
+
+/// What the module binds first by each name.
+pub type Globals = IndexMap<String, Res>;
+
+/// A name means this, unless something is bound to it already.
+fn bind_first(
+    globals: &mut Globals,
+    alloc: Allocator,
+    name: &str,
+    meaning: Res,
+) -> Result<(), OutOfMemory>
+    ensures { OnOk result ((text : List ℕ) → at_text globals.new text ≡ first_res (at_text globals.old text) (bound_as name.now meaning text)) }
+{
+    if globals.contains_key(name) {
+        return Ok(());
+    }
+    globals.insert(String::from_str(alloc, name)?, meaning)?;
+    Ok(())
+}
+
+/// What the items of a module bind first by each name. Constants, functions and classes are numbered in text order.
+pub fn globals(alloc: Allocator, items: &[Item]) -> Result<Globals, OutOfMemory>
+    ensures { IfOk result (λ g. (text : List ℕ) → at_text g text ≡ bound_first 0 0 0 (map item_of items.now) text) }
+{
+    let mut globals = IndexMap::new(alloc);
+    let mut constants = 0;
+    let mut functions = 0;
+    let mut classes = 0;
+    for item in items {
+        match &item.kind {
+            ItemKind::Constant(constant) => {
+                bind_first(
+                    &mut globals,
+                    alloc,
+                    constant.name.text.as_str(),
+                    Res::Const(constants),
+                )?;
+                constants += 1;
+            }
+            ItemKind::Class(class) => {
+                bind_first(
+                    &mut globals,
+                    alloc,
+                    class.name.text.as_str(),
+                    Res::Class(classes),
+                )?;
+                classes += 1;
+            }
+            ItemKind::Def(def) => {
+                bind_first(
+                    &mut globals,
+                    alloc,
+                    def.name.text.as_str(),
+                    Res::Func(functions),
+                )?;
+                functions += 1;
+            }
+        }
+    }
+    Ok(globals)
+}

@@ -1,0 +1,84 @@
+ghost use Rattle.std.specs.Prelude.{◌≡◌, map};
+ghost use Rattle.pc_tree.specs.Tree.{Module as Tree};
+ghost use Rattle.pc_scope.specs.Resolution.{resolve, index_of};
+ghost use Rattle.pc_scope.specs.Reserved.{beside};
+ghost use Rattle.pc_scope.specs.Tables.{Tables, AreTables, meaning, locals_for};
+ghost use Rattle.pc_scope.specs.Walking.{text_entry, texts_in, methods_texts, locals_seen};
+
+use crate::globals::Globals;
+use crate::locals::Locals;
+use crate::reserved::builtin;
+use crate::resolution::{Owner, Res};
+use std::marker::Model;
+
+/// What each name of a module means. Contracts see it as tables of what the module binds first by each name, and of the
+/// locals of its functions and methods.
+#[derive(Drop)]
+pub struct Scopes {
+    pub(crate) globals: Globals,
+    pub(crate) functions: Vec<Locals>,
+    pub(crate) methods: Vec<Vec<Locals>>,
+}
+
+impl Model for Scopes {
+    ghost Value = { Tables };
+
+    ghost view = { λ s. record { globals = map text_entry s.globals.entries; functions = map texts_in s.functions.items; methods = map methods_texts s.methods.items } };
+}
+
+impl Scopes {
+    /// The locals of an owner, if it is a function or a method of the module.
+    fn locals(&self, owner: Owner) -> Option<&Locals>
+        ensures { locals_seen result ≡ locals_for self.now owner }
+    {
+        match owner {
+            Owner::Module => None,
+            Owner::Func(function) => self.functions.get(function),
+            Owner::Method(class, method) => match self.methods.get(class) {
+                Some(methods) => methods.get(method),
+                None => None,
+            },
+        }
+    }
+
+    /// The number of a local, if the name is one.
+    fn local(&self, owner: Owner, name: &str) -> Option<usize>
+        ensures { result ≡ index_of name.now (locals_for self.now owner) }
+    {
+        match self.locals(owner) {
+            Some(locals) => locals.get_index_of(name),
+            None => None,
+        }
+    }
+
+    /// What the module binds first by a name, if anything.
+    fn global(&self, name: &str) -> Option<Res>
+        ensures { result ≡ beside self.now.globals name.now }
+    {
+        self.globals.get(name).copied()
+    }
+
+    /// What a name means: a local, a built-in, what the module binds first, or nothing.
+    fn mean(&self, owner: Owner, name: &str) -> Res
+        ensures { result ≡ meaning self.now owner name.now }
+    {
+        if let Some(number) = self.local(owner, name) {
+            return Res::Local(number);
+        }
+        if let Some(found) = builtin(name) {
+            return Res::Builtin(found);
+        }
+        match self.global(name) {
+            Some(found) => found,
+            None => Res::None,
+        }
+    }
+
+    /// What a name means to its owner, the module or a function or method of it; the name is in the normal form NFKC.
+    /// Language Reference 4.2.2 "Resolution of names".
+    pub fn resolve(&self, owner: Owner, name: &str) -> Res
+        ensures resolved { (m : Tree) → AreTables m self.now → result ≡ resolve m owner name.now }
+    {
+        self.mean(owner, name)
+    }
+}
