@@ -740,7 +740,10 @@ def main():
 /// A module without a function `main` that takes nothing leaves the profile without an event.
 #[test]
 fn modules_without_main(rt: HostRuntime) -> Result<(), Fail> {
-    assert_eq!(rt; other_module_ends(rt.alloc(), MODULES_WITHOUT_MAIN)?.as_str(), "");
+    assert_eq!(rt;
+        other_module_ends(rt.alloc(), MODULES_WITHOUT_MAIN)?.as_str(),
+        ""
+    );
     Ok(())
 }
 
