@@ -6,3 +6,6 @@ pub mod Reserved
 pub mod Resolution
 pub mod Tables
 pub mod Walking
+pub mod Found
+pub mod Seeking
+pub mod Scoped

@@ -1,8 +1,7 @@
 ghost use Rattle.std.specs.Prelude.{◌≡◌, map};
-ghost use Rattle.pc_tree.specs.Tree.{Module as Tree};
-ghost use Rattle.pc_scope.specs.Resolution.{resolve, index_of};
+ghost use Rattle.pc_scope.specs.Resolution.{index_of};
 ghost use Rattle.pc_scope.specs.Reserved.{beside};
-ghost use Rattle.pc_scope.specs.Tables.{Tables, AreTables, meaning, locals_for};
+ghost use Rattle.pc_scope.specs.Tables.{Tables, meaning, locals_for};
 ghost use Rattle.pc_scope.specs.Walking.{text_entry, texts_in, methods_texts, locals_seen};
 
 use crate::globals::Globals;
@@ -11,22 +10,21 @@ use crate::reserved::builtin;
 use crate::resolution::{Owner, Res};
 use std::marker::Model;
 
-/// What each name of a module means. Contracts see it as tables of what the module binds first by each name, and of the
-/// locals of its functions and methods.
+/// What each name of a module means: what the module binds first by each name, and the locals of its functions and methods.
 #[derive(Drop)]
-pub struct Scopes {
-    pub(crate) globals: Globals,
-    pub(crate) functions: Vec<Locals>,
-    pub(crate) methods: Vec<Vec<Locals>>,
+pub struct Names {
+    pub globals: Globals,
+    pub functions: Vec<Locals>,
+    pub methods: Vec<Vec<Locals>>,
 }
 
-impl Model for Scopes {
+impl Model for Names {
     ghost Value = { Tables };
 
     ghost view = { λ s. record { globals = map text_entry s.globals.entries; functions = map texts_in s.functions.items; methods = map methods_texts s.methods.items } };
 }
 
-impl Scopes {
+impl Names {
     /// The locals of an owner, if it is a function or a method of the module.
     fn locals(&self, owner: Owner) -> Option<&Locals>
         ensures { locals_seen result ≡ locals_for self.now owner }
@@ -59,7 +57,7 @@ impl Scopes {
     }
 
     /// What a name means: a local, a built-in, what the module binds first, or nothing.
-    fn mean(&self, owner: Owner, name: &str) -> Res
+    pub fn mean(&self, owner: Owner, name: &str) -> Res
         ensures { result ≡ meaning self.now owner name.now }
     {
         if let Some(number) = self.local(owner, name) {
@@ -72,13 +70,5 @@ impl Scopes {
             Some(found) => found,
             None => Res::None,
         }
-    }
-
-    /// What a name means to its owner, the module or a function or method of it; the name is in the normal form NFKC.
-    /// Language Reference 4.2.2 "Resolution of names".
-    pub fn resolve(&self, owner: Owner, name: &str) -> Res
-        ensures resolved { (m : Tree) → AreTables m self.now → result ≡ resolve m owner name.now }
-    {
-        self.mean(owner, name)
     }
 }

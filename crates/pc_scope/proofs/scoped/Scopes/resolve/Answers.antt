@@ -1,0 +1,8 @@
+use Rattle.std.proofs.Common.{◌∙◌, ap}
+use Rattle.pc_scope.specs.Tables.{meaning}
+use Rattle.pc_scope.specs.Scoped.{Scoped}
+use Rattle.pc_scope.proofs.Meanings.{means}
+use Rattle.pc_scope.proofs.scoped.Scopes.resolve.Goals as goal
+
+pub returns : goal.returns
+returns c = record { resolved = λ m are. c.mean.ensures ∙ ap (λ (s : Scoped). meaning s.tables c.args.owner c.args.name.now) c.self.view_is ∙ means m c.args.self.now.tables are.tables c.args.owner c.args.name.now }
