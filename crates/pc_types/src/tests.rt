@@ -1,6 +1,6 @@
 // Tables of types. A type is written as a code, head first: A any, O object, N never, i int, b bool,
 // s str, n None, a digit the class of that number, L a list and its item, D a dict, its key (i or s)
-// and its value, T a tuple, its length and its parts, | the join of two types. So a union is written as
+// and its value, ( a tuple, its length and its parts, | the join of two types. So a union is written as
 // its members in order, each but the last behind a bar.
 
 ghost use Rattle.std.specs.Prelude.{All, IfOk, IfSome};
@@ -18,9 +18,9 @@ O i n n
 Li LA n y
 LA LO y y
 Lb Li n n
-LT2Ai LT2sA n y
+L(2Ai L(2sA n y
 Li Ls n n
-T2bs T2is y y
+(2bs (2is y y
 A i n y
 i A y y
 A A y y
@@ -41,9 +41,9 @@ LO LA y y
 O O y y
 O |in n n
 LN LN y y
-T1N T1i y y
-T1i T1O y y
-T1O T1i n n
+(1N (1i y y
+(1i (1O y y
+(1O (1i n n
 DiN Dii n n
 DiO DiA y y
 b i y y
@@ -62,7 +62,7 @@ n O y y
 7 7 y y
 7 0 n n
 L2 L0 n n
-T12 T10 y y
+(12 (10 y y
 Di2 Di0 n n
 i |in y y
 b |in y y
@@ -89,24 +89,24 @@ L|iLA L|iLs n y
 L|iLA L|sLA n n
 L|iLLA L|iLLs n y
 L|iLLi L|iLLs n n
-L|nT1A L|nT1i n y
-L|nT1b L|nT1i n n
-L|nT1i L|nT2ii n n
+L|n(1A L|n(1i n y
+L|n(1b L|n(1i n n
+L|n(1i L|n(2ii n n
 L|n2 L|n2 y y
 L|n2 L|n1 n n
-LT1|nLA LT1|nLi n y
-T0 T0 y y
-T0 T1i n n
-T1i T0 n n
-T2ii T3iii n n
-T3iii T2ii n n
-T2AA T2is n y
-T1Li T1LA n y
-T2bLb T2iLi n n
-T1b |T1iT2is y y
-T2bs |T1iT2is y y
-T3iii |T1iT2is n n
-|T1bT2bs |T1iT2is y y
+L(1|nLA L(1|nLi n y
+(0 (0 y y
+(0 (1i n n
+(1i (0 n n
+(2ii (3iii n n
+(3iii (2ii n n
+(2AA (2is n y
+(1Li (1LA n y
+(2bLb (2iLi n n
+(1b |(1i(2is y y
+(2bs |(1i(2is y y
+(3iii |(1i(2is n n
+|(1b(2bs |(1i(2is y y
 Dii Dii y y
 Dii Dsi n n
 DiA Dis n y
@@ -123,13 +123,13 @@ LLLLLLLLi LLLLLLLLs n n";
 const JOINS: &str = "\
 b i i
 i n |in
-T1i T1s T1|is
+(1i (1s (1|is
 Li Ls -
 i i i
 Li Li Li
 LA LA LA
 |in |in |in
-T2ib T2ib T2ib
+(2ib (2ib (2ib
 N i i
 Li N Li
 N N N
@@ -162,21 +162,21 @@ Dii Dii Dii
 Dii Dsi -
 Dii Dib -
 Dii Li |LiDii
-T0 T1i |T0T1i
-T0 T0 T0
-T2is T2si T2|is|is
-T2iA T2sA T2|isA
-T1N T1i T1i
-T1b T1i T1i
-T1Li T1Ls -
-T2iLi T2sLs -
-T1A T1i T1A
-T1O T1i T1O
-T1T1i T1T1s T1T1|is
-|T1iT2ii T1s |T1|isT2ii
-|T1iT2ii |T2siT3sss |T1i|T2|isiT3sss
-T1|in T1s T1|i|sn
-T1i n |nT1i
+(0 (1i |(0(1i
+(0 (0 (0
+(2is (2si (2|is|is
+(2iA (2sA (2|isA
+(1N (1i (1i
+(1b (1i (1i
+(1Li (1Ls -
+(2iLi (2sLs -
+(1A (1i (1A
+(1O (1i (1O
+(1(1i (1(1s (1(1|is
+|(1i(2ii (1s |(1|is(2ii
+|(1i(2ii |(2si(3sss |(1i|(2|isi(3sss
+(1|in (1s (1|i|sn
+(1i n |n(1i
 2 0 0
 0 2 0
 2 1 1
@@ -245,7 +245,7 @@ fn read(
             let (value, end) = read(alloc, parents, code, next + 1, depth - 1)?;
             Ok((store.dict(alloc, &key, &value)?.ok_or("a large dict")?, end))
         }
-        b'T' => {
+        b'(' => {
             let count = code
                 .get(next)
                 .copied()
@@ -322,7 +322,7 @@ fn spell(t: &BoxType, out: &mut String) -> Result<(), Fail> {
         }
         BoxType::Tuple(parts) => {
             let count = parts.len();
-            write!(out, "T{count}")?;
+            write!(out, "({count}")?;
             for part in parts {
                 spell(part, out)?;
             }
@@ -397,10 +397,10 @@ n None 1
 7 Class(7) 1
 L|in List 4 |in,
 Ds|nLi Dict 6 s,|nLi,
-T0 Tuple(0) 1
-T3iLis Tuple(3) 5 i,Li,s,
+(0 Tuple(0) 1
+(3iLis Tuple(3) 5 i,Li,s,
 |in Union(2) 3 i,n,
-|i|nT2i7 Union(3) 7 i,n,T2i7,";
+|i|n(2i7 Union(3) 7 i,n,(2i7,";
 
 /// The codes of a type's parts.
 fn part_codes(alloc: Global, t: &BoxType) -> Result<String, Fail>
