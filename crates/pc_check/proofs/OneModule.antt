@@ -1,6 +1,6 @@
 -- A module has at most one lawful labelling: constants first, in text order, then functions and classes.
 use Rattle.std.proofs.Common.{◌≡◌, ℕ, zero, suc, ◌<◌, List, [], ◌∷◌, ◌++◌, map, length, refl, sym, ap, ◌∙◌, subst, inl, inr, arith}
-use Rattle.std.specs.Prelude.{◌⊎◌, Bool as Test, true, false, not, ◌||◌, if◌then◌else◌, Option, Some, None, bytes_eq, slice_get, slice_index_or, All}
+use Rattle.std.specs.Prelude.{◌⊎◌, Bool as Test, true, false, not, ◌||◌, if◌then◌else◌, Option, Some, None, bytes_eq, slice_get}
 use Rattle.std.specs.Option.{option_map}
 use Rattle.std.proofs.lemmas.Slice.Eq.{bytes_eq-Decides}
 use Rattle.pc_tree.specs.declared.code.Code.{Code}
@@ -14,19 +14,18 @@ use Rattle.pc_scope.specs.Reserved.{is_reserved}
 use Rattle.pc_scope.specs.Bindings.{texts, param_names}
 use Rattle.pc_scope.specs.Resolution.{index_of, is_among, first_of_each, receiver, entry_texts, locals, local_of, or_else, resolve_in_module}
 use Rattle.pc_types.specs.Tree.{Tree}
-use Rattle.pc_types.specs.Below.{Bases, Static}
-use Rattle.pc_types.specs.Assignable.{Assignable}
+use Rattle.pc_types.specs.Below.{Bases}
 use Rattle.pc_types.specs.Annotations.{read_ann, read_option}
 use Rattle.pc_class.specs.Bases.{bases_of}
-use Rattle.pc_class.specs.Facts.{Parameter, Method, Class, parameters_of, returned, binds_field}
-use Rattle.pc_class.specs.Overrides.{Judges, IsGood, IsStatic, static, dynamic, wrong, Flow, override_flows}
-use Rattle.pc_class.specs.Findings.{OverrideRule, base_class}
+use Rattle.pc_class.specs.Facts.{Parameter, Class, parameters_of, returned, binds_field}
+use Rattle.pc_class.specs.Findings.{base_class}
 use Rattle.pc_flow.specs.Environment.{Env, declared_type, none_assigned}
 use Rattle.pc_expr.specs.Context.{Context, FlowsInto}
-use Rattle.pc_expr.specs.Labels.{mark_of}
-use Rattle.pc_expr.specs.Signatures.{body_context, initializer_context, LawfulDefault, binds_name, ParamsMarks, LawfulParams}
+use Rattle.pc_expr.specs.Labels.{Flowing, mark_of}
+use Rattle.pc_expr.specs.Operations.{clean}
+use Rattle.pc_expr.specs.Signatures.{body_context, initializer_context, literal_type, LawfulDefault, binds_name, ParamsMarks, LawfulParams}
 use Rattle.pc_expr.proofs.Same.{SameWhere}
-use Rattle.pc_expr.proofs.One.{flows_one, into_one, one, static_assignable}
+use Rattle.pc_expr.proofs.One.{into_one, one}
 use Rattle.pc_check.specs.Statements.{Seen}
 use Rattle.pc_check.specs.Modules.{entries_of, names_entered, DeclaredEntry, LawfulEntry, entered, entry_env, ReturnsWell, leaves, may_complete, may_not, FunctionMarks, LawfulFunction, MembersMarks, LawfulMembers, ItemMarks, ItemsMarks, item_constants, constant_types, annotated_types, first_of_types, Before, before_next, nothing_before, LawfulItem, LawfulItems, HasOneLabelling}
 use Rattle.pc_check.proofs.OneStatement.{IsAmong, among_right, assign_kept, SameSeen, suite_one}
@@ -169,7 +168,7 @@ module _ (m : Module) (ctx : Context) (ds ds' : List Tree) where
       let same : (x : ℕ) → ctx.resolve p.name ≡ res.Local x → declared_type ds x ≡ declared_type ds' x = λ x i. entry_same (not (is_among p.name seen)) (ctx.resolve p.name) p.type x (λ e. s p.name x (not_false (is_among p.name seen) e) i) i h.0 h'.0 in
       entry_one (p.name ∷ seen) ps (entered (not (is_among p.name seen)) (ctx.resolve p.name) p.type env) (text_more seen p.name s same) (entered_kept (not (is_among p.name seen)) (ctx.resolve p.name) p.type env same k) h.1 h'.1
 
-none_kept : (ds ds' : List Tree) (n : ℕ) → length ds ≡ n → length ds' ≡ n → SameWhere ds ds' (none_assigned n)
+pub none_kept : (ds ds' : List Tree) (n : ℕ) → length ds ≡ n → length ds' ≡ n → SameWhere ds ds' (none_assigned n)
 none_kept [] [] zero l l' = tt
 none_kept (d ∷ ds) (d' ∷ ds') (suc n) l l' = (tt, none_kept ds ds' n (grind (arith, l)) (grind (arith, l')))
 none_kept [] ds' (suc n) l l' = absurd (grind (arith, l))
@@ -195,10 +194,10 @@ get_below (y ∷ xs) (suc x) b = let g = get_below xs x (omega arith) in record 
 
 -- ---- functions
 
-default_one : (bases : Bases) (b : Test) (l : Option Literal) (t : Tree) (c d : Option Code) → LawfulDefault bases b l t c → LawfulDefault bases b l t d → c ≡ d
-default_one bases b None t c d h h' = h ∙ sym h'
-default_one bases false (Some l) t c d h h' = h ∙ sym h'
-default_one bases true (Some l) t c d h h' = flows_one h h'
+default_one : (bases : Bases) (b : Test) (l : Option Literal) (t : Tree) (fs gs : Flowing) → LawfulDefault bases b l t fs → LawfulDefault bases b l t gs → fs ≡ gs
+default_one bases b None t fs gs h h' = h ∙ sym h'
+default_one bases false (Some l) t fs gs h h' = h ∙ sym h'
+default_one bases true (Some l) t fs gs h h' = into_one bases (clean (literal_type l)) (t ∷ []) fs gs h h'
 
 params_one : (m : Module) (before : List (List ℕ)) (ps : List Param) (mk mk' : ParamsMarks ps) → LawfulParams m before ps mk → LawfulParams m before ps mk' → mk ≡ mk'
 params_one m before [] mk mk' h h' = refl
@@ -232,32 +231,6 @@ function_one m constants owner f mk mk' h h' =
 
 -- ---- classes
 
-all_good : (bases : Bases) (fs : List Flow) → All (λ f. Static bases f.from f.into) fs → All (λ f. Assignable bases f.from f.into) fs
-all_good bases fs h = λ k d b. static_assignable bases _ _ (h k d b)
-
-statics_good : (bases : Bases) (new : Method) (olds : List Method) → All (IsStatic bases new) olds → All (IsGood bases new) olds
-statics_good bases new olds h = λ k d b. let x = h k d b in record { shape = x.shape; flows = all_good bases (override_flows (slice_index_or olds k d) new) x.flows }
-
-judges_one : {bases : Bases} {olds : List Method} {new : Method} {c d : Option Code} → Judges bases olds new c → Judges bases olds new d → c ≡ d
-judges_one (static a) (static b) = refl
-judges_one (static a) (dynamic g n) = absurd (n a)
-judges_one {bases} {olds} {new} (static a) (wrong n) = absurd (n (statics_good bases new olds a))
-judges_one (dynamic g n) (static b) = absurd (n b)
-judges_one (dynamic g n) (dynamic k l) = refl
-judges_one (dynamic g n) (wrong k) = absurd (k g)
-judges_one {bases} {olds} {new} (wrong n) (static b) = absurd (n (statics_good bases new olds b))
-judges_one (wrong n) (dynamic g k) = absurd (n g)
-judges_one (wrong n) (wrong k) = refl
-
-true_false : {b : Test} → b ≡ true → b ≡ false → ⊥
-true_false e e' = absurd (grind (arith, e, e'))
-
-override_one : (m : Module) (base : Class) (c : ℕ) (before : List (List ℕ)) (n : ℕ) (f : FuncDef) (x y : Option Code) → OverrideRule m base c before n f x → OverrideRule m base c before n f y → x ≡ y
-override_one m base c before n f x y h h' = elim h [
-  | inl a ↦ elim h' [ inl b ↦ judges_one a.1 b.1 | inr b ↦ absurd (true_false a.0 b.0) ]
-  | inr a ↦ elim h' [ inl b ↦ absurd (true_false b.0 a.0) | inr b ↦ a.1 ∙ sym b.1 ]
-]
-
 members_one : (m : Module) (constants : List Tree) (base : Class) (c number : ℕ) (before : List (List ℕ)) (ms : List Member) (mk mk' : MembersMarks ms) → LawfulMembers m constants base c number before ms mk → LawfulMembers m constants base c number before ms mk' → mk ≡ mk'
 members_one m constants base c number before [] mk mk' h h' = refl
 members_one m constants base c number before (field_member d ∷ ms) mk mk' h h' =
@@ -266,9 +239,8 @@ members_one m constants base c number before (field_member d ∷ ms) mk mk' h h'
     λ i. record { default = q i; rest = r i }
 members_one m constants base c number before (method_member d ∷ ms) mk mk' h h' =
     let q = function_one m constants (owners.Method c number) d mk.method mk'.method h.method h'.method in
-    let o = override_one m base c before number d mk.override mk'.override h.override h'.override in
     let r = members_one m constants base c (suc number) (d.name.text ∷ before) ms mk.rest mk'.rest h.others h'.others in
-    λ i. record { method = q i; override = o i; rest = r i }
+    λ i. record { method = q i; rest = r i }
 
 -- ---- constants, then all items
 

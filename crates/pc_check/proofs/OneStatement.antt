@@ -15,7 +15,7 @@ use Rattle.pc_types.specs.Shape.{members}
 use Rattle.pc_types.specs.Annotations.{read_ann}
 use Rattle.pc_flow.specs.Environment.{Env, declared_type, assign, assigned_type, join_envs_onto, join_ways}
 use Rattle.pc_flow.specs.Narrowing.{narrow}
-use Rattle.pc_expr.specs.Operations.{Mark, clean, offers_mark, iterate_member, found_of, operand_types, stored_types, only_type}
+use Rattle.pc_expr.specs.Operations.{Mark, clean, offers_mark, iterate_member, store_codes, store_index_types, stored_types, only_type}
 use Rattle.pc_expr.specs.Context.{Context, FlowsInto}
 use Rattle.pc_expr.specs.Calls.{given, positional_seat, named_seat}
 use Rattle.pc_expr.specs.Labels.{Flowing, Marks, mark_of, type_of, with_mark}
@@ -269,7 +269,7 @@ module _ (m : Module) (ctx : Context) (ds ds' : List Tree) where
       let q = one ctx ds ds' env k None o tg.object tg'.object h.object h'.object in
       let offers : Marks o → _ = λ x. attribute_offers m ctx ds f.text (type_of o x) in
       let v = one ctx ds ds' env k (only_type (offers tg.object) (stored_types (offers tg.object))) e mk mk' h.value (subst (λ x. Lawful ctx ds' env (only_type (offers x) (stored_types (offers x))) e mk') (sym q) h'.value) in
-      let c : tg.codes ≡ tg'.codes = h.codes ∙ ap (λ x. found_of (offers x)) q ∙ sym h'.codes in
+      let c : tg.codes ≡ tg'.codes = h.codes ∙ ap (λ x. store_codes (offers x)) q ∙ sym h'.codes in
       record {
         targets = λ i. record { codes = c i; object = q i };
         marks = v;
@@ -280,8 +280,8 @@ module _ (m : Module) (ctx : Context) (ds ds' : List Tree) where
       let s = one ctx ds ds' env k None j tg.key tg'.key h.key h'.key in
       let offers : Marks o → _ = λ x. index_offers m ctx ds (type_of o x) in
       let v = one ctx ds ds' env k (only_type (offers tg.object) (stored_types (offers tg.object))) e mk mk' h.value (subst (λ x. Lawful ctx ds' env (only_type (offers x) (stored_types (offers x))) e mk') (sym q) h'.value) in
-      let c : tg.codes ≡ tg'.codes = h.codes ∙ ap (λ x. found_of (offers x)) q ∙ sym h'.codes in
-      let kf : tg.key_flows ≡ tg'.key_flows = into_one ctx.bases (mark_of j tg'.key) (operand_types (offers tg'.object)) tg.key_flows tg'.key_flows (subst (λ x. FlowsInto ctx.bases (mark_of j x) (operand_types (offers tg'.object)) tg.key_flows) s (subst (λ x. FlowsInto ctx.bases (mark_of j tg.key) (operand_types (offers x)) tg.key_flows) q h.key_flow)) h'.key_flow in
+      let c : tg.codes ≡ tg'.codes = h.codes ∙ ap (λ x. store_codes (offers x)) q ∙ sym h'.codes in
+      let kf : tg.key_flows ≡ tg'.key_flows = into_one ctx.bases (mark_of j tg'.key) (store_index_types (offers tg'.object)) tg.key_flows tg'.key_flows (subst (λ x. FlowsInto ctx.bases (mark_of j x) (store_index_types (offers tg'.object)) tg.key_flows) s (subst (λ x. FlowsInto ctx.bases (mark_of j tg.key) (store_index_types (offers x)) tg.key_flows) q h.key_flow)) h'.key_flow in
       record {
         targets = λ i. record { codes = c i; object = q i; key = s i; key_flows = kf i };
         marks = v;

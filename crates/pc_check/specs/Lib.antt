@@ -1,3 +1,5 @@
+pub mod Agreement
+pub mod Labelled
 pub mod Modules
 pub mod StatementLabels
 pub mod Statements

@@ -18,10 +18,10 @@ use Rattle.pc_types.specs.Below.{Bases, Static}
 use Rattle.pc_types.specs.Annotations.{read_ann, AnnFinds, OptionFinds}
 use Rattle.pc_class.specs.Bases.{bases_of}
 use Rattle.pc_class.specs.Facts.{Parameter, Class, binds_field, parameters_of, returned}
-use Rattle.pc_class.specs.Findings.{OverrideRule, ClassFinds, base_class}
+use Rattle.pc_class.specs.Findings.{ClassFinds, base_class}
 use Rattle.pc_flow.specs.Environment.{Env, none_assigned, assign, declared_type}
 use Rattle.pc_expr.specs.Context.{FlowsInto}
-use Rattle.pc_expr.specs.Labels.{Flowing, Marks, mark_of, type_of, Finds, IsFlowAt, IsCodeAt}
+use Rattle.pc_expr.specs.Labels.{Flowing, Marks, mark_of, type_of, Finds, IsFlowAt, IsCodeAt, is_of_scopes}
 use Rattle.pc_expr.specs.Lawful.{Lawful}
 use Rattle.pc_expr.specs.Signatures.{body_context, initializer_context, LawfulDefault, DefaultFinds, ParamsMarks, LawfulParams, ParamsFind, binds_name}
 use Rattle.pc_check.specs.StatementLabels.{SuiteMarks}
@@ -70,7 +70,7 @@ pub data ReturnsWell (bases : Bases) (returned : Tree) : Option Env → Option C
   may_complete : {env : Env} → Static bases NoneType returned → ReturnsWell bases returned (Some env) None
   may_not : {env : Env} → ¬ (Static bases NoneType returned) → ReturnsWell bases returned (Some env) (Some E21)
 
--- each local's declared type, the codes of defaults, the labels of the body, where it ends, the code at the name
+-- each local's declared type, the flows of defaults, the labels of the body, where it ends, the code at the name
 abbrev pub FunctionMarks : FuncDef → Type 0
 FunctionMarks f = record { params : ParamsMarks f.params; declared : List Tree; body : SuiteMarks f.body; out : Option Env; completing : Option Code }
 
@@ -93,11 +93,11 @@ FunctionFinds m constants owner f marks g =
 
 -- ---- classes
 
--- a code for the default of a field; the labels of a method, and the code of its override
+-- the flow of the default of a field, none where nothing flows; the labels of a method
 abbrev pub MembersMarks : List Member → Type 0
 MembersMarks [] = Unit {0}
-MembersMarks (field_member d ∷ rest) = record { default : Option Code; rest : MembersMarks rest }
-MembersMarks (method_member d ∷ rest) = record { method : FunctionMarks d; override : Option Code; rest : MembersMarks rest }
+MembersMarks (field_member d ∷ rest) = record { default : Flowing; rest : MembersMarks rest }
+MembersMarks (method_member d ∷ rest) = record { method : FunctionMarks d; rest : MembersMarks rest }
 
 -- behind members of these names and so many methods
 abbrev pub LawfulMembers : Module → (constants : List Tree) → Class → (c number : ℕ) → (before : List (List ℕ)) → (ms : List Member) → MembersMarks ms → Type 0
@@ -108,20 +108,18 @@ LawfulMembers m constants base c number before (field_member d ∷ ms) marks = r
 }
 LawfulMembers m constants base c number before (method_member d ∷ ms) marks = record {
   method : LawfulFunction m constants (owners.Method c number) d marks.method;
-  override : OverrideRule m base c before number d marks.override;
   others : LawfulMembers m constants base c (suc number) (d.name.text ∷ before) ms marks.rest;
 }
 
--- what is found in members: in annotations, at defaults, in methods, and at the names of overrides
+-- what is found in members: in annotations, at defaults, and in methods
 abbrev pub MembersFind : Module → (constants : List Tree) → (c number : ℕ) → (ms : List Member) → MembersMarks ms → Finding → Type 0
 MembersFind m constants c number [] marks f = ⊥
 MembersFind m constants c number (field_member d ∷ rest) marks f = AnnFinds m (bases_of m) d.annotation f ⊎ (DefaultFinds d.default marks.default f ⊎ MembersFind m constants c number rest marks.rest f)
-MembersFind m constants c number (method_member d ∷ rest) marks f =
-    FunctionFinds m constants (owners.Method c number) d marks.method f ⊎ (IsCodeAt d.name.place marks.override f ⊎ MembersFind m constants c (suc number) rest marks.rest f)
+MembersFind m constants c number (method_member d ∷ rest) marks f = FunctionFinds m constants (owners.Method c number) d marks.method f ⊎ MembersFind m constants c (suc number) rest marks.rest f
 
 -- ---- constants and items
 
--- the labels of an initializer, and the code of its flow
+-- the labels of an initializer, and its flow
 abbrev pub ItemMarks : Item → Type 0
 ItemMarks (constant_item p c) = record { value : Marks c.value; flows : Flowing }
 ItemMarks (class_item p c) = MembersMarks c.members
@@ -215,12 +213,25 @@ pub record HasLabelling (m : Module) : Type 0 where
   pub marks : Labelling m
   pub lawful : IsLawful m marks
 
+-- what stands under the labels of a module
+abbrev pub LabelsSay : (m : Module) → Labelling m → Finding → Type 0
+LabelsSay m marks f = ItemsFind m (constant_types m m.items marks) nothing_before m.items marks f
+
+-- what is found under the labels of a module: what stands there, but for what is found of scopes
+pub record LabelsFind (m : Module) (marks : Labelling m) (f : Finding) : Type 0 where
+  pub own : is_of_scopes f.code ≡ false
+  pub said : LabelsSay m marks f
+
 -- a finding of a module: one of scopes, one of classes, or one under its lawful labelling
 pub record IsFinding (m : Module) (f : Finding) : Type 0 where
   pub marks : Labelling m
   pub lawful : IsLawful m marks
-  pub found : ScopeFinds m f ⊎ (ClassFinds m f ⊎ ItemsFind m (constant_types m m.items marks) nothing_before m.items marks f)
+  pub found : ScopeFinds m f ⊎ (ClassFinds m f ⊎ LabelsFind m marks f)
 
 -- a module has at most one lawful labelling
 abbrev pub HasOneLabelling : Module → Type 0
 HasOneLabelling m = (marks others : Labelling m) → IsLawful m marks → IsLawful m others → marks ≡ others
+
+-- a module has exactly one lawful labelling
+abbrev pub HasExactlyOneLabelling : Module → Type 0
+HasExactlyOneLabelling m = HasLabelling m × HasOneLabelling m

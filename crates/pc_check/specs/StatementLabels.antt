@@ -26,7 +26,7 @@ Behind false A = Unit {0}
 
 -- the labels of statements, suites and branches
 abbrev mutual
-  -- of a statement: its expressions' labels, its flows' codes, and environments at `break`, loop heads, `else` and suite ends
+  -- of a statement: its expressions' labels, its flows, and environments at `break`, loop heads, `else` and suite ends
   pub StmtMarks : Stmt → Type 0
   StmtMarks (pass p) = Unit {0}
   StmtMarks (breaks p) = Env

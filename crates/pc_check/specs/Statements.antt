@@ -21,8 +21,8 @@ use Rattle.pc_types.specs.Shape.{members}
 use Rattle.pc_types.specs.Annotations.{read_ann, AnnFinds}
 use Rattle.pc_flow.specs.Environment.{Env, declared_type, assign, assigned_type, join_envs_onto, join_ways, loop_head}
 use Rattle.pc_flow.specs.Narrowing.{narrow}
-use Rattle.pc_expr.specs.Operations.{Mark, clean, Offer, offers_mark, found_of, operand_types, stored_types, only_type, store_attribute_member, store_index_member, iterate_member}
-use Rattle.pc_expr.specs.Context.{Context, FlowsInto}
+use Rattle.pc_expr.specs.Operations.{Mark, clean, offers_mark, StoreOffer, store_codes, store_index_types, stored_types, only_type, store_attribute_member, store_index_member, iterate_member}
+use Rattle.pc_expr.specs.Context.{Context, Signature, FlowsInto}
 use Rattle.pc_expr.specs.Calls.{Given, given, is_suited, CallOffer, called, builtin_signature, call_mark, positional_seat, named_seat}
 use Rattle.pc_expr.specs.Labels.{Flowing, Marks, mark_of, type_of, with_mark, Finds, IsFoundAt, IsFlowAt}
 use Rattle.pc_expr.specs.Lawful.{Lawful, LawfulItems, LawfulKeywords}
@@ -31,7 +31,7 @@ use Rattle.pc_check.specs.StatementLabels.{OptionMarks, TargetMarks, StmtMarks, 
 -- the code of a single flow
 abbrev pub only_code : Flowing → Option Code
 only_code [] = None
-only_code (c ∷ cs) = c
+only_code (f ∷ fs) = f.code
 
 -- the names bound so far, in text order: a name is bound first where it is not among them
 abbrev pub Seen : Type 0
@@ -52,13 +52,18 @@ binds_number resolve names x = list_any (λ n. is_number x (resolve n.text)) nam
 
 -- ---- what a `for` goes over
 
--- the range of a `for` takes one int
+-- `range` takes one int. Its result stands as what a `for` goes over and nowhere else, so no rule reads its type: there is no type of
+-- ranges, and the label has object, the type of every value
+abbrev pub range_signature : Signature
+range_signature = builtin_signature (Int ∷ []) Object
+
+-- what a call of `range` comes to as what a `for` goes over
 abbrev pub range_offers : Given → List CallOffer
-range_offers g = called g (builtin_signature (Int ∷ []) Object) ∷ []
+range_offers g = called g range_signature ∷ []
 
 -- what a turn gives: int, or where the call does not suit Any
 abbrev pub range_item : Given → Mark
-range_item g = if is_suited g (builtin_signature (Int ∷ []) Object) then clean Int else record { type = Any; codes = A5 ∷ [] }
+range_item g = if is_suited g range_signature then clean Int else record { type = Any; codes = A5 ∷ [] }
 
 -- the name means the built-in `range`
 abbrev pub is_range : Res → Test
@@ -163,11 +168,11 @@ module _ (m : Module) (ctx : Context) (declared : List Tree) where
   -- ---- targets that are no names
 
   -- what storing to an attribute comes to on each member of the object's type
-  abbrev pub attribute_offers : List ℕ → Tree → List Offer
+  abbrev pub attribute_offers : List ℕ → Tree → List StoreOffer
   attribute_offers field t = map (store_attribute_member ctx.classes field) (members t)
 
   -- what storing to an item comes to on each member of the object's type
-  abbrev pub index_offers : Tree → List Offer
+  abbrev pub index_offers : Tree → List StoreOffer
   index_offers t = map store_index_member (members t)
 
   -- a store to an attribute or an item is lawful: its parts, the codes at the target, and the flows
@@ -176,15 +181,15 @@ module _ (m : Module) (ctx : Context) (declared : List Tree) where
   LawfulStore env (to_attribute p o field) target e marks flows = record {
     object : Lawful ctx declared env None o target.object;
     value : Lawful ctx declared env (only_type (attribute_offers field.text (type_of o target.object)) (stored_types (attribute_offers field.text (type_of o target.object)))) e marks;
-    codes : target.codes ≡ found_of (attribute_offers field.text (type_of o target.object));
+    codes : target.codes ≡ store_codes (attribute_offers field.text (type_of o target.object));
     flow : FlowsInto ctx.bases (mark_of e marks) (stored_types (attribute_offers field.text (type_of o target.object))) flows;
   }
   LawfulStore env (to_index p o i) target e marks flows = record {
     object : Lawful ctx declared env None o target.object;
     key : Lawful ctx declared env None i target.key;
     value : Lawful ctx declared env (only_type (index_offers (type_of o target.object)) (stored_types (index_offers (type_of o target.object)))) e marks;
-    codes : target.codes ≡ found_of (index_offers (type_of o target.object));
-    key_flow : FlowsInto ctx.bases (mark_of i target.key) (operand_types (index_offers (type_of o target.object))) target.key_flows;
+    codes : target.codes ≡ store_codes (index_offers (type_of o target.object));
+    key_flow : FlowsInto ctx.bases (mark_of i target.key) (store_index_types (index_offers (type_of o target.object))) target.key_flows;
     flow : FlowsInto ctx.bases (mark_of e marks) (stored_types (index_offers (type_of o target.object))) flows;
   }
 

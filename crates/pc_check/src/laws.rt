@@ -1,14 +1,47 @@
 ghost use Rattle.pc_tree.specs.declared.code.Finding.{Finding};
 ghost use Rattle.pc_tree.specs.Tree.{Module};
 ghost use Rattle.pc_scope.specs.Findings.{ScopeFinds};
-ghost use Rattle.pc_check.specs.Modules.{IsFinding, HasLabelling, HasOneLabelling};
+ghost use Rattle.pc_check.specs.Agreement.{AgreesWithScopes};
+ghost use Rattle.pc_check.specs.Labelled.{StatementsAreLabelled, SuitesAreLabelled, FunctionsAreLabelled, ClassesAreLabelled};
+ghost use Rattle.pc_check.specs.Modules.{Labelling, IsLawful, IsFinding, HasLabelling, HasOneLabelling, HasExactlyOneLabelling};
 
 /// The law that a module has at most one lawful labelling.
 pub fn one_labelling()
     ensures { (m : Module) → HasOneLabelling m }
 {}
 
-/// The law that the findings of scopes are findings of a module that has a lawful labelling.
+/// The law that each statement and each suite has lawful labels, from a table of declared types and an environment that go by
+/// the names bound so far, of types in normal form, without absorbed members and of at most 256 nodes; and behind it the
+/// table and the environment are so again.
+pub fn suites_have_labels()
+    ensures statement { StatementsAreLabelled }
+    ensures suite { SuitesAreLabelled }
+{}
+
+/// The law that each function, and the members of each class, have lawful labels, where the types of the constants are in
+/// normal form, without absorbed members and of at most 256 nodes.
+pub fn functions_have_labels()
+    ensures function { FunctionsAreLabelled }
+    ensures members { ClassesAreLabelled }
+{}
+
+/// The law that each module has a lawful labelling.
+pub fn every_module_has_a_labelling()
+    ensures { (m : Module) → HasLabelling m }
+{}
+
+/// The law that each module has exactly one lawful labelling.
+pub fn every_module_has_exactly_one_labelling()
+    ensures { (m : Module) → HasExactlyOneLabelling m }
+{}
+
+/// The law that the findings of scopes are findings of a module.
 pub fn findings_of_scopes()
-    ensures { (m : Module) (f : Finding) → HasLabelling m → ScopeFinds m f → IsFinding m f }
+    ensures { (m : Module) (f : Finding) → ScopeFinds m f → IsFinding m f }
+{}
+
+/// The law that a lawful labelling says E02 and E03 where scopes find them, and nowhere else. So each is found of scopes
+/// alone, and labels have them for their types.
+pub fn labels_agree_with_scopes()
+    ensures { (m : Module) (marks : Labelling m) → IsLawful m marks → AgreesWithScopes m marks }
 {}

@@ -1,1 +1,13 @@
-pub mod Earlier
+pub mod ClassesBuilt
+pub mod EntryWalk
+pub mod FoundBases
+pub mod FoundLate
+pub mod Holding
+pub mod ItemsOutlined
+pub mod Judged
+pub mod Naming
+pub mod Outlining
+pub mod OwnMembers
+pub mod ReservedNames
+pub mod SharedParts
+pub mod WellFormed

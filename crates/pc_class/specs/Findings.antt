@@ -1,6 +1,6 @@
 -- The findings of classes: E06, E07, E08, E11, A8.
 -- Own rules of the profile; library reference, `dataclasses`, order of fields.
-use Rattle.std.specs.Prelude.{◌≡◌, ◌⊎◌, ℕ, List, [], map, take, Bool, true, false, ◌||◌, IsTrue, IsFalse, Option, Some, None, is_some, slice_get}
+use Rattle.std.specs.Prelude.{◌≡◌, ℕ, List, [], map, take, length, Bool, ◌||◌, IsTrue, IsFalse, Some, None, is_some, slice_get}
 use Rattle.std.specs.List.{list_any}
 use Rattle.pc_tree.specs.declared.code.Code.{Code}
 use Rattle.pc_tree.specs.declared.code.Code.TheVariants.{E06, E07, E08}
@@ -8,7 +8,7 @@ use Rattle.pc_tree.specs.declared.code.Finding.{Finding}
 use Rattle.pc_tree.specs.Code.{finding}
 use Rattle.pc_tree.specs.Stopping.{IsStopping, name_of_member}
 use Rattle.pc_tree.specs.Tree.{Name, FuncDef, Field, Member, field_member, method_member, ClassDef, Module}
-use Rattle.pc_scope.specs.Bindings.{classes_in}
+use Rattle.pc_scope.specs.Bindings.{classes_in, methods_in}
 use Rattle.pc_class.specs.Bases.{bases_of, base_named}
 use Rattle.pc_class.specs.Facts.{Class, inherited, classes_of, binds_field, binds_method, own_fields, method_made}
 use Rattle.pc_class.specs.Overrides.{Judges, overridden}
@@ -51,20 +51,14 @@ pub record IsFieldBehind (m : Module) (class : ClassDef) (c : ℕ) (f : Finding)
   pub behind : IsTrue (has_default_before m (base_class m c class) (take at class.members))
   pub is : f ≡ finding field.name.place E08
 
--- what an override is judged as, where the method binds its name
-abbrev pub OverrideRule : Module → Class → ℕ → (before : List (List ℕ)) → ℕ → FuncDef → Option Code → Type 0
-OverrideRule m base c before number f code =
-    ((binds_method base before f.name.text ≡ true) × Judges (bases_of m) (overridden base.methods f.name.text) (method_made m c number f) code)
-    ⊎ ((binds_method base before f.name.text ≡ false) × (code ≡ None))
-
--- E11, A8: at the name of a method that overrides
+-- E11, A8: at the name of a method that overrides, where it binds its name; its number is that of the methods before it in its class
 pub record IsOverride (m : Module) (class : ClassDef) (c : ℕ) (f : Finding) : Type 0 where
   pub at : ℕ
-  pub number : ℕ
   pub method : FuncDef
   pub code : Code
   pub here : slice_get class.members at ≡ Some (method_member method)
-  pub judged : OverrideRule m (base_class m c class) c (member_texts (take at class.members)) number method (Some code)
+  pub binds : IsTrue (binds_method (base_class m c class) (member_texts (take at class.members)) method.name.text)
+  pub judged : Judges (bases_of m) (overridden (base_class m c class).methods method.name.text) (method_made m c (length (methods_in (take at class.members))) method) (Some code)
   pub is : f ≡ finding method.name.place code
 
 -- the findings of classes

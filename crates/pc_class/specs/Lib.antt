@@ -1,4 +1,10 @@
-pub mod Bases
+pub use Rattle.pc_types.specs.Bases
+pub mod Entries
 pub mod Facts
 pub mod Findings
+pub mod Named
+pub mod NamesFound
+pub mod Outlines
 pub mod Overrides
+pub mod Shared
+pub mod WellFormed

@@ -1,6 +1,6 @@
 -- Overrides: a method against those of its name that its class's ancestors have.
 -- Typing specification, "Type system concepts", assignability of callables; own rule of the profile.
-use Rattle.std.specs.Prelude.{ℕ, List, [], ◌∷◌, Bool, true, false, ◌&&◌, ◌||◌, not, IsTrue, Option, Some, None, All, filter, bytes_eq}
+use Rattle.std.specs.Prelude.{◌≡◌, ℕ, List, [], ◌∷◌, Bool, true, false, ◌&&◌, ◌||◌, not, IsTrue, Option, Some, None, All, filter, bytes_eq}
 use Rattle.pc_tree.specs.declared.code.Code.{Code}
 use Rattle.pc_tree.specs.declared.code.Code.TheVariants.{E11, A8}
 use Rattle.pc_types.specs.Tree.{Tree}
@@ -43,6 +43,12 @@ pub data Judges (bases : Bases) (olds : List Method) (new : Method) : Option Cod
   static : All (IsStatic bases new) olds → Judges bases olds new None
   dynamic : All (IsGood bases new) olds → ¬ (All (IsStatic bases new) olds) → Judges bases olds new (Some A8)
   wrong : ¬ (All (IsGood bases new) olds) → Judges bases olds new (Some E11)
+
+-- a method is judged against methods that it overrides, and in one way alone
+pub record IsJudgedOnce (bases : Bases) (olds : List Method) (new : Method) : Type 0 where
+  pub code : Option Code
+  pub judged : Judges bases olds new code
+  pub only : (other : Option Code) → Judges bases olds new other → other ≡ code
 
 -- the ancestors' methods of a name
 abbrev pub overridden : List Method → List ℕ → List Method

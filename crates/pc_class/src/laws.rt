@@ -1,8 +1,26 @@
-ghost use Rattle.pc_tree.specs.Tree.{Module};
-ghost use Rattle.pc_types.specs.Below.{AreSmaller};
+ghost use Rattle.std.specs.Prelude.{ℕ};
+ghost use Rattle.pc_tree.specs.Tree.{ClassDef, FuncDef, Module};
 ghost use Rattle.pc_class.specs.Bases.{bases_of};
+ghost use Rattle.pc_class.specs.Facts.{method_made};
+ghost use Rattle.pc_class.specs.NamesFound.{BasesAreFound, LateFieldsAreFound};
+ghost use Rattle.pc_class.specs.Overrides.{IsJudgedOnce, overridden};
+ghost use Rattle.pc_class.specs.Findings.{base_class};
+ghost use Rattle.pc_class.specs.WellFormed.{ClassesAreWellFormed};
 
-/// The law that the base of each class stands before it.
-pub fn bases_stand_before()
-    ensures { (m : Module) → AreSmaller (bases_of m) }
+/// The law that a method of a class is judged against the methods of its name that the class's ancestors have, with
+/// one code or none: it is good and static, good alone (`A8`), or not good (`E11`).
+pub fn methods_are_judged_once()
+    ensures { (m : Module) (c number : ℕ) (class : ClassDef) (f : FuncDef) → IsJudgedOnce (bases_of m) (overridden (base_class m c class).methods f.name.text) (method_made m c number f) }
+{}
+
+/// The law that the types of the fields and methods of a module's classes are in normal form, without absorbed members and
+/// of at most 256 nodes.
+pub fn classes_are_well_formed()
+    ensures { ClassesAreWellFormed }
+{}
+
+/// The law that the lists of missing bases (E07) and of late fields (E08) hold just what the rules find.
+pub fn names_are_found()
+    ensures bases { BasesAreFound }
+    ensures late_fields { LateFieldsAreFound }
 {}

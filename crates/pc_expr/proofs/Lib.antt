@@ -1,3 +1,16 @@
+pub mod Called
+pub mod ComputedFlows
+pub mod ComputedLawful
+pub mod Contexts
+pub mod Expected
+pub mod FoundList
+pub mod Names
+pub mod Offers
 pub mod One
 pub mod Rows
+pub mod SaidByLabels
+pub mod SaidInLabels
 pub mod Same
+pub mod Saying
+pub mod Silent
+pub mod WellFormed

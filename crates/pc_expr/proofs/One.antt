@@ -3,63 +3,20 @@ use Rattle.std.proofs.Common.{◌≡◌, ℕ, suc, List, [], ◌∷◌, length, 
 use Rattle.std.specs.Prelude.{Bool as Test, true, false, Option, Some, None, map}
 use Rattle.pc_tree.specs.declared.code.Code.{Code}
 use Rattle.pc_tree.specs.Tree.{Expr, Exprs, Entries, Keywords, name, number, text, truth, nothing, tuple, list, dict, negative, negation, binary, compare, is_none, is_not_none, conjunction, disjunction, attribute, index, call, no_exprs, more_exprs, no_entries, more_entries, no_keywords, more_keywords}
-use Rattle.pc_types.specs.Tree.{Tree, Trees, Any, Object, Never, Int, Bool, Str, NoneType, Class, ListOf, DictOf, TupleOf, Union, end, more, erase, erase_each}
-use Rattle.pc_types.specs.Below.{Bases, Static}
+use Rattle.pc_types.specs.Tree.{Tree, TupleOf}
+use Rattle.pc_types.specs.Below.{Bases}
+use Rattle.pc_types.proofs.Consistent.{static_assignable}
 use Rattle.pc_types.specs.Shape.{trees, members}
-use Rattle.pc_types.specs.Assignable.{IsPlain, ArePlain, Fills, FillsEach, Assignable}
-use Rattle.pc_types.specs.Assignable as fills
 use Rattle.pc_flow.specs.Environment.{Env, join_or_object}
 use Rattle.pc_flow.specs.Narrowing.{narrow}
-use Rattle.pc_expr.specs.Operations.{Mark, offers_mark, operand_types, negative_member, binary_mark, display_mark, attribute_member, index_member}
-use Rattle.pc_expr.specs.Context.{Context, Flows, static, dynamic, wrong, FlowUnless, FlowsInto, is_early}
+use Rattle.pc_expr.specs.Operations.{Mark, FlowMark, offers_mark, operand_types, negative_member, binary_mark, display_mark, attribute_member, index_member}
+use Rattle.pc_expr.specs.Context.{Context, Flows, static, dynamic, wrong, FlowUnless, FlowAt, FlowsInto, is_early}
 use Rattle.pc_expr.specs.Calls.{given, count_exprs, Seat, positional_seat, named_seat}
 use Rattle.pc_expr.specs.Labels.{Flowing, Marks, ItemsMarks, EntriesMarks, KeywordsMarks, mark_of, type_of, with_mark, item_types, key_types, value_types}
 use Rattle.pc_expr.specs.Lawful.{list_item, dict_parts, tuple_parts, members_of, KeyValue, item_seat, part_seat, list_mark, DictMark, no_keys, int_keys, str_keys, other_keys, DictRule, key_seat, value_seat, int_literal, compare_mark, compare_types, callee_of, whole_call_mark, whole_second_code, keyword_seat, Lawful, LawfulItems, LawfulEntries, LawfulKeywords}
 use Rattle.pc_expr.proofs.Same.{SameWhere, narrow_alike}
 
 -- ---- a flow has one code
-
-mutual
-  plain_erased : (t : Tree) → IsPlain (erase t)
-  plain_erased Any = tt
-  plain_erased Object = tt
-  plain_erased Never = tt
-  plain_erased Int = tt
-  plain_erased Bool = tt
-  plain_erased Str = tt
-  plain_erased NoneType = tt
-  plain_erased (Class c) = tt
-  plain_erased (ListOf t) = plain_erased t
-  plain_erased (DictOf s t) = (plain_erased s, plain_erased t)
-  plain_erased (TupleOf ts) = plain_erased_each ts
-  plain_erased (Union s t) = (plain_erased s, plain_erased t)
-
-  plain_erased_each : (ts : Trees) → ArePlain (erase_each ts)
-  plain_erased_each end = tt
-  plain_erased_each (more t ts) = (plain_erased t, plain_erased_each ts)
-
-mutual
-  fills_erased : (t : Tree) → Fills t (erase t)
-  fills_erased Any = fills.any tt
-  fills_erased Object = fills.object
-  fills_erased Never = fills.never
-  fills_erased Int = fills.int
-  fills_erased Bool = fills.bool
-  fills_erased Str = fills.str
-  fills_erased NoneType = fills.none_type
-  fills_erased (Class c) = fills.class
-  fills_erased (ListOf t) = fills.list (fills_erased t)
-  fills_erased (DictOf s t) = fills.dict (fills_erased s) (fills_erased t)
-  fills_erased (TupleOf ts) = fills.tuple (fills_erased_each ts)
-  fills_erased (Union s t) = fills.union (fills_erased s) (fills_erased t)
-
-  fills_erased_each : (ts : Trees) → FillsEach ts (erase_each ts)
-  fills_erased_each end = fills.none
-  fills_erased_each (more t ts) = fills.one (fills_erased t) (fills_erased_each ts)
-
--- what is static is assignable
-pub static_assignable : (bases : Bases) (s t : Tree) → Static bases s t → Assignable bases s t
-static_assignable bases s t h = record { filled_left = erase s; filled_right = erase t; fills_left = fills_erased s; fills_right = fills_erased t; is_below = h }
 
 pub flows_one : {bases : Bases} {s t : Tree} {c d : Option Code} → Flows bases s t c → Flows bases s t d → c ≡ d
 flows_one (static a) (static b) = refl
@@ -76,13 +33,20 @@ unless_one : (early : Test) (bases : Bases) (s t : Tree) (c d : Option Code) →
 unless_one true bases s t c d h k = h ∙ sym k
 unless_one false bases s t c d h k = flows_one h k
 
-pub into_one : (bases : Bases) (m : Mark) (ts : List Tree) (cs ds : Flowing) → FlowsInto bases m ts cs → FlowsInto bases m ts ds → cs ≡ ds
+at_one : (bases : Bases) (m : Mark) (t : Tree) (f g : FlowMark) → FlowAt bases m t f → FlowAt bases m t g → f ≡ g
+at_one bases m t f g h k =
+    let from : f.from ≡ g.from = h.from ∙ sym k.from in
+    let into : f.into ≡ g.into = h.into ∙ sym k.into in
+    let code : f.code ≡ g.code = unless_one (is_early m.codes) bases m.type t f.code g.code h.code k.code in
+    λ i. record { from = from i; into = into i; code = code i }
+
+pub into_one : (bases : Bases) (m : Mark) (ts : List Tree) (fs gs : Flowing) → FlowsInto bases m ts fs → FlowsInto bases m ts gs → fs ≡ gs
 into_one bases m [] [] [] h k = refl
-into_one bases m [] [] (d ∷ ds) h k = absurd k
-into_one bases m [] (c ∷ cs) ds h k = absurd h
-into_one bases m (t ∷ ts) [] ds h k = absurd h
-into_one bases m (t ∷ ts) (c ∷ cs) [] h k = absurd k
-into_one bases m (t ∷ ts) (c ∷ cs) (d ∷ ds) h k = λ i. unless_one (is_early m.codes) bases m.type t c d h.0 k.0 i ∷ into_one bases m ts cs ds h.1 k.1 i
+into_one bases m [] [] (g ∷ gs) h k = absurd k
+into_one bases m [] (f ∷ fs) gs h k = absurd h
+into_one bases m (t ∷ ts) [] gs h k = absurd h
+into_one bases m (t ∷ ts) (f ∷ fs) [] h k = absurd k
+into_one bases m (t ∷ ts) (f ∷ fs) (g ∷ gs) h k = λ i. at_one bases m t f g h.0 k.0 i ∷ into_one bases m ts fs gs h.1 k.1 i
 
 -- a dict display has one label
 dict_one : {bases : Bases} {values keys : List Tree} {m m' : Mark} → DictMark bases values keys m → DictMark bases values keys m' → m ≡ m'
@@ -180,8 +144,8 @@ module _ (ctx : Context) (ds ds' : List Tree) where
         let q = items_one env k (positional_seat (callee_of ctx env (given args kws) c h.value).offers) args m.arguments m'.arguments h.arguments (subst (λ x. LawfulItems ctx ds' env (positional_seat (callee_of ctx env (given args kws) c x).offers) args m'.arguments) (sym v) h'.arguments) in
         let s = keywords_one env k (named_seat (callee_of ctx env (given args kws) c h.value).offers) [] kws m.keywords m'.keywords h.keywords (subst (λ x. LawfulKeywords ctx ds' env (named_seat (callee_of ctx env (given args kws) c x).offers) [] kws m'.keywords) (sym v) h'.keywords) in
         let f : m.callee ≡ m'.callee = h.callee ∙ (λ i. with_mark c (v i) (callee_of ctx env (given args kws) c (v i)).mark) ∙ sym h'.callee in
-        let r : m.here ≡ m'.here = h.here ∙ (λ i. whole_call_mark ctx env c args kws (callee_of ctx env (given args kws) c (v i)).offers (item_types args (q i))) ∙ sym h'.here in
-        let t : m.second ≡ m'.second = h.second ∙ ap (λ x. whole_second_code ctx c args kws x) q ∙ sym h'.second in
+        let r : m.here ≡ m'.here = h.here ∙ (λ i. whole_call_mark ctx env (callee_of ctx env (given args kws) c (v i)).rule (callee_of ctx env (given args kws) c (v i)).offers args (item_types args (q i))) ∙ sym h'.here in
+        let t : m.second ≡ m'.second = h.second ∙ (λ i. whole_second_code ctx (callee_of ctx env (given args kws) c (v i)).rule args (q i)) ∙ sym h'.second in
         λ i. record { here = r i; callee = f i; second = t i; arguments = q i; keywords = s i }
 
     pub items_one : (env : Env) → SameWhere ds ds' env → (seat : ℕ → Seat) (es : Exprs) (m m' : ItemsMarks es) → LawfulItems ctx ds env seat es m → LawfulItems ctx ds' env seat es m' → m ≡ m'

@@ -7,7 +7,7 @@ use Rattle.pc_types.specs.Tree.{Any, Object, Never, Int, Bool, Str, NoneType, Cl
 use Rattle.pc_types.specs.Shape.{members}
 use Rattle.pc_flow.specs.Environment.{join_or_object, join_all, assigned_type, loop_head}
 use Rattle.pc_flow.specs.Narrowing.{for_none, for_type, for_list, passing, failing}
-use Rattle.pc_expr.specs.Operations.{clean, in_error, offers_mark, index_member, binary_mark, order_mark, operand_types, store_index_member, stored_types, found_of}
+use Rattle.pc_expr.specs.Operations.{clean, in_error, offers_mark, index_member, binary_mark, order_mark, operand_types, store_index_member, store_codes, stored_types, found_of}
 use Rattle.pc_expr.specs.Context.{Signature}
 use Rattle.pc_expr.specs.Calls.{is_suited, value_offers, call_mark, builtin_signature}
 use Rattle.std.specs.Prelude.{map}
@@ -65,7 +65,7 @@ item_of_none = refl
 no_flow_in_error : operand_types (map (index_member bases None) (members (Union NoneType (ListOf Int)))) ≡ []
 no_flow_in_error = refl
 
-store_into_text : found_of (map store_index_member (members (Union Str (ListOf Int)))) ≡ E17 ∷ []
+store_into_text : store_codes (map store_index_member (members (Union Str (ListOf Int)))) ≡ E17 ∷ []
 store_into_text = refl
 
 stored_in_either : stored_types (map store_index_member (members (Union (ListOf Int) (DictOf Str Bool)))) ≡ Int ∷ Bool ∷ []

@@ -8,17 +8,8 @@ use Rattle.pc_types.specs.Tree.{Tree}
 use Rattle.pc_types.specs.Below.{Bases}
 use Rattle.pc_types.specs.Join.{join}
 use Rattle.pc_flow.specs.Environment.{Env, current, assign, join_local, join_env, join_envs_onto, head_local, loop_head}
+pub use Rattle.pc_flow.specs.Agreement.{SameAt, SameWhere}
 use Rattle.pc_flow.specs.Narrowing.{Tested, for_none, tested_as, narrow_current, narrow_local, narrow_instance, narrow, local_named, local_of_argument, test_of_argument, first_argument, second_argument}
-
--- two declared types are the same where a local is assigned
-abbrev pub SameAt : Tree → Tree → Option Tree → Type 0
-SameAt d d' None = Unit {0}
-SameAt d d' (Some t) = d ≡ d'
-
-abbrev pub SameWhere : List Tree → List Tree → Env → Type 0
-SameWhere [] [] [] = Unit {0}
-SameWhere (d ∷ ds) (d' ∷ ds') (s ∷ env) = SameAt d d' s × SameWhere ds ds' env
-SameWhere _ _ _ = ⊥
 
 -- an environment made with the ones and with the others: the same, and of locals that go alike
 pub record Alike (ds ds' : List Tree) (env env' : Env) : Type 0 where

@@ -13,7 +13,7 @@ use Rattle.pc_scope.specs.declared.resolution.Res.{Res}
 use Rattle.pc_scope.specs.declared.resolution.Res.TheVariants as res
 use Rattle.pc_scope.specs.Resolution.{is_among}
 use Rattle.pc_scope.specs.Expressions.{keyword_names}
-use Rattle.pc_types.specs.Tree.{Tree, Any, Object, Int, Bool, Str, NoneType, Class, ListOf, DictOf}
+use Rattle.pc_types.specs.Tree.{Tree, Any, Object, Never, Bool, Str, NoneType, Class, ListOf, DictOf}
 use Rattle.pc_types.specs.Below.{Bases}
 use Rattle.pc_types.specs.Shape.{members}
 use Rattle.pc_class.specs.Facts as facts
@@ -151,31 +151,22 @@ method_offers ctx g word _ = fails_at_callee E15 ∷ []
 abbrev pub is_one : Given → Test
 is_one g = nat_eq g.positional 1 && has_none g.named
 
+-- exactly two arguments, by position
+abbrev pub is_two : Given → Test
+is_two g = nat_eq g.positional 2 && has_none g.named
+
 -- a callee in error is a value of type Any
 abbrev pub error_offer : CallOffer
 error_offer = fails_at_call A6
 
--- the built-ins: `print`, `str`, `len`, `isinstance`, `range`; no other reserved name is called
-abbrev pub builtin_offer : Given → Builtin → CallOffer
-builtin_offer g builtin.Print = if has_none g.named then plain_call NoneType else fails_at_call E14
-builtin_offer g builtin.Str = if is_one g then plain_call Str else fails_at_call E14
-builtin_offer g builtin.Len = if is_one g then plain_call Int else fails_at_call E14
-builtin_offer g builtin.IsInstance = fails_at_call E14
-builtin_offer g builtin.Range = if is_one g then fails_at_call E27 else fails_at_call E14
-builtin_offer g _ = error_offer
+-- the rule of a call: by the members of what is called, by the length of an argument, or as a test of an instance
+pub data CallRule : Type 0 where
+  member_rule length_rule test_rule : CallRule
 
--- the built-in is one of those that may be called
-abbrev pub is_callable_builtin : Builtin → Test
-is_callable_builtin builtin.Print = true
-is_callable_builtin builtin.Str = true
-is_callable_builtin builtin.Len = true
-is_callable_builtin builtin.IsInstance = true
-is_callable_builtin builtin.Range = true
-is_callable_builtin _ = false
-
--- a callee: its label, and what a call of it comes to
+-- a callee: its label, the rule of its call, and what the call comes to on each member, none where the rule is another one
 pub record Callee : Type 0 where
   pub mark : Mark
+  pub rule : CallRule
   pub offers : List CallOffer
 
 -- a call of the function with this signature; without one it is called as a value of type Any
@@ -185,24 +176,37 @@ function_offer g (Some s) = called g s
 
 -- a callee that is a value with this label, called on each member of its type
 abbrev pub value_callee : Mark → Callee
-value_callee m = record { mark = m; offers = value_offers m.type }
+value_callee m = record { mark = m; rule = member_rule; offers = value_offers m.type }
 
 -- a callee at which nothing is found, and what a call of it comes to
 abbrev pub good_callee : List CallOffer → Callee
-good_callee offers = record { mark = clean Any; offers = offers }
+good_callee offers = record { mark = clean Any; rule = member_rule; offers = offers }
 
--- what a name is as a callee: a function, a class or a built-in that may be called, and else what it is as a value
+-- a callee whose call has a rule of its own; the arguments flow nowhere
+abbrev pub own_callee : CallRule → Callee
+own_callee rule = record { mark = clean Any; rule = rule; offers = [] }
+
+-- the built-ins: `print`, `str`, `len`, `isinstance`, `range`; any other reserved name is no value, and is not called
+abbrev pub builtin_callee : Given → Builtin → Callee
+builtin_callee g builtin.Print = good_callee ((if has_none g.named then plain_call NoneType else fails_at_call E14) ∷ [])
+builtin_callee g builtin.Str = good_callee ((if is_one g then plain_call Str else fails_at_call E14) ∷ [])
+builtin_callee g builtin.Len = if is_one g then own_callee length_rule else good_callee (fails_at_call E14 ∷ [])
+builtin_callee g builtin.IsInstance = if is_two g then own_callee test_rule else good_callee (fails_at_call E14 ∷ [])
+builtin_callee g builtin.Range = good_callee ((if is_one g then fails_at_call E27 else fails_at_call E14) ∷ [])
+builtin_callee g _ = value_callee (in_error E20)
+
+-- what a name is as a callee: a function, a class or a built-in, and else what it is as a value
 abbrev pub name_callee : Context → Env → Given → Res → Callee
 name_callee ctx env g (res.Func i) = if ctx.in_body then good_callee (function_offer g (slice_get ctx.functions i) ∷ []) else value_callee (in_error E03)
 name_callee ctx env g (res.Class c) = if nat_lt c ctx.known then good_callee (called g (class_signature ctx.classes c) ∷ []) else value_callee (in_error E03)
-name_callee ctx env g (res.Builtin b) = if is_callable_builtin b then good_callee (builtin_offer g b ∷ []) else value_callee (in_error E20)
+name_callee ctx env g (res.Builtin b) = builtin_callee g b
 name_callee ctx env g r = value_callee (name_mark ctx env r)
 
 -- what is found at a callee `e.m`, where e has this type
 abbrev pub method_callee : Context → Given → List ℕ → Tree → Callee
 method_callee ctx g word t =
     let offers = flat_map (method_offers ctx g word) (members t) in
-    record { mark = record { type = Any; codes = flat_map (λ o. o.at_callee) offers }; offers = offers }
+    record { mark = record { type = Any; codes = flat_map (λ o. o.at_callee) offers }; rule = member_rule; offers = offers }
 
 -- ---- the call as a whole
 
@@ -214,7 +218,7 @@ call_codes offers = if has_none (flat_map (λ o. o.at_callee) offers) then flat_
 abbrev pub all_codes : List CallOffer → List Code
 all_codes offers = flat_map (λ o. o.at_callee ++ o.at_call) offers
 
--- the label of a call: the join of what the members give, Any where an error is found
+-- the label of a call by the members of what is called: the join of what they give, Any where an error is found
 abbrev pub call_mark : Bases → List CallOffer → Mark
 call_mark bases offers = record {
   type = if has_error (all_codes offers) then Any else join_all bases (map (λ o. o.gives) offers);
@@ -263,10 +267,14 @@ nowhere = record { want = None; into = [] }
 
 -- ---- `len`, and tests of instances
 
--- the label of a call of `len` on arguments of these types
+-- the type of the first argument
+abbrev pub first_type : List Tree → Tree
+first_type [] = Never
+first_type (t ∷ ts) = t
+
+-- the label of a call of `len`, by the type of its one argument
 abbrev pub length_mark : Bases → List Tree → Mark
-length_mark bases (t ∷ []) = offers_mark bases (map length_member (members t))
-length_mark bases _ = in_error E14
+length_mark bases types = offers_mark bases (map length_member (members (first_type types)))
 
 -- the type is Any or object
 abbrev pub is_object_or_any : Tree → Test
@@ -289,7 +297,7 @@ abbrev pub test_codes : Env → Option ℕ → Option Tested → List Code
 test_codes env x (Some for_list) = any_list_codes (current_of env x)
 test_codes env x _ = []
 
--- the label of a test of an instance
+-- the label of a test of an instance: bool
 abbrev pub test_mark : Context → Env → Exprs → Mark
 test_mark ctx env arguments = record {
   type = Bool;

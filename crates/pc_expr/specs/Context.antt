@@ -12,7 +12,7 @@ use Rattle.pc_tree.specs.declared.code.Code.TheVariants.{A1, E12}
 use Rattle.pc_class.specs.Facts as facts
 use Rattle.pc_class.specs.Facts.{Parameter}
 use Rattle.pc_flow.specs.Environment.{Env, current}
-use Rattle.pc_expr.specs.Operations.{Mark, clean, in_error}
+use Rattle.pc_expr.specs.Operations.{Mark, FlowMark, clean, in_error}
 
 -- what is called: its parameters, what it returns, and whether it takes arguments by name
 pub record Signature : Type 0 where
@@ -65,12 +65,14 @@ abbrev pub FlowUnless : (early : Test) → Bases → Tree → Tree → Option Co
 FlowUnless true bases s t code = code ≡ None
 FlowUnless false bases s t code = Flows bases s t code
 
--- the flow of an expression with this label into one type, with its code
-abbrev pub FlowAt : Bases → Mark → Tree → Option Code → Type 0
-FlowAt bases m t code = FlowUnless (is_early m.codes) bases m.type t code
+-- the flow of an expression with this label into one type: its type, that type, and its code
+pub record FlowAt (bases : Bases) (m : Mark) (t : Tree) (flow : FlowMark) : Type 0 where
+  pub from : flow.from ≡ m.type
+  pub into : flow.into ≡ t
+  pub code : FlowUnless (is_early m.codes) bases m.type t flow.code
 
 -- its flow into several types, one after another
-abbrev pub FlowsInto : Bases → Mark → List Tree → List (Option Code) → Type 0
+abbrev pub FlowsInto : Bases → Mark → List Tree → List FlowMark → Type 0
 FlowsInto bases m [] [] = Unit {0}
-FlowsInto bases m (t ∷ ts) (c ∷ cs) = FlowAt bases m t c × FlowsInto bases m ts cs
+FlowsInto bases m (t ∷ ts) (f ∷ fs) = FlowAt bases m t f × FlowsInto bases m ts fs
 FlowsInto bases m _ _ = ⊥

@@ -1,23 +1,24 @@
--- The labels of an expression: for each of its parts a type and the codes that are found there, and for each flow its code.
+-- The labels of an expression: for each of its parts a type and the codes that stand there, and for each flow its types and its code.
 -- Own rule of the profile.
 use Rattle.std.specs.Prelude.{◌≡◌, ◌⊎◌, List, [], ◌∷◌, Bool as Test, true, false, Option, Some, None, Contains}
 use Rattle.pc_source.specs.declared.place.Place.{Place}
 use Rattle.pc_tree.specs.declared.code.Code.{Code}
+use Rattle.pc_tree.specs.declared.code.Code.TheVariants.{E02, E03}
 use Rattle.pc_tree.specs.declared.code.Finding.{Finding}
 use Rattle.pc_tree.specs.Code.{finding}
 use Rattle.pc_tree.specs.Tree.{Expr, Exprs, Entries, Keywords, name, number, text, truth, nothing, tuple, list, dict, negative, negation, binary, compare, is_none, is_not_none, conjunction, disjunction, attribute, index, call, no_exprs, more_exprs, no_entries, more_entries, no_keywords, more_keywords}
 use Rattle.pc_tree.specs.Depth.{place_of}
 use Rattle.pc_scope.specs.Expressions.{is_instance_test}
 use Rattle.pc_types.specs.Tree.{Tree}
-use Rattle.pc_expr.specs.Operations.{Mark}
+use Rattle.pc_expr.specs.Operations.{Mark, FlowMark}
 
--- the codes of an expression's flows, one for each type that it flows into
+-- the flows of an expression, one for each type that it flows into
 abbrev pub Flowing : Type 0
-Flowing = List (Option Code)
+Flowing = List FlowMark
 
 -- the labels of an expression, of items, of the entries of a dict and of arguments by name, by recursion on the tree
 abbrev mutual
-  -- of an expression: its own label, the labels of its parts, and the codes of their flows
+  -- of an expression: its own label, the labels of its parts, and their flows
   pub Marks : Expr → Type 0
   Marks (name n) = Mark
   Marks (number p digits) = Mark
@@ -39,17 +40,17 @@ abbrev mutual
   Marks (index p e i) = record { here : Mark; object : Marks e; key : Marks i; flows : Flowing }
   Marks (call p callee arguments keywords) = record { here : Mark; callee : Marks callee; second : Option Code; arguments : ItemsMarks arguments; keywords : KeywordsMarks keywords }
 
-  -- of items and of arguments by position: the labels of each, and the codes of its flows
+  -- of items and of arguments by position: the labels of each, and its flows
   pub ItemsMarks : Exprs → Type 0
   ItemsMarks no_exprs = Unit {0}
   ItemsMarks (more_exprs e rest) = record { first : Marks e; flows : Flowing; rest : ItemsMarks rest }
 
-  -- of the entries of a dict: the labels of each key and value, and the codes of their flows
+  -- of the entries of a dict: the labels of each key and value, and their flows
   pub EntriesMarks : Entries → Type 0
   EntriesMarks no_entries = Unit {0}
   EntriesMarks (more_entries key value rest) = record { key : Marks key; key_flows : Flowing; value : Marks value; value_flows : Flowing; rest : EntriesMarks rest }
 
-  -- of arguments by name: the labels of each value, and the codes of its flows
+  -- of arguments by name: the labels of each value, and its flows
   pub KeywordsMarks : Keywords → Type 0
   KeywordsMarks no_keywords = Unit {0}
   KeywordsMarks (more_keywords parameter value rest) = record { first : Marks value; flows : Flowing; rest : KeywordsMarks rest }
@@ -117,7 +118,13 @@ abbrev pub value_types : (es : Entries) → EntriesMarks es → List Tree
 value_types no_entries m = []
 value_types (more_entries key value rest) m = type_of value m.value ∷ value_types rest m.rest
 
--- ---- what is found under labels
+-- ---- what stands under labels
+
+-- E02 and E03 are found of scopes: labels have them for their types, and a law says that they have them where scopes find them
+abbrev pub is_of_scopes : Code → Test
+is_of_scopes E02 = true
+is_of_scopes E03 = true
+is_of_scopes _ = false
 
 -- a code of a label stands at its place
 pub record IsFoundAt (place : Place) (codes : List Code) (f : Finding) : Type 0 where
@@ -126,9 +133,11 @@ pub record IsFoundAt (place : Place) (codes : List Code) (f : Finding) : Type 0 
   pub is : f ≡ finding place code
 
 -- a code of a flow stands at the place of what flows
-pub record IsFlowAt (place : Place) (codes : Flowing) (f : Finding) : Type 0 where
+pub record IsFlowAt (place : Place) (flows : Flowing) (f : Finding) : Type 0 where
+  pub flow : FlowMark
+  pub among : Contains flows flow
   pub code : Code
-  pub among : Contains codes (Some code)
+  pub found : flow.code ≡ Some code
   pub is : f ≡ finding place code
 
 -- there is a code, and the finding is that code at this place
@@ -142,7 +151,7 @@ second_place no_exprs p = p
 second_place (more_exprs e no_exprs) p = p
 second_place (more_exprs e (more_exprs f rest)) p = place_of f
 
--- what is found under the labels of an expression, of items, of arguments, and of the entries of a dict
+-- what stands under the labels of an expression, of items, of arguments, and of the entries of a dict
 abbrev mutual
   pub Finds : (e : Expr) → Marks e → Finding → Type 0
   Finds (name n) m f = IsFoundAt n.place m.codes f
@@ -172,7 +181,7 @@ abbrev mutual
   ItemsFind no_exprs m f = ⊥
   ItemsFind (more_exprs e rest) m f = IsFlowAt (place_of e) m.flows f ⊎ (Finds e m.first f ⊎ ItemsFind rest m.rest f)
 
-  -- of the second argument of a test of an instance nothing else is found
+  -- of a test of an instance what stands second is not looked at
   pub ArgumentsFind : (is_test : Test) → (es : Exprs) → ItemsMarks es → Finding → Type 0
   ArgumentsFind is_test no_exprs m f = ⊥
   ArgumentsFind true (more_exprs e rest) m f = Finds e m.first f

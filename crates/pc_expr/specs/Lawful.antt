@@ -1,16 +1,12 @@
 -- The lawful labelling of an expression: each part obeys its own rule with respect to its neighbours alone.
 -- Language Reference 3.12, 6 "Expressions"; own rules of the profile.
-use Rattle.std.specs.Prelude.{◌≡◌, ℕ, suc, ◌+◌, ◌*◌, ◌-◌, List, [], ◌∷◌, map, Bool as Test, true, false, ◌&&◌, if◌then◌else◌, nat_eq, Option, Some, None, All, slice_get}
+use Rattle.std.specs.Prelude.{◌≡◌, ℕ, suc, ◌+◌, ◌*◌, ◌-◌, List, [], ◌∷◌, map, Bool as Test, true, false, if◌then◌else◌, nat_eq, Option, Some, None, All, slice_get}
 use Rattle.pc_tree.specs.declared.tree.ComparisonOperator.{ComparisonOperator}
 use Rattle.pc_tree.specs.declared.tree.ComparisonOperator.TheVariants.{Equal, NotEqual, In, NotIn}
 use Rattle.pc_tree.specs.declared.code.Code.{Code}
 use Rattle.pc_tree.specs.declared.code.Code.TheVariants.{E03, E22}
 use Rattle.pc_tree.specs.Tree.{Name, Expr, Exprs, Entries, Keywords, name, number, text, truth, nothing, tuple, list, dict, negative, negation, binary, compare, is_none, is_not_none, conjunction, disjunction, attribute, index, call, no_exprs, more_exprs, no_entries, more_entries, no_keywords, more_keywords}
-use Rattle.pc_scope.specs.declared.resolution.Builtin.TheVariants as builtin
-use Rattle.pc_scope.specs.declared.resolution.Res.{Res}
-use Rattle.pc_scope.specs.declared.resolution.Res.TheVariants as res
 use Rattle.pc_scope.specs.Resolution.{is_among}
-use Rattle.pc_scope.specs.Expressions.{is_instance_test}
 use Rattle.pc_types.specs.Tree.{Tree, Any, Int, Bool, Str, NoneType, ListOf, DictOf, TupleOf}
 use Rattle.pc_types.specs.Below.{Bases, Static}
 use Rattle.pc_types.specs.Shape.{members, listed, trees, count}
@@ -18,7 +14,7 @@ use Rattle.pc_flow.specs.Environment.{Env, join_or_object, join_all}
 use Rattle.pc_flow.specs.Narrowing.{narrow, test_of_argument, second_argument}
 use Rattle.pc_expr.specs.Operations.{Mark, clean, in_error, Offer, offers_mark, operand_types, index_member, attribute_member, contain_member, negative_member, binary_mark, order_mark, display_mark}
 use Rattle.pc_expr.specs.Context.{Context, FlowsInto, name_mark, is_early}
-use Rattle.pc_expr.specs.Calls.{Given, given, count_exprs, is_one, CallOffer, Callee, value_callee, name_callee, method_callee, call_mark, Seat, nowhere, positional_seat, named_seat, length_mark, test_mark, second_code}
+use Rattle.pc_expr.specs.Calls.{Given, given, count_exprs, CallOffer, CallRule, member_rule, length_rule, test_rule, Callee, value_callee, name_callee, method_callee, call_mark, Seat, nowhere, positional_seat, named_seat, length_mark, test_mark, second_code}
 use Rattle.pc_expr.specs.Labels.{Marks, ItemsMarks, EntriesMarks, KeywordsMarks, mark_of, type_of, with_mark, item_types, key_types, value_types}
 
 -- ---- what is expected of the parts of a display
@@ -128,22 +124,11 @@ callee_of ctx env g (name n) m = name_callee ctx env g (ctx.resolve n.text)
 callee_of ctx env g (attribute p e field) m = if ctx.in_body then method_callee ctx g field.text (type_of e m.object) else value_callee (in_error E03)
 callee_of ctx env g e m = if ctx.in_body then value_callee (mark_of e m) else value_callee (in_error E03)
 
--- the name means the built-in `len`
-abbrev pub is_length : Res → Test
-is_length (res.Builtin builtin.Len) = true
-is_length _ = false
-
--- `len` called with one argument
-abbrev pub is_length_of_one : Given → (List ℕ → Res) → Expr → Test
-is_length_of_one g resolve (name n) = is_length (resolve n.text) && is_one g
-is_length_of_one g resolve _ = false
-
--- the label of a call: of a test of an instance, of `len` with one argument, or of any other call
-abbrev pub whole_call_mark : Context → Env → Expr → Exprs → Keywords → List CallOffer → List Tree → Mark
-whole_call_mark ctx env callee arguments keywords offers types =
-    if is_instance_test callee arguments keywords
-    then test_mark ctx env arguments
-    else (if is_length_of_one (given arguments keywords) ctx.resolve callee then length_mark ctx.bases types else call_mark ctx.bases offers)
+-- the label of a call, by its rule
+abbrev pub whole_call_mark : Context → Env → CallRule → List CallOffer → (arguments : Exprs) → (types : List Tree) → Mark
+whole_call_mark ctx env member_rule offers arguments types = call_mark ctx.bases offers
+whole_call_mark ctx env length_rule offers arguments types = length_mark ctx.bases types
+whole_call_mark ctx env test_rule offers arguments types = test_mark ctx env arguments
 
 -- whether an initializer names the second argument too early
 abbrev pub early_second : (es : Exprs) → ItemsMarks es → Test
@@ -151,10 +136,10 @@ early_second no_exprs m = false
 early_second (more_exprs e no_exprs) m = false
 early_second (more_exprs e (more_exprs f rest)) m = is_early (mark_of f m.rest.first).codes
 
--- the code at the second argument of a test of an instance
-abbrev pub whole_second_code : Context → Expr → (arguments : Exprs) → Keywords → ItemsMarks arguments → Option Code
-whole_second_code ctx callee arguments keywords m =
-    if is_instance_test callee arguments keywords then second_code (test_of_argument ctx.resolve (second_argument arguments)) (early_second arguments m) else None
+-- the code at the second argument of a call, which only a test of an instance has
+abbrev pub whole_second_code : Context → CallRule → (arguments : Exprs) → ItemsMarks arguments → Option Code
+whole_second_code ctx test_rule arguments m = second_code (test_of_argument ctx.resolve (second_argument arguments)) (early_second arguments m)
+whole_second_code ctx _ arguments m = None
 
 -- the seat of an argument by name, behind arguments of these names: nowhere where its own is among them
 abbrev pub keyword_seat : (List ℕ → Seat) → List (List ℕ) → Name → Seat
@@ -239,8 +224,8 @@ module _ (ctx : Context) (declared : List Tree) where
       callee : m.callee ≡ with_mark c value (callee_of ctx env (given args kws) c value).mark;
       arguments : LawfulItems env (positional_seat (callee_of ctx env (given args kws) c value).offers) args m.arguments;
       keywords : LawfulKeywords env (named_seat (callee_of ctx env (given args kws) c value).offers) [] kws m.keywords;
-      here : m.here ≡ whole_call_mark ctx env c args kws (callee_of ctx env (given args kws) c value).offers (item_types args m.arguments);
-      second : m.second ≡ whole_second_code ctx c args kws m.arguments;
+      here : m.here ≡ whole_call_mark ctx env (callee_of ctx env (given args kws) c value).rule (callee_of ctx env (given args kws) c value).offers args (item_types args m.arguments);
+      second : m.second ≡ whole_second_code ctx (callee_of ctx env (given args kws) c value).rule args m.arguments;
     }
 
     -- items or arguments by position are lawful, each for the seat at its position

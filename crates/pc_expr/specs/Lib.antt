@@ -1,6 +1,9 @@
 pub mod Calls
+pub mod Computed
 pub mod Context
+pub mod Found
 pub mod Labels
 pub mod Lawful
 pub mod Operations
 pub mod Signatures
+pub mod WellFormed

@@ -20,6 +20,12 @@ pub record Mark : Type 0 where
   pub type : Tree
   pub codes : List Code
 
+-- what a flow is labelled with: the type that flows, the type that it flows into, and the code that is found of it, if any
+pub record FlowMark : Type 0 where
+  pub from : Tree
+  pub into : Tree
+  pub code : Option Code
+
 -- a label of this type at which nothing is found
 abbrev pub clean : Tree → Mark
 clean t = record { type = t; codes = [] }
@@ -97,35 +103,53 @@ attribute_member classes name _ = suits_not E15
 
 -- ---- e.f = v, e[i] = v
 
+-- what a store comes to on one member: what is found, what the index flows into, and what the stored value flows into
+pub record StoreOffer : Type 0 where
+  pub found : List Code
+  pub takes : List Tree
+  pub stores : List Tree
+
+-- a store that suits a member: its index flows into these types, the stored value into that one
+abbrev pub store_suits : List Tree → Tree → StoreOffer
+store_suits takes type = record { found = []; takes = takes; stores = type ∷ [] }
+
+-- a store at which this code is found: on that member nothing flows
+abbrev pub store_with : Code → StoreOffer
+store_with code = record { found = code ∷ []; takes = []; stores = [] }
+
 -- what storing to a name of an instance comes to: of a field, of a method, of neither
-abbrev pub store_found : Option Parameter → Option Method → Offer
-store_found (Some f) m = suits f.type (f.type ∷ [])
-store_found None (Some m) = suits_not E23
-store_found None None = suits_not E15
+abbrev pub store_found : Option Parameter → Option Method → StoreOffer
+store_found (Some f) m = store_suits [] f.type
+store_found None (Some m) = store_with E23
+store_found None None = store_with E15
 
 -- a field of an instance takes a value of its type; a method's name takes none
-abbrev pub store_attribute_member : List facts.Class → List ℕ → Tree → Offer
+abbrev pub store_attribute_member : List facts.Class → List ℕ → Tree → StoreOffer
 store_attribute_member classes name (Class c) = store_found (field_of (class_at classes c).fields name) (method_of (class_at classes c).methods name)
-store_attribute_member classes name Any = unsure A4 Any
-store_attribute_member classes name _ = suits_not E15
+store_attribute_member classes name Any = store_with A4
+store_attribute_member classes name _ = store_with E15
 
--- a list takes an int and its item, a dict its key and its value: what the index flows into, and what the value does
-abbrev pub store_index_member : Tree → Offer
-store_index_member (ListOf t) = suits t (Int ∷ [])
-store_index_member (DictOf k v) = suits v (k ∷ [])
-store_index_member Any = unsure A3 Any
-store_index_member _ = suits_not E17
+-- a list takes an int and its item, a dict its key and its value
+abbrev pub store_index_member : Tree → StoreOffer
+store_index_member (ListOf t) = store_suits (Int ∷ []) t
+store_index_member (DictOf k v) = store_suits (k ∷ []) v
+store_index_member Any = store_with A3
+store_index_member _ = store_with E17
 
--- what a stored value flows into: what each member gives, where nothing is in error, and nothing on Any
-abbrev pub stored_type : Offer → List Tree
-stored_type o = if list_any (λ c. true) o.found then [] else o.gives ∷ []
+-- the codes of a store on all members, in order
+abbrev pub store_codes : List StoreOffer → List Code
+store_codes offers = flat_map (λ o. o.found) offers
+
+-- what the index of a store flows into on all members, nothing where one of them is in error
+abbrev pub store_index_types : List StoreOffer → List Tree
+store_index_types offers = if has_error (store_codes offers) then [] else flat_map (λ o. o.takes) offers
 
 -- what a stored value flows into on all members, nothing where one of them is in error
-abbrev pub stored_types : List Offer → List Tree
-stored_types offers = if has_error (found_of offers) then [] else flat_map stored_type offers
+abbrev pub stored_types : List StoreOffer → List Tree
+stored_types offers = if has_error (store_codes offers) then [] else flat_map (λ o. o.stores) offers
 
--- what is expected of an operand or a stored value: its type, where there is one member
-abbrev pub only_type : List Offer → List Tree → Option Tree
+-- what is expected of a stored value: what it flows into, where there is one member
+abbrev pub only_type : List StoreOffer → List Tree → Option Tree
 only_type (o ∷ []) (t ∷ []) = Some t
 only_type _ _ = None
 

@@ -2,7 +2,6 @@
 -- Language Reference 3.12, 8.7 "Function definitions"; typing specification, "Annotations".
 use Rattle.std.specs.Prelude.{◌≡◌, ◌⊎◌, ℕ, List, [], ◌∷◌, map, length, Bool as Test, true, false, ◌||◌, not, Option, Some, None}
 use Rattle.pc_source.specs.declared.place.Place.{Place}
-use Rattle.pc_tree.specs.declared.code.Code.{Code}
 use Rattle.pc_tree.specs.declared.code.Finding.{Finding}
 use Rattle.pc_tree.specs.Tree.{Name, Literal, number_literal, negative_literal, text_literal, truth_literal, none_literal, Param, FuncDef, Module}
 use Rattle.pc_scope.specs.Reserved.{is_reserved}
@@ -13,8 +12,9 @@ use Rattle.pc_types.specs.Below.{Bases}
 use Rattle.pc_types.specs.Annotations.{read_option, OptionFinds}
 use Rattle.pc_class.specs.Bases.{bases_of}
 use Rattle.pc_class.specs.Facts.{parameters_of, returned, classes_of}
-use Rattle.pc_expr.specs.Context.{Context, Signature, Flows}
-use Rattle.pc_expr.specs.Labels.{IsCodeAt}
+use Rattle.pc_expr.specs.Operations.{clean}
+use Rattle.pc_expr.specs.Context.{Context, Signature, FlowsInto}
+use Rattle.pc_expr.specs.Labels.{Flowing, IsFlowAt}
 
 -- a function of a module as what is called
 abbrev pub signature_of : Module → FuncDef → Signature
@@ -67,24 +67,24 @@ literal_place (truth_literal p value) = p
 literal_place (none_literal p) = p
 
 -- a default flows into its type, at the literal; what binds nothing, nothing flows into
-abbrev pub LawfulDefault : Bases → (binds : Test) → Option Literal → Tree → Option Code → Type 0
-LawfulDefault bases binds None t code = code ≡ None
-LawfulDefault bases false (Some l) t code = code ≡ None
-LawfulDefault bases true (Some l) t code = Flows bases (literal_type l) t code
+abbrev pub LawfulDefault : Bases → (binds : Test) → Option Literal → Tree → Flowing → Type 0
+LawfulDefault bases binds None t flows = flows ≡ []
+LawfulDefault bases false (Some l) t flows = flows ≡ []
+LawfulDefault bases true (Some l) t flows = FlowsInto bases (clean (literal_type l)) (t ∷ []) flows
 
 -- what is found at a default: the code of its flow, at the literal
-abbrev pub DefaultFinds : Option Literal → Option Code → Finding → Type 0
-DefaultFinds None code f = ⊥
-DefaultFinds (Some l) code f = IsCodeAt (literal_place l) code f
+abbrev pub DefaultFinds : Option Literal → Flowing → Finding → Type 0
+DefaultFinds None flows f = ⊥
+DefaultFinds (Some l) flows f = IsFlowAt (literal_place l) flows f
 
 -- a name is bound where it stands: not reserved, and none of those before it
 abbrev pub binds_name : List (List ℕ) → Name → Test
 binds_name before n = not (is_reserved n.text || is_among n.text before)
 
--- a code for the default of each parameter
+-- the flow of the default of each parameter, none where nothing flows
 abbrev pub ParamsMarks : List Param → Type 0
 ParamsMarks [] = Unit {0}
-ParamsMarks (p ∷ ps) = record { default : Option Code; rest : ParamsMarks ps }
+ParamsMarks (p ∷ ps) = record { default : Flowing; rest : ParamsMarks ps }
 
 -- the default of each parameter is lawful, behind parameters of these names
 abbrev pub LawfulParams : Module → (before : List (List ℕ)) → (ps : List Param) → ParamsMarks ps → Type 0

@@ -3,4 +3,7 @@
 
 mod laws;
 
-pub use laws::one_labelling_of_expressions;
+pub use laws::{
+    contexts_are_well_formed, expressions_have_labels, findings_are_listed, labels_are_lawful,
+    one_labelling_of_expressions,
+};

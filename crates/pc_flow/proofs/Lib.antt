@@ -1,1 +1,12 @@
+pub mod Assigned
+pub mod Both
+pub mod Calls
+pub mod Conditions
+pub mod Given
+pub mod Heads
 pub mod Lengths
+pub mod Members
+pub mod Narrowed
+pub mod Parted
+pub mod Premises
+pub mod Rest

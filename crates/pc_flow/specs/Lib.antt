@@ -1,2 +1,7 @@
+pub mod Agreement
 pub mod Environment
 pub mod Narrowing
+pub mod Stored
+pub mod Tests
+pub mod Ways
+pub mod WellFormed

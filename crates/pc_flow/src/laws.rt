@@ -1,9 +1,33 @@
-ghost use Rattle.std.specs.Prelude.{◌≡◌, ℕ, length, List};
+ghost use Rattle.std.specs.Prelude.{◌≡◌, ℕ, length, List, Bool, true, false, Some};
 ghost use Rattle.pc_types.specs.Tree.{Tree};
 ghost use Rattle.pc_types.specs.Below.{Bases};
-ghost use Rattle.pc_flow.specs.Environment.{Env, join_env};
+ghost use Rattle.pc_flow.specs.Environment.{Env, current, declared_type, join_env, loop_head};
+ghost use Rattle.pc_flow.specs.WellFormed.{PassingIsWellFormed, FailingIsWellFormed, AssignmentsKeepWellFormed, JoinsKeepWellFormed, ConditionsKeepWellFormed, LoopHeadsKeepWellFormed};
 
 /// The law that where two ways meet there are as many locals as before.
 pub fn joins_keep_locals()
     ensures { (bases : Bases) (declared : List Tree) (a b : Env) → length a ≡ length declared → length b ≡ length declared → length (join_env bases declared a b) ≡ length declared }
+{}
+
+/// The law that what a test leaves of a type is in normal form, without absorbed members and of at most 256 nodes, where
+/// the type is so.
+pub fn tests_keep_types_well_formed()
+    ensures passing { PassingIsWellFormed }
+    ensures failing { FailingIsWellFormed }
+{}
+
+/// The law that assignments, joins, conditions and heads of loops keep the types of an environment in normal form,
+/// without absorbed members and of at most 256 nodes, where the declared types are so.
+pub fn environments_stay_well_formed()
+    ensures assignment { AssignmentsKeepWellFormed }
+    ensures join { JoinsKeepWellFormed }
+    ensures condition { ConditionsKeepWellFormed }
+    ensures loop_head { LoopHeadsKeepWellFormed }
+{}
+
+/// The law that at the head of a loop an assigned local that the loop binds has its declared type, whatever it was
+/// narrowed to before, and that any other local is as it was.
+pub fn loops_begin_with_declared_types()
+    ensures bound { (bound : ℕ → Bool) (declared : List Tree) (env : Env) (x : ℕ) (t : Tree) → length env ≡ length declared → bound x ≡ true → current env x ≡ Some t → current (loop_head bound declared env) x ≡ Some (declared_type declared x) }
+    ensures others { (bound : ℕ → Bool) (declared : List Tree) (env : Env) (x : ℕ) → length env ≡ length declared → bound x ≡ false → current (loop_head bound declared env) x ≡ current env x }
 {}

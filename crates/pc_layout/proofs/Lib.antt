@@ -17,3 +17,4 @@ pub mod OneVerdict
 pub mod Comings
 pub mod Gathering
 pub mod TextLines
+pub mod WithinText

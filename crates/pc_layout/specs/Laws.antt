@@ -1,5 +1,5 @@
 -- What holds of every layout and of every refusal.
-use Rattle.std.specs.Prelude.{◌≡◌, ℕ, List, [], length, map, Ok, Contains}
+use Rattle.std.specs.Prelude.{◌≡◌, ℕ, ◌≤◌, List, [], length, map, Ok, Contains}
 use Rattle.pc_source.specs.declared.fault.Refusal.{Refusal}
 use Rattle.pc_source.specs.declared.fault.RefusalCode.{RefusalCode}
 use Rattle.pc_token.specs.Lexeme.{Lexeme, LogicalLine}
@@ -7,6 +7,7 @@ use Rattle.pc_layout.specs.Faults.{HasFault, IsLayoutRefusal}
 use Rattle.pc_layout.specs.Forest.{Suite, lines_of, IsSuite}
 use Rattle.pc_layout.specs.Layouts.{IsLayout, HaveTokens, AreInOrder, all_lexemes}
 use Rattle.pc_token.specs.Splitting.{HasLines}
+use Rattle.pc_token.specs.Within.{AreWithin, LinesWithin}
 
 -- lines are the lines of one forest of column 0 at most
 abbrev pub OneForest : Type 0
@@ -31,3 +32,11 @@ FaultsAtTokens = (len : ℕ) (ls : List LogicalLine) (code : RefusalCode) (byte 
 -- the logical lines of a text without a lexical fault stand in order
 abbrev pub LinesStandInOrder : Type 0
 LinesStandInOrder = (text : List ℕ) (ls : List LogicalLine) → HasLines text (map Ok ls) → AreInOrder ls
+
+-- a fault of lines that stand within a text of some length stands from 0 to that length
+abbrev pub FaultsWithin : Type 0
+FaultsWithin = (len : ℕ) (ls : List LogicalLine) (code : RefusalCode) (byte : ℕ) → LinesWithin len ls → HasFault len [] ls code byte → byte ≤ len
+
+-- the layout of lines that stand within the text stands within it
+abbrev pub LayoutsWithin : Type 0
+LayoutsWithin = (text : List ℕ) (ls : List LogicalLine) (tokens : List Lexeme) → LinesWithin (length text) ls → IsLayout text ls tokens → AreWithin (length text) tokens

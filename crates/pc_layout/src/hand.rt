@@ -38,13 +38,6 @@ pub struct Hand<'a> {
     pub due: Due,
 }
 
-/// A refusal at a byte.
-fn refusal(code: RefusalCode, byte: usize) -> Refusal
-    ensures { result ≡ record { code = code; byte = byte } }
-{
-    Refusal { code, byte }
-}
-
 /// Where a line stands among the suites, or what is wrong with it.
 fn step(
     levels: &mut Levels,
@@ -55,7 +48,10 @@ fn step(
     ensures { StepsTo len (context_of levels.old) (line_at column (map lexeme_of tokens.now)) result (context_of levels.new) }
 {
     match levels.place(column) {
-        Err(code) => Err(refusal(code, first_byte(len, tokens))),
+        Err(code) => {
+            let byte = first_byte(len, tokens);
+            Err(Refusal { code, byte })
+        }
         Ok(signs) => match word_fault(len, levels.in_def(), column, tokens) {
             Some(refusal) => Err(refusal),
             None => {

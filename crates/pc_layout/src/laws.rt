@@ -1,5 +1,5 @@
 //! The laws of the layout: each function says one, and does nothing.
-ghost use Rattle.pc_layout.specs.Laws.{OneForest, OneLayout, LayoutOrRefusal, OneRefusal, FaultsAtTokens, LinesStandInOrder};
+ghost use Rattle.pc_layout.specs.Laws.{OneForest, OneLayout, LayoutOrRefusal, OneRefusal, FaultsAtTokens, LinesStandInOrder, FaultsWithin, LayoutsWithin};
 
 /// Lines are the lines of one forest of column 0 at most.
 pub fn one_forest()
@@ -30,4 +30,14 @@ pub fn faults_at_tokens()
 /// stand one behind the other. So a refusal of the layout is the first one.
 pub fn lines_stand_in_order()
     ensures { LinesStandInOrder }
+{}
+
+/// A fault of lines that stand within a text stands from 0 to its length.
+pub fn faults_within()
+    ensures { FaultsWithin }
+{}
+
+/// The layout of lines that stand within their text stands within it.
+pub fn layouts_within()
+    ensures { LayoutsWithin }
 {}

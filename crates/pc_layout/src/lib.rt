@@ -11,8 +11,3 @@ mod toks;
 
 pub use listed::layout;
 pub use toks::{Toks, layout_of};
-
-#[cfg(test)]
-mod tests;
-#[cfg(test)]
-mod texts;

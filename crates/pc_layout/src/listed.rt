@@ -1,9 +1,11 @@
 //! The layout of a list of lines.
-ghost use Rattle.std.specs.Prelude.{◌≡◌, ℕ, List, [], ◌∷◌, map, drop, MatchOption, MatchResult, IfOk, IfErr};
+ghost use Rattle.std.specs.Prelude.{◌≡◌, ℕ, List, [], ◌∷◌, length, map, drop, MatchOption, MatchResult, IfOk, IfErr};
 ghost use Rattle.std.specs.Iterator.{at_most};
 ghost use Rattle.pc_source.specs.declared.fault.Fault.TheVariants as fault;
 ghost use Rattle.pc_source.specs.Answers.{OnRefusal};
+ghost use Rattle.pc_source.specs.Within.{IsWithin};
 ghost use Rattle.pc_token.specs.Lexeme.{line_of, lexeme_of};
+ghost use Rattle.pc_token.specs.Within.{LinesWithin};
 ghost use Rattle.pc_layout.specs.Layouts.{IsLayout};
 ghost use Rattle.pc_layout.specs.Answering.{Refuses};
 
@@ -73,6 +75,7 @@ pub fn layout<'a>(
 ) -> Result<Vec<Tok<'a>>, Fault>
     ensures laid { IfOk result (λ tokens. IsLayout source.now (map line_of lines.now) (map lexeme_of tokens.items)) }
     ensures refused { IfErr result (OnRefusal (Refuses source.now (map line_of lines.now))) }
+    ensures within { LinesWithin (length source.now) (map line_of lines.now) → IfErr result (IsWithin (length source.now)) }
 {
     let mut tokens = Vec::new(alloc);
     let listed = Listed {

@@ -1,6 +1,9 @@
 //! The tokens of lines, one at a time.
-ghost use Rattle.std.specs.Prelude.{◌≡◌, ℕ, ◌+◌, ◌<◌, ◌≤◌, ◌*◌, ◌^◌, true, false, List, [], ◌∷◌, Ok, Err};
+ghost use Rattle.std.specs.Prelude.{◌≡◌, ℕ, ◌+◌, ◌<◌, ◌≤◌, ◌*◌, ◌^◌, true, false, List, [], ◌∷◌, length, map, Ok, Err};
 ghost use Rattle.std.specs.Iterator.{IsFinite};
+ghost use Rattle.pc_source.specs.Stream.{ComesAs, RefusesWithin};
+ghost use Rattle.pc_token.specs.Lexeme.{line_of};
+ghost use Rattle.pc_token.specs.Within.{LinesWithin};
 ghost use Rattle.pc_layout.specs.Giving.{SettlesTo};
 ghost use Rattle.pc_layout.specs.Answering.{LaysOut};
 ghost use Rattle.pc_layout.specs.Beginning.{Begins};
@@ -93,6 +96,9 @@ pub fn layout_of<'a, I: Iterator<Item = Result<Line<'a>, Fault>> + Drop>(
         → ⟦<Toks<'a, I> as Iterator>⟧.can_next result × IsFinite (⟦<Toks<'a, I> as Iterator>⟧.remaining result) }
     ensures begins { Begins source.now lines result }
     ensures lays { LaysOut I.next_gives ⟦<Toks<'a, I> as Iterator>⟧.next_gives source.now lines result }
+    ensures within { RefusesWithin I.next_gives (length source.now) lines
+        → ComesAs I.next_gives (λ ls. LinesWithin (length source.now) (map line_of ls)) lines
+        → RefusesWithin ⟦<Toks<'a, I> as Iterator>⟧.next_gives (length source.now) result }
 {
     Toks {
         lines,

@@ -182,11 +182,11 @@ impl<'m> Machine<'m> {
     }
 
     /// An action that comes to a value.
-    pub(crate) fn act_value(&mut self, alloc: Allocator, action: &Action) -> Result<Value, Halt>
-        ensures plain { Tells value_of result self.new (act value_out (action_of action.now) (progress_of self.old)) }
+    pub(crate) fn act_value(&mut self, alloc: Allocator, action: Action) -> Result<Value, Halt>
+        ensures plain { Tells value_of result self.new (act value_out (action_of action) (progress_of self.old)) }
         ensures fuel { self.new.fuel ≤ self.old.fuel }
     {
-        match self.act(alloc, action)? {
+        match self.act(alloc, &action)? {
             Outcome::Gives(value) => Ok(value),
             Outcome::Iterates(_) => Err(Halt::Stopped(Stop::Other)),
             Outcome::Finished => Err(Halt::Stopped(Stop::Other)),
@@ -198,11 +198,11 @@ impl<'m> Machine<'m> {
     }
 
     /// An action that comes to what a `for` goes over. Language Reference 8.3 "The for statement".
-    pub fn act_iteration(&mut self, alloc: Allocator, action: &Action) -> Result<Iteration, Halt>
-        ensures plain { Tells iteration_of result self.new (act iteration_out (action_of action.now) (progress_of self.old)) }
+    pub fn act_iteration(&mut self, alloc: Allocator, action: Action) -> Result<Iteration, Halt>
+        ensures plain { Tells iteration_of result self.new (act iteration_out (action_of action) (progress_of self.old)) }
         ensures fuel { self.new.fuel ≤ self.old.fuel }
     {
-        match self.act(alloc, action)? {
+        match self.act(alloc, &action)? {
             Outcome::Gives(_) => Err(Halt::Stopped(Stop::Other)),
             Outcome::Iterates(over) => Ok(over),
             Outcome::Finished => Err(Halt::Stopped(Stop::Other)),
@@ -230,13 +230,8 @@ impl<'m> Machine<'m> {
     }
 
     /// An action that comes to a value, at its place. Own rule of the profile.
-    pub fn perform(
-        &mut self,
-        alloc: Allocator,
-        place: Place,
-        action: &Action,
-    ) -> Result<Value, Halt>
-        ensures plain { Tells value_of result self.new (act value_out (action_of action.now) (emitted place (progress_of self.old))) }
+    pub fn perform(&mut self, alloc: Allocator, place: Place, action: Action) -> Result<Value, Halt>
+        ensures plain { Tells value_of result self.new (act value_out (action_of action) (emitted place (progress_of self.old))) }
         ensures fuel { self.new.fuel ≤ self.old.fuel }
     {
         self.emit(place)?;

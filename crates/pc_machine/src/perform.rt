@@ -108,7 +108,7 @@ impl<'m> Machine<'m> {
         ensures fuel { self.new.fuel ≤ self.old.fuel }
     {
         let digits = text_of(alloc, digits)?;
-        self.perform(alloc, place, &Action::Number(false, digits))
+        self.perform(alloc, place, Action::Number(false, digits))
     }
 
     /// A text. Language Reference 2.4.1 "String and Bytes literals".
@@ -133,11 +133,7 @@ impl<'m> Machine<'m> {
     {
         let is_method = self.find_method(&object, name).is_some();
         let name = text_of(alloc, name)?;
-        self.perform(
-            alloc,
-            place,
-            &Action::ReadAttribute(object, name, is_method),
-        )
+        self.perform(alloc, place, Action::ReadAttribute(object, name, is_method))
     }
 
     /// A name as a callee: it is charged, then its place, then what it is. Language Reference 6.3.4 "Calls".
@@ -170,7 +166,7 @@ impl<'m> Machine<'m> {
             return Ok(Callee::BuiltinMethod(object, method));
         }
         let name = text_of(alloc, name)?;
-        let field = self.act_value(alloc, &Action::ReadAttribute(object, name, false))?;
+        let field = self.act_value(alloc, Action::ReadAttribute(object, name, false))?;
         Ok(Callee::Value(field))
     }
 
@@ -207,7 +203,7 @@ impl<'m> Machine<'m> {
         match fields {
             Some(fields) => {
                 let slots = slots_of(alloc, &fields)?;
-                self.act_value(alloc, &Action::NewInstance(class, slots))
+                self.act_value(alloc, Action::NewInstance(class, slots))
             }
             None => Err(raised(Exception::TypeError)),
         }
@@ -232,13 +228,13 @@ impl<'m> Machine<'m> {
         }
         if is_same(name, "len") {
             return match values {
-                [operand] => self.act_value(alloc, &Action::Length(operand.copy(alloc)?)),
+                [operand] => self.act_value(alloc, Action::Length(operand.copy(alloc)?)),
                 _ => Err(raised(Exception::TypeError)),
             };
         }
         if is_same(name, "str") {
             return match values {
-                [operand] => self.act_value(alloc, &Action::Text(operand.copy(alloc)?)),
+                [operand] => self.act_value(alloc, Action::Text(operand.copy(alloc)?)),
                 _ => Err(Halt::Stopped(Stop::Outside)),
             };
         }
@@ -262,7 +258,7 @@ impl<'m> Machine<'m> {
         ensures fuel { self.new.fuel ≤ self.old.fuel }
     {
         let action = builtin_action(alloc, object, method, values, named)?;
-        self.act_value(alloc, &action)
+        self.act_value(alloc, action)
     }
 
     /// A function or method is entered, where a further call may be open: what it comes to is the caller's
@@ -324,7 +320,7 @@ impl<'m> Machine<'m> {
         ensures fuel { self.new.fuel ≤ self.old.fuel }
     {
         let name = text_of(alloc, name)?;
-        self.perform(alloc, place, &Action::StoreAttribute(object, name, value))?;
+        self.perform(alloc, place, Action::StoreAttribute(object, name, value))?;
         Ok(Flow::Next)
     }
 
@@ -340,7 +336,7 @@ impl<'m> Machine<'m> {
         ensures plain { Tells flow_of result self.new (item_stored (value_of object) (value_of key) (value_of value) (emitted place (progress_of self.old))) }
         ensures fuel { self.new.fuel ≤ self.old.fuel }
     {
-        self.perform(alloc, place, &Action::StoreItem(object, key, value))?;
+        self.perform(alloc, place, Action::StoreItem(object, key, value))?;
         Ok(Flow::Next)
     }
 
@@ -359,7 +355,7 @@ impl<'m> Machine<'m> {
         match (values.as_slice(), named) {
             ([limit], []) => {
                 let limit = limit.copy(alloc)?;
-                self.act_iteration(alloc, &Action::IterateRange(limit))
+                self.act_iteration(alloc, Action::IterateRange(limit))
             }
             _ => Err(Halt::Stopped(Stop::Outside)),
         }

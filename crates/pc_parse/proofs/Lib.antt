@@ -15,3 +15,4 @@ pub mod StatementRows
 pub mod Statements
 pub mod Surplus
 pub mod Targets
+pub mod WithinTokens

@@ -11,6 +11,7 @@ use Rattle.pc_tree.specs.declared.tree.Expr.{Expr as RustExpr}
 use Rattle.pc_tree.specs.declared.tree.Name.{Name as RustName}
 use Rattle.pc_tree.specs.declared.tree.Stmt.{Stmt as RustStmt}
 use Rattle.pc_tree.specs.declared.tree.StmtKind.{StmtKind}
+use Rattle.pc_tree.specs.declared.tree.StmtKind.TheVariants as statement
 use Rattle.pc_tree.specs.declared.tree.Branch.{Branch as RustBranch}
 use Rattle.pc_tree.specs.Tree.{Expr, no_anns, Stmt, conditional, Stmts, no_stmts, Branches, name_of, expr_of, stmt_of, stmt_of_kind, stmts_of_list}
 use Rattle.pc_tree.specs.Depth.{whole_expr, wholes_of_stmt, wholes_of_stmts, wholes_of_branches}
@@ -23,6 +24,8 @@ use Rattle.pc_tree.specs.Lists.{branches_of_list}
 use Rattle.pc_parse.specs.declared.parser.Parser.{Parser}
 use Rattle.pc_parse.specs.declared.statement.Lead.{Lead}
 use Rattle.pc_parse.specs.declared.statement.Lead.TheVariants as rust
+use Rattle.pc_parse.specs.declared.statement.Word.{Word}
+use Rattle.pc_parse.specs.declared.statement.Word.TheVariants as alone
 use Rattle.pc_reader.specs.Reading.{Blames, Came, Onward, IsReady, IsAhead, lexeme, left_in}
 use Rattle.pc_parse.specs.Whole.{Kept, noted}
 
@@ -47,9 +50,11 @@ site_at first done block = record { first = first; done = done; block = block }
 abbrev pub Heads : Begun → (Expr → Nest) → Type 0
 Heads begun nest = (p : Part) (site : Site) (e : Ending) → finish_stmt begun p site e ≡ at_colon (suite_of (nested_in site (nest p.tree))) e
 
--- a statement without expressions
-abbrev pub HasNoWhole : StmtKind → Type 0
-HasNoWhole k = (first : Place) → wholes_of_stmt (stmt_of_kind first k) ≡ []
+-- the statement that is this word
+abbrev pub kind_of_word : Word → StmtKind
+kind_of_word alone.Pass = statement.Pass
+kind_of_word alone.Break = statement.Break
+kind_of_word alone.Continue = statement.Continue
 
 -- if a token is ahead, it begins a statement in this way
 abbrev pub HasLead : {X I : Type 0} → Joint → Parser X I → Type 0
@@ -77,8 +82,8 @@ module _ {X I : Type 0} (text : X → List ℕ) (steps : I → Option (Result (T
     pub later : left_in left b.reader < left_in left a.reader
     pub leads : (st next : State) → LineEnds text a st next → Onward text steps a.reader b.reader (at st) (at next)
 
-  -- a line end was read behind this statement, or the refusal is that to which the tokens lead
-  abbrev pub ReadsLineEnd : Parser X I → Parser X I → RustStmt → Result RustStmt Fault → Type 0
+  -- a line end was read behind what was read of the line, or the refusal is that to which the tokens lead
+  abbrev pub ReadsLineEnd : {T : Type 0} → Parser X I → Parser X I → T → Result T Fault → Type 0
   ReadsLineEnd a b s r = MatchResult r (λ s'. (s' ≡ s) × EndsLine a b) (λ e. Blames e (λ o. (st next : State) → LineEnds text a st next → Came text steps a.reader (at st) o))
 
   -- a statement was read, from a state behind other statements of which this holds

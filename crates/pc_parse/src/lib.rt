@@ -5,6 +5,7 @@ mod annotation;
 mod class;
 mod function;
 mod headers;
+pub mod laws;
 mod listed;
 mod parameter;
 mod parser;
@@ -15,8 +16,3 @@ mod suite;
 
 pub use listed::parse;
 pub use stream::parse_from;
-
-#[cfg(test)]
-mod module_tests;
-#[cfg(test)]
-mod suite_tests;

@@ -1,9 +1,11 @@
 //! The module that the tokens of a list spell.
-ghost use Rattle.std.specs.Prelude.{◌≡◌, map, MatchResult, IfOk, IfErr};
+ghost use Rattle.std.specs.Prelude.{◌≡◌, ℕ, map, MatchResult, IfOk, IfErr};
 ghost use Rattle.std.specs.Iterator.{at_most};
 ghost use Rattle.pc_source.specs.declared.fault.Fault.TheVariants as fault;
 ghost use Rattle.pc_source.specs.Answers.{OnRefusal};
+ghost use Rattle.pc_source.specs.Within.{IsWithin};
 ghost use Rattle.pc_token.specs.Lexeme.{lexeme_of};
+ghost use Rattle.pc_token.specs.Within.{AreWithin};
 ghost use Rattle.pc_tree.specs.Tree.{Module as ModuleTree, module_of};
 ghost use Rattle.pc_tree.specs.Faults.{IsModule, IsRefusal};
 
@@ -64,6 +66,7 @@ pub fn parse(alloc: Global, tokens: &[Tok<'_>]) -> Result<Module, Fault>
     ensures found { IfOk result (λ m. IsModule (map lexeme_of tokens.now) (module_of m)) }
     ensures only { (m : ModuleTree) → IsModule (map lexeme_of tokens.now) m → MatchResult result (λ v. module_of v ≡ m) (λ e. e ≡ fault.OutOfMemory) }
     ensures refused { IfErr result (OnRefusal (IsRefusal (map lexeme_of tokens.now))) }
+    ensures within { (len : ℕ) → AreWithin len (map lexeme_of tokens.now) → IfErr result (IsWithin len) }
 {
     parse_from(alloc, Listed { tokens, at: 0 })
 }

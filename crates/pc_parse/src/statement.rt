@@ -4,7 +4,7 @@ ghost use Rattle.pc_tree.specs.Tree.{expr_of, target_of};
 ghost use Rattle.pc_tree.specs.Machine.Finishing.{if_plain, target_of_tree};
 ghost use Rattle.pc_tree.specs.Machine.Kinds.{lead_of as lead_of_kind, leads_return, leads_assert, leads_other};
 ghost use Rattle.pc_reader.specs.Reading.{IsReady};
-ghost use Rattle.pc_parse.specs.Suites.{lead_view, HasLead, HasWord, HasNoWhole, ReadsStmt, ReadsLineEnd, ReadsLocal};
+ghost use Rattle.pc_parse.specs.Suites.{lead_view, HasLead, HasWord, kind_of_word, ReadsStmt, ReadsLineEnd, ReadsLocal};
 
 use crate::parser::Parser;
 use pc_reader::{Operand, plain_name};
@@ -29,6 +29,25 @@ pub(crate) enum Lead {
     Dedent,
     /// An expression, or what begins no statement.
     Other,
+}
+
+/// A statement of one word.
+#[derive(Clone, Copy, Debug)]
+pub(crate) enum Word {
+    Pass,
+    Break,
+    Continue,
+}
+
+/// The statement that is this word.
+fn kind_of_word(word: Word) -> StmtKind
+    ensures { result ≡ kind_of_word word }
+{
+    match word {
+        Word::Pass => StmtKind::Pass,
+        Word::Break => StmtKind::Break,
+        Word::Continue => StmtKind::Continue,
+    }
 }
 
 /// What a token of this kind begins.
@@ -81,25 +100,24 @@ impl<X: AsStr + Drop, I: Iterator<Item = Result<Token<X>, Fault>> + Drop> Parser
         }
     }
 
-    /// The end of the line of this statement.
-    fn line_end(&mut self, stmt: Stmt) -> Result<Stmt, Fault>
+    /// The end of the line, behind what was read of it.
+    fn line_end<T: Drop>(&mut self, read: T) -> Result<T, Fault>
         requires { IsReady I.can_next I.remaining self.old.reader }
-        ensures { ReadsLineEnd X.text I.next_gives I.can_next I.remaining self.old self.new stmt result }
+        ensures { ReadsLineEnd X.text I.next_gives I.can_next I.remaining self.old self.new read result }
     {
         self.reader.expect(TokenKind::Newline)?;
-        Ok(stmt)
+        Ok(read)
     }
 
     /// `pass`, `break` or `continue`.
-    pub(crate) fn word(&mut self, kind: StmtKind) -> Result<Stmt, Fault>
-        requires ready { IsReady I.can_next I.remaining self.old.reader }
-        requires bare { HasNoWhole kind }
-        ensures { ReadsStmt X.text I.next_gives I.can_next I.remaining (λ _. HasWord X.text kind self.old) self.old self.new result }
+    pub(crate) fn word(&mut self, word: Word) -> Result<Stmt, Fault>
+        requires { IsReady I.can_next I.remaining self.old.reader }
+        ensures { ReadsStmt X.text I.next_gives I.can_next I.remaining (λ _. HasWord X.text (kind_of_word word) self.old) self.old self.new result }
     {
         let first = self.reader.take()?;
         self.line_end(Stmt {
             first: first.place,
-            kind,
+            kind: kind_of_word(word),
         })
     }
 

@@ -1,9 +1,13 @@
 //! The module that tokens spell.
-ghost use Rattle.std.specs.Prelude.{◌⊎◌, IfOk, IfErr};
+ghost use Rattle.std.specs.Prelude.{◌⊎◌, ℕ, map, IfOk, IfErr};
 ghost use Rattle.std.specs.Iterator.{IsFinite};
 ghost use Rattle.pc_source.specs.declared.fault.Fault.TheVariants as fault;
 ghost use Rattle.pc_source.specs.Answers.{OnRefusal};
+ghost use Rattle.pc_source.specs.Stream.{ComesAs, RefusesWithin};
+ghost use Rattle.pc_source.specs.Within.{IsWithin};
+ghost use Rattle.pc_token.specs.Within.{AreWithin};
 ghost use Rattle.pc_tree.specs.Tree.{module_of};
+ghost use Rattle.pc_reader.specs.Reading.{lexeme};
 ghost use Rattle.pc_parse.specs.Answering.{IsRead, IsRefusedByTokens, IsFaulty};
 
 use crate::parser::Parser;
@@ -31,6 +35,8 @@ pub fn parse_from<X: AsStr + Drop, I: Iterator<Item = Result<Token<X>, Fault>> +
     requires ends { IsFinite (I.remaining tokens) }
     ensures read { IfOk result (λ m. IsRead X.text I.next_gives tokens (module_of m)) }
     ensures refused { IfErr result (OnRefusal (λ r. IsRefusedByTokens X.text I.next_gives tokens r ⊎ IsFaulty X.text I.next_gives tokens (fault.Refused r))) }
+    ensures within { (len : ℕ) → RefusesWithin I.next_gives len tokens → ComesAs I.next_gives (λ ts. AreWithin len (map (lexeme X.text) ts)) tokens
+        → IfErr result (IsWithin len) }
 {
     let reader = Reader::new(tokens)?;
     let mut parser = Parser::new(reader);

@@ -13,6 +13,3 @@ mod reader;
 
 pub use operand::{Operand, above, deeper, plain_name};
 pub use reader::Reader;
-
-#[cfg(test)]
-mod tests;

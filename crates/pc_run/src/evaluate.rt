@@ -52,11 +52,11 @@ fn eval_node<'m>(machine: &mut Machine<'m>, alloc: Allocator, e: &'m Expr) -> Re
         Expr::Dict(place, items) => eval_dict(machine, alloc, *place, items),
         Expr::Negative(place, operand) => {
             let v = eval(machine, alloc, operand)?;
-            machine.perform(alloc, *place, &Action::Negative(v))
+            machine.perform(alloc, *place, Action::Negative(v))
         }
         Expr::Not(place, operand) => {
             let v = eval(machine, alloc, operand)?;
-            machine.perform(alloc, *place, &Action::Not(v))
+            machine.perform(alloc, *place, Action::Not(v))
         }
         Expr::Binary(place, operator, left, right) => {
             eval_binary(machine, alloc, *place, *operator, left, right)
@@ -106,7 +106,7 @@ fn eval_list<'m>(
     ensures fuel { machine.new.fuel ≤ machine.old.fuel }
 {
     let values = eval_all(machine, alloc, items)?;
-    machine.perform(alloc, place, &Action::NewList(values))
+    machine.perform(alloc, place, Action::NewList(values))
 }
 
 /// A dict display: its entries, its event, its action. Language Reference 6.2.7 "Dictionary displays".
@@ -121,7 +121,7 @@ fn eval_dict<'m>(
     ensures fuel { machine.new.fuel ≤ machine.old.fuel }
 {
     let entries = eval_entries(machine, alloc, items)?;
-    machine.perform(alloc, place, &Action::NewDict(entries))
+    machine.perform(alloc, place, Action::NewDict(entries))
 }
 
 /// An operator with two operands, the left one first. Language Reference 6.7 "Binary arithmetic operations".
@@ -139,7 +139,7 @@ fn eval_binary<'m>(
 {
     let v = eval(machine, alloc, left)?;
     let w = eval(machine, alloc, right)?;
-    machine.perform(alloc, place, &Action::Binary(operator, v, w))
+    machine.perform(alloc, place, Action::Binary(operator, v, w))
 }
 
 /// A comparison, its left operand first. Language Reference 6.10 "Comparisons".
@@ -157,7 +157,7 @@ fn eval_compare<'m>(
 {
     let v = eval(machine, alloc, left)?;
     let w = eval(machine, alloc, right)?;
-    machine.perform(alloc, place, &Action::Compare(operator, v, w))
+    machine.perform(alloc, place, Action::Compare(operator, v, w))
 }
 
 /// A test `e is None`, or `e is not None`.
@@ -233,7 +233,7 @@ fn eval_index<'m>(
 {
     let v = eval(machine, alloc, object)?;
     let k = eval(machine, alloc, key)?;
-    machine.perform(alloc, place, &Action::ReadItem(v, k))
+    machine.perform(alloc, place, Action::ReadItem(v, k))
 }
 
 /// Expressions, from left to right.
@@ -558,7 +558,7 @@ fn eval_iterable<'m>(
         return machine.iterate_range(alloc, place, values, &named);
     }
     let v = eval(machine, alloc, e)?;
-    machine.act_iteration(alloc, &Action::Iterate(v))
+    machine.act_iteration(alloc, Action::Iterate(v))
 }
 
 /// The turns of a `for`. Language Reference 8.3 "The for statement".

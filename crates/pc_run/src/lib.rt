@@ -6,8 +6,6 @@ mod evaluate;
 mod forms;
 mod items;
 mod running;
-#[cfg(test)]
-mod tests;
 mod trace;
 
 pub use pc_machine::plain_runs_are_runs;

@@ -5,8 +5,15 @@ ghost use Rattle.pc_scope.specs.declared.resolution.Builtin.{Builtin};
 ghost use Rattle.pc_scope.specs.declared.resolution.Res.TheVariants as res;
 ghost use Rattle.pc_scope.specs.Reserved.{builtin_of};
 ghost use Rattle.pc_scope.specs.Resolution.{resolve};
+ghost use Rattle.pc_scope.specs.Scoped.{Scoped, AreScopes};
+ghost use Rattle.pc_scope.specs.Tables.{meaning};
 
 /// The law that a reserved name means its built-in, whatever a module binds.
 pub fn reserved_names_are_unbound()
     ensures { (m : Module) (owner : Owner) (name : List ℕ) (b : Builtin) → builtin_of name ≡ Some b → resolve m owner name ≡ res.Builtin b }
+{}
+
+/// The law that by the tables of a module's scopes each name means what it means in the module.
+pub fn tables_resolve_names()
+    ensures { (m : Module) (s : Scoped) → AreScopes m s → (owner : Owner) (name : List ℕ) → meaning s.tables owner name ≡ resolve m owner name }
 {}

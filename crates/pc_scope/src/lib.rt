@@ -24,7 +24,8 @@ mod scoping;
 mod tables;
 mod unreached;
 
-pub use laws::reserved_names_are_unbound;
+pub use laws::{reserved_names_are_unbound, tables_resolve_names};
+pub use parts::is_instance_test;
 pub use resolution::{Builtin, Owner, Res};
 pub use scoped::Scopes;
 pub use scoping::scopes;

@@ -3,6 +3,7 @@ ghost use Rattle.pc_tree.specs.Tree.{Module as Tree};
 ghost use Rattle.pc_tree.specs.declared.code.Finding.{Finding as FindingOf};
 ghost use Rattle.pc_scope.specs.Resolution.{resolve};
 ghost use Rattle.pc_scope.specs.Findings.{ScopeFinds};
+ghost use Rattle.pc_scope.specs.Tables.{meaning};
 ghost use Rattle.pc_scope.specs.Scoped.{Scoped, AreScopes};
 
 use crate::resolution::{Owner, Res};
@@ -27,6 +28,7 @@ impl Scopes {
     /// What a name means to its owner, the module or a function or method of it; the name is in the normal form NFKC.
     /// Language Reference 4.2.2 "Resolution of names".
     pub fn resolve(&self, owner: Owner, name: &str) -> Res
+        ensures by_tables { result ≡ meaning self.now.tables owner name.now }
         ensures resolved { (m : Tree) → AreScopes m self.now → result ≡ resolve m owner name.now }
     {
         self.names.mean(owner, name)

@@ -17,7 +17,7 @@ use Rattle.pc_check.specs.Modules.{Labelling, IsLawful, HasLabelling, may_comple
 use Rattle.pc_machine.specs.Runs.{Run}
 use Rattle.pc_sound.specs.Examples.{FindsJust}
 use Rattle.pc_sound.specs.AliasExample.{program, findings, events, end}
-use Rattle.pc_sound.proofs.ExampleFindings.{no_classes_listed, finds_just}
+use Rattle.pc_sound.proofs.ExampleFindings.{quiet_flow, with_types, no_classes_listed, finds_just}
 use Rattle.pc_sound.proofs.ExampleRuns.{runs_plainly}
 
 -- ---- the three flows
@@ -51,29 +51,29 @@ held = Some (ListOf Int) ∷ []
 
 marks : Labelling program
 marks = (
-  record { params = record { default = None; rest = tt }; declared = ListOf (Union Int Str) ∷ []; body = (tt, (Some (ListOf (Union Int Str)) ∷ [], tt)); out = Some (Some (ListOf (Union Int Str)) ∷ []); completing = None },
+  record { params = record { default = []; rest = tt }; declared = ListOf (Union Int Str) ∷ []; body = (tt, (Some (ListOf (Union Int Str)) ∷ [], tt)); out = Some (Some (ListOf (Union Int Str)) ∷ []); completing = None },
   (
-    record { params = record { default = None; rest = tt }; declared = ListOf Any ∷ []; body = (tt, (Some (ListOf Any) ∷ [], tt)); out = Some (Some (ListOf Any) ∷ []); completing = None },
+    record { params = record { default = []; rest = tt }; declared = ListOf Any ∷ []; body = (tt, (Some (ListOf Any) ∷ [], tt)); out = Some (Some (ListOf Any) ∷ []); completing = None },
     (
-      record { params = record { default = None; rest = tt }; declared = Any ∷ []; body = (tt, (Some Any ∷ [], tt)); out = Some (Some Any ∷ []); completing = None },
+      record { params = record { default = []; rest = tt }; declared = Any ∷ []; body = (tt, (Some Any ∷ [], tt)); out = Some (Some Any ∷ []); completing = None },
       (
         record {
           params = tt;
           declared = ListOf Int ∷ [];
           body = (
-            record { value = record { here = clean (ListOf Int); items = record { first = clean Int; flows = []; rest = tt } }; target = tt; flows = None ∷ [] },
+            record { value = record { here = clean (ListOf Int); items = record { first = clean Int; flows = []; rest = tt } }; target = tt; flows = quiet_flow (ListOf Int) (ListOf Int) ∷ [] },
             (
               held,
               (
-                record { here = clean Any; callee = clean Any; second = None; arguments = record { first = clean (ListOf Int); flows = Some E12 ∷ []; rest = tt }; keywords = tt },
+                record { here = clean Any; callee = clean Any; second = None; arguments = record { first = clean (ListOf Int); flows = record { from = ListOf Int; into = ListOf (Union Int Str); code = Some E12 } ∷ []; rest = tt }; keywords = tt },
                 (
                   held,
                   (
-                    record { here = clean Any; callee = clean Any; second = None; arguments = record { first = clean (ListOf Int); flows = Some A1 ∷ []; rest = tt }; keywords = tt },
+                    record { here = clean Any; callee = clean Any; second = None; arguments = record { first = clean (ListOf Int); flows = record { from = ListOf Int; into = ListOf Any; code = Some A1 } ∷ []; rest = tt }; keywords = tt },
                     (
                       held,
                       (
-                        record { here = clean Any; callee = clean Any; second = None; arguments = record { first = clean (ListOf Int); flows = None ∷ []; rest = tt }; keywords = tt },
+                        record { here = clean Any; callee = clean Any; second = None; arguments = record { first = clean (ListOf Int); flows = quiet_flow (ListOf Int) Any ∷ []; rest = tt }; keywords = tt },
                         (held, tt),
                       ),
                     ),
@@ -107,15 +107,15 @@ lawful = (
           body = (
             record {
               after = held;
-              assignment = record { value = record { items = record { first = refl; flows = tt; rest = tt }; here = refl }; at_first = refl; flow = (static same, tt); after_is = refl };
+              assignment = record { value = record { items = record { first = refl; flows = tt; rest = tt }; here = refl }; at_first = refl; flow = (with_types (static same), tt); after_is = refl };
               is = refl;
             },
             (
-              (record { value = in_error E20; lawful = refl; callee = refl; arguments = record { first = refl; flows = (wrong (not_assignable []), tt); rest = tt }; keywords = tt; here = refl; second = refl }, refl),
+              (record { value = in_error E20; lawful = refl; callee = refl; arguments = record { first = refl; flows = (with_types (wrong (not_assignable [])), tt); rest = tt }; keywords = tt; here = refl; second = refl }, refl),
               (
-                (record { value = in_error E20; lawful = refl; callee = refl; arguments = record { first = refl; flows = (dynamic (not_static_to_any []) (assignable_to_any []), tt); rest = tt }; keywords = tt; here = refl; second = refl }, refl),
+                (record { value = in_error E20; lawful = refl; callee = refl; arguments = record { first = refl; flows = (with_types (dynamic (not_static_to_any []) (assignable_to_any [])), tt); rest = tt }; keywords = tt; here = refl; second = refl }, refl),
                 (
-                  (record { value = in_error E20; lawful = refl; callee = refl; arguments = record { first = refl; flows = (static object, tt); rest = tt }; keywords = tt; here = refl; second = refl }, refl),
+                  (record { value = in_error E20; lawful = refl; callee = refl; arguments = record { first = refl; flows = (with_types (static object), tt); rest = tt }; keywords = tt; here = refl; second = refl }, refl),
                   refl,
                 ),
               ),

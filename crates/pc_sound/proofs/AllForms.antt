@@ -1,15 +1,10 @@
 -- All forms are safe in all bodies of a module, where names mean in runs what types take them to mean.
-use Rattle.std.proofs.Common.{◌≡◌, ℕ, List, [], ◌++◌, refl, ap, ◌∙◌}
-use Rattle.std.specs.Prelude.{true, codes, Some}
-use Rattle.pc_tree.specs.Tree.{FuncDef, Module}
-use Rattle.pc_tree.specs.Stopping.{bound_by}
+use Rattle.std.proofs.Common.{◌≡◌, ℕ, List, refl}
+use Rattle.std.specs.Prelude.{codes, Some}
+use Rattle.pc_tree.specs.Tree.{Module}
 use Rattle.pc_scope.specs.declared.resolution.Builtin.TheVariants as builtin
-use Rattle.pc_scope.specs.declared.resolution.Owner.{Owner}
 use Rattle.pc_scope.specs.declared.resolution.Res.TheVariants as res
-use Rattle.pc_scope.specs.Reserved.{builtin_of, is_reserved}
-use Rattle.pc_scope.specs.Bindings.{texts}
-use Rattle.pc_scope.specs.Resolution.{entry_texts, local_of, or_else, builtin_res, bound_first, resolve_in_module, resolve_among, locals}
-use Rattle.pc_scope.proofs.Unbound.{is_none_of}
+use Rattle.pc_scope.specs.Reserved.{builtin_of}
 use Rattle.pc_types.specs.Tree.{Tree}
 use Rattle.pc_check.specs.Modules.{Labelling, constant_types}
 use Rattle.pc_machine.specs.Free.{Step, free}
@@ -29,20 +24,10 @@ use Rattle.pc_sound.proofs.BodyCalls.{Facts, body_calls}
 use Rattle.pc_sound.proofs.InitializerCalls.{initializer_calls}
 use Rattle.pc_sound.proofs.Whole.{IsListedPlace, BodyOf, of_function, of_items, body_around, body_ctx, body_fits, body_returned, bodies}
 
--- `range` is reserved, so it is no local and nothing of the module
+-- `range` is reserved
 range_builtin : builtin_of (codes "range") ≡ Some builtin.Range
 unfolding builtin_of
 range_builtin = refl
-
-range_reserved : is_reserved (codes "range") ≡ true
-unfolding builtin_of
-range_reserved = refl
-
-range_in_module : (m : Module) → resolve_in_module m (codes "range") ≡ res.Builtin builtin.Range
-range_in_module m = ap (λ o. or_else (builtin_res o) (or_else (bound_first 0 0 0 m.items (codes "range")) res.None)) range_builtin
-
-range_in_body : (m : Module) (owner : Owner) (d : FuncDef) → resolve_among m (locals owner d) (codes "range") ≡ res.Builtin builtin.Range
-range_in_body m owner d = ap (λ o. or_else (local_of o) (resolve_in_module m (codes "range"))) (is_none_of (codes "range") range_reserved [] (entry_texts owner d ++ texts (bound_by d.body))) ∙ range_in_module m
 
 module _ (m : Module) (marks : Labelling m) where
   abbrev Constants : List Tree
@@ -55,8 +40,7 @@ module _ (m : Module) (marks : Labelling m) where
 
   module _ (facts : Facts m (constant_types m m.items marks) (IsListedPlace m)) (means : NamesMean) where
     range_is : (b : BodyOf m marks) → (body_ctx m marks b).resolve (codes "range") ≡ res.Builtin builtin.Range
-    range_is (of_function owner d lab) = range_in_body m owner d
-    range_is (of_items types defs n names) = range_in_module m
+    range_is b = (means.knows b).reserved (codes "range") builtin.Range range_builtin
 
     other_calls : (n : ℕ) → AllGood m (bodies m marks) n → (b : BodyOf m marks) → OtherCalls (body_around m marks b) (body_ctx m marks b) (steps Step free n)
     other_calls n good (of_function owner d lab) = body_calls m (constant_types m m.items marks) (IsListedPlace m) facts owner d lab (means.knows (of_function owner d lab)) (steps Step free n) (good.eval (of_function owner d lab)) (steps_evaluate n) (λ o f l. good.exec (of_function o f l))

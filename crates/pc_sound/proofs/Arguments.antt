@@ -1,14 +1,12 @@
 -- Arguments and items, one after another: each value is of its expression's type and of each type that it flows into.
 use Rattle.std.proofs.Common.{◌≡◌, ℕ, suc, List, [], ◌∷◌, refl, sym, subst, inl, inr}
-use Rattle.std.specs.Prelude.{false}
-use Rattle.pc_tree.specs.declared.code.Finding.{Finding}
 use Rattle.pc_tree.specs.Tree.{Expr, Exprs, Keywords, no_exprs, more_exprs, no_keywords, more_keywords}
 use Rattle.pc_tree.specs.Depth.{place_of}
 use Rattle.pc_types.specs.Below.{Bases}
 use Rattle.pc_flow.specs.Environment.{Env}
 use Rattle.pc_expr.specs.Context.{Context, FlowsInto}
 use Rattle.pc_expr.specs.Calls.{Seat}
-use Rattle.pc_expr.specs.Labels.{ItemsMarks, KeywordsMarks, mark_of, type_of, ItemsFind, ArgumentsFind, KeywordsFind}
+use Rattle.pc_expr.specs.Labels.{ItemsMarks, KeywordsMarks, mark_of, type_of, ItemsFind, KeywordsFind}
 use Rattle.pc_expr.specs.Lawful.{LawfulItems, LawfulKeywords, keyword_seat}
 use Rattle.pc_value.specs.Value.{Value, Gives}
 use Rattle.pc_machine.specs.Calls.{NamedValue}
@@ -50,11 +48,6 @@ module _ (bases : Bases) {k k' : HeapTyping} (grows : Extends k k') where
       (h.0, ((later bases grows (type_of value m.first) a.value h.1.0.0, each_later bases grows (keyword_seat seat before parameter).into a.value h.1.0.1), keywords_later seat (parameter.text ∷ before) rest m.rest more h.1.1))
   keywords_later seat before no_keywords m (a ∷ more) h = absurd h
   keywords_later seat before (more_keywords parameter value rest) m [] h = absurd h
-
--- what is found in arguments of an ordinary call is what is found in items
-pub found_in_arguments : (es : Exprs) (m : ItemsMarks es) (f : Finding) → ItemsFind es m f → ArgumentsFind false es m f
-found_in_arguments no_exprs m f h = absurd h
-found_in_arguments (more_exprs e rest) m f h = elim h [ inl a ↦ inl a | inr b ↦ elim b [ inl c ↦ inr (inl c) | inr d ↦ inr (inr (found_in_arguments rest m.rest f d)) ] ]
 
 module _ (around : Around) (ctx : Context) (fits : Fits around ctx) (eval : Expr → Step Value) (good : GoodEval around ctx eval) (evaluates : (e : Expr) → Evaluates (place_of e) (eval e)) (env : Env) where
   pub arguments_safe : (known : HeapTyping → Type 0) → Stays known → (seat : ℕ → Seat) (es : Exprs) (m : ItemsMarks es) → LawfulItems ctx around.declared env seat es m → Covered around (ItemsFind es m) → ItemsKeyed es m → IsSafe around env known (eval_all Step free eval es) (λ k vs. ArgumentsHave around.bases k seat es m vs)

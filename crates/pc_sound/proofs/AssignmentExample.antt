@@ -15,7 +15,7 @@ use Rattle.pc_check.specs.Modules.{Labelling, IsLawful, HasLabelling, may_comple
 use Rattle.pc_machine.specs.Runs.{Run}
 use Rattle.pc_sound.specs.Examples.{FindsJust}
 use Rattle.pc_sound.specs.AssignmentExample.{program, findings, events, end}
-use Rattle.pc_sound.proofs.ExampleFindings.{no_classes_listed, finds_just}
+use Rattle.pc_sound.proofs.ExampleFindings.{quiet_flow, with_types, no_classes_listed, finds_just}
 use Rattle.pc_sound.proofs.ExampleRuns.{runs_plainly}
 
 -- `xs` is assigned, `x` is not: at the head of the loop, and behind it
@@ -32,11 +32,11 @@ marks = (
     params = tt;
     declared = ListOf Int ∷ Int ∷ [];
     body = (
-      record { value = record { here = clean (ListOf Int); items = tt }; flows = None ∷ [] },
+      record { value = record { here = clean (ListOf Int); items = tt }; flows = quiet_flow (ListOf Int) (ListOf Int) ∷ [] },
       (
         outside,
         (
-          record { iterable = clean (ListOf Int); item = clean Int; flows = None ∷ []; head = outside; body = (tt, (inside, tt)); out = Some inside },
+          record { iterable = clean (ListOf Int); item = clean Int; flows = quiet_flow Int Int ∷ []; head = outside; body = (tt, (inside, tt)); out = Some inside },
           (
             outside,
             (
@@ -63,7 +63,7 @@ lawful = (
     body = (
       record {
         after = outside;
-        binding = record { value = record { items = tt; here = refl }; at_first = refl; flow = (static same, tt); after_is = refl };
+        binding = record { value = record { items = tt; here = refl }; at_first = refl; flow = (with_types (static same), tt); after_is = refl };
         is = refl;
       },
       (
@@ -71,7 +71,7 @@ lawful = (
           iterable = (refl, refl);
           head = refl;
           inside = inside;
-          target = record { at_first = refl; flow = (static same, tt); inside_is = refl };
+          target = record { at_first = refl; flow = (with_types (static same), tt); inside_is = refl };
           body = (refl, refl);
           after = refl;
         },

@@ -13,7 +13,7 @@ use Rattle.pc_types.specs.Assignable.{Assignable}
 use Rattle.pc_types.proofs.Meets.{Meets, m_from_any, m_to_any, m_never, m_object, m_int, m_bool, m_bool_int, m_str, m_none, m_class, m_list, m_dict, m_tuple, m_both, m_left, m_right}
 use Rattle.pc_types.proofs.Complete.{meets_from_assignable}
 use Rattle.pc_flow.specs.Environment.{Env, assigned_type}
-use Rattle.pc_expr.specs.Operations.{Mark}
+use Rattle.pc_expr.specs.Operations.{Mark, FlowMark}
 use Rattle.pc_expr.specs.Context.{Context, Flows, static, dynamic, wrong, FlowUnless, FlowAt, FlowsInto, is_early}
 use Rattle.pc_expr.specs.Labels.{Flowing, Marks, mark_of, type_of, Finds, IsFlowAt}
 use Rattle.pc_expr.specs.Lawful.{Lawful}
@@ -26,7 +26,8 @@ use Rattle.pc_sound.proofs.ValuesFlow.{of_static}
 use Rattle.pc_sound.proofs.Steps.{weaken, stopped_as}
 use Rattle.pc_sound.proofs.Expressions.{Covered, GoodEval}
 use Rattle.pc_sound.proofs.Keys.{Keyed}
-use Rattle.pc_sound.proofs.Flows.{Evaluates, found_here, early_code, flow_safe}
+use Rattle.pc_expr.proofs.Saying.{found_here}
+use Rattle.pc_sound.proofs.Flows.{Evaluates, early_code, flow_safe}
 
 -- ---- types of literals
 
@@ -119,8 +120,8 @@ assigned_has bases k (DictOf s t) from v f h = h
 assigned_has bases k (TupleOf ts) from v f h = h
 assigned_has bases k (Union a b) from v f h = f
 
--- the one code of a flow into one type
-pub one_flow : (bases : Bases) (m : Mark) (d : Tree) (flows : Flowing) → FlowsInto bases m (d ∷ []) flows → (c : Option Code) × (flows ≡ c ∷ []) × FlowAt bases m d c
+-- the one flow into one type
+pub one_flow : (bases : Bases) (m : Mark) (d : Tree) (flows : Flowing) → FlowsInto bases m (d ∷ []) flows → (flow : FlowMark) × (flows ≡ flow ∷ []) × FlowAt bases m d flow
 one_flow bases m d [] h = absurd h
 one_flow bases m d (c ∷ []) h = (c, refl, h.0)
 one_flow bases m d (c ∷ e ∷ flows) h = absurd h.1
@@ -129,20 +130,26 @@ module _ (around : Around) (ctx : Context) (eval : Expr → Step Value) (good : 
   part : (known : HeapTyping → Type 0) (want : Option Tree) (e : Expr) (m : Marks e) → Lawful ctx around.declared env want e m → Covered around (Finds e m) → Keyed e m → IsSafe around env known (eval e) (λ k v. HasType around.bases k (type_of e m) v)
   part known want e m law covered keyed = weaken around env known (λ k. Unit {0}) (eval e) (λ k v. HasType around.bases k (type_of e m) v) (λ k v. HasType around.bases k (type_of e m) v) (λ k h. tt) (λ k v h. h) (good.safe env want e m law covered keyed)
 
+  abbrev Assigned : (HeapTyping → Type 0) → (e : Expr) → Marks e → Tree → Option Code → Type 0
+  Assigned known e m d c = IsSafe around env known (eval e) (λ k v. HasType around.bases k (assigned_type d (type_of e m) c) v × HasType around.bases k d v)
+
   -- a value that is assigned is of the declared type and of the type that the local has after it
-  pub assigned_safe : (known : HeapTyping → Type 0) (want : Option Tree) (e : Expr) (m : Marks e) (d : Tree) (c : Option Code) → Lawful ctx around.declared env want e m → Covered around (Finds e m) → FlowAt around.bases (mark_of e m) d c → Covered around (IsFlowAt (place_of e) (c ∷ [])) → Keyed e m → IsSafe around env known (eval e) (λ k v. HasType around.bases k (assigned_type d (type_of e m) c) v × HasType around.bases k d v)
-  assigned_safe known want e m d (Some c) law covered flow allowed keyed =
-      weaken around env known known (eval e) (λ k v. HasType around.bases k d v) (λ k v. HasType around.bases k (assigned_type d (type_of e m) (Some c)) v × HasType around.bases k d v) (λ k h. h)
-      (λ k v h. (subst (λ t. HasType around.bases k t v) (sym (assigned_found d (type_of e m) c)) h, h))
-      (flow_safe around ctx eval good evaluates env known want e m d (Some c) law covered flow allowed keyed)
-  assigned_safe known want e m d None law covered flow allowed keyed = go (is_early (mark_of e m).codes) refl flow
+  pub assigned_safe : (known : HeapTyping → Type 0) (want : Option Tree) (e : Expr) (m : Marks e) (d : Tree) (flow : FlowMark) → Lawful ctx around.declared env want e m → Covered around (Finds e m) → FlowAt around.bases (mark_of e m) d flow → Covered around (IsFlowAt (place_of e) (flow ∷ [])) → Keyed e m → IsSafe around env known (eval e) (λ k v. HasType around.bases k (assigned_type d (type_of e m) flow.code) v × HasType around.bases k d v)
+  assigned_safe known want e m d flow law covered at allowed keyed = by_code flow.code refl
     where
-      by_flow : Flows around.bases (type_of e m) d None → IsSafe around env known (eval e) (λ k v. HasType around.bases k (assigned_type d (type_of e m) None) v × HasType around.bases k d v)
+      by_flow : Flows around.bases (type_of e m) d None → Assigned known e m d None
       by_flow (static below) =
           weaken around env known known (eval e) (λ k v. HasType around.bases k (type_of e m) v) (λ k v. HasType around.bases k (assigned_type d (type_of e m) None) v × HasType around.bases k d v) (λ k h. h)
           (λ k v h. let to = of_static around.bases k (type_of e m) d below v h in (assigned_has around.bases k d (type_of e m) v h to, to))
           (part known want e m law covered keyed)
 
-      go : (early : Test) → is_early (mark_of e m).codes ≡ early → FlowUnless early around.bases (type_of e m) d None → IsSafe around env known (eval e) (λ k v. HasType around.bases k (assigned_type d (type_of e m) None) v × HasType around.bases k d v)
-      go true is f = absurd ((covered (finding (place_of e) E03) (found_here e m (finding (place_of e) E03) (record { code = E03; among = early_code (mark_of e m).codes is; is = refl }))).1 refl)
-      go false is f = by_flow f
+      quiet : (early : Test) → is_early (mark_of e m).codes ≡ early → FlowUnless early around.bases (type_of e m) d None → Assigned known e m d None
+      quiet true is f = absurd ((covered (finding (place_of e) E03) (found_here e m (finding (place_of e) E03) (record { code = E03; among = early_code (mark_of e m).codes is; is = refl }))).1 refl)
+      quiet false is f = by_flow f
+
+      by_code : (c : Option Code) → flow.code ≡ c → Assigned known e m d flow.code
+      by_code None is = subst (Assigned known e m d) (sym is) (quiet (is_early (mark_of e m).codes) refl (subst (λ c. FlowUnless (is_early (mark_of e m).codes) around.bases (type_of e m) d c) is at.code))
+      by_code (Some c) is = subst (Assigned known e m d) (sym is) (
+          weaken around env known known (eval e) (λ k v. HasType around.bases k d v) (λ k v. HasType around.bases k (assigned_type d (type_of e m) (Some c)) v × HasType around.bases k d v) (λ k h. h)
+          (λ k v h. (subst (λ t. HasType around.bases k t v) (sym (assigned_found d (type_of e m) c)) h, h))
+          (flow_safe around ctx eval good evaluates env known want e m d flow law covered at allowed keyed))

@@ -1,6 +1,6 @@
 -- Calls in bodies, whatever is called.
 use Rattle.std.proofs.Common.{◌≡◌, ℕ, List, [], ◌∷◌, refl, sym, ap, ◌∙◌, subst, inl, inr, arith}
-use Rattle.std.specs.Prelude.{Bool as Test, true, false, ◌&&◌, if◌then◌else◌, nat_lt, Option, Some, None, slice_get}
+use Rattle.std.specs.Prelude.{Bool as Test, true, false, if◌then◌else◌, nat_lt, Option, Some, None, slice_get}
 use Rattle.std.specs.Option.{option_map}
 use Rattle.std.proofs.lemmas.Option.{slice_get-map}
 use Rattle.pc_source.specs.declared.place.Place.{Place}
@@ -23,9 +23,9 @@ use Rattle.pc_flow.specs.Environment.{Env}
 use Rattle.pc_expr.specs.Operations.{in_error}
 use Rattle.pc_expr.specs.Context.{Context, name_mark}
 use Rattle.pc_expr.specs.Signatures.{signature_of, signatures_of}
-use Rattle.pc_expr.specs.Calls.{given, called, function_offer, class_signature, good_callee, value_callee, name_callee, value_offers, method_callee, Callee, is_one, call_mark, positional_seat, named_seat}
+use Rattle.pc_expr.specs.Calls.{given, called, function_offer, class_signature, good_callee, value_callee, name_callee, value_offers, method_callee, Callee, member_rule, call_mark, positional_seat, named_seat}
 use Rattle.pc_expr.specs.Labels.{Marks, mark_of, type_of, with_mark, item_types, Finds, ItemsFind}
-use Rattle.pc_expr.specs.Lawful.{Lawful, LawfulItems, LawfulKeywords, callee_of, is_length, is_length_of_one}
+use Rattle.pc_expr.specs.Lawful.{Lawful, LawfulItems, LawfulKeywords, callee_of}
 use Rattle.pc_value.specs.Value.{Gives}
 use Rattle.pc_machine.specs.Names.{meaning_of_global}
 use Rattle.pc_tree.specs.Depth.{place_of}
@@ -49,7 +49,8 @@ use Rattle.pc_sound.proofs.Filling.{Distinct}
 use Rattle.pc_sound.proofs.Binds.{function_named, class_named}
 use Rattle.pc_sound.proofs.CallNodes.{function_node_safe, class_node_safe}
 use Rattle.pc_sound.proofs.MethodNodes.{method_node_safe}
-use Rattle.pc_sound.proofs.ValueCalls.{with_own, ordinary_call, ordinary_mark, values_quiet, fails_safe, value_callee_safe, named_value_safe, arguments_covered}
+use Rattle.pc_sound.proofs.CallRules.{ordinary_mark}
+use Rattle.pc_sound.proofs.ValueCalls.{with_own, ordinary_call, values_quiet, fails_safe, value_callee_safe, named_value_safe, arguments_covered}
 
 -- a name that is no local means what the module says
 outside_func : (o : Option ℕ) (r : Res) (i : ℕ) → or_else (local_of o) r ≡ res.Func i → r ≡ res.Func i
@@ -93,14 +94,14 @@ module _ (m : Module) (constants : List Tree) (listed : Place → Type 0) (facts
     -- ---- values
 
     -- the callee is a value, and so labelled
-    value_node : (want : Option Tree) (p : Place) (c : Expr) (args : Exprs) (kws : Keywords) (k : Marks (call p c args kws)) (law : Lawful Ctx lab.marks.declared env want (call p c args kws) k) → callee_of Ctx env (given args kws) c law.value ≡ value_callee (mark_of c law.value) → is_instance_test c args kws ≡ false → is_length_of_one (given args kws) Ctx.resolve c ≡ false → Covered Here (Finds (call p c args kws) k) → Keyed (call p c args kws) k
+    value_node : (want : Option Tree) (p : Place) (c : Expr) (args : Exprs) (kws : Keywords) (k : Marks (call p c args kws)) (law : Lawful Ctx lab.marks.declared env want (call p c args kws) k) → callee_of Ctx env (given args kws) c law.value ≡ value_callee (mark_of c law.value) → is_instance_test c args kws ≡ false → Covered Here (Finds (call p c args kws) k) → Keyed (call p c args kws) k
         → IsSafe Here env (λ j. Unit {0}) ((parts.eval c >>= λ v. comes (Gives (calls_value v))) >>= λ called. eval_all Step free parts.eval args >>= λ values. eval_keywords Step free parts.eval kws >>= λ more. Emits p >>= λ u. call_callee Step free parts called values more) (λ j v. HasType (bases_of m) j k.here.type v)
-    value_node want p c args kws k law is no_test no_length covered keyed =
+    value_node want p c args kws k law is no_test covered keyed =
         let own : k.callee ≡ law.value = law.callee ∙ ap (λ x. with_mark c law.value x.mark) is ∙ with_own c law.value in
         fails_safe Here Ctx Fit parts good evaluates env p _ (value_offers (type_of c law.value)) (values_quiet (type_of c law.value))
         (value_callee_safe Here Ctx parts good env c law.value law.lawful (subst (λ x. Covered Here (Finds c x)) own (λ f h. covered f (inr (inl h)))) (subst (λ x. Keyed c x) own keyed.1.0))
         args k.arguments kws k.keywords k.here
-        (ordinary_mark Ctx env c args kws (callee_of Ctx env (given args kws) c law.value).offers (item_types args k.arguments) k.here no_test no_length law.here ∙ ap (λ x. call_mark (bases_of m) x.offers) is)
+        (ordinary_mark Ctx env (callee_of Ctx env (given args kws) c law.value) args (item_types args k.arguments) k.here (ap (λ x. x.rule) is) law.here ∙ ap (λ x. call_mark (bases_of m) x.offers) is)
         (subst (λ x. LawfulItems Ctx lab.marks.declared env (positional_seat x.offers) args k.arguments) is law.arguments)
         (subst (λ x. LawfulKeywords Ctx lab.marks.declared env (named_seat x.offers) [] kws k.keywords) is law.keywords)
         (arguments_covered Here c args kws k.arguments no_test (λ f h. covered f (inr (inr (inr (inl h)))))) (λ f h. covered f (inr (inr (inr (inr h))))) (λ f h. covered f (inl h)) keyed.1.1.0 keyed.1.1.1
@@ -114,7 +115,7 @@ module _ (m : Module) (constants : List Tree) (listed : Place → Type 0) (facts
         method_node_safe m facts.inherits constants listed facts.dispatched facts.owner_above (locals owner d) lab.marks.declared Ctx Fit parts good evaluates env facts.labelled runs facts.distinct_methods
         p q e w args kws law.value.object (method_callee Ctx (given args kws) w.text (type_of e law.value.object)).mark.codes k.arguments k.keywords k.here law.lawful.object
         (λ f h. found f (inr h)) keys.1 refl (λ f h. found f (inl h))
-        (ordinary_mark Ctx env (attribute q e w) args kws (callee_of Ctx env (given args kws) (attribute q e w) law.value).offers (item_types args k.arguments) k.here refl refl law.here)
+        (ordinary_mark Ctx env (callee_of Ctx env (given args kws) (attribute q e w) law.value) args (item_types args k.arguments) k.here refl law.here)
         law.arguments law.keywords
         (arguments_covered Here (attribute q e w) args kws k.arguments refl (λ f h. covered f (inr (inr (inr (inl h)))))) (λ f h. covered f (inr (inr (inr (inr h))))) (λ f h. covered f (inl h)) keyed.1.1.0 keyed.1.1.1
 
@@ -141,14 +142,11 @@ module _ (m : Module) (constants : List Tree) (listed : Place → Type 0) (facts
       found_args = arguments_covered Here (name n) args kws k.arguments no_test (λ f h. covered f (inr (inr (inr (inl h)))))
 
       -- the offers and the label of the call, by what the name means
-      offers_are : (c : Callee) → name_callee Ctx env (given args kws) (Ctx.resolve n.text) ≡ c → (is_length_of_one (given args kws) Ctx.resolve (name n) ≡ false) → k.here ≡ call_mark (bases_of m) c.offers
-      offers_are c e no_length = ordinary_mark Ctx env (name n) args kws (name_callee Ctx env (given args kws) (Ctx.resolve n.text)).offers (item_types args k.arguments) k.here no_test no_length law.here ∙ ap (λ x. call_mark (bases_of m) x.offers) e
+      offers_are : (c : Callee) → name_callee Ctx env (given args kws) (Ctx.resolve n.text) ≡ c → c.rule ≡ member_rule → k.here ≡ call_mark (bases_of m) c.offers
+      offers_are c e member = ordinary_mark Ctx env (name_callee Ctx env (given args kws) (Ctx.resolve n.text)) args (item_types args k.arguments) k.here (ap (λ x. x.rule) e ∙ member) law.here ∙ ap (λ x. call_mark (bases_of m) x.offers) e
 
       as_ordinary : IsSafe Here env (λ j. Unit {0}) (eval_call Step free parts p (name n) args kws ordinary) (λ j v. HasType (bases_of m) j k.here.type v) → CallSafe p (name n) args kws k
       as_ordinary h = subst (λ form. IsSafe Here env (λ j. Unit {0}) (eval_call Step free parts p (name n) args kws form) (λ j v. HasType (bases_of m) j k.here.type v)) (sym (ordinary_call n args kws no_test)) h
-
-      not_length : (r : Res) → Ctx.resolve n.text ≡ r → is_length r ≡ false → is_length_of_one (given args kws) Ctx.resolve (name n) ≡ false
-      not_length r e f = λ i. (ap is_length e ∙ f) i && is_one (given args kws)
 
       -- a function
       function_node : (i : ℕ) → Ctx.resolve n.text ≡ res.Func i → CallSafe p (name n) args kws k
@@ -161,7 +159,7 @@ module _ (m : Module) (constants : List Tree) (listed : Place → Type 0) (facts
           p n args kws k.arguments k.keywords k.here i a.def l (runs (owners.Func i) a.def l)
           (λ j st stands. let f = stands.outside.function n.text i a.def a.resolves a.at in
           (f.function, meaning_outside Here Ctx Fit n.text (no_local n.text (res.Func i) e (λ x g. grind (arith, g))) env j st stands ∙ ap (meaning_of_global (is_reserved n.text)) f.is, f.made))
-          (offers_are (good_callee (called (given args kws) (signature_of m a.def) ∷ [])) is (not_length (res.Func i) e refl)) (facts.distinct_functions i a.def a.at)
+          (offers_are (good_callee (called (given args kws) (signature_of m a.def) ∷ [])) is refl) (facts.distinct_functions i a.def a.at)
           (subst (λ x. LawfulItems Ctx lab.marks.declared env (positional_seat x.offers) args k.arguments) is law.arguments) (subst (λ x. LawfulKeywords Ctx lab.marks.declared env (named_seat x.offers) [] kws k.keywords) is law.keywords)
           found_args (λ f h. covered f (inr (inr (inr (inr h))))) (λ f h. covered f (inl h)) keyed.1.1.0 keyed.1.1.1)
 
@@ -181,20 +179,20 @@ module _ (m : Module) (constants : List Tree) (listed : Place → Type 0) (facts
               as_ordinary
               (class_node_safe m facts.inherits listed (locals owner d) lab.marks.declared (World m constants) (λ j j' made globals grows w. world_later m constants j j' made globals grows w) Ctx Fit parts good evaluates env
               p n args kws k.arguments k.keywords k.here c (λ j st stands. means_a_class Here Ctx Fit knows env n.text c e t j st stands) (λ j made globals w. w.classes c h.class (ap (slice_get (classes_in m.items)) at ∙ h.is))
-              (offers_are (good_callee (called (given args kws) (class_signature (classes_of m) c) ∷ [])) is (not_length (res.Class c) e refl)) (facts.distinct_fields c)
+              (offers_are (good_callee (called (given args kws) (class_signature (classes_of m) c) ∷ [])) is refl) (facts.distinct_fields c)
               (subst (λ x. LawfulItems Ctx lab.marks.declared env (positional_seat x.offers) args k.arguments) is law.arguments) (subst (λ x. LawfulKeywords Ctx lab.marks.declared env (named_seat x.offers) [] kws k.keywords) is law.keywords)
               found_args (λ f h. covered f (inr (inr (inr (inr h))))) (λ f h. covered f (inl h)) keyed.1.1.0 keyed.1.1.1)
 
       -- a value
-      named_node : (r : Res) → Ctx.resolve n.text ≡ r → name_callee Ctx env (given args kws) (Ctx.resolve n.text) ≡ value_callee (name_mark Ctx env (Ctx.resolve n.text)) → is_length r ≡ false → CallSafe p (name n) args kws k
-      named_node r e is no_length =
+      named_node : (r : Res) → Ctx.resolve n.text ≡ r → name_callee Ctx env (given args kws) (Ctx.resolve n.text) ≡ value_callee (name_mark Ctx env (Ctx.resolve n.text)) → CallSafe p (name n) args kws k
+      named_node r e is =
           let own : k.callee ≡ name_mark Ctx env (Ctx.resolve n.text) = law.callee ∙ ap (λ x. x.mark) is in
           let same : value_offers (name_mark Ctx env (Ctx.resolve n.text)).type ≡ value_offers k.callee.type = ap (λ x. value_offers x.type) (sym own) in
           as_ordinary
           (fails_safe Here Ctx Fit parts good evaluates env p _ (value_offers k.callee.type) (values_quiet k.callee.type)
           (named_value_safe Here Ctx Fit knows env parts n k.callee own (λ f h. covered f (inr (inl h))))
           args k.arguments kws k.keywords k.here
-          (offers_are (value_callee (name_mark Ctx env (Ctx.resolve n.text))) is (not_length r e no_length) ∙ ap (call_mark (bases_of m)) same)
+          (offers_are (value_callee (name_mark Ctx env (Ctx.resolve n.text))) is refl ∙ ap (call_mark (bases_of m)) same)
           (subst (λ x. LawfulItems Ctx lab.marks.declared env (positional_seat x) args k.arguments) (ap (λ x. x.offers) is ∙ same) law.arguments) (subst (λ x. LawfulKeywords Ctx lab.marks.declared env (named_seat x) [] kws k.keywords) (ap (λ x. x.offers) is ∙ same) law.keywords)
           found_args (λ f h. covered f (inr (inr (inr (inr h))))) (λ f h. covered f (inl h)) keyed.1.1.0 keyed.1.1.1)
 
@@ -202,35 +200,35 @@ module _ (m : Module) (constants : List Tree) (listed : Place → Type 0) (facts
       name_node unreserved = go (Ctx.resolve n.text) refl
         where
           go : (r : Res) → Ctx.resolve n.text ≡ r → CallSafe p (name n) args kws k
-          go (res.Local x) e = named_node (res.Local x) e (ap (name_callee Ctx env (given args kws)) e ∙ ap (λ r. value_callee (name_mark Ctx env r)) (sym e)) refl
-          go (res.Const i) e = named_node (res.Const i) e (ap (name_callee Ctx env (given args kws)) e ∙ ap (λ r. value_callee (name_mark Ctx env r)) (sym e)) refl
+          go (res.Local x) e = named_node (res.Local x) e (ap (name_callee Ctx env (given args kws)) e ∙ ap (λ r. value_callee (name_mark Ctx env r)) (sym e))
+          go (res.Const i) e = named_node (res.Const i) e (ap (name_callee Ctx env (given args kws)) e ∙ ap (λ r. value_callee (name_mark Ctx env r)) (sym e))
           go (res.Func i) e = function_node i e
           go (res.Class c) e = class_node c e
           go (res.Builtin b) e = absurd (unreserved b e)
-          go res.None e = named_node res.None e (ap (name_callee Ctx env (given args kws)) e ∙ ap (λ r. value_callee (name_mark Ctx env r)) (sym e)) refl
+          go res.None e = named_node res.None e (ap (name_callee Ctx env (given args kws)) e ∙ ap (λ r. value_callee (name_mark Ctx env r)) (sym e))
 
     -- ---- all other calls
 
     others_safe : (want : Option Tree) (p : Place) (c : Expr) (args : Exprs) (kws : Keywords) (k : Marks (call p c args kws)) → NotReserved Ctx c → is_instance_test c args kws ≡ false → Lawful Ctx lab.marks.declared env want (call p c args kws) k → Covered Here (Finds (call p c args kws) k) → Keyed (call p c args kws) k → CallSafe p c args kws k
     others_safe want p (name n) args kws k unreserved no_test law covered keyed = name_node want p n args kws k law no_test covered keyed unreserved
     others_safe want p (attribute q e w) args kws k unreserved no_test law covered keyed = attribute_node want p q e w args kws k law covered keyed
-    others_safe want p (number q x) args kws k unreserved no_test law covered keyed = value_node want p (number q x) args kws k law refl refl refl covered keyed
-    others_safe want p (text q x) args kws k unreserved no_test law covered keyed = value_node want p (text q x) args kws k law refl refl refl covered keyed
-    others_safe want p (truth q x) args kws k unreserved no_test law covered keyed = value_node want p (truth q x) args kws k law refl refl refl covered keyed
-    others_safe want p (nothing q) args kws k unreserved no_test law covered keyed = value_node want p (nothing q) args kws k law refl refl refl covered keyed
-    others_safe want p (tuple q x) args kws k unreserved no_test law covered keyed = value_node want p (tuple q x) args kws k law refl refl refl covered keyed
-    others_safe want p (list q x) args kws k unreserved no_test law covered keyed = value_node want p (list q x) args kws k law refl refl refl covered keyed
-    others_safe want p (dict q x) args kws k unreserved no_test law covered keyed = value_node want p (dict q x) args kws k law refl refl refl covered keyed
-    others_safe want p (negative q x) args kws k unreserved no_test law covered keyed = value_node want p (negative q x) args kws k law refl refl refl covered keyed
-    others_safe want p (negation q x) args kws k unreserved no_test law covered keyed = value_node want p (negation q x) args kws k law refl refl refl covered keyed
-    others_safe want p (binary q o x y) args kws k unreserved no_test law covered keyed = value_node want p (binary q o x y) args kws k law refl refl refl covered keyed
-    others_safe want p (compare q o x y) args kws k unreserved no_test law covered keyed = value_node want p (compare q o x y) args kws k law refl refl refl covered keyed
-    others_safe want p (is_none q x) args kws k unreserved no_test law covered keyed = value_node want p (is_none q x) args kws k law refl refl refl covered keyed
-    others_safe want p (is_not_none q x) args kws k unreserved no_test law covered keyed = value_node want p (is_not_none q x) args kws k law refl refl refl covered keyed
-    others_safe want p (conjunction q x y) args kws k unreserved no_test law covered keyed = value_node want p (conjunction q x y) args kws k law refl refl refl covered keyed
-    others_safe want p (disjunction q x y) args kws k unreserved no_test law covered keyed = value_node want p (disjunction q x y) args kws k law refl refl refl covered keyed
-    others_safe want p (index q x y) args kws k unreserved no_test law covered keyed = value_node want p (index q x y) args kws k law refl refl refl covered keyed
-    others_safe want p (call q x y z) args kws k unreserved no_test law covered keyed = value_node want p (call q x y z) args kws k law refl refl refl covered keyed
+    others_safe want p (number q x) args kws k unreserved no_test law covered keyed = value_node want p (number q x) args kws k law refl refl covered keyed
+    others_safe want p (text q x) args kws k unreserved no_test law covered keyed = value_node want p (text q x) args kws k law refl refl covered keyed
+    others_safe want p (truth q x) args kws k unreserved no_test law covered keyed = value_node want p (truth q x) args kws k law refl refl covered keyed
+    others_safe want p (nothing q) args kws k unreserved no_test law covered keyed = value_node want p (nothing q) args kws k law refl refl covered keyed
+    others_safe want p (tuple q x) args kws k unreserved no_test law covered keyed = value_node want p (tuple q x) args kws k law refl refl covered keyed
+    others_safe want p (list q x) args kws k unreserved no_test law covered keyed = value_node want p (list q x) args kws k law refl refl covered keyed
+    others_safe want p (dict q x) args kws k unreserved no_test law covered keyed = value_node want p (dict q x) args kws k law refl refl covered keyed
+    others_safe want p (negative q x) args kws k unreserved no_test law covered keyed = value_node want p (negative q x) args kws k law refl refl covered keyed
+    others_safe want p (negation q x) args kws k unreserved no_test law covered keyed = value_node want p (negation q x) args kws k law refl refl covered keyed
+    others_safe want p (binary q o x y) args kws k unreserved no_test law covered keyed = value_node want p (binary q o x y) args kws k law refl refl covered keyed
+    others_safe want p (compare q o x y) args kws k unreserved no_test law covered keyed = value_node want p (compare q o x y) args kws k law refl refl covered keyed
+    others_safe want p (is_none q x) args kws k unreserved no_test law covered keyed = value_node want p (is_none q x) args kws k law refl refl covered keyed
+    others_safe want p (is_not_none q x) args kws k unreserved no_test law covered keyed = value_node want p (is_not_none q x) args kws k law refl refl covered keyed
+    others_safe want p (conjunction q x y) args kws k unreserved no_test law covered keyed = value_node want p (conjunction q x y) args kws k law refl refl covered keyed
+    others_safe want p (disjunction q x y) args kws k unreserved no_test law covered keyed = value_node want p (disjunction q x y) args kws k law refl refl covered keyed
+    others_safe want p (index q x y) args kws k unreserved no_test law covered keyed = value_node want p (index q x y) args kws k law refl refl covered keyed
+    others_safe want p (call q x y z) args kws k unreserved no_test law covered keyed = value_node want p (call q x y z) args kws k law refl refl covered keyed
 
   -- in a body all other calls are safe
   pub body_calls : (knows : KnowsNames (around_of m constants listed owner d lab) (context_of m constants listed owner d)) (parts : Parts Step) → GoodEval (around_of m constants listed owner d lab) (context_of m constants listed owner d) parts.eval → ((e : Expr) → Evaluates (place_of e) (parts.eval e)) → ((o : Owner) (f : FuncDef) (l : Labelled m constants listed o f) → GoodExec (around_of m constants listed o f l) (context_of m constants listed o f) m (returned m f) parts.exec) → OtherCalls (around_of m constants listed owner d lab) (context_of m constants listed owner d) parts

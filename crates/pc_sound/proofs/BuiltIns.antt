@@ -20,9 +20,10 @@ use Rattle.pc_class.specs.Facts as facts
 use Rattle.pc_flow.specs.Environment.{Env}
 use Rattle.pc_expr.specs.Operations.{Mark, in_error, offers_mark, length_member}
 use Rattle.pc_expr.specs.Context.{Context}
-use Rattle.pc_expr.specs.Calls.{Given, given, count_exprs, is_one, plain_call, fails_at_call, Seat, builtin_offer, is_callable_builtin, good_callee, value_callee, name_callee, call_mark, length_mark, test_mark, positional_seat, named_seat}
+use Rattle.pc_expr.specs.Calls.{Given, given, count_exprs, is_one, is_two, CallOffer, plain_call, fails_at_call, Seat, length_rule, test_rule, own_callee, builtin_callee, good_callee, value_callee, name_callee, call_mark, length_mark, positional_seat, named_seat}
 use Rattle.pc_expr.specs.Labels.{Marks, type_of, item_types, ItemsMarks, KeywordsMarks, Finds, ItemsFind, ArgumentsFind, IsFoundAt}
-use Rattle.pc_expr.specs.Lawful.{Lawful, callee_of, whole_call_mark, is_length, is_length_of_one}
+use Rattle.pc_expr.specs.Lawful.{Lawful, callee_of, whole_call_mark}
+use Rattle.pc_expr.proofs.SaidInLabels.{as_arguments}
 use Rattle.pc_value.specs.Value as value
 use Rattle.pc_value.specs.Value.{Value, Gives, whole, boolean, string, tuple_of, location, Heap, seen}
 use Rattle.pc_value.specs.Actions as action
@@ -44,7 +45,8 @@ use Rattle.pc_sound.proofs.Flows.{Evaluates}
 use Rattle.pc_sound.proofs.Joins.{all_hold}
 use Rattle.pc_sound.proofs.Seen.{sees_list, sees_dict}
 use Rattle.pc_sound.proofs.Members.{ends_more, offers_end}
-use Rattle.pc_sound.proofs.Arguments.{ArgumentsHave, KeywordsHave, arguments_later, keywords_later, found_in_arguments}
+use Rattle.pc_sound.proofs.Arguments.{ArgumentsHave, KeywordsHave, arguments_later, keywords_later}
+use Rattle.pc_sound.proofs.CallRules.{two_are_two}
 use Rattle.pc_sound.proofs.Globals.{KnowsNames, builtin_text, means_a_builtin, reserved_is, no_error_at}
 use Rattle.pc_sound.proofs.OrdinaryCalls.{equal_safe, impossible_safe, ordinary_safe}
 
@@ -107,13 +109,6 @@ no_test builtin.Len o x = refl
 no_test builtin.Range o x = refl
 no_test _ o x = absurd o
 
-callable : (b : Builtin) → IsOrdinary b → is_callable_builtin b ≡ true
-callable builtin.Print o = refl
-callable builtin.Str o = refl
-callable builtin.Len o = refl
-callable builtin.Range o = refl
-callable _ o = absurd o
-
 module _ (around : Around) (ctx : Context) (fits : Fits around ctx) (knows : KnowsNames around ctx) (parts : Parts Step) (good : GoodEval around ctx parts.eval) (evaluates : (e : Expr) → Evaluates (place_of e) (parts.eval e)) (env : Env) where
   -- a reserved name as a callee
   reserved_callee_safe : (n : Name) (b : Builtin) → ctx.resolve n.text ≡ res.Builtin b → (callee : Mark) → Covered around (IsFoundAt n.place callee.codes) → IsSafe around env (λ k. Unit {0}) (eval_callee Step free parts (name n)) (λ k c. c ≡ calls_reserved n.text)
@@ -129,31 +124,16 @@ module _ (around : Around) (ctx : Context) (fits : Fits around ctx) (knows : Kno
     as_ordinary : (args : Exprs) (kws : Keywords) → call_form (name n) args kws ≡ ordinary
     as_ordinary args kws = ordinary_form n args kws (ap (λ w. same_text w (codes "isinstance")) text ∙ other_text b o)
 
-    offered : (g : Given) → name_callee ctx env g (ctx.resolve n.text) ≡ good_callee (builtin_offer g b ∷ [])
-    offered g = ap (name_callee ctx env g) is ∙ ap (λ x. if x then good_callee (builtin_offer g b ∷ []) else value_callee (in_error E20)) (callable b o)
+    offered : (g : Given) → name_callee ctx env g (ctx.resolve n.text) ≡ builtin_callee g b
+    offered g = ap (name_callee ctx env g) is
 
-    -- the label of the call, where it is no `len` of one argument
-    pub plain_mark : (args : Exprs) (kws : Keywords) (types : List Tree) (here : Mark) → is_length_of_one (given args kws) ctx.resolve (name n) ≡ false → here ≡ whole_call_mark ctx env (name n) args kws (name_callee ctx env (given args kws) (ctx.resolve n.text)).offers types → here ≡ call_mark around.bases (builtin_offer (given args kws) b ∷ [])
-    plain_mark args kws types here no_length law =
-        let g = given args kws in
-        let offers = (name_callee ctx env g (ctx.resolve n.text)).offers in
-        let rest = if is_length_of_one g ctx.resolve (name n) then length_mark ctx.bases types else call_mark ctx.bases offers in
-        law
-        ∙ ap (λ x. if x then test_mark ctx env args else rest) (ap (λ w. bytes_eq (codes "isinstance") w && are_two args kws) text ∙ no_test b o (are_two args kws))
-        ∙ ap (λ x. if x then length_mark ctx.bases types else call_mark ctx.bases offers) no_length
-        ∙ ap (λ c. call_mark ctx.bases c.offers) (offered g)
-        ∙ ap (λ x. call_mark x (builtin_offer g b ∷ [])) (sym fits.bases)
+    -- the label of the call, by what it comes to
+    pub plain_mark : (args : Exprs) (kws : Keywords) (types : List Tree) (here : Mark) (offers : List CallOffer) → builtin_callee (given args kws) b ≡ good_callee offers → here ≡ whole_call_mark ctx env (name_callee ctx env (given args kws) (ctx.resolve n.text)).rule (name_callee ctx env (given args kws) (ctx.resolve n.text)).offers args types → here ≡ call_mark around.bases offers
+    plain_mark args kws types here offers plain law = law ∙ ap (λ c. whole_call_mark ctx env c.rule c.offers args types) (offered (given args kws) ∙ plain) ∙ ap (λ x. call_mark x offers) (sym fits.bases)
 
     -- the label of `len` of one argument
-    length_here : (args : Exprs) (kws : Keywords) (types : List Tree) (here : Mark) → is_length_of_one (given args kws) ctx.resolve (name n) ≡ true → here ≡ whole_call_mark ctx env (name n) args kws (name_callee ctx env (given args kws) (ctx.resolve n.text)).offers types → here ≡ length_mark around.bases types
-    length_here args kws types here is_length law =
-        let g = given args kws in
-        let offers = (name_callee ctx env g (ctx.resolve n.text)).offers in
-        let rest = if is_length_of_one g ctx.resolve (name n) then length_mark ctx.bases types else call_mark ctx.bases offers in
-        law
-        ∙ ap (λ x. if x then test_mark ctx env args else rest) (ap (λ w. bytes_eq (codes "isinstance") w && are_two args kws) text ∙ no_test b o (are_two args kws))
-        ∙ ap (λ x. if x then length_mark ctx.bases types else call_mark ctx.bases offers) is_length
-        ∙ ap (λ x. length_mark x types) (sym fits.bases)
+    length_here : (args : Exprs) (kws : Keywords) (types : List Tree) (here : Mark) → builtin_callee (given args kws) b ≡ own_callee length_rule → here ≡ whole_call_mark ctx env (name_callee ctx env (given args kws) (ctx.resolve n.text)).rule (name_callee ctx env (given args kws) (ctx.resolve n.text)).offers args types → here ≡ length_mark around.bases types
+    length_here args kws types here one law = law ∙ ap (λ c. whole_call_mark ctx env c.rule c.offers args types) (offered (given args kws) ∙ one) ∙ ap (λ x. length_mark x types) (sym fits.bases)
 
     -- the call, where what the reserved name does with its arguments is safe
     reserved_safe :
@@ -162,7 +142,7 @@ module _ (around : Around) (ctx : Context) (fits : Fits around ctx) (knows : Kno
         → IsSafe around env (λ k. Unit {0}) (eval_node Step free parts (call p (name n) args kws)) (λ k v. HasType around.bases k m.here.type v)
     reserved_safe want args kws m law covered keyed calls =
         let offers = (callee_of ctx env (given args kws) (name n) law.value).offers in
-        let found : Covered around (ItemsFind args m.arguments) = λ f h. covered f (inr (inr (inr (inl (subst (λ x. ArgumentsFind x args m.arguments f) (sym (ap (λ w. bytes_eq (codes "isinstance") w && are_two args kws) text ∙ no_test b o (are_two args kws))) (found_in_arguments args m.arguments f h)))))) in
+        let found : Covered around (ItemsFind args m.arguments) = λ f h. covered f (inr (inr (inr (inl (subst (λ x. ArgumentsFind x args m.arguments f) (sym (ap (λ w. bytes_eq (codes "isinstance") w && are_two args kws) text ∙ no_test b o (are_two args kws))) (as_arguments args m.arguments f h)))))) in
         subst (λ form. IsSafe around env (λ k. Unit {0}) (eval_call Step free parts p (name n) args kws form) (λ k v. HasType around.bases k m.here.type v)) (sym (as_ordinary args kws))
         (ordinary_safe around ctx fits parts good evaluates env p (eval_callee Step free parts (name n)) (λ k c. c ≡ calls_reserved n.text) (λ c k k' x h. h)
         (reserved_callee_safe n b is m.callee (λ f h. covered f (inr (inl h))))
@@ -201,11 +181,11 @@ module _ (around : Around) (ctx : Context) (fits : Fits around ctx) (knows : Kno
 
   pub print_safe : (want : Option Tree) (p : Place) (n : Name) → ctx.resolve n.text ≡ res.Builtin builtin.Print → (args : Exprs) (kws : Keywords) (m : Marks (call p (name n) args kws)) → Lawful ctx around.declared env want (call p (name n) args kws) m → Covered around (Finds (call p (name n) args kws) m) → Keyed (call p (name n) args kws) m → IsSafe around env (λ k. Unit {0}) (eval_node Step free parts (call p (name n) args kws)) (λ k v. HasType around.bases k m.here.type v)
   print_safe want p n is args (more_keywords w e rest) m law covered keyed =
-      absurd (wrong_call p m.here E14 (plain_mark p n builtin.Print is tt args (more_keywords w e rest) (item_types args m.arguments) m.here (ap (λ r. is_length r && is_one (given args (more_keywords w e rest))) is) law.here) refl (λ f h. covered f (inl h)))
+      absurd (wrong_call p m.here E14 (plain_mark p n builtin.Print is tt args (more_keywords w e rest) (item_types args m.arguments) m.here (fails_at_call E14 ∷ []) refl law.here) refl (λ f h. covered f (inl h)))
   print_safe want p n is args no_keywords m law covered keyed = reserved_safe p n builtin.Print is tt want args no_keywords m law covered keyed each
     where
       here : m.here ≡ call_mark around.bases (plain_call NoneType ∷ [])
-      here = plain_mark p n builtin.Print is tt args no_keywords (item_types args m.arguments) m.here (ap (λ r. is_length r && is_one (given args no_keywords)) is) law.here
+      here = plain_mark p n builtin.Print is tt args no_keywords (item_types args m.arguments) m.here (plain_call NoneType ∷ []) refl law.here
 
       seat : ℕ → Seat
       seat = positional_seat (callee_of ctx env (given args no_keywords) (name n) law.value).offers
@@ -222,15 +202,15 @@ module _ (around : Around) (ctx : Context) (fits : Fits around ctx) (knows : Kno
 
   pub str_safe : (want : Option Tree) (p : Place) (n : Name) → ctx.resolve n.text ≡ res.Builtin builtin.Str → (args : Exprs) (kws : Keywords) (m : Marks (call p (name n) args kws)) → Lawful ctx around.declared env want (call p (name n) args kws) m → Covered around (Finds (call p (name n) args kws) m) → Keyed (call p (name n) args kws) m → IsSafe around env (λ k. Unit {0}) (eval_node Step free parts (call p (name n) args kws)) (λ k v. HasType around.bases k m.here.type v)
   str_safe want p n is no_exprs kws m law covered keyed =
-      absurd (wrong_call p m.here E14 (plain_mark p n builtin.Str is tt no_exprs kws (item_types no_exprs m.arguments) m.here (ap (λ r. is_length r && is_one (given no_exprs kws)) is) law.here) refl (λ f h. covered f (inl h)))
+      absurd (wrong_call p m.here E14 (plain_mark p n builtin.Str is tt no_exprs kws (item_types no_exprs m.arguments) m.here (fails_at_call E14 ∷ []) refl law.here) refl (λ f h. covered f (inl h)))
   str_safe want p n is (more_exprs a (more_exprs c rest)) kws m law covered keyed =
-      absurd (wrong_call p m.here E14 (plain_mark p n builtin.Str is tt (more_exprs a (more_exprs c rest)) kws (item_types (more_exprs a (more_exprs c rest)) m.arguments) m.here (ap (λ r. is_length r && is_one (given (more_exprs a (more_exprs c rest)) kws)) is) law.here ∙ ap (λ x. call_mark around.bases ((if x then plain_call Str else fails_at_call E14) ∷ [])) (two_are_not_one a c rest kws)) refl (λ f h. covered f (inl h)))
+      absurd (wrong_call p m.here E14 (plain_mark p n builtin.Str is tt (more_exprs a (more_exprs c rest)) kws (item_types (more_exprs a (more_exprs c rest)) m.arguments) m.here (fails_at_call E14 ∷ []) (ap (λ x. good_callee ((if x then plain_call Str else fails_at_call E14) ∷ [])) (two_are_not_one a c rest kws)) law.here) refl (λ f h. covered f (inl h)))
   str_safe want p n is (more_exprs a no_exprs) (more_keywords w e rest) m law covered keyed =
-      absurd (wrong_call p m.here E14 (plain_mark p n builtin.Str is tt (more_exprs a no_exprs) (more_keywords w e rest) (item_types (more_exprs a no_exprs) m.arguments) m.here (ap (λ r. is_length r && is_one (given (more_exprs a no_exprs) (more_keywords w e rest))) is) law.here) refl (λ f h. covered f (inl h)))
+      absurd (wrong_call p m.here E14 (plain_mark p n builtin.Str is tt (more_exprs a no_exprs) (more_keywords w e rest) (item_types (more_exprs a no_exprs) m.arguments) m.here (fails_at_call E14 ∷ []) refl law.here) refl (λ f h. covered f (inl h)))
   str_safe want p n is (more_exprs a no_exprs) no_keywords m law covered keyed = reserved_safe p n builtin.Str is tt want (more_exprs a no_exprs) no_keywords m law covered keyed each
     where
       here : m.here ≡ call_mark around.bases (plain_call Str ∷ [])
-      here = plain_mark p n builtin.Str is tt (more_exprs a no_exprs) no_keywords (item_types (more_exprs a no_exprs) m.arguments) m.here (ap (λ r. is_length r && is_one (given (more_exprs a no_exprs) no_keywords)) is) law.here
+      here = plain_mark p n builtin.Str is tt (more_exprs a no_exprs) no_keywords (item_types (more_exprs a no_exprs) m.arguments) m.here (plain_call Str ∷ []) refl law.here
 
       seat : ℕ → Seat
       seat = positional_seat (callee_of ctx env (given (more_exprs a no_exprs) no_keywords) (name n) law.value).offers
@@ -250,18 +230,18 @@ module _ (around : Around) (ctx : Context) (fits : Fits around ctx) (knows : Kno
 
   pub len_safe : (want : Option Tree) (p : Place) (n : Name) → ctx.resolve n.text ≡ res.Builtin builtin.Len → (args : Exprs) (kws : Keywords) (m : Marks (call p (name n) args kws)) → Lawful ctx around.declared env want (call p (name n) args kws) m → Covered around (Finds (call p (name n) args kws) m) → Keyed (call p (name n) args kws) m → IsSafe around env (λ k. Unit {0}) (eval_node Step free parts (call p (name n) args kws)) (λ k v. HasType around.bases k m.here.type v)
   len_safe want p n is no_exprs kws m law covered keyed =
-      absurd (wrong_call p m.here E14 (plain_mark p n builtin.Len is tt no_exprs kws (item_types no_exprs m.arguments) m.here (ap (λ r. is_length r && is_one (given no_exprs kws)) is) law.here) refl (λ f h. covered f (inl h)))
+      absurd (wrong_call p m.here E14 (plain_mark p n builtin.Len is tt no_exprs kws (item_types no_exprs m.arguments) m.here (fails_at_call E14 ∷ []) refl law.here) refl (λ f h. covered f (inl h)))
   len_safe want p n is (more_exprs a (more_exprs c rest)) kws m law covered keyed =
-      absurd (wrong_call p m.here E14 (plain_mark p n builtin.Len is tt (more_exprs a (more_exprs c rest)) kws (item_types (more_exprs a (more_exprs c rest)) m.arguments) m.here (ap (λ r. is_length r && is_one (given (more_exprs a (more_exprs c rest)) kws)) is ∙ two_are_not_one a c rest kws) law.here ∙ ap (λ x. call_mark around.bases ((if x then plain_call Int else fails_at_call E14) ∷ [])) (two_are_not_one a c rest kws)) refl (λ f h. covered f (inl h)))
+      absurd (wrong_call p m.here E14 (plain_mark p n builtin.Len is tt (more_exprs a (more_exprs c rest)) kws (item_types (more_exprs a (more_exprs c rest)) m.arguments) m.here (fails_at_call E14 ∷ []) (ap (λ x. if x then own_callee length_rule else good_callee (fails_at_call E14 ∷ [])) (two_are_not_one a c rest kws)) law.here) refl (λ f h. covered f (inl h)))
   len_safe want p n is (more_exprs a no_exprs) (more_keywords w e rest) m law covered keyed =
-      absurd (wrong_call p m.here E14 (plain_mark p n builtin.Len is tt (more_exprs a no_exprs) (more_keywords w e rest) (item_types (more_exprs a no_exprs) m.arguments) m.here (ap (λ r. is_length r && is_one (given (more_exprs a no_exprs) (more_keywords w e rest))) is) law.here) refl (λ f h. covered f (inl h)))
+      absurd (wrong_call p m.here E14 (plain_mark p n builtin.Len is tt (more_exprs a no_exprs) (more_keywords w e rest) (item_types (more_exprs a no_exprs) m.arguments) m.here (fails_at_call E14 ∷ []) refl law.here) refl (λ f h. covered f (inl h)))
   len_safe want p n is (more_exprs a no_exprs) no_keywords m law covered keyed = reserved_safe p n builtin.Len is tt want (more_exprs a no_exprs) no_keywords m law covered keyed each
     where
       object : Tree
       object = type_of a m.arguments.first
 
       here : m.here ≡ offers_mark around.bases (map length_member (members object))
-      here = length_here p n builtin.Len is tt (more_exprs a no_exprs) no_keywords (item_types (more_exprs a no_exprs) m.arguments) m.here (ap (λ r. is_length r && is_one (given (more_exprs a no_exprs) no_keywords)) is) law.here
+      here = length_here p n builtin.Len is tt (more_exprs a no_exprs) no_keywords (item_types (more_exprs a no_exprs) m.arguments) m.here refl law.here
 
       seat : ℕ → Seat
       seat = positional_seat (callee_of ctx env (given (more_exprs a no_exprs) no_keywords) (name n) law.value).offers
@@ -280,29 +260,26 @@ module _ (around : Around) (ctx : Context) (fits : Fits around ctx) (knows : Kno
   -- ---- `range` outside a `for`, and reserved names that are not called
 
   pub range_error : (p : Place) (n : Name) → ctx.resolve n.text ≡ res.Builtin builtin.Range → (want : Option Tree) (args : Exprs) (kws : Keywords) (m : Marks (call p (name n) args kws)) → Lawful ctx around.declared env want (call p (name n) args kws) m → Covered around (Finds (call p (name n) args kws) m) → ⊥
-  range_error p n is want args kws m law covered = go (is_one (given args kws)) (plain_mark p n builtin.Range is tt args kws (item_types args m.arguments) m.here (ap (λ r. is_length r && is_one (given args kws)) is) law.here)
+  range_error p n is want args kws m law covered = go (is_one (given args kws)) (plain_mark p n builtin.Range is tt args kws (item_types args m.arguments) m.here _ refl law.here)
     where
       go : (x : Test) → m.here ≡ call_mark around.bases ((if x then fails_at_call E27 else fails_at_call E14) ∷ []) → ⊥
       go true e = wrong_call p m.here E27 e refl (λ f h. covered f (inl h))
       go false e = wrong_call p m.here E14 e refl (λ f h. covered f (inl h))
 
-  pub not_callable : (b : Builtin) → is_callable_builtin b ≡ false → (p : Place) (n : Name) → ctx.resolve n.text ≡ res.Builtin b → (want : Option Tree) (args : Exprs) (kws : Keywords) (m : Marks (call p (name n) args kws)) → Lawful ctx around.declared env want (call p (name n) args kws) m → Covered around (Finds (call p (name n) args kws) m) → ⊥
+  pub not_callable : (b : Builtin) → ((g : Given) → builtin_callee g b ≡ value_callee (in_error E20)) → (p : Place) (n : Name) → ctx.resolve n.text ≡ res.Builtin b → (want : Option Tree) (args : Exprs) (kws : Keywords) (m : Marks (call p (name n) args kws)) → Lawful ctx around.declared env want (call p (name n) args kws) m → Covered around (Finds (call p (name n) args kws) m) → ⊥
   not_callable b other p n is want args kws m law covered =
       no_error_at around ctx fits knows env n.place m.callee E20 []
-      (ap (λ x. x.codes) (law.callee ∙ ap (λ r. (name_callee ctx env (given args kws) r).mark) is ∙ ap (λ x. (if x then good_callee (builtin_offer (given args kws) b ∷ []) else value_callee (in_error E20)).mark) other))
+      (ap (λ x. x.codes) (law.callee ∙ ap (λ r. (name_callee ctx env (given args kws) r).mark) is ∙ ap (λ x. x.mark) (other (given args kws))))
       refl (λ f h. covered f (inr (inl h)))
 
   -- `isinstance` on other arguments than two by position
   pub test_error : (p : Place) (n : Name) → ctx.resolve n.text ≡ res.Builtin builtin.IsInstance → (want : Option Tree) (args : Exprs) (kws : Keywords) (m : Marks (call p (name n) args kws)) → is_instance_test (name n) args kws ≡ false → Lawful ctx around.declared env want (call p (name n) args kws) m → Covered around (Finds (call p (name n) args kws) m) → ⊥
   test_error p n is want args kws m no_test_here law covered =
       let g = given args kws in
-      let types = item_types args m.arguments in
-      let offers = (name_callee ctx env g (ctx.resolve n.text)).offers in
-      let rest = if is_length_of_one g ctx.resolve (name n) then length_mark ctx.bases types else call_mark ctx.bases offers in
+      let named : is_instance_test (name n) args kws ≡ are_two args kws = ap (λ w. bytes_eq (codes "isinstance") w && are_two args kws) (reserved_is around ctx fits knows env n.text builtin.IsInstance is) in
+      let other : is_two g ≡ false = two_are_two args kws ∙ sym named ∙ no_test_here in
       wrong_call p m.here E14 (
       law.here
-      ∙ ap (λ x. if x then test_mark ctx env args else rest) no_test_here
-      ∙ ap (λ x. if x then length_mark ctx.bases types else call_mark ctx.bases offers) (ap (λ r. is_length r && is_one g) is)
-      ∙ ap (λ r. call_mark ctx.bases (name_callee ctx env g r).offers) is
+      ∙ ap (λ c. whole_call_mark ctx env c.rule c.offers args (item_types args m.arguments)) (ap (name_callee ctx env g) is ∙ ap (λ x. if x then own_callee test_rule else good_callee (fails_at_call E14 ∷ [])) other)
       ∙ ap (λ x. call_mark x (fails_at_call E14 ∷ [])) (sym fits.bases)
       ) refl (λ f h. covered f (inl h))

@@ -17,7 +17,7 @@ use Rattle.pc_class.specs.Facts.{Method, binds_field}
 use Rattle.pc_class.specs.Overrides.{Judges, IsGood, IsStatic, dynamic, wrong}
 use Rattle.pc_class.specs.Findings.{HasNoBase, IsFieldBehind, IsOverride, ClassFinds, base_class, member_texts, has_default_before}
 use Rattle.pc_class.specs.Findings as class
-use Rattle.pc_expr.proofs.One.{static_assignable}
+use Rattle.pc_types.proofs.Consistent.{static_assignable}
 use Rattle.pc_sound.specs.Examples.{FindsJust}
 use Rattle.pc_sound.proofs.Lists.{none_among}
 use Rattle.pc_sound.proofs.Listings.{Listing, equal_into}

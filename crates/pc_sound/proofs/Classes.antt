@@ -18,7 +18,8 @@ use Rattle.pc_types.specs.Annotations.{read_ann}
 use Rattle.pc_types.specs.Tree as tree
 use Rattle.pc_types.specs.Below as subtyping
 use Rattle.pc_types.specs.Below.{Bases, Below, same, through}
-use Rattle.pc_types.proofs.Structural.{Chain, here, up, Sub, s_class, sub_of}
+use Rattle.pc_types.proofs.Structural.{Chain, here, up, chain_below}
+use Rattle.pc_types.proofs.Descent.{chain_of}
 use Rattle.pc_class.specs.Bases.{bases_of, base_named, earlier_class}
 use Rattle.pc_class.specs.Facts as facts
 use Rattle.pc_class.specs.Facts.{Parameter, Method, inherited, classes_of, class_at, binds_field, binds_method, own_fields, own_methods, method_made}
@@ -114,16 +115,6 @@ earlier_is c b (res.Func n) e = absurd (grind (arith, e))
 earlier_is c b (res.Builtin n) e = absurd (grind (arith, e))
 earlier_is c b res.None e = absurd (grind (arith, e))
 
-pub chain_below : {bases : Bases} {c d : ℕ} → Chain bases c d → Below bases (tree.Class c) (tree.Class d)
-chain_below here = same
-chain_below (up e p) = through (subtyping.base e) (chain_below p)
-
-chain_of : {bases : Bases} {c d : ℕ} → Below bases (tree.Class c) (tree.Class d) → Chain bases c d
-chain_of {bases} {c} {d} below = go (sub_of below)
-  where
-    go : Sub bases (tree.Class c) (tree.Class d) → Chain bases c d
-    go (s_class p) = p
-
 module _ (m : Module) where
   -- a class is above the base
   record BaseBelow (base : Option ℕ) (e : ℕ) : Type 0 where
@@ -208,7 +199,7 @@ module _ (m : Module) (constants : List Tree) (listed : Place → Type 0) where
       proceeds_bind listed known _ _ (λ k g s. known k s × MadeOf m k g f) _
       (function_made m listed known (codes "self" ∷ []) f marks.method.params law.method.params ready.0.1 (λ g h. clean g (inl (inl h))))
       λ g. proceeds_bind listed _ _ _ (λ k own s. (known k s × MadeOf m k g f) × (DefaultsHave (bases_of m) k own.fields (own_fields m base (f.name.text ∷ before) rest) × MethodsAre m k own.methods (own_methods m base c (suc number) (f.name.text ∷ before) rest))) _
-      (members_made (λ k s. known k s × MadeOf m k g f) base c (suc number) (f.name.text ∷ before) rest marks.rest (λ i d e. ap (λ j. function_of m (owners.Method c j)) (omega arith) ∙ at (suc i) d e) ready.1 law.others (λ h x. clean h (inr (inr x))))
+      (members_made (λ k s. known k s × MadeOf m k g f) base c (suc number) (f.name.text ∷ before) rest marks.rest (λ i d e. ap (λ j. function_of m (owners.Method c j)) (omega arith) ∙ at (suc i) d e) ready.1 law.others (λ h x. clean h (inr x)))
       λ own. proceeds_comes listed _ (Gives (record { fields = own.fields; methods = g ∷ own.methods })) _ λ k s b. (
         b.0.0,
         (

@@ -20,9 +20,8 @@ use Rattle.pc_flow.specs.Narrowing.{Tested, for_none, for_type, for_list, as_loc
 use Rattle.pc_flow.specs.Narrowing as narrowing
 use Rattle.pc_expr.specs.Context.{Context}
 use Rattle.pc_expr.specs.Labels.{Marks, type_of, item_types, Finds, IsFoundAt}
-use Rattle.pc_expr.specs.Lawful.{Lawful}
-use Rattle.pc_expr.specs.Lawful.{callee_of, is_length_of_one}
-use Rattle.pc_expr.specs.Calls.{given, length_mark, call_mark, is_object_or_any, any_list_codes, current_of, test_codes, test_mark}
+use Rattle.pc_expr.specs.Lawful.{Lawful, whole_call_mark}
+use Rattle.pc_expr.specs.Calls.{is_object_or_any, any_list_codes, current_of, test_codes, test_mark}
 use Rattle.pc_value.specs.Value as value
 use Rattle.pc_value.specs.Value.{Value, boolean, Out, Gives, Stops, Cut, Heap, is_true}
 use Rattle.pc_value.specs.Actions as action
@@ -46,6 +45,7 @@ use Rattle.pc_sound.proofs.Frames.{narrowed_holds}
 use Rattle.pc_sound.proofs.Expressions.{Covered, GoodEval, allowed}
 use Rattle.pc_sound.proofs.Keys.{Keyed}
 use Rattle.pc_sound.proofs.Flows.{Evaluates, emit_evaluates, later_evaluates, first_evaluates}
+use Rattle.pc_sound.proofs.CallRules.{test_callee}
 use Rattle.pc_sound.proofs.InstanceTests.{RightTests, IsRight, AsTold, passes_agree}
 use Rattle.pc_sound.proofs.Showing.{shows_charge, shows_leads, Shows, kept_as, shows_bind, shows_comes, shows_looks, shows_emits, shows_act, shows_as, shows_standing, shows_safe, shows_of}
 
@@ -444,7 +444,7 @@ module _ (around : Around) (ctx : Context) (fits : Fits around ctx) (parts : Par
     call_told want p c args kws m law covered t safe = told (Node (call p c args kws)) (λ k v. HasType around.bases k t v) (λ k v s. Tells around ctx env (call p c args kws) k v s) safe λ k s s' events v st r. go (is_instance_test c args kws) refl k s s' events v st r
       where
         go : (b : Truth) → is_instance_test c args kws ≡ b → (k : HeapTyping) (s s' : State) (events : List Place) (v : Value) → Stands around env k s' → Node (call p c args kws) s events (Gives v) s' → HasListed around.listed events ⊎ Tells around ctx env (call p c args kws) k v s'
-        go true is k s s' events v st r = instance_run p c args kws m.here.codes (allowed around p m.here.codes (λ f h. covered f (inl h))) (ap (λ x. x.codes) law.here ∙ ap (λ b. (if b then test_mark ctx env args else (if is_length_of_one (given args kws) ctx.resolve c then length_mark ctx.bases (item_types args m.arguments) else call_mark ctx.bases (callee_of ctx env (given args kws) c law.value).offers)).codes) is) is k s s' events v st r
+        go true is k s s' events v st r = instance_run p c args kws m.here.codes (allowed around p m.here.codes (λ f h. covered f (inl h))) (ap (λ x. x.codes) law.here ∙ ap (λ x. (whole_call_mark ctx env x.rule x.offers args (item_types args m.arguments)).codes) (test_callee ctx tests.means env c args kws law.value is)) is k s s' events v st r
         go false is k s s' events v st r = inr (record { by = λ holds h. subst (λ b. Narrowed holds b (local_of_argument ctx.resolve (first_argument args)) (test_of_argument ctx.resolve (second_argument args)) k s') (sym is) st.locals })
 
     unchanged_told : (e : Expr) (t : Tree) → ((k : HeapTyping) (v : Value) (s : State) → Stands around env k s → Tells around ctx env e k v s) → IsSafe around env (λ k. Unit {0}) (Node e) (λ k v. HasType around.bases k t v) → TellsSafely env e t (Node e)

@@ -19,7 +19,7 @@ use Rattle.pc_types.specs.Below.{Bases, Below, Static, same, through}
 use Rattle.pc_types.proofs.Structural.{Chain, here, up, Sub, s_class, sub_of}
 use Rattle.pc_class.specs.Bases.{bases_of, base_named}
 use Rattle.pc_class.specs.Facts.{Parameter, Method, Class, class_in, class_at, inherited, classes_of, method_of, binds_method, own_methods, method_made}
-use Rattle.pc_class.specs.Findings.{OverrideRule, base_class}
+use Rattle.pc_class.specs.Findings.{base_class}
 use Rattle.pc_class.specs.Overrides.{has_shape_of, Flow, parameter_flows, IsGood, IsStatic, Judges, static, dynamic, wrong, overridden}
 use Rattle.pc_sound.proofs.Inheritance.{HasBase, has_base, base_known, below_class, class_over, class_is, class_over_base, no_class_past}
 
@@ -84,11 +84,11 @@ abbrev pub IsAllowedOverride : (Place → Type 0) → Place → Option Code → 
 IsAllowedOverride listed p code = (code ≡ None) ⊎ ((code ≡ Some A8) × listed p)
 
 module _ (m : Module) (listed : Place → Type 0) where
-  -- each method of a class is judged, and what is found is allowed
+  -- each method of a class is judged, and what is found is allowed where it binds its name
   pub record IsJudged (base : Class) (c : ℕ) (before : List (List ℕ)) (number : ℕ) (f : FuncDef) : Type 0 where
     pub code : Option Code
-    pub rule : OverrideRule m base c before number f code
-    pub allowed : IsAllowedOverride listed f.name.place code
+    pub judged : Judges (bases_of m) (overridden base.methods f.name.text) (method_made m c number f) code
+    pub allowed : binds_method base before f.name.text ≡ true → IsAllowedOverride listed f.name.place code
 
   abbrev pub AreJudged : Class → ℕ → ℕ → List (List ℕ) → List Member → Type 0
   AreJudged base c number before [] = Unit {0}
@@ -107,10 +107,7 @@ module _ (m : Module) (listed : Place → Type 0) where
   own_judged base c number before (method_member f ∷ rest) all q h = go (binds_method base before f.name.text) refl h (λ h'. own_judged base c (suc number) (f.name.text ∷ before) rest all.1 q h')
     where
       of_rule : binds_method base before f.name.text ≡ true → OwnJudged base (method_made m c number f)
-      of_rule binds = elim all.0.rule [
-        | inl r ↦ record { code = all.0.code; judged = r.1; allowed = all.0.allowed }
-        | inr r ↦ absurd (false≢true (sym r.0 ∙ binds))
-      ]
+      of_rule binds = record { code = all.0.code; judged = all.0.judged; allowed = all.0.allowed binds }
 
       go : (x : Test) → binds_method base before f.name.text ≡ x → IsIn ((if x then method_made m c number f ∷ [] else []) ++ own_methods m base c (suc number) (f.name.text ∷ before) rest) q → (IsIn (own_methods m base c (suc number) (f.name.text ∷ before) rest) q → OwnJudged base q) → OwnJudged base q
       go true is h others = elim h [ inl a ↦ subst (OwnJudged base) a (of_rule is) | inr b ↦ others b ]

@@ -1,5 +1,5 @@
 -- A method that is overridden twice: its lawful labelling, its findings, and a run.
-use Rattle.std.proofs.Common.{◌≡◌, ℕ, zero, suc, List, [], ◌∷◌, All, Contains, refl, subst, sym, ap, ◌∙◌, inl, inr, arith, codes}
+use Rattle.std.proofs.Common.{◌≡◌, ℕ, zero, suc, [], ◌∷◌, length, All, Contains, refl, subst, sym, ap, ◌∙◌, arith, codes}
 use Rattle.std.specs.Prelude.{false, take, Some, None, slice_get}
 use Rattle.std.specs.List.{AllByRecursion}
 use Rattle.std.proofs.lemmas.List.Elements.{All-from_recursion, All-nil}
@@ -11,17 +11,16 @@ use Rattle.pc_tree.specs.declared.code.Finding.{Finding}
 use Rattle.pc_tree.specs.Code.{finding}
 use Rattle.pc_tree.specs.Tree.{FuncDef, method_member, ClassDef, Module}
 use Rattle.pc_scope.specs.Reserved.{builtin_of}
-use Rattle.pc_scope.specs.Bindings.{classes_in}
+use Rattle.pc_scope.specs.Bindings.{classes_in, methods_in}
 use Rattle.pc_types.specs.Tree.{Tree, Any, Int, Str, Class}
 use Rattle.pc_types.specs.Below.{Bases, Static, same, through, object, base}
 use Rattle.pc_types.specs.Assignable.{Assignable, any, int}
 use Rattle.pc_types.proofs.Structural.{sub_of}
 use Rattle.pc_class.specs.Bases.{bases_of}
 use Rattle.pc_class.specs.Facts as facts
-use Rattle.pc_class.specs.Facts.{Method, classes_of}
-use Rattle.pc_class.specs.Overrides.{Flow, override_flows, IsGood, IsStatic, dynamic}
-use Rattle.pc_class.specs.Overrides as overrides
-use Rattle.pc_class.specs.Findings.{OverrideRule, IsOverride, ClassFinds, base_class, member_texts}
+use Rattle.pc_class.specs.Facts.{Method, classes_of, method_made}
+use Rattle.pc_class.specs.Overrides.{Flow, override_flows, IsGood, IsStatic, Judges, dynamic, overridden}
+use Rattle.pc_class.specs.Findings.{IsOverride, ClassFinds, base_class}
 use Rattle.pc_expr.specs.Operations.{clean, in_error}
 use Rattle.pc_expr.specs.Context.{static}
 use Rattle.pc_expr.specs.Signatures.{signatures_of}
@@ -30,8 +29,8 @@ use Rattle.pc_machine.specs.Runs.{Run}
 use Rattle.pc_sound.specs.Examples.{FindsJust}
 use Rattle.pc_sound.specs.DispatchExample.{m_of_a, m_of_b, m_of_c, class_a, class_b, class_c, program, findings, events, end}
 use Rattle.pc_sound.proofs.Listings.{Listing}
-use Rattle.pc_sound.proofs.ClassListing.{Overrides, of_classes, classes_listed, judged_static, judged_dynamic, just_these}
-use Rattle.pc_sound.proofs.ExampleFindings.{finds_just, module_listed}
+use Rattle.pc_sound.proofs.ClassListing.{Overrides, of_classes, classes_listed, judged_static, judged_dynamic}
+use Rattle.pc_sound.proofs.ExampleFindings.{quiet_flow, with_types, finds_just}
 use Rattle.pc_sound.proofs.ExampleRuns.{runs_plainly}
 
 -- ---- the methods against each other
@@ -69,53 +68,50 @@ any_not_int bases h = elim (sub_of h) [ ]
 not_static : (bases : Bases) (c i d j : ℕ) (p q : Place) → ¬ (IsStatic bases (method c i p Int) (method d j q Any))
 not_static bases c i d j p q h = any_not_int bases (h.flows 1 (record { from = Any; into = Any }) (omega arith))
 
--- `m` of A, B and C, as their facts say them; another number changes nothing
+-- `m` of A, B and C, as their facts say them
 abbrev of_a : Method
 of_a = method 0 0 m_of_a.name.place Any
 
-abbrev of_b : ℕ → Method
-of_b i = method 1 i m_of_b.name.place Int
+abbrev of_b : Method
+of_b = method 1 0 m_of_b.name.place Int
 
-abbrev of_c : ℕ → Method
-of_c i = method 2 i m_of_c.name.place Int
+abbrev of_c : Method
+of_c = method 2 0 m_of_c.name.place Int
 
-b_is_good : (bases : Bases) (i : ℕ) → All (IsGood bases (of_b i)) (of_a ∷ [])
-b_is_good bases i = All-from_recursion (IsGood bases (of_b i)) (of_a ∷ []) (good_over bases 1 i 0 0 _ _ Any Int (any_to_int bases), tt)
+b_is_good : (bases : Bases) → All (IsGood bases of_b) (of_a ∷ [])
+b_is_good bases = All-from_recursion (IsGood bases of_b) (of_a ∷ []) (good_over bases 1 0 0 0 _ _ Any Int (any_to_int bases), tt)
 
-c_is_good : (bases : Bases) (i : ℕ) → All (IsGood bases (of_c i)) (of_b 0 ∷ of_a ∷ [])
-c_is_good bases i =
-    All-from_recursion (IsGood bases (of_c i)) (of_b 0 ∷ of_a ∷ []) (good_over bases 2 i 1 0 _ _ Int Int (int_to_int bases), (good_over bases 2 i 0 0 _ _ Any Int (any_to_int bases), tt))
+c_is_good : (bases : Bases) → All (IsGood bases of_c) (of_b ∷ of_a ∷ [])
+c_is_good bases =
+    All-from_recursion (IsGood bases of_c) (of_b ∷ of_a ∷ []) (good_over bases 2 0 1 0 _ _ Int Int (int_to_int bases), (good_over bases 2 0 0 0 _ _ Any Int (any_to_int bases), tt))
 
 -- ---- the labelling
 
 marks : Labelling program
 marks = (
   record {
-    method = record { params = record { default = None; rest = tt }; declared = Class 0 ∷ Any ∷ []; body = (record { value = clean Int; flows = None ∷ [] }, tt); out = None; completing = None };
-    override = None;
+    method = record { params = record { default = []; rest = tt }; declared = Class 0 ∷ Any ∷ []; body = (record { value = clean Int; flows = quiet_flow Int Int ∷ [] }, tt); out = None; completing = None };
     rest = tt;
   },
   (
     record {
-      method = record { params = record { default = None; rest = tt }; declared = Class 1 ∷ Int ∷ []; body = (record { value = clean Int; flows = None ∷ [] }, tt); out = None; completing = None };
-      override = Some A8;
+      method = record { params = record { default = []; rest = tt }; declared = Class 1 ∷ Int ∷ []; body = (record { value = clean Int; flows = quiet_flow Int Int ∷ [] }, tt); out = None; completing = None };
       rest = tt;
     },
     (
       record {
         method = record {
-          params = record { default = None; rest = tt };
+          params = record { default = []; rest = tt };
           declared = Class 2 ∷ Int ∷ [];
-          body = (record { value = record { here = clean Int; left = clean Int; right = clean Int }; flows = None ∷ [] }, tt);
+          body = (record { value = record { here = clean Int; left = clean Int; right = clean Int }; flows = quiet_flow Int Int ∷ [] }, tt);
           out = None;
           completing = None;
         };
-        override = Some A8;
         rest = tt;
       },
       (
         record {
-          params = record { default = None; rest = tt };
+          params = record { default = []; rest = tt };
           declared = Class 0 ∷ [];
           body = (
             record {
@@ -123,10 +119,10 @@ marks = (
                 here = clean Int;
                 callee = record { here = clean Any; object = clean (Class 0) };
                 second = None;
-                arguments = record { first = clean Str; flows = None ∷ []; rest = tt };
+                arguments = record { first = clean Str; flows = quiet_flow Str Any ∷ []; rest = tt };
                 keywords = tt;
               };
-              flows = None ∷ [];
+              flows = quiet_flow Int Int ∷ [];
             },
             tt,
           );
@@ -144,7 +140,7 @@ marks = (
                 second = None;
                 arguments = record {
                   first = record { here = clean (Class 2); callee = clean Any; second = None; arguments = tt; keywords = tt };
-                  flows = None ∷ [];
+                  flows = quiet_flow (Class 2) (Class 0) ∷ [];
                   rest = tt;
                 };
                 keywords = tt;
@@ -165,14 +161,12 @@ lawful : IsLawful program marks
 unfolding marks builtin_of bases_of classes_of signatures_of
 lawful = (
   record {
-    method = record { params = record { default = refl; rest = tt }; each_local = refl; entry = (refl, (refl, tt)); body = (((refl, (static same, tt)), refl), tt, refl); completing = leaves };
-    override = inl (refl, overrides.static (All-nil (IsStatic (bases_of program) of_a)));
+    method = record { params = record { default = refl; rest = tt }; each_local = refl; entry = (refl, (refl, tt)); body = (((refl, (with_types (static same), tt)), refl), tt, refl); completing = leaves };
     others = tt;
   },
   (
     record {
-      method = record { params = record { default = refl; rest = tt }; each_local = refl; entry = (refl, (refl, tt)); body = (((refl, (static same, tt)), refl), tt, refl); completing = leaves };
-      override = inl (refl, dynamic (b_is_good (bases_of program) 0) (λ h. not_static (bases_of program) 1 0 0 0 _ _ (h 0 of_a (omega arith))));
+      method = record { params = record { default = refl; rest = tt }; each_local = refl; entry = (refl, (refl, tt)); body = (((refl, (with_types (static same), tt)), refl), tt, refl); completing = leaves };
       others = tt;
     },
     (
@@ -181,10 +175,9 @@ lawful = (
           params = record { default = refl; rest = tt };
           each_local = refl;
           entry = (refl, (refl, tt));
-          body = (((record { left = refl; right = refl; here = refl }, (static same, tt)), refl), tt, refl);
+          body = (((record { left = refl; right = refl; here = refl }, (with_types (static same), tt)), refl), tt, refl);
           completing = leaves;
         };
-        override = inl (refl, dynamic (c_is_good (bases_of program) 0) (λ h. not_static (bases_of program) 2 0 0 0 _ _ (h 1 of_a (omega arith))));
         others = tt;
       },
       (
@@ -199,12 +192,12 @@ lawful = (
                   value = record { here = in_error E20; object = clean (Class 0) };
                   lawful = record { object = refl; here = refl };
                   callee = refl;
-                  arguments = record { first = refl; flows = (static object, tt); rest = tt };
+                  arguments = record { first = refl; flows = (with_types (static object), tt); rest = tt };
                   keywords = tt;
                   here = refl;
                   second = refl;
                 },
-                (static same, tt),
+                (with_types (static same), tt),
               ),
               refl,
             ),
@@ -226,7 +219,7 @@ lawful = (
                   callee = refl;
                   arguments = record {
                     first = record { value = in_error E20; lawful = refl; callee = refl; arguments = tt; keywords = tt; here = refl; second = refl };
-                    flows = (static (through (base refl) (base refl)), tt);
+                    flows = (with_types (static (through (base refl) (base refl))), tt);
                     rest = tt;
                   };
                   keywords = tt;
@@ -253,9 +246,8 @@ labelled = record { marks = marks; lawful = lawful }
 
 -- what is judged of the only member of a class, a method
 record Judged (m : Module) (base : facts.Class) (c : ℕ) (d : FuncDef) (f : Finding) : Type 0 where
-  number : ℕ
   code : Code
-  rule : OverrideRule m base c [] number d (Some code)
+  judged : Judges (bases_of m) (overridden base.methods d.name.text) (method_made m c 0 d) (Some code)
   is : f ≡ finding d.name.place code
 
 member_is : {d k : FuncDef} → method_member d ≡ method_member k → d ≡ k
@@ -264,40 +256,30 @@ member_is e = cc
 only_method : (m : Module) (class : ClassDef) (c : ℕ) (d : FuncDef) (f : Finding) → class.members ≡ method_member d ∷ [] → IsOverride m class c f → Judged m (base_class m c class) c d f
 only_method m class c d f one h =
     go h.at h.method (subst (λ ms. slice_get ms h.at ≡ Some (method_member h.method)) one h.here)
-    (subst (λ ms. OverrideRule m (base_class m c class) c (member_texts (take h.at ms)) h.number h.method (Some h.code)) one h.judged) h.is
+    (subst (λ ms. Judges (bases_of m) (overridden (base_class m c class).methods h.method.name.text) (method_made m c (length (methods_in (take h.at ms))) h.method) (Some h.code)) one h.judged) h.is
   where
-    go : (at : ℕ) (k : FuncDef) → slice_get (method_member d ∷ []) at ≡ Some (method_member k) → OverrideRule m (base_class m c class) c (member_texts (take at (method_member d ∷ []))) h.number k (Some h.code) → f ≡ finding k.name.place h.code → Judged m (base_class m c class) c d f
-    go zero k e rule is =
+    go : (at : ℕ) (k : FuncDef) → slice_get (method_member d ∷ []) at ≡ Some (method_member k) → Judges (bases_of m) (overridden (base_class m c class).methods k.name.text) (method_made m c (length (methods_in (take at (method_member d ∷ [])))) k) (Some h.code) → f ≡ finding k.name.place h.code → Judged m (base_class m c class) c d f
+    go zero k e judged is =
         let same : d ≡ k = member_is (same_Some _ _ e) in
         record {
-          number = h.number;
           code = h.code;
-          rule = subst (λ x. OverrideRule m (base_class m c class) c [] h.number x (Some h.code)) (sym same) rule;
+          judged = subst (λ (x : FuncDef). Judges (bases_of m) (overridden (base_class m c class).methods x.name.text) (method_made m c 0 x) (Some h.code)) (sym same) judged;
           is = subst (λ (x : FuncDef). f ≡ finding x.name.place h.code) (sym same) is;
         }
-    go (suc at) k e rule is = absurd (none-some _ e)
+    go (suc at) k e judged is = absurd (none-some _ e)
 
 -- of A nothing is judged, of B and C no other code than A8
 none_of_a : (f : Finding) → Judged program (base_class program 0 class_a) 0 m_of_a f → Contains findings f
 unfolding builtin_of bases_of classes_of
-none_of_a f j = elim j.rule [
-  | inl r ↦ absurd (judged_static (All-nil (IsStatic (bases_of program) (method 0 j.number m_of_a.name.place Any))) r.1)
-  | inr r ↦ absurd (none-some _ (sym r.1))
-]
+none_of_a f j = absurd (judged_static (All-nil (IsStatic (bases_of program) of_a)) j.judged)
 
 that_of_b : (f : Finding) → Judged program (base_class program 1 class_b) 1 m_of_b f → Contains findings f
 unfolding builtin_of bases_of classes_of
-that_of_b f j = elim j.rule [
-  | inl r ↦ (0, omega arith, sym (j.is ∙ ap (finding m_of_b.name.place) (judged_dynamic (b_is_good (bases_of program) j.number) r.1)))
-  | inr r ↦ absurd (none-some _ (sym r.1))
-]
+that_of_b f j = (0, omega arith, sym (j.is ∙ ap (finding m_of_b.name.place) (judged_dynamic (b_is_good (bases_of program)) j.judged)))
 
 that_of_c : (f : Finding) → Judged program (base_class program 2 class_c) 2 m_of_c f → Contains findings f
 unfolding builtin_of bases_of classes_of
-that_of_c f j = elim j.rule [
-  | inl r ↦ (1, omega arith, sym (j.is ∙ ap (finding m_of_c.name.place) (judged_dynamic (c_is_good (bases_of program) j.number) r.1)))
-  | inr r ↦ absurd (none-some _ (sym r.1))
-]
+that_of_c f j = (1, omega arith, sym (j.is ∙ ap (finding m_of_c.name.place) (judged_dynamic (c_is_good (bases_of program)) j.judged)))
 
 overrides_into : (f : Finding) → Overrides program f → Contains findings f
 overrides_into f h = go h.number h.class h.is h.override
@@ -315,14 +297,14 @@ each_overrides = (
     number = 1;
     class = class_b;
     is = refl;
-    override = record { at = 0; number = 0; method = m_of_b; code = A8; here = refl; judged = inl (refl, dynamic (b_is_good (bases_of program) 0) (λ h. not_static (bases_of program) 1 0 0 0 _ _ (h 0 of_a (omega arith)))); is = refl };
+    override = record { at = 0; method = m_of_b; code = A8; here = refl; binds = refl; judged = dynamic (b_is_good (bases_of program)) (λ h. not_static (bases_of program) 1 0 0 0 _ _ (h 0 of_a (omega arith))); is = refl };
   },
   (
     record {
       number = 2;
       class = class_c;
       is = refl;
-      override = record { at = 0; number = 0; method = m_of_c; code = A8; here = refl; judged = inl (refl, dynamic (c_is_good (bases_of program) 0) (λ h. not_static (bases_of program) 2 0 0 0 _ _ (h 1 of_a (omega arith)))); is = refl };
+      override = record { at = 0; method = m_of_c; code = A8; here = refl; binds = refl; judged = dynamic (c_is_good (bases_of program)) (λ h. not_static (bases_of program) 2 0 0 0 _ _ (h 1 of_a (omega arith))); is = refl };
     },
     tt,
   ),
@@ -336,16 +318,10 @@ nothing_else = refl
 abbrev of_overrides : Listing (ClassFinds program)
 of_overrides = classes_listed program refl nothing_else findings overrides_into each_overrides
 
-abbrev all_found : List Finding
-all_found = (module_listed program refl marks of_overrides).all
-
--- what is found of classes is what is found at the labels
+-- what is found of classes is all that is found
 pub found : FindsJust program findings
 unfolding marks builtin_of bases_of classes_of signatures_of
-found =
-    just_these program all_found findings (finds_just program refl marks of_overrides lawful)
-    ((0, omega arith, refl), ((1, omega arith, refl), ((0, omega arith, refl), ((1, omega arith, refl), tt))))
-    ((0, omega arith, refl), ((1, omega arith, refl), tt))
+found = finds_just program refl marks of_overrides lawful
 
 pub runs : Run program events end
 runs = runs_plainly program 40 events end refl (λ rest. (refl, refl))

@@ -20,7 +20,7 @@ use Rattle.pc_scope.specs.Resolution.{index_of, is_among, entry_texts, locals, l
 use Rattle.pc_types.specs.Tree.{Tree, NoneType}
 use Rattle.pc_class.specs.Bases.{bases_of}
 use Rattle.pc_class.specs.Facts.{Parameter, returned, classes_of}
-use Rattle.pc_class.proofs.Earlier.{smaller}
+use Rattle.pc_types.proofs.Earlier.{smaller}
 use Rattle.pc_flow.specs.Environment.{Env, none_assigned}
 use Rattle.pc_check.specs.StatementLabels.{breaks_in_suite}
 use Rattle.pc_expr.specs.Labels.{IsCodeAt}

@@ -1,11 +1,12 @@
 -- What a module without errors establishes of the premises of the law, and what of them is left.
-use Rattle.std.proofs.Common.{◌≡◌, ℕ, zero, suc, ◌+◌, List, [], ◌∷◌, ◌++◌, length, map, refl, sym, ap, ◌∙◌, subst, inl, inr, arith, append_assoc}
-use Rattle.std.specs.Prelude.{Option, Some, None, slice_get}
-use Rattle.std.proofs.lemmas.Option.{none-some, same_Some}
+use Rattle.std.proofs.Common.{◌≡◌, ℕ, zero, suc, List, [], ◌∷◌, ◌++◌, length, map, refl, sym, ap, ◌∙◌, subst, inl, inr, arith, append_assoc, append-nil}
+use Rattle.std.specs.Prelude.{true, ◌&&◌, not, take, Option, Some, None, is_some, slice_get}
+use Rattle.std.proofs.lemmas.List.Elements.{filter_map-append}
+use Rattle.std.proofs.lemmas.Option.{none-some}
+use Rattle.std.proofs.Math.Bool.{or-false}
+use Rattle.std.proofs.Math.Seq.{take-append_seam}
 use Rattle.pc_source.specs.declared.place.Place.{Place}
 use Rattle.pc_tree.specs.declared.code.Code.{Code}
-use Rattle.pc_tree.specs.declared.code.Code.TheVariants.{E11}
-use Rattle.pc_tree.specs.declared.code.Finding.{Finding}
 use Rattle.pc_tree.specs.Code.{finding, IsError}
 use Rattle.pc_tree.specs.Tree.{FuncDef, Member, field_member, method_member, ClassDef, Item, constant_item, class_item, def_item, Constant, Module}
 use Rattle.pc_tree.specs.Stopping.{name_of_item}
@@ -13,20 +14,24 @@ use Rattle.pc_scope.specs.declared.resolution.Owner.{Owner}
 use Rattle.pc_scope.specs.declared.resolution.Owner.TheVariants as owners
 use Rattle.pc_scope.specs.declared.resolution.Res.{Res}
 use Rattle.pc_scope.specs.declared.resolution.Res.TheVariants as res
-use Rattle.pc_scope.specs.Bindings.{constants_in, classes_in, functions_in}
-use Rattle.pc_scope.specs.Resolution.{index_of, locals, function_of, local_of, or_else, resolve_in_module}
+use Rattle.pc_scope.specs.Bindings.{as_method, constants_in, classes_in, functions_in, methods_in}
+use Rattle.pc_scope.specs.Reserved.{is_reserved}
+use Rattle.pc_scope.specs.Resolution.{is_among, index_of, locals, function_of, local_of, or_else, resolve_in_module}
 use Rattle.pc_types.specs.Tree.{Tree}
 use Rattle.pc_class.specs.Bases.{bases_of}
-use Rattle.pc_class.specs.Facts.{Class, Method, classes_of, class_at, method_of}
-use Rattle.pc_class.specs.Findings.{base_class, OverrideRule}
-use Rattle.pc_class.specs.Overrides.{Judges, static, dynamic, wrong}
+use Rattle.pc_class.specs.Facts.{Class, Method, classes_of, class_at, field_of, method_of, binds_method, method_made}
+use Rattle.pc_class.specs.Findings as classes
+use Rattle.pc_class.specs.Findings.{base_class, member_texts}
+use Rattle.pc_class.proofs.Judged.{judged_once}
+use Rattle.pc_class.specs.Overrides.{Judges, dynamic, wrong, overridden}
 use Rattle.pc_expr.specs.Signatures.{body_context}
-use Rattle.pc_check.specs.Modules.{ItemsMarks, MembersMarks, LawfulMembers, MembersFind, LawfulItems, ItemsFind, Before, before_next, nothing_before, constant_types, Labelling, IsLawful}
+use Rattle.pc_check.specs.Modules.{ItemsMarks, Before, before_next, nothing_before, constant_types, Labelling, IsLawful, IsFinding}
 use Rattle.pc_machine.specs.Free.{Step, free}
 use Rattle.pc_machine.specs.Evaluation.{steps}
 use Rattle.pc_machine.specs.Runs.{Run, End, IsFault}
 use Rattle.pc_sound.specs.Sound.{HasNoError, HasEvaluated}
-use Rattle.pc_sound.proofs.Lists.{get_at_end, within}
+use Rattle.pc_sound.proofs.Lists.{get_at_end, one_longer, within}
+use Rattle.pc_sound.proofs.ReadyClasses.{names_behind, names_last, among_behind}
 use Rattle.pc_sound.proofs.Keys.{IsKeyed, Keyed}
 use Rattle.pc_sound.proofs.TimelyBodies.{NamesTimely}
 use Rattle.pc_sound.proofs.FunctionsKeyed.{function_keyed}
@@ -44,13 +49,21 @@ use Rattle.pc_sound.proofs.Classes.{ClassesReady, classes_good}
 use Rattle.pc_sound.proofs.BodyCalls.{Facts, outside_class}
 use Rattle.pc_sound.proofs.Whole.{IsListedPlace, BodyOf, of_function, of_items, body_around, body_ctx, body_fits, Premises, sound_of}
 use Rattle.pc_sound.proofs.AllForms.{forms_of}
-use Rattle.pc_sound.proofs.LabelledBodies.{last_types_are, last_classes_are, main_plain, labelled_of, listed_finding}
+use Rattle.pc_sound.proofs.LabelledBodies.{last_types_are, last_classes_are, main_plain, labelled_of}
 use Rattle.pc_sound.proofs.UniqueNames.{AllBind, parameters_bind, parameters_distinct, items_bind, function_binds}
-use Rattle.pc_sound.proofs.ModuleOrder.{code_found}
 
 outside_const : (o : Option ℕ) (r : Res) (i : ℕ) → or_else (local_of o) r ≡ res.Const i → r ≡ res.Const i
 outside_const None r i e = e
 outside_const (Some x) r i e = absurd (grind (arith, e))
+
+-- the methods of members and one more
+abbrev count_with : ℕ → Member → ℕ
+count_with n (field_member d) = n
+count_with n (method_member d) = suc n
+
+count_last : (done : List Member) (x : Member) → length (methods_in (done ++ x ∷ [])) ≡ count_with (length (methods_in done)) x
+count_last done (field_member d) = ap length (filter_map-append as_method done (field_member d ∷ []) ∙ append-nil (methods_in done))
+count_last done (method_member d) = ap length (filter_map-append as_method done (method_member d ∷ [])) ∙ one_longer (methods_in done) d
 
 -- ---- constants
 
@@ -84,34 +97,53 @@ module _ (m : Module) (marks : Labelling m) (lawful : IsLawful m marks) (clean :
 
   -- ---- overrides
 
-  allowed_rule : (base : Class) (c : ℕ) (before : List (List ℕ)) (number : ℕ) (d : FuncDef) (code : Option Code) → OverrideRule m base c before number d code → ((x : Code) → code ≡ Some x → IsListedPlace m d.name.place × (¬ (IsError x))) → IsAllowedOverride (IsListedPlace m) d.name.place code
-  allowed_rule base c before number d code (inr none) ok = inl none.1
-  allowed_rule base c before number d code (inl rule) ok = by _ refl rule.1
-    where
-      by : {olds : List Method} {new : Method} (x : Option Code) → code ≡ x → Judges (bases_of m) olds new x → IsAllowedOverride (IsListedPlace m) d.name.place code
-      by _ e (static all) = inl e
-      by _ e (dynamic all n) = inr (e, (ok _ e).0)
-      by _ e (wrong n) = absurd ((ok E11 e).1 refl)
+  module _ (c : ℕ) (class : ClassDef) (is : slice_get (classes_in m.items) c ≡ Some class) where
+    abbrev Base : Class
+    Base = base_class m c class
 
-  judged_members : (base : Class) (c number : ℕ) (before : List (List ℕ)) (ms : List Member) (mm : MembersMarks ms) → LawfulMembers m (constant_types m m.items marks) base c number before ms mm → ((f : Finding) → MembersFind m (constant_types m m.items marks) c number ms mm f → IsListedPlace m f.place × (¬ (IsError f.code))) → AreJudged m (IsListedPlace m) base c number before ms
-  judged_members base c number before [] mm law found = tt
-  judged_members base c number before (field_member d ∷ ms) mm law found = judged_members base c number (d.name.text ∷ before) ms mm.rest law.others (λ f h. found f (inr (inr h)))
-  judged_members base c number before (method_member d ∷ ms) mm law found = (
-    record { code = mm.override; rule = law.override; allowed = allowed_rule base c before number d mm.override law.override (λ x e. found (finding d.name.place x) (inr (inl (code_found d.name.place mm.override x e)))) },
-    judged_members base c (suc number) (d.name.text ∷ before) ms mm.rest law.others (λ f h. found f (inr (inr h))),
-  )
+    -- what is found of an override is a listed dynamic place
+    override_listed : (done rest : List Member) (d : FuncDef) (code : Code) → class.members ≡ done ++ method_member d ∷ rest → binds_method Base (names_behind [] done) d.name.text ≡ true → Judges (bases_of m) (overridden Base.methods d.name.text) (method_made m c (length (methods_in done)) d) (Some code) → IsListedPlace m d.name.place × (¬ (IsError code))
+    override_listed done rest d code all binds judged =
+        let taken : take (length done) class.members ≡ done = ap (take (length done)) all ∙ take-append_seam done (method_member d ∷ rest) in
+        let found : IsFinding m (finding d.name.place code) = record {
+          marks = marks;
+          lawful = lawful;
+          found = inr (inl (classes.override c class (record { is = is }) (record {
+            at = length done;
+            method = d;
+            code = code;
+            here = ap (λ l. slice_get l (length done)) all ∙ get_at_end done (method_member d) rest;
+            binds = subst (λ l. binds_method Base (member_texts l) d.name.text ≡ true) (sym taken) (sym (same_bound done) ∙ binds);
+            judged = subst (λ l. Judges (bases_of m) (overridden Base.methods d.name.text) (method_made m c (length (methods_in l)) d) (Some code)) (sym taken) judged;
+            is = refl;
+          })));
+        } in
+        (record { finding = finding d.name.place code; found = found; dynamic = clean (finding d.name.place code) found; at = refl }, clean (finding d.name.place code) found)
+      where
+        same_bound : (xs : List Member) → binds_method Base (names_behind [] xs) d.name.text ≡ binds_method Base (member_texts xs) d.name.text
+        same_bound xs = ap (λ x. not (is_reserved d.name.text) && (not x && not (is_some (field_of Base.fields d.name.text)))) (among_behind [] xs d.name.text ∙ or-false (is_among d.name.text (member_texts xs)))
 
-  judged_items : (items : List Item) (b : Before) (im : ItemsMarks items) → LawfulItems m (constant_types m m.items marks) b items im → ((f : Finding) → ItemsFind m (constant_types m m.items marks) b items im f → IsListedPlace m f.place × (¬ (IsError f.code))) → (j c : ℕ) (class : ClassDef) → slice_get (classes_in items) j ≡ Some class → c ≡ b.classes + j → AreJudged m (IsListedPlace m) (base_class m c class) c 0 [] class.members
-  judged_items [] b im law found j c class e at = absurd (none-some _ e)
-  judged_items (constant_item p x ∷ rest) b im law found j c class e at = judged_items rest (before_next m b (constant_item p x) im.0) im.1 law.1 (λ f h. found f (inr h)) j c class e at
-  judged_items (def_item p x ∷ rest) b im law found j c class e at = judged_items rest (before_next m b (def_item p x) im.0) im.1 law.1 (λ f h. found f (inr h)) j c class e at
-  judged_items (class_item p x ∷ rest) b im law found (suc j) c class e at = judged_items rest (before_next m b (class_item p x) im.0) im.1 law.1 (λ f h. found f (inr h)) j c class e (omega arith)
-  judged_items (class_item p x ∷ rest) b im law found zero c class e at =
-      let here : b.classes ≡ c = omega arith in
-      subst (λ n. AreJudged m (IsListedPlace m) (base_class m n class) n 0 [] class.members) here (subst (λ k. AreJudged m (IsListedPlace m) (base_class m b.classes k) b.classes 0 [] k.members) (same_Some _ _ e) (judged_members (base_class m b.classes x) b.classes 0 [] x.members im.0 law.0 (λ f h. found f (inl h))))
+    allowed_by : (done rest : List Member) (d : FuncDef) → class.members ≡ done ++ method_member d ∷ rest → (code : Option Code) → Judges (bases_of m) (overridden Base.methods d.name.text) (method_made m c (length (methods_in done)) d) code → binds_method Base (names_behind [] done) d.name.text ≡ true → IsAllowedOverride (IsListedPlace m) d.name.place code
+    allowed_by done rest d all None judged binds = inl refl
+    allowed_by done rest d all (Some code) judged binds = go (override_listed done rest d code all binds judged) judged
+      where
+        go : {olds : List Method} {new : Method} {code : Code} → IsListedPlace m d.name.place × (¬ (IsError code)) → Judges (bases_of m) olds new (Some code) → IsAllowedOverride (IsListedPlace m) d.name.place (Some code)
+        go ok (dynamic all n) = inr (refl, ok.0)
+        go ok (wrong n) = absurd (ok.1 refl)
+
+    judged_members : (done rest : List Member) → class.members ≡ done ++ rest → AreJudged m (IsListedPlace m) Base c (length (methods_in done)) (names_behind [] done) rest
+    judged_members done [] all = tt
+    judged_members done (field_member d ∷ ms) all =
+        subst (λ n. AreJudged m (IsListedPlace m) Base c n (d.name.text ∷ names_behind [] done) ms) (count_last done (field_member d))
+        (subst (λ l. AreJudged m (IsListedPlace m) Base c (length (methods_in (done ++ field_member d ∷ []))) l ms) (names_last [] done (field_member d)) (judged_members (done ++ field_member d ∷ []) ms (all ∙ sym (append_assoc done (field_member d ∷ []) ms))))
+    judged_members done (method_member d ∷ ms) all = (
+      (let j = judged_once m c (length (methods_in done)) class d in record { code = j.code; judged = j.judged; allowed = allowed_by done ms d all j.code j.judged }),
+      subst (λ n. AreJudged m (IsListedPlace m) Base c n (d.name.text ∷ names_behind [] done) ms) (count_last done (method_member d))
+          (subst (λ l. AreJudged m (IsListedPlace m) Base c (length (methods_in (done ++ method_member d ∷ []))) l ms) (names_last [] done (method_member d)) (judged_members (done ++ method_member d ∷ []) ms (all ∙ sym (append_assoc done (method_member d ∷ []) ms)))),
+    )
 
   pub judged : (c : ℕ) (class : ClassDef) → slice_get (classes_in m.items) c ≡ Some class → AreJudged m (IsListedPlace m) (base_class m c class) c 0 [] class.members
-  judged c class e = judged_items m.items nothing_before marks lawful (listed_finding m marks lawful clean) c c class e (omega arith)
+  judged c class is = judged_members c class is [] class.members refl
 
   -- ---- what is left
 

@@ -22,13 +22,28 @@ use Rattle.pc_scope.specs.Reach.{unreached}
 use Rattle.pc_scope.specs.Expressions.{parts_in, other_callee, exprs_in_all}
 use Rattle.pc_scope.specs.Findings as scope
 use Rattle.pc_scope.specs.Findings.{IsUnknownIn, IsUnknown, IsEarlyMeaning, IsEarlyName, IsEarlyCallee, IsEarly, IsUnreachable, ScopeFinds}
+use Rattle.pc_types.specs.Tree.{Tree}
+use Rattle.pc_types.specs.Below.{Bases}
 use Rattle.pc_class.specs.Findings as class
 use Rattle.pc_class.specs.Findings.{ClassFinds}
-use Rattle.pc_check.specs.Modules.{Labelling, IsLawful, IsFinding, ItemsFind, constant_types, nothing_before}
+use Rattle.pc_expr.specs.Operations.{Mark, FlowMark}
+use Rattle.pc_expr.specs.Context.{FlowUnless, FlowAt, is_early}
+use Rattle.pc_check.specs.Modules.{Labelling, IsLawful, LabelsSay, LabelsFind, IsFinding, constant_types, nothing_before}
+use Rattle.pc_check.proofs.Scopes.{said_is_found}
 use Rattle.pc_check.proofs.OneModule.{one_labelling}
 use Rattle.pc_sound.specs.Examples.{FindsJust}
 use Rattle.pc_sound.proofs.Lists.{among_first, first_among, later_among, none_among}
 use Rattle.pc_sound.proofs.Listings.{Listing, none_listed, nothing_listed, equal_listed, both_listed, like, all_items_listed}
+
+-- ---- flows in labels
+
+-- a flow in which nothing is found
+abbrev pub quiet_flow : Tree → Tree → FlowMark
+quiet_flow s t = record { from = s; into = t; code = None }
+
+-- the label of a flow with its types
+pub with_types : {bases : Bases} {m : Mark} {t : Tree} {code : Option Code} → FlowUnless (is_early m.codes) bases m.type t code → FlowAt bases m t (record { from = m.type; into = t; code = code })
+with_types h = record { from = refl; into = refl; code = h }
 
 -- ---- of each element of a list
 
@@ -256,18 +271,23 @@ module _ (m : Module) where
 
     module _ (marks : Labelling m) (classes : Listing (ClassFinds m)) where
       abbrev pub Found : Finding → Type 0
-      Found f = ScopeFinds m f ⊎ (ClassFinds m f ⊎ ItemsFind m (constant_types m m.items marks) nothing_before m.items marks f)
+      Found f = ScopeFinds m f ⊎ (ClassFinds m f ⊎ LabelsSay m marks f)
 
       abbrev pub module_listed : Listing Found
       module_listed = both_listed scope_listed (both_listed classes (all_items_listed m (constant_types m m.items marks) nothing_before m.items marks))
 
       -- what is found under one lawful labelling is found of the module
       pub found_of_one : IsLawful m marks → (f : Finding) → Found f → IsFinding m f
-      found_of_one lawful f h = record { marks = marks; lawful = lawful; found = h }
+      found_of_one lawful f (inl h) = record { marks = marks; lawful = lawful; found = inl h }
+      found_of_one lawful f (inr (inl h)) = record { marks = marks; lawful = lawful; found = inr (inl h) }
+      found_of_one lawful f (inr (inr h)) = said_is_found m marks lawful f h
 
       -- and nothing else, since there is no other lawful labelling
       pub found_under_one : IsLawful m marks → (f : Finding) → IsFinding m f → Found f
-      found_under_one lawful f h = subst (λ ms. ScopeFinds m f ⊎ (ClassFinds m f ⊎ ItemsFind m (constant_types m m.items ms) nothing_before m.items ms f)) (one_labelling m h.marks marks h.lawful lawful) h.found
+      found_under_one lawful f h = elim (subst (λ ms. ScopeFinds m f ⊎ (ClassFinds m f ⊎ LabelsFind m ms f)) (one_labelling m h.marks marks h.lawful lawful) h.found) [
+        | inl a ↦ inl a
+        | inr b ↦ elim b [ inl c ↦ inr (inl c) | inr d ↦ inr (inr d.said) ]
+      ]
 
       -- the findings of a module with this lawful labelling are just those of the list
       pub finds_just : IsLawful m marks → FindsJust m module_listed.all

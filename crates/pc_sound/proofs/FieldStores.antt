@@ -1,5 +1,5 @@
 -- Stores into fields go on with the next statement, and keep the heap well typed.
-use Rattle.std.proofs.Common.{◌≡◌, ℕ, List, [], ◌∷◌, ◌++◌, map, refl, sym, ap, ◌∙◌, subst, inl, inr}
+use Rattle.std.proofs.Common.{◌≡◌, ℕ, List, [], map, refl, sym, ap, ◌∙◌, subst, inl, inr}
 use Rattle.std.specs.Prelude.{◌⊎◌, if◌then◌else◌, flat_map, Option, Some, None}
 use Rattle.pc_source.specs.declared.place.Place.{Place}
 use Rattle.pc_tree.specs.Tree.{Expr, Name, Target, to_name, to_attribute, to_index, Module}
@@ -10,7 +10,7 @@ use Rattle.pc_types.specs.Shape.{members}
 use Rattle.pc_class.specs.Facts as facts
 use Rattle.pc_class.specs.Facts.{Parameter, Method, field_of, method_of, class_at}
 use Rattle.pc_flow.specs.Environment.{Env}
-use Rattle.pc_expr.specs.Operations.{found_of, has_error, stored_type, stored_types, store_found, store_attribute_member}
+use Rattle.pc_expr.specs.Operations.{store_codes, has_error, stored_types, store_found, store_attribute_member}
 use Rattle.pc_expr.specs.Context.{Context, FlowsInto}
 use Rattle.pc_expr.specs.Labels.{Flowing, Marks, mark_of, type_of, Finds, IsFlowAt}
 use Rattle.pc_check.specs.StatementLabels.{TargetMarks}
@@ -32,45 +32,30 @@ use Rattle.pc_sound.proofs.Keys.{Keyed}
 use Rattle.pc_sound.proofs.KeyedStatements.{TargetKeyed}
 use Rattle.pc_sound.proofs.Expressions.{Covered, GoodEval, allowed, part}
 use Rattle.pc_sound.proofs.Flows.{Evaluates}
-use Rattle.pc_sound.proofs.Members.{HasEach, each_later, chosen}
+use Rattle.pc_sound.proofs.Members.{HasEach, each_later, all_any}
 use Rattle.pc_sound.proofs.Fields.{Inherits, field_store_keeps}
 use Rattle.pc_sound.proofs.SeveralFlows.{flows_safe}
 use Rattle.pc_sound.proofs.Acting.{acting_safe}
 use Rattle.pc_sound.proofs.Simple.{GoodStores}
-use Rattle.pc_sound.proofs.Stores.{item_store_safe}
-
-module _ (classes : List facts.Class) (name : List ℕ) where
-  found_stored : (f : Option Parameter) (m : Option Method) → stored_type (store_found f m) ≡ (store_found f m).takes
-  found_stored (Some f) m = refl
-  found_stored None (Some m) = refl
-  found_stored None None = refl
-
-  -- what is stored is what is taken
-  one_stored : (n : Tree) → stored_type (store_attribute_member classes name n) ≡ (store_attribute_member classes name n).takes
-  one_stored (Class c) = found_stored (field_of (class_at classes c).fields name) (method_of (class_at classes c).methods name)
-  one_stored _ = refl
-
-  all_stored : (ns : List Tree) → flat_map stored_type (map (store_attribute_member classes name) ns) ≡ flat_map (λ o. o.takes) (map (store_attribute_member classes name) ns)
-  all_stored [] = refl
-  all_stored (n ∷ ns) = ap (λ l. l ++ flat_map stored_type (map (store_attribute_member classes name) ns)) (one_stored n) ∙ ap (λ l. (store_attribute_member classes name n).takes ++ l) (all_stored ns)
+use Rattle.pc_sound.proofs.Stores.{stored_in, item_store_safe}
 
 module _ (bases : Bases) (classes : List facts.Class) (inherits : Inherits bases classes) (k : HeapTyping) (heap : Heap) (well : IsWell bases classes k heap) where
-  member_keeps : (name : List ℕ) (n : Tree) (v w : Value) → HasType bases k n v → (store_attribute_member classes name n).found ≡ [] → HasEach bases k (store_attribute_member classes name n).takes w → ActsWell bases classes k NoneType (store_attribute_outcome heap (seen heap v) name w)
+  member_keeps : (name : List ℕ) (n : Tree) (v w : Value) → HasType bases k n v → (store_attribute_member classes name n).found ≡ [] → HasEach bases k (store_attribute_member classes name n).stores w → ActsWell bases classes k NoneType (store_attribute_outcome heap (seen heap v) name w)
   member_keeps name (Class c) v w h e takes = go (field_of (class_at classes c).fields name) (method_of (class_at classes c).methods name) refl e takes
     where
-      go : (o : Option Parameter) (m : Option Method) → field_of (class_at classes c).fields name ≡ o → (store_found o m).found ≡ [] → HasEach bases k (store_found o m).takes w → ActsWell bases classes k NoneType (store_attribute_outcome heap (seen heap v) name w)
+      go : (o : Option Parameter) (m : Option Method) → field_of (class_at classes c).fields name ≡ o → (store_found o m).found ≡ [] → HasEach bases k (store_found o m).stores w → ActsWell bases classes k NoneType (store_attribute_outcome heap (seen heap v) name w)
       go (Some f) m is e takes = field_store_keeps bases classes inherits k heap well c v w name f h is takes.0
       go None (Some m) is e takes = absurd (not_empty e)
       go None None is e takes = absurd (not_empty e)
   member_keeps name _ v w h e takes = absurd (not_empty e)
 
   -- a store into a field of an object of a type of which nothing is found
-  stored_keeps : (name : List ℕ) (t : Tree) (v w : Value) → HasType bases k t v → found_of (map (store_attribute_member classes name) (members t)) ≡ [] → HasEach bases k (stored_types (map (store_attribute_member classes name) (members t))) w → ActsWell bases classes k NoneType (store_attribute_outcome heap (seen heap v) name w)
+  stored_keeps : (name : List ℕ) (t : Tree) (v w : Value) → HasType bases k t v → store_codes (map (store_attribute_member classes name) (members t)) ≡ [] → HasEach bases k (stored_types (map (store_attribute_member classes name) (members t))) w → ActsWell bases classes k NoneType (store_attribute_outcome heap (seen heap v) name w)
   stored_keeps name t v w h found values =
       let offers = map (store_attribute_member classes name) (members t) in
-      let all : stored_types offers ≡ flat_map (λ o. o.takes) offers = ap (λ codes. if has_error codes then [] else flat_map stored_type offers) found ∙ all_stored classes name (members t) in
-      let c = chosen bases k (store_attribute_member classes name) (members t) v (to_members bases k t v h) found in
-      member_keeps name c.member v w c.has c.clean (c.takes w (subst (λ l. HasEach bases k l w) all values))
+      let all : stored_types offers ≡ flat_map (λ o. o.stores) offers = ap (λ codes. if has_error codes then [] else flat_map (λ o. o.stores) offers) found in
+      let c = stored_in bases k (λ m. Unit {0}) (store_attribute_member classes name) (members t) v (all_any (members t)) (to_members bases k t v h) found in
+      member_keeps name c.member v w c.has c.clean (c.stores w (subst (λ l. HasEach bases k l w) all values))
 
 module _ (around : Around) (ctx : Context) (fits : Fits around ctx) (inherits : Inherits around.bases around.classes) (m : Module) (parts : Parts Step) (good : GoodEval around ctx parts.eval) (evaluates : (e : Expr) → Evaluates (place_of e) (parts.eval e)) where
   -- `e.f = v`
@@ -79,7 +64,7 @@ module _ (around : Around) (ctx : Context) (fits : Fits around ctx) (inherits : 
       let object = type_of o target.object in
       let offers = map (store_attribute_member around.classes field.text) (members object) in
       let values = stored_types offers in
-      let codes : target.codes ≡ found_of offers = law.codes ∙ ap (λ c. found_of (map (store_attribute_member c field.text) (members object))) (sym fits.classes) in
+      let codes : target.codes ≡ store_codes offers = law.codes ∙ ap (λ c. store_codes (map (store_attribute_member c field.text) (members object))) (sym fits.classes) in
       let flow : FlowsInto around.bases (mark_of e marks) values flows = subst (λ c. FlowsInto around.bases (mark_of e marks) (stored_types (map (store_attribute_member c field.text) (members object))) flows) (sym fits.classes) (subst (λ b. FlowsInto b (mark_of e marks) (stored_types (map (store_attribute_member ctx.classes field.text) (members object))) flows) (sym fits.bases) law.flow) in
       bind_safe around env _ _ _ (λ k w. HasType around.bases k (type_of e marks) w × HasEach around.bases k values w) _ (λ k k' x h. tt)
       (flows_safe around ctx parts.eval good evaluates env _ _ e marks values flows law.value (λ f h. covered f (inr (inl h))) flow (λ f h. covered f (inl h)) keyed)

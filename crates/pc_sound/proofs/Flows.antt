@@ -5,15 +5,16 @@ use Rattle.std.proofs.lemmas.List.Elements.{Contains-append_left, Contains-appen
 use Rattle.pc_source.specs.declared.place.Place.{Place}
 use Rattle.pc_tree.specs.declared.code.Code.{Code}
 use Rattle.pc_tree.specs.declared.code.Code.TheVariants.{A1, E03, E12}
-use Rattle.pc_tree.specs.declared.code.Finding.{Finding}
 use Rattle.pc_tree.specs.Code.{finding, IsError}
-use Rattle.pc_tree.specs.Tree.{Expr, name, number, text, truth, nothing, tuple, list, dict, negative, negation, binary, compare, is_none, is_not_none, conjunction, disjunction, attribute, index, call}
+use Rattle.pc_tree.specs.Tree.{Expr}
 use Rattle.pc_tree.specs.Depth.{place_of}
 use Rattle.pc_types.specs.Tree.{Tree}
 use Rattle.pc_flow.specs.Environment.{Env}
+use Rattle.pc_expr.specs.Operations.{FlowMark}
 use Rattle.pc_expr.specs.Context.{Context, Flows, static, dynamic, wrong, FlowUnless, FlowAt, is_early}
-use Rattle.pc_expr.specs.Labels.{Marks, mark_of, type_of, Finds, IsFoundAt, IsFlowAt}
+use Rattle.pc_expr.specs.Labels.{Marks, mark_of, type_of, Finds, IsFlowAt}
 use Rattle.pc_expr.specs.Lawful.{Lawful}
+use Rattle.pc_expr.proofs.Saying.{found_here}
 use Rattle.pc_value.specs.Value.{Value, Out, Gives, Stops}
 use Rattle.pc_machine.specs.State.{State}
 use Rattle.pc_machine.specs.Free.{Step, ◌>>=◌, Emits}
@@ -47,28 +48,6 @@ first_evaluates p m f h = record {
   ];
 }
 
--- the codes of an expression's own label are found at its place
-pub found_here : (e : Expr) (m : Marks e) (f : Finding) → IsFoundAt (place_of e) (mark_of e m).codes f → Finds e m f
-found_here (name n) m f h = h
-found_here (number p d) m f h = h
-found_here (text p d) m f h = h
-found_here (truth p d) m f h = h
-found_here (nothing p) m f h = h
-found_here (tuple p es) m f h = inl h
-found_here (list p es) m f h = inl h
-found_here (dict p es) m f h = inl h
-found_here (negative p e) m f h = inl h
-found_here (negation p e) m f h = inl h
-found_here (binary p o a b) m f h = inl h
-found_here (compare p o a b) m f h = inl h
-found_here (is_none p e) m f h = inl h
-found_here (is_not_none p e) m f h = inl h
-found_here (conjunction p a b) m f h = inl h
-found_here (disjunction p a b) m f h = inl h
-found_here (attribute p e n) m f h = inl h
-found_here (index p a b) m f h = inl h
-found_here (call p c args kws) m f h = inl h
-
 -- a node with E03 is in error
 pub early_code : (codes : List Code) → is_early codes ≡ true → Contains codes E03
 early_code [] e = absurd (grind (arith, e))
@@ -77,14 +56,17 @@ early_code (c ∷ cs) e = absurd (grind (arith, e))
 
 module _ (around : Around) (ctx : Context) (eval : Expr → Step Value) (good : GoodEval around ctx eval) (evaluates : (e : Expr) → Evaluates (place_of e) (eval e)) (env : Env) where
   -- an expression that flows into a type, whose flow's code is allowed
-  pub flow_safe : (known : HeapTyping → Type 0) (want : Option Tree) (e : Expr) (m : Marks e) (t : Tree) (c : Option Code) → Lawful ctx around.declared env want e m → Covered around (Finds e m) → FlowAt around.bases (mark_of e m) t c → Covered around (IsFlowAt (place_of e) (c ∷ [])) → Keyed e m → IsSafe around env known (eval e) (λ k v. HasType around.bases k t v)
-  flow_safe known want e m t c law covered flow allowed keyed = go (is_early (mark_of e m).codes) refl flow
+  pub flow_safe : (known : HeapTyping → Type 0) (want : Option Tree) (e : Expr) (m : Marks e) (t : Tree) (flow : FlowMark) → Lawful ctx around.declared env want e m → Covered around (Finds e m) → FlowAt around.bases (mark_of e m) t flow → Covered around (IsFlowAt (place_of e) (flow ∷ [])) → Keyed e m → IsSafe around env known (eval e) (λ k v. HasType around.bases k t v)
+  flow_safe known want e m t flow law covered at allowed keyed = go (is_early (mark_of e m).codes) refl at.code
     where
       part : IsSafe around env known (eval e) (λ k v. HasType around.bases k (type_of e m) v)
       part = weaken around env known (λ k. Unit {0}) (eval e) (λ k v. HasType around.bases k (type_of e m) v) (λ k v. HasType around.bases k (type_of e m) v) (λ k h. tt) (λ k v h. h) (good.safe env want e m law covered keyed)
 
-      no_error : (d : Code) → c ≡ Some d → IsError d → ⊥
-      no_error d is err = (allowed (finding (place_of e) d) (record { code = d; among = (0, omega arith, is); is = refl })).1 err
+      found : (d : Code) → flow.code ≡ Some d → IsFlowAt (place_of e) (flow ∷ []) (finding (place_of e) d)
+      found d is = record { flow = flow; among = (0, omega arith, refl); code = d; found = is; is = refl }
+
+      no_error : (d : Code) → flow.code ≡ Some d → IsError d → ⊥
+      no_error d is err = (allowed (finding (place_of e) d) (found d is)).1 err
 
       dynamic_run : around.listed (place_of e) → (k : HeapTyping) (s s' : State) (events : List Place) (o : Out Value) → known k → Stands around env k s → eval e s events o s' → HasListed around.listed events ⊎ Keeps around (λ k v. HasType around.bases k t v) k s o s'
       dynamic_run here k s s' events (Gives v) knows st r = inl (record { place = place_of e; is = here; event = (evaluates e).place s s' events v r })
@@ -93,11 +75,11 @@ module _ (around : Around) (ctx : Context) (eval : Expr → Step Value) (good : 
         | inr kept ↦ inr (record { typing = kept.typing; grows = kept.grows; well = kept.well; same_frame = kept.same_frame; same_globals = kept.same_globals; same_classes = kept.same_classes; ends = stopped_as (λ v. HasType around.bases kept.typing (type_of e m) v) (λ v. HasType around.bases kept.typing t v) stop kept.ends })
       ]
 
-      by_flow : (d : Option Code) → c ≡ d → Flows around.bases (type_of e m) t d → IsSafe around env known (eval e) (λ k v. HasType around.bases k t v)
+      by_flow : (d : Option Code) → flow.code ≡ d → Flows around.bases (type_of e m) t d → IsSafe around env known (eval e) (λ k v. HasType around.bases k t v)
       by_flow _ is (static below) = weaken around env known known (eval e) (λ k v. HasType around.bases k (type_of e m) v) (λ k v. HasType around.bases k t v) (λ k h. h) (λ k v h. of_static around.bases k (type_of e m) t below v h) part
-      by_flow _ is (dynamic n a) = record { run = dynamic_run (allowed (finding (place_of e) A1) (record { code = A1; among = (0, omega arith, is); is = refl })).0 }
+      by_flow _ is (dynamic n a) = record { run = dynamic_run (allowed (finding (place_of e) A1) (found A1 is)).0 }
       by_flow _ is (wrong n) = absurd (no_error E12 is refl)
 
-      go : (early : Test) → is_early (mark_of e m).codes ≡ early → FlowUnless early around.bases (type_of e m) t c → IsSafe around env known (eval e) (λ k v. HasType around.bases k t v)
+      go : (early : Test) → is_early (mark_of e m).codes ≡ early → FlowUnless early around.bases (type_of e m) t flow.code → IsSafe around env known (eval e) (λ k v. HasType around.bases k t v)
       go true is f = absurd ((covered (finding (place_of e) E03) (found_here e m (finding (place_of e) E03) (record { code = E03; among = early_code (mark_of e m).codes is; is = refl }))).1 refl)
-      go false is f = by_flow c refl f
+      go false is f = by_flow flow.code refl f

@@ -12,8 +12,8 @@ use Rattle.pc_scope.specs.declared.resolution.Res.TheVariants as res
 use Rattle.pc_types.specs.Tree.{Tree}
 use Rattle.pc_types.specs.Below.{Bases}
 use Rattle.pc_flow.specs.Environment.{Env, declared_type, assign, assigned_type, loop_head}
-use Rattle.pc_expr.specs.Operations.{Mark, clean}
-use Rattle.pc_expr.specs.Context.{Context, static, FlowAt, FlowsInto}
+use Rattle.pc_expr.specs.Operations.{Mark, FlowMark, clean}
+use Rattle.pc_expr.specs.Context.{Context, Flows, static, FlowsInto}
 use Rattle.pc_expr.specs.Labels.{Marks, Finds, IsFoundAt, IsFlowAt}
 use Rattle.pc_check.specs.StatementLabels.{StmtMarks, SuiteMarks, breaks_in_suite}
 use Rattle.pc_check.specs.Statements.{Seen, only_code, binds_number, LawfulIterable, LawfulTarget, LawfulStmt, LawfulSuite, StmtFinds, SuiteFinds}
@@ -47,12 +47,15 @@ abbrev pub codes_of : Option Code → List Code
 codes_of None = []
 codes_of (Some c) = c ∷ []
 
-pub flow_allowed : (around : Around) (p : Place) (c : Option Code) → Covered around (IsFlowAt p (c ∷ [])) → IsAllowed around.listed p (codes_of c)
-flow_allowed around p None covered = tt
-flow_allowed around p (Some c) covered = (covered (finding p c) (record { code = c; among = (0, omega arith, refl); is = refl })).0
+pub flow_allowed : (around : Around) (p : Place) (flow : FlowMark) → Covered around (IsFlowAt p (flow ∷ [])) → IsAllowed around.listed p (codes_of flow.code)
+flow_allowed around p flow covered = go flow.code refl
+  where
+    go : (c : Option Code) → flow.code ≡ c → IsAllowed around.listed p (codes_of c)
+    go None is = tt
+    go (Some c) is = (covered (finding p c) (record { flow = flow; among = (0, omega arith, refl); code = c; found = is; is = refl })).0
 
 -- an item of the type that no code is found for is bound to the target
-pub target_has : (bases : Bases) (t d : Tree) (c : Option Code) → FlowAt bases (clean t) d c → codes_of c ≡ [] → (k : HeapTyping) (v : Value) → HasType bases k t v → HasType bases k (assigned_type d t c) v × HasType bases k d v
+pub target_has : (bases : Bases) (t d : Tree) (c : Option Code) → Flows bases t d c → codes_of c ≡ [] → (k : HeapTyping) (v : Value) → HasType bases k t v → HasType bases k (assigned_type d t c) v × HasType bases k d v
 target_has bases t d None (static below) quiet k v h = let to = of_static bases k t d below v h in (assigned_has bases k d t v h to, to)
 target_has bases t d (Some c) flow quiet k v h = absurd (not_empty quiet)
 
@@ -121,12 +124,12 @@ module _ (around : Around) (ctx : Context) (fits : Fits around ctx) (m : Module)
           let t = marks.item.type in
           let target = subst (λ r. LawfulTarget m ctx around.declared seen n r marks.head marks.item marks.flows law.inside) l.resolves law.target in
           let f = one_flow around.bases (clean t) d marks.flows (subst (λ c. FlowsInto c (clean t) (d ∷ []) marks.flows) (sym fits.bases) target.flow) in
-          let u = assigned_type d t f.0 in
+          let u = assigned_type d t f.0.code in
           let inside : law.inside ≡ assign marks.head x u = target.inside_is ∙ ap (λ c. assign marks.head x (assigned_type d t (only_code c))) f.1 in
-          leads_bind around _ _ _ (λ k over s. At around env more k s × (GoesOver around.bases k t over × (codes_of f.0 ≡ []))) _
+          leads_bind around _ _ _ (λ k over s. At around env more k s × (GoesOver around.bases k t over × (codes_of f.0.code ≡ []))) _
           (leads_from around _ (λ k s. At around env more k s × Unit {0}) _ _ (λ k s at. (at, tt))
-          (leads_safe around env (λ k. Unit {0}) (eval_iterable Step free parts e (iterable_form e)) (λ k over. GoesOver around.bases k t over × (codes_of f.0 ≡ [])) more lasts.grow
-          (evaluated_safe around env (λ k. Unit {0}) (place_of e) (eval_iterable Step free parts e (iterable_form e)) (λ k over. GoesOver around.bases k t over) (codes_of f.0)
+          (leads_safe around env (λ k. Unit {0}) (eval_iterable Step free parts e (iterable_form e)) (λ k over. GoesOver around.bases k t over × (codes_of f.0.code ≡ [])) more lasts.grow
+          (evaluated_safe around env (λ k. Unit {0}) (place_of e) (eval_iterable Step free parts e (iterable_form e)) (λ k over. GoesOver around.bases k t over) (codes_of f.0.code)
           (flow_allowed around (place_of e) f.0 (subst (λ c. Covered around (IsFlowAt (place_of e) c)) f.1 (λ g h. covered g (inr (inl h))))) (iterables.place e)
           (iterables.safe env e marks.iterable marks.item law.iterable (λ g h. covered g (inr (inr (inl h)))) (λ g h. covered g (inl h)) keyed.0))))
           λ over. leads_each around _ _ _ λ k s h.
@@ -135,5 +138,5 @@ module _ (around : Around) (ctx : Context) (fits : Fits around ctx) (m : Module)
           (record { stands = stands_with around ctx fits env marks.head k s h.0.stands (subst (λ c. HasLocals around.bases k around.names around.declared c s.frame) (sym law.head) (into_head around.bases around.names around.declared (binds_number ctx.resolve (n ∷ bound_by b)) env k s.frame h.0.stands.locals)); known = h.0.known }, h.1.0)))
           (leads_to around _ _ (λ j flow q. FlowEnds around (loop_ways around ctx fits m returned marks.head (breaks_in_suite b marks.body)) j flow q × more j q.frame) _
           (λ j flow q g. (flow_wider around ctx j q (loop_ways around ctx fits m returned marks.head (breaks_in_suite b marks.body)) (ways_out around ctx m returned out [] []) refl (λ c i. law.after ∙ i) (λ c i. absurd i) (λ c i. absurd i) flow g.0, g.1))
-          (further.runs (n.text ∷ seen) n x t u b marks.body marks.out env marks.head over 0 l.resolves law.head (target_has around.bases t d f.0 f.2 h.1.1)
+          (further.runs (n.text ∷ seen) n x t u b marks.body marks.out env marks.head over 0 l.resolves law.head (target_has around.bases t d f.0.code f.2.code h.1.1)
           (subst (λ c. LawfulSuite m ctx around.declared returned (n.text ∷ seen) c b marks.body marks.out) inside law.body) (λ g i. covered g (inr (inr (inr i)))) keyed.1 more lasts))

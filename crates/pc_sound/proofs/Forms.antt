@@ -12,7 +12,9 @@ use Rattle.pc_scope.specs.Expressions.{is_instance_test}
 use Rattle.pc_types.specs.Tree.{Tree}
 use Rattle.pc_flow.specs.Environment.{Env}
 use Rattle.pc_expr.specs.Context.{Context}
-use Rattle.pc_expr.specs.Calls.{is_callable_builtin}
+use Rattle.pc_tree.specs.declared.code.Code.TheVariants.{E20}
+use Rattle.pc_expr.specs.Operations.{in_error}
+use Rattle.pc_expr.specs.Calls.{Given, builtin_callee, value_callee}
 use Rattle.pc_expr.specs.Labels.{Marks, type_of, Finds}
 use Rattle.pc_expr.specs.Lawful.{Lawful}
 use Rattle.pc_machine.specs.Steps.{Parts}
@@ -56,7 +58,7 @@ module _
           other : ((b : Builtin) → ctx.resolve n.text ≡ res.Builtin b → ⊥) → SafeCall env p (name n) args kws m
           other unreserved = others.safe env want p (name n) args kws m unreserved no_test law covered keyed
 
-          not_callable_error : (b : Builtin) → ctx.resolve n.text ≡ res.Builtin b → is_callable_builtin b ≡ false → SafeCall env p (name n) args kws m
+          not_callable_error : (b : Builtin) → ctx.resolve n.text ≡ res.Builtin b → ((g : Given) → builtin_callee g b ≡ value_callee (in_error E20)) → SafeCall env p (name n) args kws m
           not_callable_error b is uncalled = absurd (not_callable around ctx fits knows parts good evaluates env b uncalled p n is want args kws m law covered)
 
           by_builtin : (b : Builtin) → ctx.resolve n.text ≡ res.Builtin b → SafeCall env p (name n) args kws m
@@ -65,7 +67,7 @@ module _
           by_builtin builtin.Len is = len_safe around ctx fits knows parts good evaluates env want p n is args kws m law covered keyed
           by_builtin builtin.Range is = absurd (range_error around ctx fits knows parts good evaluates env p n is want args kws m law covered)
           by_builtin builtin.IsInstance is = absurd (test_error around ctx fits knows parts good evaluates env p n is want args kws m no_test law covered)
-          by_builtin b is = not_callable_error b is refl
+          by_builtin b is = not_callable_error b is (λ g. refl)
 
           by_name : (r : Res) → ctx.resolve n.text ≡ r → SafeCall env p (name n) args kws m
           by_name (res.Builtin b) is = by_builtin b is

@@ -45,6 +45,7 @@ pub record KnowsNames (around : Around) (ctx : Context) : Type 0 where
   pub constant : (word : List ℕ) (i : ℕ) (t : Tree) → ctx.resolve word ≡ res.Const i → slice_get ctx.constants i ≡ Some t → (k : HeapTyping) (made : List Class) (globals : Globals) → around.outside k made globals → BoundValue around.bases k word globals t
   pub class : (word : List ℕ) (c : ℕ) → ctx.resolve word ≡ res.Class c → nat_lt c ctx.known ≡ true → (k : HeapTyping) (made : List Class) (globals : Globals) → around.outside k made globals → global_of word globals ≡ Some (a_class c)
   pub builtin : (word : List ℕ) (b : Builtin) → ctx.resolve word ≡ res.Builtin b → builtin_of word ≡ Some b
+  pub reserved : (word : List ℕ) (b : Builtin) → builtin_of word ≡ Some b → ctx.resolve word ≡ res.Builtin b
   pub unbound : (word : List ℕ) (b : Builtin) → ctx.resolve word ≡ res.Builtin b → (k : HeapTyping) (made : List Class) (globals : Globals) → around.outside k made globals → global_of word globals ≡ None
 
 -- ---- reserved names

@@ -1,6 +1,6 @@
 -- Calls in initializers: of classes that are defined earlier, and of nothing else without an error.
 use Rattle.std.proofs.Common.{◌≡◌, ℕ, List, [], ◌∷◌, refl, sym, ap, ◌∙◌, subst, inl, inr, arith, Contains}
-use Rattle.std.specs.Prelude.{Bool as Test, true, false, ◌&&◌, if◌then◌else◌, nat_lt, Option, slice_get}
+use Rattle.std.specs.Prelude.{Bool as Test, true, false, if◌then◌else◌, nat_lt, Option, slice_get}
 use Rattle.std.proofs.lemmas.Option.{none-some}
 use Rattle.pc_source.specs.declared.place.Place.{Place}
 use Rattle.pc_tree.specs.declared.code.Code.TheVariants.{E03}
@@ -14,14 +14,14 @@ use Rattle.pc_scope.specs.Bindings.{classes_in}
 use Rattle.pc_types.specs.Tree.{Tree}
 use Rattle.pc_class.specs.Bases.{bases_of}
 use Rattle.pc_class.specs.Facts.{classes_of, class_at}
-use Rattle.pc_class.proofs.Earlier.{smaller}
+use Rattle.pc_types.proofs.Earlier.{smaller}
 use Rattle.pc_flow.specs.Environment.{Env}
-use Rattle.pc_expr.specs.Operations.{Mark, in_error}
+use Rattle.pc_expr.specs.Operations.{in_error}
 use Rattle.pc_expr.specs.Context.{Context, name_mark}
 use Rattle.pc_expr.specs.Signatures.{initializer_context}
-use Rattle.pc_expr.specs.Calls.{given, is_one, Callee, called, class_signature, good_callee, value_callee, name_callee, value_offers, call_mark, positional_seat, named_seat}
+use Rattle.pc_expr.specs.Calls.{given, Callee, member_rule, called, class_signature, good_callee, value_callee, name_callee, value_offers, call_mark, positional_seat, named_seat}
 use Rattle.pc_expr.specs.Labels.{Marks, mark_of, with_mark, item_types, Finds, ItemsFind}
-use Rattle.pc_expr.specs.Lawful.{Lawful, LawfulItems, LawfulKeywords, callee_of, is_length, is_length_of_one}
+use Rattle.pc_expr.specs.Lawful.{Lawful, LawfulItems, LawfulKeywords, callee_of}
 use Rattle.pc_machine.specs.Steps.{Parts}
 use Rattle.pc_machine.specs.Free.{Step, free}
 use Rattle.pc_machine.specs.Evaluation.{ordinary, eval_call, eval_node}
@@ -29,7 +29,8 @@ use Rattle.pc_sound.specs.Values.{HasType}
 use Rattle.pc_sound.specs.Judgment.{Around, IsSafe, Fits}
 use Rattle.pc_sound.proofs.Keys.{Keyed}
 use Rattle.pc_sound.proofs.Expressions.{Covered, GoodEval}
-use Rattle.pc_sound.proofs.Flows.{Evaluates, found_here}
+use Rattle.pc_expr.proofs.Saying.{found_here, own_mark}
+use Rattle.pc_sound.proofs.Flows.{Evaluates}
 use Rattle.pc_sound.proofs.Fields.{Inherits}
 use Rattle.pc_sound.proofs.Globals.{KnowsNames, means_a_class, no_error_at}
 use Rattle.pc_sound.proofs.Forms.{NotReserved, OtherCalls}
@@ -38,29 +39,8 @@ use Rattle.pc_sound.proofs.Filling.{Distinct}
 use Rattle.pc_sound.proofs.Binds.{class_named}
 use Rattle.pc_sound.proofs.ModuleOrder.{BoundSoFar, bound_later, around_items}
 use Rattle.pc_sound.proofs.CallNodes.{class_node_safe}
-use Rattle.pc_sound.proofs.ValueCalls.{ordinary_call, ordinary_mark, values_quiet, fails_safe, named_value_safe, arguments_covered}
-
--- labels with another own label have that one
-own_mark : (e : Expr) (m : Marks e) (here : Mark) → mark_of e (with_mark e m here) ≡ here
-own_mark (name n) m h = refl
-own_mark (number p d) m h = refl
-own_mark (text p d) m h = refl
-own_mark (truth p d) m h = refl
-own_mark (nothing p) m h = refl
-own_mark (tuple p es) m h = refl
-own_mark (list p es) m h = refl
-own_mark (dict p es) m h = refl
-own_mark (negative p e) m h = refl
-own_mark (negation p e) m h = refl
-own_mark (binary p o a b) m h = refl
-own_mark (compare p o a b) m h = refl
-own_mark (is_none p e) m h = refl
-own_mark (is_not_none p e) m h = refl
-own_mark (conjunction p a b) m h = refl
-own_mark (disjunction p a b) m h = refl
-own_mark (attribute p e f) m h = refl
-own_mark (index p a b) m h = refl
-own_mark (call p c args by_name) m h = refl
+use Rattle.pc_sound.proofs.CallRules.{ordinary_mark}
+use Rattle.pc_sound.proofs.ValueCalls.{ordinary_call, values_quiet, fails_safe, named_value_safe, arguments_covered}
 
 module _ (m : Module) (listed : Place → Type 0) (types : List Tree) (defs : List FuncDef) (n : ℕ) (names : List (List ℕ)) where
   abbrev Here : Around
@@ -93,14 +73,11 @@ module _ (m : Module) (listed : Place → Type 0) (types : List Tree) (defs : Li
       found_args : Covered Here (ItemsFind args k.arguments)
       found_args = arguments_covered Here (name w) args kws k.arguments no_test (λ f h. covered f (inr (inr (inr (inl h)))))
 
-      offers_are : (c : Callee) → name_callee Ctx env (given args kws) (Ctx.resolve w.text) ≡ c → (is_length_of_one (given args kws) Ctx.resolve (name w) ≡ false) → k.here ≡ call_mark (bases_of m) c.offers
-      offers_are c e no_length = ordinary_mark Ctx env (name w) args kws (name_callee Ctx env (given args kws) (Ctx.resolve w.text)).offers (item_types args k.arguments) k.here no_test no_length law.here ∙ ap (λ x. call_mark (bases_of m) x.offers) e
+      offers_are : (c : Callee) → name_callee Ctx env (given args kws) (Ctx.resolve w.text) ≡ c → c.rule ≡ member_rule → k.here ≡ call_mark (bases_of m) c.offers
+      offers_are c e member = ordinary_mark Ctx env (name_callee Ctx env (given args kws) (Ctx.resolve w.text)) args (item_types args k.arguments) k.here (ap (λ x. x.rule) e ∙ member) law.here ∙ ap (λ x. call_mark (bases_of m) x.offers) e
 
       as_ordinary : IsSafe Here env (λ j. Unit {0}) (eval_call Step free parts p (name w) args kws ordinary) (λ j v. HasType (bases_of m) j k.here.type v) → CallSafe p (name w) args kws k
       as_ordinary h = subst (λ form. IsSafe Here env (λ j. Unit {0}) (eval_call Step free parts p (name w) args kws form) (λ j v. HasType (bases_of m) j k.here.type v)) (sym (ordinary_call w args kws no_test)) h
-
-      not_length : (r : Res) → Ctx.resolve w.text ≡ r → is_length r ≡ false → is_length_of_one (given args kws) Ctx.resolve (name w) ≡ false
-      not_length r e f = λ i. (ap is_length e ∙ f) i && is_one (given args kws)
 
       -- a name in error
       late_name : name_callee Ctx env (given args kws) (Ctx.resolve w.text) ≡ value_callee (in_error E03) → ⊥
@@ -120,20 +97,20 @@ module _ (m : Module) (listed : Place → Type 0) (types : List Tree) (defs : Li
               as_ordinary
               (class_node_safe m inherits listed [] [] (BoundSoFar m types defs n names) (λ j j' made globals grows x. bound_later m types defs n names j j' made globals grows x) Ctx items_fit parts good evaluates env
               p w args kws k.arguments k.keywords k.here c (λ j st stands. means_a_class Here Ctx items_fit knows env w.text c e t j st stands) (λ j made globals x. x.classes c h.class t (ap (slice_get (classes_in m.items)) at ∙ h.is))
-              (offers_are (good_callee (called (given args kws) (class_signature (classes_of m) c) ∷ [])) is (not_length (res.Class c) e refl)) (distinct_fields c)
+              (offers_are (good_callee (called (given args kws) (class_signature (classes_of m) c) ∷ [])) is refl) (distinct_fields c)
               (subst (λ x. LawfulItems Ctx [] env (positional_seat x.offers) args k.arguments) is law.arguments) (subst (λ x. LawfulKeywords Ctx [] env (named_seat x.offers) [] kws k.keywords) is law.keywords)
               found_args (λ f h. covered f (inr (inr (inr (inr h))))) (λ f h. covered f (inl h)) keyed.1.1.0 keyed.1.1.1)
 
       -- a value
-      named_node : (r : Res) → Ctx.resolve w.text ≡ r → name_callee Ctx env (given args kws) (Ctx.resolve w.text) ≡ value_callee (name_mark Ctx env (Ctx.resolve w.text)) → is_length r ≡ false → CallSafe p (name w) args kws k
-      named_node r e is no_length =
+      named_node : (r : Res) → Ctx.resolve w.text ≡ r → name_callee Ctx env (given args kws) (Ctx.resolve w.text) ≡ value_callee (name_mark Ctx env (Ctx.resolve w.text)) → CallSafe p (name w) args kws k
+      named_node r e is =
           let own : k.callee ≡ name_mark Ctx env (Ctx.resolve w.text) = law.callee ∙ ap (λ x. x.mark) is in
           let same : value_offers (name_mark Ctx env (Ctx.resolve w.text)).type ≡ value_offers k.callee.type = ap (λ x. value_offers x.type) (sym own) in
           as_ordinary
           (fails_safe Here Ctx items_fit parts good evaluates env p _ (value_offers k.callee.type) (values_quiet k.callee.type)
           (named_value_safe Here Ctx items_fit knows env parts w k.callee own (λ f h. covered f (inr (inl h))))
           args k.arguments kws k.keywords k.here
-          (offers_are (value_callee (name_mark Ctx env (Ctx.resolve w.text))) is (not_length r e no_length) ∙ ap (call_mark (bases_of m)) same)
+          (offers_are (value_callee (name_mark Ctx env (Ctx.resolve w.text))) is refl ∙ ap (call_mark (bases_of m)) same)
           (subst (λ x. LawfulItems Ctx [] env (positional_seat x) args k.arguments) (ap (λ x. x.offers) is ∙ same) law.arguments) (subst (λ x. LawfulKeywords Ctx [] env (named_seat x) [] kws k.keywords) (ap (λ x. x.offers) is ∙ same) law.keywords)
           found_args (λ f h. covered f (inr (inr (inr (inr h))))) (λ f h. covered f (inl h)) keyed.1.1.0 keyed.1.1.1)
 
@@ -142,11 +119,11 @@ module _ (m : Module) (listed : Place → Type 0) (types : List Tree) (defs : Li
         where
           go : (r : Res) → Ctx.resolve w.text ≡ r → CallSafe p (name w) args kws k
           go (res.Local x) e = absurd (module_local m w.text x e)
-          go (res.Const i) e = named_node (res.Const i) e (ap (name_callee Ctx env (given args kws)) e ∙ ap (λ r. value_callee (name_mark Ctx env r)) (sym e)) refl
+          go (res.Const i) e = named_node (res.Const i) e (ap (name_callee Ctx env (given args kws)) e ∙ ap (λ r. value_callee (name_mark Ctx env r)) (sym e))
           go (res.Func i) e = absurd (late_name (ap (name_callee Ctx env (given args kws)) e))
           go (res.Class c) e = class_node c e
           go (res.Builtin b) e = absurd (unreserved b e)
-          go res.None e = named_node res.None e (ap (name_callee Ctx env (given args kws)) e ∙ ap (λ r. value_callee (name_mark Ctx env r)) (sym e)) refl
+          go res.None e = named_node res.None e (ap (name_callee Ctx env (given args kws)) e ∙ ap (λ r. value_callee (name_mark Ctx env r)) (sym e))
 
     others_safe : (want : Option Tree) (p : Place) (c : Expr) (args : Exprs) (kws : Keywords) (k : Marks (call p c args kws)) → NotReserved Ctx c → is_instance_test c args kws ≡ false → Lawful Ctx [] env want (call p c args kws) k → Covered Here (Finds (call p c args kws) k) → Keyed (call p c args kws) k → CallSafe p c args kws k
     others_safe want p (name w) args kws k unreserved no_test law covered keyed = name_node want p w args kws k law no_test covered keyed unreserved

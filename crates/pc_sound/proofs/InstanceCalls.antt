@@ -19,9 +19,9 @@ use Rattle.pc_flow.specs.Narrowing as narrowing
 use Rattle.pc_flow.specs.Narrowing.{Tested, test_named}
 use Rattle.pc_expr.specs.Operations.{Mark, in_error}
 use Rattle.pc_expr.specs.Context.{Context, name_mark, is_early}
-use Rattle.pc_expr.specs.Calls.{given, Seat, second_code, positional_seat, test_mark}
-use Rattle.pc_expr.specs.Labels.{Marks, mark_of, type_of, Finds, ArgumentsFind, IsCodeAt}
-use Rattle.pc_expr.specs.Lawful.{Lawful, callee_of}
+use Rattle.pc_expr.specs.Calls.{given, Seat, second_code, positional_seat, test_rule, own_callee}
+use Rattle.pc_expr.specs.Labels.{Marks, mark_of, type_of, item_types, Finds, ArgumentsFind, IsCodeAt}
+use Rattle.pc_expr.specs.Lawful.{Lawful, callee_of, whole_call_mark, whole_second_code}
 use Rattle.pc_value.specs.Value.{boolean}
 use Rattle.pc_machine.specs.State.{State}
 use Rattle.pc_machine.specs.Names.{meaning}
@@ -36,10 +36,8 @@ use Rattle.pc_sound.proofs.ValuesFlow.{later}
 use Rattle.pc_sound.proofs.Steps.{bind_safe, looks_safe, may_stop_safe, emits_safe, weaken}
 use Rattle.pc_sound.proofs.Keys.{Keyed}
 use Rattle.pc_sound.proofs.Expressions.{Covered, GoodEval, allowed, part}
+use Rattle.pc_sound.proofs.CallRules.{test_reserved, test_callee}
 use Rattle.pc_sound.proofs.Globals.{KnowsNames, builtin_text, means_a_class, means_a_builtin, reserved_is}
-
-picked : (b : Test) (x y : Mark) → b ≡ true → (if b then x else y) ≡ x
-picked b x y e = ap (λ c. if c then x else y) e
 
 module _ (around : Around) (ctx : Context) (fits : Fits around ctx) (knows : KnowsNames around ctx) (env : Env) where
   -- a reserved name that is tested for
@@ -102,14 +100,17 @@ module _ (around : Around) (ctx : Context) (fits : Fits around ctx) (knows : Kno
         form_is : call_form (name n) args no_keywords ≡ instance_test n e t
         form_is = ap (λ x. if x then instance_test n e t else ordinary) (same_text_back n.text (codes "isinstance") ∙ named)
 
+        callee : callee_of ctx env (given args no_keywords) (name n) law.value ≡ own_callee test_rule
+        callee = test_callee ctx (knows.reserved (codes "isinstance") builtin.IsInstance test_reserved) env (name n) args no_keywords law.value test_is
+
         type : m.here.type ≡ Bool
-        type = ap (λ x. x.type) (law.here ∙ picked (is_instance_test (name n) args no_keywords) (test_mark ctx env args) _ test_is)
+        type = ap (λ x. x.type) (law.here ∙ ap (λ x. whole_call_mark ctx env x.rule x.offers args (item_types args m.arguments)) callee)
 
         early : is_early (mark_of t m.arguments.rest.first).codes ≡ false
         early = keyed.0.1 test_is
 
         second : m.second ≡ second_code (narrowing.test_of ctx.resolve t) false
-        second = law.second ∙ ap (λ x. if x then second_code (narrowing.test_of ctx.resolve t) (is_early (mark_of t m.arguments.rest.first).codes) else None) test_is ∙ ap (second_code (narrowing.test_of ctx.resolve t)) early
+        second = law.second ∙ ap (λ x. whole_second_code ctx x.rule args m.arguments) callee ∙ ap (second_code (narrowing.test_of ctx.resolve t)) early
 
         tested : (k : HeapTyping) (s : State) → Stands around env k s → EndsWell (λ x. Unit {0}) (test_of t s)
         tested k s st = go (narrowing.test_of ctx.resolve t) refl second

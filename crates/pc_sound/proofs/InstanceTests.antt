@@ -18,6 +18,7 @@ use Rattle.pc_machine.specs.Calls.{Test, tests_int, tests_str, tests_bool, tests
 use Rattle.pc_sound.specs.Values.{HeapTyping, Recorded, a_list, a_dict, a_class, IsInstance, CellHas, IsWell}
 use Rattle.pc_sound.specs.Kept.{IsRecordedList, Passes}
 use Rattle.pc_sound.specs.Judgment.{Around, Stands}
+use Rattle.pc_sound.proofs.CallRules.{MeansTest}
 use Rattle.pc_sound.proofs.TruthValues.{not_both}
 
 -- the ancestors of the classes made are those that are above them
@@ -37,6 +38,7 @@ IsRight bases made _ _ = ⊥
 -- where there are locals, each name that types see as a test is that test in a run; in an initializer there are none, and
 -- not all classes are made
 pub record RightTests (around : Around) (ctx : Context) : Type 0 where
+  pub means : MeansTest ctx
   pub right : (env : Env) (k : HeapTyping) (s : State) → Stands around env k s → (local : List ℕ) (x : ℕ) → ctx.resolve local ≡ res.Local x → (word : List ℕ) (test : Tested) → test_named (ctx.resolve word) ≡ Some test → (made : Test) → test_of_meaning word (meaning word s) ≡ Gives made → IsRight around.bases s.classes test made
 
 -- a fact holds, or fails

@@ -12,12 +12,13 @@ use Rattle.pc_types.specs.Below.{Bases, Below, AreSmaller, base_of, bool_int}
 use Rattle.pc_types.specs.Shape.{members, union, nodes, limit}
 use Rattle.pc_types.specs.Normal.{rank}
 use Rattle.pc_types.specs.Join.{same_tree, same_trees, reaches, absorbs, is_absorbed, unabsorbed, is_before, put, equal_one, both_parts, by_rule, put_all, join_each, one_of, joined, within_limit, join}
+use Rattle.pc_types.proofs.Descent.{reaches_below}
 use Rattle.pc_flow.specs.Environment.{join_or_object, join_onto, join_all}
 use Rattle.pc_value.specs.Value.{Value, Values, tuple_of, no_values, more_values}
 use Rattle.pc_sound.specs.Values.{HeapTyping, HasType, HaveTypes}
 use Rattle.pc_types.proofs.Together.{same_rank}
 use Rattle.pc_sound.proofs.ValuesFlow.{of_below}
-use Rattle.pc_sound.proofs.Narrowing.{HasSome, to_members, of_members, descends}
+use Rattle.pc_sound.proofs.Narrowing.{HasSome, to_members, of_members}
 
 -- types that are told equal are equal
 mutual
@@ -83,7 +84,7 @@ module _ (bases : Bases) (ordered : AreSmaller bases) where
 
   below_absorber : (n m : Tree) → absorbs bases n m ≡ true → Below bases m n
   below_absorber Int Bool e = bool_int
-  below_absorber (Class d) (Class c) e = descends bases c c d (and_parts (not (c == d)) (reaches bases c c d) e).1
+  below_absorber (Class d) (Class c) e = reaches_below bases c c d (and_parts (not (c == d)) (reaches bases c c d) e).1
   below_absorber _ _ e = absurd (false≢true e)
 
 -- ---- members

@@ -22,9 +22,9 @@ use Rattle.pc_flow.specs.Environment.{Env, current, join_or_object, join_all}
 use Rattle.pc_flow.specs.Narrowing.{narrow}
 use Rattle.pc_expr.specs.Operations.{Mark, clean, in_error, Offer, has_error, found_of, offers_mark, tuple_item, index_member, attribute_found, attribute_member, contain_member, length_member, negative_member, Kind, whole_kind, text_kind, kind_of, kind_type, row_of_kinds, pair_found, pair_offers, pairs_mark, takes_kind, is_never, is_any, is_dynamic, display_mark}
 use Rattle.pc_expr.specs.Context.{Context, Signature, local_mark, constant_mark, name_mark, is_early}
-use Rattle.pc_expr.specs.Calls.{Given, given, plain_call, fails_at_call, fails_at_callee, count_exprs, CallOffer, Callee, called, is_suited, value_offer, value_callee, class_signature, method_signature, builtin_signature, class_offers, list_offers, dict_offers, method_offers, builtin_offer, is_callable_builtin, function_offer, good_callee, name_callee, method_callee, is_one, call_mark, all_codes, signatures, Seat, only_member, wanted, type_at, positional_seat, named_seat, nowhere, length_mark, test_mark}
+use Rattle.pc_expr.specs.Calls.{Given, given, plain_call, fails_at_call, fails_at_callee, count_exprs, CallOffer, Callee, called, is_suited, value_offer, value_callee, class_signature, method_signature, builtin_signature, class_offers, list_offers, dict_offers, method_offers, CallRule, member_rule, length_rule, test_rule, own_callee, builtin_callee, function_offer, good_callee, name_callee, method_callee, is_one, is_two, first_type, call_mark, all_codes, signatures, Seat, only_member, wanted, type_at, positional_seat, named_seat, nowhere, length_mark}
 use Rattle.pc_expr.specs.Labels.{Marks, ItemsMarks, EntriesMarks, KeywordsMarks, mark_of, type_of, with_mark, item_types, key_types, value_types}
-use Rattle.pc_expr.specs.Lawful.{Lawful, LawfulItems, LawfulEntries, LawfulKeywords, KeyValue, list_item, dict_parts, tuple_parts, members_of, item_seat, part_seat, list_mark, DictMark, no_keys, int_keys, str_keys, other_keys, DictRule, key_seat, value_seat, int_literal, compare_mark, callee_of, is_length_of_one, whole_call_mark, early_second, keyword_seat}
+use Rattle.pc_expr.specs.Lawful.{Lawful, LawfulItems, LawfulEntries, LawfulKeywords, KeyValue, list_item, dict_parts, tuple_parts, members_of, item_seat, part_seat, list_mark, DictMark, no_keys, int_keys, str_keys, other_keys, DictRule, key_seat, value_seat, int_literal, compare_mark, callee_of, whole_call_mark, early_second, keyword_seat}
 use Rattle.pc_sound.proofs.Keys.{IsKeyed, AreKeyed, Keyed, ItemsKeyed, EntriesKeyed, KeywordsKeyed, keyed_type}
 use Rattle.pc_sound.proofs.Members.{AllOf}
 use Rattle.pc_sound.proofs.Indexing.{keyed_members}
@@ -257,28 +257,32 @@ dict_offers_keyed bases g word k v key h = go (bytes_eq word (codes "get"))
     go true = called_keyed g (builtin_signature (k ∷ []) (join_or_object bases v NoneType)) ((key_keyed k key, tt), either_keyed bases v NoneType h tt)
     go false = ((tt, tt), tt)
 
-builtin_keyed : (g : Given) (b : Builtin) → OffersKeyed (builtin_offer g b ∷ [])
-builtin_keyed g builtin.Print = go (has_none g.named)
+abbrev CalleeKeyed : Callee → Type 0
+CalleeKeyed c = IsKeyed c.mark.type × OffersKeyed c.offers
+
+own_or_error : (rule : CallRule) (x : Test) → CalleeKeyed (if x then own_callee rule else good_callee (fails_at_call E14 ∷ []))
+own_or_error rule true = (tt, tt)
+own_or_error rule false = (tt, ((tt, tt), tt))
+
+builtin_keyed : (g : Given) (b : Builtin) → CalleeKeyed (builtin_callee g b)
+builtin_keyed g builtin.Print = (tt, go (has_none g.named))
   where
     go : (x : Test) → OffersKeyed ((if x then plain_call NoneType else fails_at_call E14) ∷ [])
     go true = ((tt, tt), tt)
     go false = ((tt, tt), tt)
-builtin_keyed g builtin.Str = go (is_one g)
+builtin_keyed g builtin.Str = (tt, go (is_one g))
   where
     go : (x : Test) → OffersKeyed ((if x then plain_call Str else fails_at_call E14) ∷ [])
     go true = ((tt, tt), tt)
     go false = ((tt, tt), tt)
-builtin_keyed g builtin.Len = go (is_one g)
-  where
-    go : (x : Test) → OffersKeyed ((if x then plain_call Int else fails_at_call E14) ∷ [])
-    go true = ((tt, tt), tt)
-    go false = ((tt, tt), tt)
-builtin_keyed g builtin.Range = go (is_one g)
+builtin_keyed g builtin.Len = own_or_error length_rule (is_one g)
+builtin_keyed g builtin.IsInstance = own_or_error test_rule (is_two g)
+builtin_keyed g builtin.Range = (tt, go (is_one g))
   where
     go : (x : Test) → OffersKeyed ((if x then fails_at_call E27 else fails_at_call E14) ∷ [])
     go true = ((tt, tt), tt)
     go false = ((tt, tt), tt)
-builtin_keyed g _ = ((tt, tt), tt)
+builtin_keyed g _ = (tt, ((tt, tt), tt))
 
 -- the offers of a call: its type, and what is expected of its arguments
 module _ (offers : List CallOffer) (keyed : OffersKeyed offers) where
@@ -393,10 +397,12 @@ module _ (bases : Bases) where
   dict_rule_keyed (Some kv) keys values m h k is = subst (λ x. IsKeyed x.type) (sym is) h
   dict_rule_keyed None keys values m h k rule = by_keys_keyed values keys m k rule
 
+  first_keyed : (ts : List Tree) → Keyeds ts → IsKeyed (first_type ts)
+  first_keyed [] h = tt
+  first_keyed (t ∷ ts) h = h.0
+
   length_mark_keyed : (ts : List Tree) → Keyeds ts → IsKeyed (length_mark bases ts).type
-  length_mark_keyed [] h = tt
-  length_mark_keyed (t ∷ []) h = operation_keyed bases length_member (length_keyed bases) t h.0
-  length_mark_keyed (t ∷ (s ∷ ts)) h = tt
+  length_mark_keyed ts h = operation_keyed bases length_member (length_keyed bases) (first_type ts) (first_keyed ts h)
 
   kinds_keyed : (x : Kind) → IsKeyed (kind_type x)
   kinds_keyed whole_kind = tt
@@ -510,9 +516,6 @@ module _ (ctx : Context) (declared : List Tree) where
     name_keyed env h (res.Builtin b) = tt
     name_keyed env h res.None = tt
 
-    abbrev CalleeKeyed : Callee → Type 0
-    CalleeKeyed c = IsKeyed c.mark.type × OffersKeyed c.offers
-
     value_callee_keyed : (m : Mark) → IsKeyed m.type → CalleeKeyed (value_callee m)
     value_callee_keyed m h = (h, values_keyed (members m.type))
 
@@ -531,11 +534,7 @@ module _ (ctx : Context) (declared : List Tree) where
         go : (x : Test) → CalleeKeyed (if x then good_callee (called g (class_signature ctx.classes c) ∷ []) else value_callee (in_error E03))
         go true = (tt, called_keyed g (class_signature ctx.classes c) (keyed.fields c, tt))
         go false = value_callee_keyed (in_error E03) tt
-    name_callee_keyed env h g (res.Builtin b) = go (is_callable_builtin b)
-      where
-        go : (x : Test) → CalleeKeyed (if x then good_callee (builtin_offer g b ∷ []) else value_callee (in_error E20))
-        go true = (tt, builtin_keyed g b)
-        go false = value_callee_keyed (in_error E20) tt
+    name_callee_keyed env h g (res.Builtin b) = builtin_keyed g b
     name_callee_keyed env h g (res.Local x) = value_callee_keyed (name_mark ctx env (res.Local x)) (name_keyed env h (res.Local x))
     name_callee_keyed env h g (res.Const i) = value_callee_keyed (name_mark ctx env (res.Const i)) (name_keyed env h (res.Const i))
     name_callee_keyed env h g res.None = value_callee_keyed (name_mark ctx env res.None) tt
@@ -568,13 +567,10 @@ module _ (ctx : Context) (declared : List Tree) where
     field_offer_keyed word Any h = tt
     field_offer_keyed word _ h = tt
 
-    whole_call_keyed : (env : Env) (c : Expr) (args : Exprs) (kws : Keywords) (offers : List CallOffer) → OffersKeyed offers → (ts : List Tree) → Keyeds ts → IsKeyed (whole_call_mark ctx env c args kws offers ts).type
-    whole_call_keyed env c args kws offers h ts k = go (is_instance_test c args kws) (is_length_of_one (given args kws) ctx.resolve c)
-      where
-        go : (x y : Test) → IsKeyed (if x then test_mark ctx env args else (if y then length_mark ctx.bases ts else call_mark ctx.bases offers)).type
-        go true y = tt
-        go false true = length_mark_keyed ctx.bases ts k
-        go false false = call_keyed offers h ctx.bases
+    whole_call_keyed : (env : Env) (rule : CallRule) (offers : List CallOffer) → OffersKeyed offers → (args : Exprs) (ts : List Tree) → Keyeds ts → IsKeyed (whole_call_mark ctx env rule offers args ts).type
+    whole_call_keyed env member_rule offers h args ts k = call_keyed offers h ctx.bases
+    whole_call_keyed env length_rule offers h args ts k = length_mark_keyed ctx.bases ts k
+    whole_call_keyed env test_rule offers h args ts k = tt
 
     so_typed : {m n : Mark} → m ≡ n → IsKeyed n.type → IsKeyed m.type
     so_typed e h = subst (λ x. IsKeyed x.type) (sym e) h
@@ -628,7 +624,7 @@ module _ (ctx : Context) (declared : List Tree) where
           let offers = (callee_of ctx env (given args kws) c law.value).offers in
           let items = items_keyed env ek (positional_seat offers) (positional_keyed offers callee.1) args t.1.1.0 m.arguments law.arguments in
           let named = keywords_keyed env ek (named_seat offers) [] (keyword_keyed offers callee.1) kws t.1.1.1 m.keywords law.keywords in (
-            (so_typed law.here (whole_call_keyed env c args kws offers callee.1 (item_types args m.arguments) (item_types_keyed args m.arguments items)), λ is. second_timely env (positional_seat offers) args m.arguments law.arguments (t.0 is)),
+            (so_typed law.here (whole_call_keyed env (callee_of ctx env (given args kws) c law.value).rule offers callee.1 args (item_types args m.arguments) (item_types_keyed args m.arguments items)), λ is. second_timely env (positional_seat offers) args m.arguments law.arguments (t.0 is)),
             (subst (Keyed c) (sym law.callee) (with_keyed c law.value (callee_of ctx env (given args kws) c law.value).mark value callee.0), (items, named)),
           )
 

@@ -23,7 +23,7 @@ use Rattle.pc_flow.specs.Environment.{Env, current, declared_type, assigned_type
 use Rattle.pc_flow.specs.Narrowing.{narrow}
 use Rattle.pc_expr.specs.Context.{Context}
 use Rattle.pc_class.specs.Facts.{Parameter, Method, field_of, method_of, class_at}
-use Rattle.pc_expr.specs.Operations.{Mark, clean, Offer, has_error, found_of, iterate_member, store_found, store_attribute_member, store_index_member, stored_type, stored_types, only_type}
+use Rattle.pc_expr.specs.Operations.{Mark, clean, StoreOffer, has_error, store_codes, iterate_member, store_found, store_attribute_member, store_index_member, stored_types, only_type}
 use Rattle.pc_expr.specs.Calls.{given, is_suited, builtin_signature, positional_seat, named_seat}
 use Rattle.pc_expr.specs.Labels.{Flowing, Marks, type_of}
 use Rattle.pc_expr.specs.Lawful.{Lawful}
@@ -188,39 +188,32 @@ module _ (m : Module) (ctx : Context) (declared : List Tree) (keyed : ContextKey
 
   -- ---- targets that are no names
 
-  store_attribute_keyed : (word : List ℕ) (t : Tree) → IsKeyed (store_attribute_member ctx.classes word t).gives
+  store_attribute_keyed : (word : List ℕ) (t : Tree) → Keyeds (store_attribute_member ctx.classes word t).stores
   store_attribute_keyed word (Class c) = found (field_of (class_at ctx.classes c).fields word) (method_of (class_at ctx.classes c).methods word) (field_keyed (class_at ctx.classes c).fields word (keyed.fields c))
     where
-      found : (f : Option Parameter) (q : Option Method) → FieldKeyed f → IsKeyed (store_found f q).gives
-      found (Some f) q h = h
+      found : (f : Option Parameter) (q : Option Method) → FieldKeyed f → Keyeds (store_found f q).stores
+      found (Some f) q h = (h, tt)
       found None (Some q) h = tt
       found None None h = tt
   store_attribute_keyed word _ = tt
 
-  store_index_keyed : (t : Tree) → IsKeyed t → IsKeyed (store_index_member t).gives
-  store_index_keyed (ListOf t) h = h
-  store_index_keyed (DictOf k v) h = h.1
+  store_index_keyed : (t : Tree) → IsKeyed t → Keyeds (store_index_member t).stores
+  store_index_keyed (ListOf t) h = (h, tt)
+  store_index_keyed (DictOf k v) h = (h.1, tt)
   store_index_keyed _ h = tt
 
-  stored_one : (o : Offer) → IsKeyed o.gives → Keyeds (stored_type o)
-  stored_one o h = go (list_any (λ c. true) o.found)
-    where
-      go : (b : Test) → Keyeds (if b then [] else o.gives ∷ [])
-      go true = tt
-      go false = (h, tt)
-
-  stored_all : (offer : Tree → Offer) → ((t : Tree) → IsKeyed t → IsKeyed (offer t).gives) → (ms : List Tree) → Keyeds ms → Keyeds (flat_map stored_type (map offer ms))
+  stored_all : (offer : Tree → StoreOffer) → ((t : Tree) → IsKeyed t → Keyeds (offer t).stores) → (ms : List Tree) → Keyeds ms → Keyeds (flat_map (λ o. o.stores) (map offer ms))
   stored_all offer each [] h = tt
-  stored_all offer each (t ∷ ms) h = append_keyed (stored_type (offer t)) (flat_map stored_type (map offer ms)) (stored_one (offer t) (each t h.0)) (stored_all offer each ms h.1)
+  stored_all offer each (t ∷ ms) h = append_keyed (offer t).stores (flat_map (λ o. o.stores) (map offer ms)) (each t h.0) (stored_all offer each ms h.1)
 
-  stored_keyed : (offer : Tree → Offer) → ((t : Tree) → IsKeyed t → IsKeyed (offer t).gives) → (t : Tree) → IsKeyed t → OptionKeyed (only_type (map offer (members t)) (stored_types (map offer (members t))))
-  stored_keyed offer each t h = only (map offer (members t)) (stored_types (map offer (members t))) (all (has_error (found_of (map offer (members t)))))
+  stored_keyed : (offer : Tree → StoreOffer) → ((t : Tree) → IsKeyed t → Keyeds (offer t).stores) → (t : Tree) → IsKeyed t → OptionKeyed (only_type (map offer (members t)) (stored_types (map offer (members t))))
+  stored_keyed offer each t h = only (map offer (members t)) (stored_types (map offer (members t))) (all (has_error (store_codes (map offer (members t)))))
     where
-      all : (b : Test) → Keyeds (if b then [] else flat_map stored_type (map offer (members t)))
+      all : (b : Test) → Keyeds (if b then [] else flat_map (λ o. o.stores) (map offer (members t)))
       all true = tt
       all false = stored_all offer each (members t) (keyed_members t h)
 
-      only : (os : List Offer) (ts : List Tree) → Keyeds ts → OptionKeyed (only_type os ts)
+      only : (os : List StoreOffer) (ts : List Tree) → Keyeds ts → OptionKeyed (only_type os ts)
       only (o ∷ []) (t ∷ []) h = h.0
       only _ _ h = tt
 

@@ -1,5 +1,5 @@
 -- What bodies and initializers know of the module's names and of the classes made.
-use Rattle.std.proofs.Common.{◌≡◌, ℕ, suc, List, [], ◌∷◌, length, refl, sym, ap, ◌∙◌, subst, arith}
+use Rattle.std.proofs.Common.{◌≡◌, ℕ, suc, List, [], ◌∷◌, ◌++◌, length, refl, sym, ap, ◌∙◌, subst, arith}
 use Rattle.std.specs.Prelude.{Bool as Test, true, false, if◌then◌else◌, is_some, nat_lt, bytes_eq, Option, Some, None, slice_get}
 use Rattle.pc_source.specs.declared.place.Place.{Place}
 use Rattle.pc_tree.specs.Tree.{FuncDef, ClassDef, Item, constant_item, class_item, def_item, Module}
@@ -8,12 +8,14 @@ use Rattle.pc_scope.specs.declared.resolution.Owner.{Owner}
 use Rattle.pc_scope.specs.declared.resolution.Res.{Res}
 use Rattle.pc_scope.specs.declared.resolution.Res.TheVariants as res
 use Rattle.pc_scope.specs.Reserved.{builtin_of}
-use Rattle.pc_scope.specs.Bindings.{classes_in}
-use Rattle.pc_scope.specs.Resolution.{index_of, bound_first, or_else, local_of, builtin_res, locals, resolve_in_module, resolve_among}
+use Rattle.pc_tree.specs.Stopping.{bound_by}
+use Rattle.pc_scope.specs.Bindings.{texts, classes_in}
+use Rattle.pc_scope.proofs.Unbound.{is_none_of}
+use Rattle.pc_scope.specs.Resolution.{index_of, bound_first, or_else, local_of, builtin_res, entry_texts, locals, resolve_in_module, resolve_among}
 use Rattle.pc_types.specs.Tree.{Tree}
 use Rattle.pc_types.specs.Tree as tree
 use Rattle.pc_types.specs.Below.{Below}
-use Rattle.pc_types.proofs.Structural.{Chain, here, up, Sub, s_class, sub_of}
+use Rattle.pc_types.proofs.Structural.{Chain, here, up, chain_below, Sub, s_class, sub_of}
 use Rattle.pc_class.specs.Bases.{bases_of}
 use Rattle.pc_machine.specs.State.{Class, Globals}
 use Rattle.pc_machine.specs.Calls.{descends_from, class_at}
@@ -26,7 +28,6 @@ use Rattle.pc_sound.proofs.KnownTests.{KnowsAncestors}
 use Rattle.pc_sound.proofs.Inheritance.{has_base}
 use Rattle.pc_sound.proofs.Binds.{class_named}
 use Rattle.pc_sound.proofs.World.{World, Labelled, around_of, context_of}
-use Rattle.pc_sound.proofs.Classes.{chain_below}
 use Rattle.pc_sound.proofs.Entering.{module_local}
 use Rattle.pc_sound.proofs.ModuleOrder.{around_items}
 
@@ -63,6 +64,10 @@ module _ (m : Module) where
       go (Some c) is e = is ∙ ap Some (builtin_inj e)
       go None is e = absurd (no_builtin 0 0 0 m.items word b e)
 
+  -- and a reserved name means its built-in
+  reserved_means : (word : List ℕ) (b : Builtin) → builtin_of word ≡ Some b → resolve_in_module m word ≡ res.Builtin b
+  reserved_means word b e = ap (λ o. or_else (builtin_res o) (or_else (bound_first 0 0 0 m.items word) res.None)) e
+
   abbrev IsOuter : Res → Type 0
   IsOuter (res.Local x) = ⊥
   IsOuter _ = Unit {0}
@@ -90,6 +95,7 @@ module _ (m : Module) where
       constant = λ word i t r e k made globals w. let c = w.constant word i t r e in record { value = c.value; is = c.is; has = c.has };
       class = λ word c r less k made globals w. w.class word c r less;
       builtin = builtin_known;
+      reserved = reserved_means;
       unbound = λ word b r k made globals w. w.fresh word (w.free word (ap is_some (builtin_known word b r)));
     }
 
@@ -127,6 +133,7 @@ module _ (m : Module) where
         constant = λ word i t r e k made globals w. let c = w.constant word i t (outer (locals owner d) word (res.Const i) tt r) e in record { value = c.value; is = c.is; has = c.has };
         class = λ word c r less k made globals w. w.class word c (outer (locals owner d) word (res.Class c) tt r);
         builtin = λ word b r. builtin_known word b (outer (locals owner d) word (res.Builtin b) tt r);
+        reserved = λ word b e. ap (λ o. or_else (local_of o) (resolve_in_module m word)) (is_none_of word (ap is_some e) [] (entry_texts owner d ++ texts (bound_by d.body))) ∙ reserved_means word b e;
         unbound = λ word b r k made globals w. w.reserved word b (builtin_known word b (outer (locals owner d) word (res.Builtin b) tt r));
       }
 

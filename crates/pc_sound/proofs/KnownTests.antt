@@ -1,6 +1,6 @@
 -- In a body each name that types see as a test is that test in a run: there all classes are made.
 use Rattle.std.proofs.Common.{◌≡◌, ℕ, List, refl, sym, ap, ◌∙◌, subst}
-use Rattle.std.specs.Prelude.{true, Some, nat_lt}
+use Rattle.std.specs.Prelude.{true, Some, nat_lt, codes}
 use Rattle.std.proofs.lemmas.Option.{none-some, same_Some}
 use Rattle.pc_scope.specs.declared.resolution.Builtin.TheVariants as builtin
 use Rattle.pc_scope.specs.declared.resolution.Res.{Res}
@@ -17,6 +17,7 @@ use Rattle.pc_machine.specs.Calls.{Test, tests_int, tests_str, tests_bool, tests
 use Rattle.pc_sound.specs.Values.{HeapTyping}
 use Rattle.pc_sound.specs.Judgment.{Around, Stands, Fits}
 use Rattle.pc_sound.proofs.Globals.{KnowsNames, means_a_class, means_a_builtin, reserved_is}
+use Rattle.pc_sound.proofs.CallRules.{test_reserved}
 use Rattle.pc_sound.proofs.InstanceTests.{Descends, IsRight, RightTests}
 use Rattle.pc_sound.proofs.Steps.{gives_injective}
 
@@ -27,7 +28,7 @@ pub record KnowsAncestors (around : Around) (ctx : Context) : Type 0 where
 
 module _ (around : Around) (ctx : Context) (fits : Fits around ctx) (knows : KnowsNames around ctx) (ancestors : KnowsAncestors around ctx) where
   pub right_tests : RightTests around ctx
-  right_tests = record { right = right }
+  right_tests = record { means = knows.reserved (codes "isinstance") builtin.IsInstance test_reserved; right = right }
     where
       right : (env : Env) (k : HeapTyping) (s : State) → Stands around env k s → (local : List ℕ) (x : ℕ) → ctx.resolve local ≡ res.Local x → (word : List ℕ) (test : Tested) → test_named (ctx.resolve word) ≡ Some test → (made : Test) → test_of_meaning word (meaning word s) ≡ Gives made → IsRight around.bases s.classes test made
       right env k s st local x l word test named made comes = go (ctx.resolve word) refl named

@@ -1,5 +1,5 @@
 -- The functions and methods of a module have the lawful labels that the module's labelling gives them.
-use Rattle.std.proofs.Common.{◌≡◌, ℕ, zero, suc, ◌+◌, List, [], ◌∷◌, ◌++◌, length, map, refl, sym, ap, ◌∙◌, subst, inl, inr, arith, Contains, append-nil, append_assoc}
+use Rattle.std.proofs.Common.{◌≡◌, ℕ, zero, suc, ◌+◌, List, [], ◌∷◌, ◌++◌, length, map, refl, sym, ap, ◌∙◌, subst, inl, arith, Contains, append-nil, append_assoc}
 use Rattle.std.specs.Prelude.{Bool as Test, true, false, ◌||◌, not, if◌then◌else◌, Option, Some, None, is_some, slice_get, bytes_eq, codes}
 use Rattle.std.specs.List.{list_any}
 use Rattle.std.proofs.lemmas.List.Elements.{Contains-append_left, Contains-append_right}
@@ -22,9 +22,9 @@ use Rattle.pc_scope.specs.Resolution.{is_among, entry_texts, method_at, function
 use Rattle.pc_scope.specs.Findings as scope
 use Rattle.pc_scope.specs.Findings.{IsScopeCode}
 use Rattle.pc_types.specs.Tree.{Tree}
-use Rattle.pc_class.specs.Facts.{Class}
-use Rattle.pc_class.specs.Findings.{base_class}
-use Rattle.pc_check.specs.Modules.{FunctionMarks, LawfulFunction, FunctionFinds, MembersMarks, LawfulMembers, MembersFind, ItemsMarks, LawfulItems, ItemsFind, Before, before_next, nothing_before, Labelling, IsLawful, IsFinding, constant_types, item_constants}
+use Rattle.pc_check.specs.Modules.{FunctionMarks, LawfulFunction, ItemsMarks, ItemsFind, Before, before_next, nothing_before, Labelling, IsLawful, constant_types, item_constants}
+use Rattle.pc_check.proofs.Functions.{function_labels}
+use Rattle.pc_check.proofs.Scopes.{said_is_found}
 use Rattle.pc_sound.specs.Sound.{HasNoError}
 use Rattle.pc_sound.proofs.TruthValues.{not_both}
 use Rattle.pc_sound.proofs.KeyedStatements.{SuiteKeyed}
@@ -48,43 +48,6 @@ module _ (m : Module) (constants : List Tree) (listed : Place → Type 0) where
   last_classes_are b (constant_item p c ∷ rest) marks = last_classes_are (before_next m b (constant_item p c) marks.0) rest marks.1
   last_classes_are b (class_item p c ∷ rest) marks = let h = last_classes_are (before_next m b (class_item p c) marks.0) rest marks.1 in h ∙ omega arith
   last_classes_are b (def_item p f ∷ rest) marks = last_classes_are (before_next m b (def_item p f) marks.0) rest marks.1
-
--- ---- functions and methods by their numbers
-
-module _ (m : Module) (constants : List Tree) where
-  -- a function with its lawful labels, whose findings are among others
-  pub record FunctionIn (owner : Owner) (d : FuncDef) (finds : Finding → Type 0) : Type 0 where
-    pub marks : FunctionMarks d
-    pub lawful : LawfulFunction m constants owner d marks
-    pub within : (f : Finding) → FunctionFinds m constants owner d marks f → finds f
-
-  same_function : (owner owner' : Owner) (d d' : FuncDef) (finds : Finding → Type 0) → owner ≡ owner' → d ≡ d' → FunctionIn owner d finds → FunctionIn owner' d' finds
-  same_function owner owner' d d' finds e f h = subst (λ x. FunctionIn owner' x finds) f (subst (λ o. FunctionIn o d finds) e h)
-
-  wider : (owner : Owner) (d : FuncDef) (finds more : Finding → Type 0) → ((f : Finding) → finds f → more f) → FunctionIn owner d finds → FunctionIn owner d more
-  wider owner d finds more w h = record { marks = h.marks; lawful = h.lawful; within = λ f x. w f (h.within f x) }
-
-  pub function_in : (items : List Item) (b : Before) (marks : ItemsMarks items) → LawfulItems m constants b items marks → (j i : ℕ) (d : FuncDef) → slice_get (functions_in items) j ≡ Some d → i ≡ b.functions + j → FunctionIn (owners.Func i) d (ItemsFind m constants b items marks)
-  function_in [] b marks law j i d e at = absurd (none-some _ e)
-  function_in (constant_item p c ∷ rest) b marks law j i d e at = wider (owners.Func i) d _ _ (λ f h. inr h) (function_in rest (before_next m b (constant_item p c) marks.0) marks.1 law.1 j i d e at)
-  function_in (class_item p c ∷ rest) b marks law j i d e at = wider (owners.Func i) d _ _ (λ f h. inr h) (function_in rest (before_next m b (class_item p c) marks.0) marks.1 law.1 j i d e at)
-  function_in (def_item p x ∷ rest) b marks law zero i d e at = same_function (owners.Func b.functions) (owners.Func i) x d _ (ap owners.Func (omega arith)) (same_Some _ _ e) (record { marks = marks.0; lawful = law.0; within = λ f h. inl h })
-  function_in (def_item p x ∷ rest) b marks law (suc j) i d e at = wider (owners.Func i) d _ _ (λ f h. inr h) (function_in rest (before_next m b (def_item p x) marks.0) marks.1 law.1 j i d e (omega arith))
-
-  method_in : (base : Class) (c number : ℕ) (before : List (List ℕ)) (ms : List Member) (marks : MembersMarks ms) → LawfulMembers m constants base c number before ms marks → (j i : ℕ) (d : FuncDef) → slice_get (methods_in ms) j ≡ Some d → i ≡ number + j → FunctionIn (owners.Method c i) d (MembersFind m constants c number ms marks)
-  method_in base c number before [] marks law j i d e at = absurd (none-some _ e)
-  method_in base c number before (field_member x ∷ ms) marks law j i d e at = wider (owners.Method c i) d _ _ (λ f h. inr (inr h)) (method_in base c number (x.name.text ∷ before) ms marks.rest law.others j i d e at)
-  method_in base c number before (method_member x ∷ ms) marks law zero i d e at = same_function (owners.Method c number) (owners.Method c i) x d _ (ap (owners.Method c) (omega arith)) (same_Some _ _ e) (record { marks = marks.method; lawful = law.method; within = λ f h. inl h })
-  method_in base c number before (method_member x ∷ ms) marks law (suc j) i d e at = wider (owners.Method c i) d _ _ (λ f h. inr (inr h)) (method_in base c (suc number) (x.name.text ∷ before) ms marks.rest law.others j i d e (omega arith))
-
-  pub method_of_class_in : (items : List Item) (b : Before) (marks : ItemsMarks items) → LawfulItems m constants b items marks → (j c : ℕ) (class : ClassDef) (i : ℕ) (d : FuncDef) → slice_get (classes_in items) j ≡ Some class → c ≡ b.classes + j → slice_get (methods_in class.members) i ≡ Some d → FunctionIn (owners.Method c i) d (ItemsFind m constants b items marks)
-  method_of_class_in [] b marks law j c class i d e at is = absurd (none-some _ e)
-  method_of_class_in (constant_item p x ∷ rest) b marks law j c class i d e at is = wider (owners.Method c i) d _ _ (λ f h. inr h) (method_of_class_in rest (before_next m b (constant_item p x) marks.0) marks.1 law.1 j c class i d e at is)
-  method_of_class_in (def_item p x ∷ rest) b marks law j c class i d e at is = wider (owners.Method c i) d _ _ (λ f h. inr h) (method_of_class_in rest (before_next m b (def_item p x) marks.0) marks.1 law.1 j c class i d e at is)
-  method_of_class_in (class_item p x ∷ rest) b marks law (suc j) c class i d e at is = wider (owners.Method c i) d _ _ (λ f h. inr h) (method_of_class_in rest (before_next m b (class_item p x) marks.0) marks.1 law.1 j c class i d e (omega arith) is)
-  method_of_class_in (class_item p x ∷ rest) b marks law zero c class i d e at is =
-      same_function (owners.Method b.classes i) (owners.Method c i) d d _ (ap (λ z. owners.Method z i) (omega arith)) refl
-      (wider (owners.Method b.classes i) d _ _ (λ f h. inl h) (method_in (base_class m b.classes x) b.classes 0 [] x.members marks.0 law.0 i i d (ap (λ z. slice_get (methods_in z.members) i) (same_Some _ _ e) ∙ is) (omega arith)))
 
 -- ---- places of all functions and methods
 
@@ -166,16 +129,6 @@ module _ (m : Module) (marks : Labelling m) (lawful : IsLawful m marks) (clean :
       go None is e = absurd (none-some _ e)
       go (Some class) is e = of_method_at places places m.items c class i d p is e h
 
-  -- a function's own labels
-  pub function_labels : (owner : Owner) (d : FuncDef) → function_of m owner ≡ Some d → FunctionIn m (constant_types m m.items marks) owner d (ItemsFind m (constant_types m m.items marks) nothing_before m.items marks)
-  function_labels owners.Module d e = absurd (none-some _ e)
-  function_labels (owners.Func i) d e = function_in m (constant_types m m.items marks) m.items nothing_before marks lawful i i d e (omega arith)
-  function_labels (owners.Method c i) d e = go (slice_get (classes_in m.items) c) refl e
-    where
-      go : (o : Option ClassDef) → slice_get (classes_in m.items) c ≡ o → method_at o i ≡ Some d → FunctionIn m (constant_types m m.items marks) (owners.Method c i) d (ItemsFind m (constant_types m m.items marks) nothing_before m.items marks)
-      go None is e = absurd (none-some _ e)
-      go (Some class) is e = method_of_class_in m (constant_types m m.items marks) m.items nothing_before marks lawful c c class i d is (omega arith) e
-
   -- no name that a function binds is reserved
   names_free : (owner : Owner) (d : FuncDef) → function_of m owner ≡ Some d → (word : List ℕ) → is_among word (entry_texts owner d ++ texts (bound_by d.body)) ≡ true → is_reserved word ≡ false
   names_free owner d e word among = go (is_reserved word) refl
@@ -201,12 +154,12 @@ module _ (m : Module) (marks : Labelling m) (lawful : IsLawful m marks) (clean :
 
   -- a finding of the items is a listed dynamic place
   pub listed_finding : (f : Finding) → ItemsFind m (constant_types m m.items marks) nothing_before m.items marks f → IsListedPlace m f.place × (¬ (IsError f.code))
-  listed_finding f h = let found : IsFinding m f = record { marks = marks; lawful = lawful; found = inr (inr h) } in (record { finding = f; found = found; dynamic = clean f found; at = refl }, clean f found)
+  listed_finding f h = let found = said_is_found m marks lawful f h in (record { finding = f; found = found; dynamic = clean f found; at = refl }, clean f found)
 
   -- each function and method of the module has its lawful labels, in which each finding is a listed dynamic place
   pub labelled_of : ((owner : Owner) (d : FuncDef) (fm : FunctionMarks d) → LawfulFunction m (constant_types m m.items marks) owner d fm → SuiteKeyed d.body fm.body) → (owner : Owner) (d : FuncDef) → function_of m owner ≡ Some d → Labelled m (constant_types m m.items marks) (IsListedPlace m) owner d
   labelled_of keyed owner d e =
-      let l = function_labels owner d e in
+      let l = function_labels m marks lawful owner d e in
       record {
         marks = l.marks;
         lawful = l.lawful;

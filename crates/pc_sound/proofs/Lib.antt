@@ -53,6 +53,7 @@ pub mod Dispatch
 pub mod Displays
 pub mod Stores
 pub mod CallOffers
+pub mod CallRules
 pub mod CallNodes
 pub mod Proceeding
 pub mod Binds

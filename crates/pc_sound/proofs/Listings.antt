@@ -1,5 +1,5 @@
 -- What is found, as a list: of each rule that says what is found the findings that are so, and no others.
-use Rattle.std.proofs.Common.{◌≡◌, ℕ, zero, suc, ◌<◌, List, [], ◌∷◌, ◌++◌, refl, sym, subst, inl, inr, arith, Contains}
+use Rattle.std.proofs.Common.{◌≡◌, ℕ, zero, suc, ◌<◌, List, [], ◌∷◌, ◌++◌, refl, sym, subst, inl, inr, arith, Contains, ap, ◌∙◌}
 use Rattle.std.specs.Prelude.{◌⊎◌, Bool as Test, true, false, nat_le, Option, Some, None, MatchOption, slice_index_or}
 use Rattle.std.proofs.lemmas.List.Elements.{Contains-append_left, Contains-append_right, Contains-append_cases}
 use Rattle.std.proofs.lemmas.Bool.Decides.{nat_tests}
@@ -27,6 +27,7 @@ use Rattle.pc_types.specs.Shape.{nodes, limit}
 use Rattle.pc_types.specs.Annotations as ann
 use Rattle.pc_types.specs.Annotations.{named_type, applied_type, empty_type, union_type, reading, readings, PartFinds, PartsFind, IsTooLarge, AnnFinds}
 use Rattle.pc_class.specs.Bases.{bases_of}
+use Rattle.pc_expr.specs.Operations.{FlowMark}
 use Rattle.pc_expr.specs.Context.{Context}
 use Rattle.pc_expr.specs.Labels.{Flowing, Marks, ItemsMarks, EntriesMarks, KeywordsMarks, IsFoundAt, IsFlowAt, IsCodeAt, second_place, Finds, ItemsFind, ArgumentsFind, EntriesFind, KeywordsFind}
 use Rattle.pc_expr.specs.Signatures.{body_context, literal_place, DefaultFinds, ParamsMarks, ParamsFind}
@@ -105,29 +106,46 @@ found_from p (d ∷ cs) f c = elim (among_first (finding p d) (at_codes p cs) f 
 abbrev pub found_listed : (p : Place) (cs : List Code) → Listing (IsFoundAt p cs)
 found_listed p cs = record { all = at_codes p cs; into = found_into p cs; from = found_from p cs }
 
+-- what is found of a flow with this code, before others
+abbrev at_flow : Place → Option Code → List Finding → List Finding
+at_flow p None rest = rest
+at_flow p (Some c) rest = finding p c ∷ rest
+
 abbrev pub at_flows : Place → Flowing → List Finding
 at_flows p [] = []
-at_flows p (None ∷ cs) = at_flows p cs
-at_flows p (Some c ∷ cs) = finding p c ∷ at_flows p cs
+at_flows p (x ∷ xs) = at_flow p x.code (at_flows p xs)
 
-flow_code_into : (p : Place) (cs : Flowing) (code : Code) → Contains cs (Some code) → Contains (at_flows p cs) (finding p code)
-flow_code_into p [] code c = absurd (none_among (Some code) c)
-flow_code_into p (None ∷ cs) code c = elim (among_first None cs (Some code) c) [ inl a ↦ absurd (grind (arith, a)) | inr b ↦ flow_code_into p cs code b ]
-flow_code_into p (Some d ∷ cs) code c = elim (among_first (Some d) cs (Some code) c) [
-  | inl a ↦ subst (λ x. Contains (finding p d ∷ at_flows p cs) (finding p x)) (same_Some d code a) (first_among (finding p d) (at_flows p cs))
-  | inr b ↦ later_among (finding p d) (at_flows p cs) (finding p code) (flow_code_into p cs code b)
+first_flow : (p : Place) (o : Option Code) (code : Code) (rest : List Finding) → o ≡ Some code → Contains (at_flow p o rest) (finding p code)
+first_flow p None code rest e = absurd (grind (arith, e))
+first_flow p (Some c) code rest e = subst (λ x. Contains (finding p c ∷ rest) (finding p x)) (same_Some c code e) (first_among (finding p c) rest)
+
+later_flow : (p : Place) (o : Option Code) (f : Finding) (rest : List Finding) → Contains rest f → Contains (at_flow p o rest) f
+later_flow p None f rest c = c
+later_flow p (Some d) f rest c = later_among (finding p d) rest f c
+
+flow_code_into : (p : Place) (xs : Flowing) (x : FlowMark) (code : Code) → Contains xs x → x.code ≡ Some code → Contains (at_flows p xs) (finding p code)
+flow_code_into p [] x code c e = absurd (none_among x c)
+flow_code_into p (y ∷ ys) x code c e = elim (among_first y ys x c) [
+  | inl a ↦ first_flow p y.code code (at_flows p ys) (ap (λ z. z.code) a ∙ e)
+  | inr b ↦ later_flow p y.code (finding p code) (at_flows p ys) (flow_code_into p ys x code b e)
 ]
 
-pub flow_into : (p : Place) (cs : Flowing) (f : Finding) → IsFlowAt p cs f → Contains (at_flows p cs) f
-flow_into p cs f h = subst (λ x. Contains (at_flows p cs) x) (sym h.is) (flow_code_into p cs h.code h.among)
+pub flow_into : (p : Place) (xs : Flowing) (f : Finding) → IsFlowAt p xs f → Contains (at_flows p xs) f
+flow_into p xs f h = subst (λ x. Contains (at_flows p xs) x) (sym h.is) (flow_code_into p xs h.flow h.code h.among h.found)
 
-pub flow_from : (p : Place) (cs : Flowing) (f : Finding) → Contains (at_flows p cs) f → IsFlowAt p cs f
+pub flow_from : (p : Place) (xs : Flowing) (f : Finding) → Contains (at_flows p xs) f → IsFlowAt p xs f
 flow_from p [] f c = absurd (none_among f c)
-flow_from p (None ∷ cs) f c = let r = flow_from p cs f c in record { code = r.code; among = later_among None cs (Some r.code) r.among; is = r.is }
-flow_from p (Some d ∷ cs) f c = elim (among_first (finding p d) (at_flows p cs) f c) [
-  | inl a ↦ record { code = d; among = first_among (Some d) cs; is = sym a }
-  | inr b ↦ let r = flow_from p cs f b in record { code = r.code; among = later_among (Some d) cs (Some r.code) r.among; is = r.is }
-]
+flow_from p (x ∷ xs) f c = go x.code refl c (flow_from p xs f)
+  where
+    behind : IsFlowAt p xs f → IsFlowAt p (x ∷ xs) f
+    behind r = record { flow = r.flow; among = later_among x xs r.flow r.among; code = r.code; found = r.found; is = r.is }
+
+    go : (o : Option Code) → x.code ≡ o → Contains (at_flow p o (at_flows p xs)) f → (Contains (at_flows p xs) f → IsFlowAt p xs f) → IsFlowAt p (x ∷ xs) f
+    go None is c rest = behind (rest c)
+    go (Some d) is c rest = elim (among_first (finding p d) (at_flows p xs) f c) [
+      | inl a ↦ record { flow = x; among = first_among x xs; code = d; found = is; is = sym a }
+      | inr b ↦ behind (rest b)
+    ]
 
 abbrev pub flow_listed : (p : Place) (cs : Flowing) → Listing (IsFlowAt p cs)
 flow_listed p cs = record { all = at_flows p cs; into = flow_into p cs; from = flow_from p cs }
@@ -270,9 +288,9 @@ module _ (m : Module) (ctx : Context) where
 
 -- ---- functions, classes, items
 
-abbrev pub default_listed : (l : Option Literal) (c : Option Code) → Listing (DefaultFinds l c)
-default_listed None c = nothing_listed
-default_listed (Some l) c = code_listed (literal_place l) c
+abbrev pub default_listed : (l : Option Literal) (flows : Flowing) → Listing (DefaultFinds l flows)
+default_listed None flows = nothing_listed
+default_listed (Some l) flows = flow_listed (literal_place l) flows
 
 module _ (m : Module) where
   abbrev pub params_listed : (ps : List Param) (marks : ParamsMarks ps) → Listing (ParamsFind m ps marks)
@@ -288,8 +306,7 @@ module _ (m : Module) where
     abbrev pub members_listed : (c k : ℕ) (ms : List Member) (marks : MembersMarks ms) → Listing (MembersFind m constants c k ms marks)
     members_listed c k [] marks = nothing_listed
     members_listed c k (field_member d ∷ rest) marks = both_listed (ann_listed m (bases_of m) d.annotation) (both_listed (default_listed d.default marks.default) (members_listed c k rest marks.rest))
-    members_listed c k (method_member d ∷ rest) marks =
-        both_listed (function_listed (owners.Method c k) d marks.method) (both_listed (code_listed d.name.place marks.override) (members_listed c (suc k) rest marks.rest))
+    members_listed c k (method_member d ∷ rest) marks = both_listed (function_listed (owners.Method c k) d marks.method) (members_listed c (suc k) rest marks.rest)
 
     abbrev pub item_listed : (b : Before) (i : Item) (marks : ItemMarks i) → Listing (ItemFinds m constants b i marks)
     item_listed b (constant_item p c) marks = both_listed (option_ann_listed m (bases_of m) c.annotation) (both_listed (flow_listed (place_of c.value) marks.flows) (expr_listed c.value marks.value))

@@ -15,7 +15,7 @@ use Rattle.pc_check.specs.Modules.{Labelling, IsLawful, HasLabelling, may_comple
 use Rattle.pc_machine.specs.Runs.{Run}
 use Rattle.pc_sound.specs.Examples.{FindsJust}
 use Rattle.pc_sound.specs.LoopExample.{program, findings, events, end}
-use Rattle.pc_sound.proofs.ExampleFindings.{no_classes_listed, finds_just}
+use Rattle.pc_sound.proofs.ExampleFindings.{quiet_flow, with_types, no_classes_listed, finds_just}
 use Rattle.pc_sound.proofs.ExampleRuns.{runs_plainly}
 
 abbrev wide : Env
@@ -24,11 +24,11 @@ wide = Some (Union Int NoneType) ∷ []
 marks : Labelling program
 marks = (
   record {
-    params = record { default = None; rest = tt };
+    params = record { default = []; rest = tt };
     declared = Union Int NoneType ∷ [];
     body = (
       record {
-        branches = record { condition = record { here = clean Bool; operand = clean (Union Int NoneType) }; body = (record { value = tt; flows = None ∷ [] }, tt); out = None; rest = tt };
+        branches = record { condition = record { here = clean Bool; operand = clean (Union Int NoneType) }; body = (record { value = tt; flows = quiet_flow NoneType Any ∷ [] }, tt); out = None; rest = tt };
         last = Some Int ∷ [];
         otherwise = tt;
         out = Some (Some Int ∷ []);
@@ -39,7 +39,7 @@ marks = (
           record {
             head = wide;
             condition = clean Bool;
-            body = (record { here = in_error E13; left = clean (Union Int NoneType); right = clean Int }, (wide, (record { value = clean NoneType; target = tt; flows = None ∷ [] }, (Some NoneType ∷ [], tt))));
+            body = (record { here = in_error E13; left = clean (Union Int NoneType); right = clean Int }, (wide, (record { value = clean NoneType; target = tt; flows = quiet_flow NoneType (Union Int NoneType) ∷ [] }, (Some NoneType ∷ [], tt))));
             out = Some (Some NoneType ∷ []);
           },
           (wide, tt),
@@ -53,7 +53,7 @@ marks = (
     record {
       params = tt;
       declared = [];
-      body = (record { here = clean Any; callee = clean Any; second = None; arguments = record { first = clean Int; flows = None ∷ []; rest = tt }; keywords = tt }, ([], tt));
+      body = (record { here = clean Any; callee = clean Any; second = None; arguments = record { first = clean Int; flows = quiet_flow Int (Union Int NoneType) ∷ []; rest = tt }; keywords = tt }, ([], tt));
       out = Some [];
       completing = None;
     },
@@ -72,7 +72,7 @@ lawful = (
       record {
         branches = record {
           condition = record { operand = refl; here = refl };
-          body = (((static object, tt), refl), tt, refl);
+          body = (((with_types (static object), tt), refl), tt, refl);
           others = refl;
         };
         otherwise = refl;
@@ -84,7 +84,7 @@ lawful = (
           condition = refl;
           body = (
             (record { left = refl; right = refl; here = refl }, refl),
-            (record { after = Some NoneType ∷ []; assignment = record { value = refl; at_first = tt; flow = (static right, tt); after_is = refl }; is = refl }, refl),
+            (record { after = Some NoneType ∷ []; assignment = record { value = refl; at_first = tt; flow = (with_types (static right), tt); after_is = refl }; is = refl }, refl),
           );
           after = refl;
         },
@@ -104,7 +104,7 @@ lawful = (
             value = in_error E20;
             lawful = refl;
             callee = refl;
-            arguments = record { first = refl; flows = (static left, tt); rest = tt };
+            arguments = record { first = refl; flows = (with_types (static left), tt); rest = tt };
             keywords = tt;
             here = refl;
             second = refl;

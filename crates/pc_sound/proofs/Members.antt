@@ -46,7 +46,7 @@ one_of_all : (P : Tree → Type 0) (ts : List Tree) (t : Tree) → AllOf P ts �
 one_of_all P [] t all a = absurd a
 one_of_all P (s ∷ ts) t all a = elim a [ inl e ↦ subst P e all.0 | inr b ↦ one_of_all P ts t all.1 b ]
 
-all_any : (ts : List Tree) → AllOf (λ t. Unit {0}) ts
+pub all_any : (ts : List Tree) → AllOf (λ t. Unit {0}) ts
 all_any [] = tt
 all_any (t ∷ ts) = (tt, all_any ts)
 

@@ -1,5 +1,5 @@
 -- The order of a module: each item finds bound what it may name, and binds its own name; `main` finds all.
-use Rattle.std.proofs.Common.{◌≡◌, ℕ, suc, List, [], ◌∷◌, ◌++◌, length, refl, sym, ap, ◌∙◌, subst, inl, inr, arith}
+use Rattle.std.proofs.Common.{◌≡◌, ℕ, suc, List, [], ◌∷◌, ◌++◌, length, refl, sym, ap, ◌∙◌, subst, inl, inr, arith, Contains}
 use Rattle.std.specs.Prelude.{◌⊎◌, Bool as Test, true, false, ◌||◌, is_some, nat_lt, Option, Some, None, slice_get, bytes_eq, chars}
 use Rattle.std.proofs.lemmas.Bool.Decides.{nat_tests}
 use Rattle.std.proofs.lemmas.Slice.Eq.{bytes_eq-Decides}
@@ -233,10 +233,11 @@ module _ (m : Module) where
 
     module _ (before : Known) where
       -- a default is of the type that it flows into
-      pub default_made : (l : Option Literal) (t : Tree) (code : Option Code) → LawfulDefault (bases_of m) true l t code → Listed (DefaultFinds l code) → Proceeds listed before (make_default Step free l) (λ k v s. before k s × DefaultHas (bases_of m) k t (is_some l) v)
-      default_made None t code law clean = proceeds_comes listed before (Gives None) _ λ k s b. (b, tt)
-      default_made (Some l) t code law clean =
-          let below = atom_flow (bases_of m) (literal_type l) t code (literal_atom l) law (λ d e. (clean (finding (literal_place l) d) (code_found (literal_place l) code d e)).1) in
+      pub default_made : (l : Option Literal) (t : Tree) (flows : Flowing) → LawfulDefault (bases_of m) true l t flows → Listed (DefaultFinds l flows) → Proceeds listed before (make_default Step free l) (λ k v s. before k s × DefaultHas (bases_of m) k t (is_some l) v)
+      default_made None t flows law clean = proceeds_comes listed before (Gives None) _ λ k s b. (b, tt)
+      default_made (Some l) t flows law clean =
+          let one = one_flow (bases_of m) (record { type = literal_type l; codes = [] }) t flows law in
+          let below = atom_flow (bases_of m) (literal_type l) t one.0.code (literal_atom l) one.2.code (λ d e. (clean (finding (literal_place l) d) (record { flow = one.0; among = subst (λ fs. Contains fs one.0) (sym one.1) (0, omega arith, refl); code = d; found = e; is = refl })).1) in
           proceeds_bind listed before _ _ (λ k v s. before k s × HasType (bases_of m) k (literal_type l) v) _ (literal_made before l)
           λ v. proceeds_comes listed _ (Gives (Some v)) _ λ k s b. (b.0, of_static (bases_of m) k (literal_type l) t below v b.1)
 

@@ -1,17 +1,16 @@
 -- What a test leaves of a type has the values that pass it, and what it leaves where it fails has those that fail.
-use Rattle.std.proofs.Common.{◌≡◌, ◌≢◌, ℕ, zero, suc, List, [], ◌∷◌, refl, sym, ap, ◌∙◌, subst, inl, inr, arith}
+use Rattle.std.proofs.Common.{◌≡◌, ◌≢◌, ℕ, List, [], ◌∷◌, refl, sym, ap, ◌∙◌, subst, inl, inr, arith}
 use Rattle.std.specs.Prelude.{◌⊎◌, Bool as Test, true, false, ◌==◌, ◌&&◌, ◌||◌, not, if◌then◌else◌, Option, Some, None, filter_map, ℤ}
 use Rattle.std.specs.List.{cons_option}
-use Rattle.std.specs.Option.{option_map_or}
-use Rattle.std.proofs.lemmas.Bool.Decides.{nat_tests, eqb_tells}
+use Rattle.std.proofs.lemmas.Bool.Decides.{eqb_tells}
 use Rattle.std.proofs.lemmas.Option.{same_Some}
 use Rattle.std.proofs.lemmas.Bool.{and_parts, false≢true, or_left, or_right}
 use Rattle.pc_types.specs.Tree.{Tree, Any, Object, Never, Int, Bool, Str, NoneType, Class, ListOf, DictOf, TupleOf, Union}
-use Rattle.pc_types.specs.Below.{Bases, Below, AreSmaller, base_of, same, through, base}
+use Rattle.pc_types.specs.Below.{Bases, AreSmaller}
 use Rattle.pc_types.specs.Shape.{members, union, ahead}
 use Rattle.pc_types.specs.Join.{same_tree, absorbs, reaches}
-use Rattle.pc_types.proofs.Structural.{Chain, here, up, Sub, s_class, sub_of}
-use Rattle.pc_types.proofs.Ancestors.{reaches_itself, reaches_base}
+use Rattle.pc_types.proofs.Structural.{Chain}
+use Rattle.pc_types.proofs.Descent.{reaches_below, chain_of, chain_reaches, comparable}
 use Rattle.pc_flow.specs.Narrowing.{Tested, for_none, for_type, for_list, is_within, member_within, member_passing, member_failing, passing, failing}
 use Rattle.pc_value.specs.Value as value
 use Rattle.pc_value.specs.Value.{Value, whole, boolean, string, location}
@@ -92,40 +91,6 @@ module _ (bases : Bases) (k : HeapTyping) where
   narrowed : (f : Tree → Option Tree) (t : Tree) (v : Value) → ((m : Tree) → HasType bases k m v → OptionHas (f m) v) → HasType bases k t v → HasType bases k (union (filter_map f (members t))) v
   narrowed f t v each h = of_union (filter_map f (members t)) v (kept_some f v each (members t) (to_members t v h))
 
--- ---- classes
-
-chain_of : {bases : Bases} {c d : ℕ} → Below bases (Class c) (Class d) → Chain bases c d
-chain_of b = go (sub_of b)
-  where
-    go : {bases : Bases} {c d : ℕ} → Sub bases (Class c) (Class d) → Chain bases c d
-    go (s_class h) = h
-
--- of two ancestors of a class one is an ancestor of the other: unrelated classes share no instance
-comparable : {bases : Bases} {e c d : ℕ} → Chain bases e c → Chain bases e d → Chain bases c d ⊎ Chain bases d c
-comparable here q = inl q
-comparable (up e p) here = inr (up e p)
-comparable {bases} {d = d} (up e p) (up e' q) = comparable p (subst (λ x. Chain bases x d) (same_Some _ _ (sym e' ∙ e)) q)
-
-module _ (bases : Bases) (ordered : AreSmaller bases) where
-  chain_reaches : {c d : ℕ} → Chain bases c d → reaches bases c c d ≡ true
-  chain_reaches {c} here = reaches_itself bases c c refl
-  chain_reaches {c} {d} (up {b = b} e p) = elim (eqb_tells c d) [
-    | inl h ↦ reaches_itself bases c d h.1
-    | inr h ↦ reaches_base bases ordered d c b e h.1 ∙ chain_reaches p
-  ]
-
--- a class that reaches another by its ancestors is below it
-pub descends : (bases : Bases) (n c d : ℕ) → reaches bases n c d ≡ true → Below bases (Class c) (Class d)
-descends bases zero c d e = let is : c ≡ d = grind (arith, nat_tests) in subst (λ x. Below bases (Class c) (Class x)) is same
-descends bases (suc n) c d e = elim (eqb_tells c d) [
-  | inl h ↦ subst (λ x. Below bases (Class c) (Class x)) h.1 same
-  | inr h ↦ go (λ b e'. descends bases n b d e') (base_of bases c) refl (ap (λ x. x || option_map_or (λ b. reaches bases n b d) (base_of bases c) false) (sym h.0) ∙ e)
-]
-  where
-    go : ((b : ℕ) → reaches bases n b d ≡ true → Below bases (Class b) (Class d)) → (o : Option ℕ) → base_of bases c ≡ o → (false || option_map_or (λ b. reaches bases n b d) o false) ≡ true → Below bases (Class c) (Class d)
-    go f None is e = absurd (grind arith)
-    go f (Some b) is e = through (base is) (f b e)
-
 -- ---- tests of a class, int, str, bool
 
 no_list_class : {t : Tree} {c : ℕ} → a_list t ≡ a_class c → ⊥
@@ -181,8 +146,8 @@ module _ (bases : Bases) (ordered : AreSmaller bases) (k : HeapTyping) where
   classes_apart c d l w a h p = elim (eqb_tells d c) [
     | inl e ↦ not_both (or_left (d == c) (not (d == c) && reaches bases d d c) e.0) w
     | inr n ↦ elim (comparable (chain_of h.below) (subst (λ x. Chain bases x c) one_class (chain_of p.below))) [
-      | inl above ↦ not_both (or_right (d == c) (not (d == c) && reaches bases d d c) (both_true (d == c) (reaches bases d d c) n.0 (chain_reaches bases ordered above))) w
-      | inr down ↦ not_both (both_true (c == d) (reaches bases c c d) (flip c d n.1) (chain_reaches bases ordered down)) a
+      | inl above ↦ not_both (or_right (d == c) (not (d == c) && reaches bases d d c) (both_true (d == c) (reaches bases d d c) n.0 (chain_reaches ordered above))) w
+      | inr down ↦ not_both (both_true (c == d) (reaches bases c c d) (flip c d n.1) (chain_reaches ordered down)) a
     ]
   ]
     where
@@ -221,7 +186,7 @@ module _ (bases : Bases) (ordered : AreSmaller bases) (k : HeapTyping) where
   absorbed : (c m : Tree) → IsTestedType c → absorbs bases c m ≡ true → (v : Value) → HasType bases k m v → HasType bases k c v
   absorbed Int Bool t e (boolean b) h = tt
   absorbed Int Bool t e _ h = absurd h
-  absorbed (Class c) (Class d) t e (location l) h = of_below k (descends bases d d c (and_parts (not (d == c)) (reaches bases d d c) e).1) (location l) h
+  absorbed (Class c) (Class d) t e (location l) h = of_below k (reaches_below bases d d c (and_parts (not (d == c)) (reaches bases d d c) e).1) (location l) h
   absorbed (Class c) (Class d) t e _ h = absurd h
   absorbed _ _ t e v h = absurd (false≢true e)
 

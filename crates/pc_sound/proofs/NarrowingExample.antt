@@ -15,7 +15,7 @@ use Rattle.pc_check.specs.Modules.{Labelling, IsLawful, HasLabelling, may_comple
 use Rattle.pc_machine.specs.Runs.{Run}
 use Rattle.pc_sound.specs.Examples.{FindsJust}
 use Rattle.pc_sound.specs.NarrowingExample.{program, findings, events, end}
-use Rattle.pc_sound.proofs.ExampleFindings.{no_classes_listed, finds_just}
+use Rattle.pc_sound.proofs.ExampleFindings.{quiet_flow, with_types, no_classes_listed, finds_just}
 use Rattle.pc_sound.proofs.ExampleRuns.{runs_plainly}
 
 -- `list[int] | None` in normal form
@@ -32,7 +32,7 @@ test_of_any = record { type = Bool; codes = A7 ∷ [] }
 marks : Labelling program
 marks = (
   record {
-    params = record { default = None; rest = record { default = None; rest = tt } };
+    params = record { default = []; rest = record { default = []; rest = tt } };
     declared = Any ∷ list_or_none ∷ [];
     body = (
       record {
@@ -43,7 +43,7 @@ marks = (
               here = clean NoneType;
               callee = record { here = clean Any; object = clean (ListOf Any) };
               second = None;
-              arguments = record { first = clean Str; flows = None ∷ []; rest = tt };
+              arguments = record { first = clean Str; flows = quiet_flow Str Any ∷ []; rest = tt };
               keywords = tt;
             },
             (where_are (ListOf Any) list_or_none, tt),
@@ -66,7 +66,7 @@ marks = (
                   here = clean NoneType;
                   callee = record { here = clean Any; object = clean (ListOf Int) };
                   second = None;
-                  arguments = record { first = clean Int; flows = None ∷ []; rest = tt };
+                  arguments = record { first = clean Int; flows = quiet_flow Int Int ∷ []; rest = tt };
                   keywords = tt;
                 },
                 (where_are Any (ListOf Int), tt),
@@ -96,8 +96,8 @@ marks = (
           second = None;
           arguments = record {
             first = record { here = clean (ListOf Int); items = record { first = clean Int; flows = []; rest = tt } };
-            flows = None ∷ [];
-            rest = record { first = clean NoneType; flows = None ∷ []; rest = tt };
+            flows = quiet_flow (ListOf Int) Any ∷ [];
+            rest = record { first = clean NoneType; flows = quiet_flow NoneType list_or_none ∷ []; rest = tt };
           };
           keywords = tt;
         },
@@ -135,7 +135,7 @@ lawful = (
                 value = record { here = in_error E15; object = clean (ListOf Any) };
                 lawful = record { object = refl; here = refl };
                 callee = refl;
-                arguments = record { first = refl; flows = (static object, tt); rest = tt };
+                arguments = record { first = refl; flows = (with_types (static object), tt); rest = tt };
                 keywords = tt;
                 here = refl;
                 second = refl;
@@ -167,7 +167,7 @@ lawful = (
                   value = record { here = in_error E15; object = clean (ListOf Int) };
                   lawful = record { object = refl; here = refl };
                   callee = refl;
-                  arguments = record { first = refl; flows = (static same, tt); rest = tt };
+                  arguments = record { first = refl; flows = (with_types (static same), tt); rest = tt };
                   keywords = tt;
                   here = refl;
                   second = refl;
@@ -199,8 +199,8 @@ lawful = (
             callee = refl;
             arguments = record {
               first = record { items = record { first = refl; flows = tt; rest = tt }; here = refl };
-              flows = (static object, tt);
-              rest = record { first = refl; flows = (static left, tt); rest = tt };
+              flows = (with_types (static object), tt);
+              rest = record { first = refl; flows = (with_types (static left), tt); rest = tt };
             };
             keywords = tt;
             here = refl;

@@ -16,14 +16,14 @@ use Rattle.pc_machine.specs.Runs.{Run}
 use Rattle.pc_sound.specs.Examples.{FindsJust}
 use Rattle.pc_sound.specs.OrderExample.{program, findings, events, end}
 use Rattle.pc_sound.proofs.ClassListing.{just_these}
-use Rattle.pc_sound.proofs.ExampleFindings.{no_classes_listed, finds_just, module_listed}
+use Rattle.pc_sound.proofs.ExampleFindings.{quiet_flow, with_types, no_classes_listed, finds_just, module_listed}
 use Rattle.pc_sound.proofs.ExampleRuns.{runs_plainly}
 
 marks : Labelling program
 marks = (
-  record { value = in_error E03; flows = None ∷ [] },
+  record { value = in_error E03; flows = quiet_flow Any Int ∷ [] },
   (
-    record { value = clean Int; flows = None ∷ [] },
+    record { value = clean Int; flows = quiet_flow Int Int ∷ [] },
     (
       record {
         params = tt;
@@ -40,9 +40,9 @@ marks = (
 lawful : IsLawful program marks
 unfolding marks builtin_of bases_of classes_of signatures_of
 lawful = (
-  record { value = refl; flow = (refl, tt) },
+  record { value = refl; flow = (with_types refl, tt) },
   (
-    record { value = refl; flow = (static same, tt) },
+    record { value = refl; flow = (with_types (static same), tt) },
     (
       record {
         params = tt;

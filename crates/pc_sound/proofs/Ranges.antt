@@ -21,6 +21,7 @@ use Rattle.pc_expr.specs.Context.{Context, Signature}
 use Rattle.pc_expr.specs.Calls.{Given, given, is_suited, fails_at_call, builtin_signature, call_mark, signatures, type_at, Seat, positional_seat, named_seat}
 use Rattle.pc_expr.specs.Labels.{Marks, ItemsMarks, KeywordsMarks, type_of, Finds, IsFoundAt, ItemsFind, ArgumentsFind}
 use Rattle.pc_check.specs.Statements.{LawfulIterable, LawfulRange, LawfulValues, RangeOrValues, is_range, range_offers, range_item}
+use Rattle.pc_expr.proofs.SaidInLabels.{as_arguments}
 use Rattle.pc_value.specs.Value.{Value, Out, Gives, Stops, whole, boolean, seen}
 use Rattle.pc_value.specs.Actions as action
 use Rattle.pc_value.specs.Iteration.{range_outcome}
@@ -37,7 +38,7 @@ use Rattle.pc_sound.proofs.Keys.{Keyed}
 use Rattle.pc_sound.proofs.Expressions.{Covered, GoodEval, allowed}
 use Rattle.pc_sound.proofs.Flows.{Evaluates, first_evaluates, later_evaluates, emit_evaluates}
 use Rattle.pc_sound.proofs.Members.{HasEach}
-use Rattle.pc_sound.proofs.Arguments.{ArgumentsHave, KeywordsHave, arguments_later, keywords_later, arguments_safe, keywords_safe, found_in_arguments}
+use Rattle.pc_sound.proofs.Arguments.{ArgumentsHave, KeywordsHave, arguments_later, keywords_later, arguments_safe, keywords_safe}
 use Rattle.pc_sound.proofs.Iterations.{GoesOver, iterate_ends_well}
 use Rattle.pc_sound.proofs.Globals.{KnowsNames, reserved_is}
 use Rattle.pc_sound.proofs.OrdinaryCalls.{impossible_safe}
@@ -109,7 +110,7 @@ module _ (around : Around) (ctx : Context) (fits : Fits around ctx) (m : Module)
     into_int = ap (λ x. flat_map (λ (s : Signature). type_at (slice_get s.parameters 0)) (signatures ((if x then record { at_callee = []; at_call = []; gives = Object; calls = range_signature ∷ [] } else fails_at_call E14) ∷ []))) suited
 
     found : Covered around (ItemsFind args marks.arguments)
-    found f h = covered f (inr (inr (inr (inl (subst (λ x. ArgumentsFind x args marks.arguments f) (sym no_test) (found_in_arguments args marks.arguments f h))))))
+    found f h = covered f (inr (inr (inr (inl (subst (λ x. ArgumentsFind x args marks.arguments f) (sym no_test) (as_arguments args marks.arguments f h))))))
       where
         no_test : is_instance_test (name n) args kws ≡ false
         no_test = ap (λ w. is_instance_test (name (record { text = w; place = n.place })) args kws) (reserved_is around ctx fits knows env n.text builtin.Range is)

@@ -79,15 +79,15 @@ one_more x p ps h never = go x p.has_default refl refl h
 -- ---- members behind others
 
 -- the names of members, the nearest first
-abbrev names_behind : List (List ℕ) → List Member → List (List ℕ)
+abbrev pub names_behind : List (List ℕ) → List Member → List (List ℕ)
 names_behind before [] = before
 names_behind before (x ∷ xs) = names_behind ((name_of_member x).text ∷ before) xs
 
-names_last : (before : List (List ℕ)) (xs : List Member) (y : Member) → names_behind before (xs ++ y ∷ []) ≡ (name_of_member y).text ∷ names_behind before xs
+pub names_last : (before : List (List ℕ)) (xs : List Member) (y : Member) → names_behind before (xs ++ y ∷ []) ≡ (name_of_member y).text ∷ names_behind before xs
 names_last before [] y = refl
 names_last before (x ∷ xs) y = names_last ((name_of_member x).text ∷ before) xs y
 
-among_behind : (before : List (List ℕ)) (xs : List Member) (w : List ℕ) → is_among w (names_behind before xs) ≡ (is_among w (member_texts xs) || is_among w before)
+pub among_behind : (before : List (List ℕ)) (xs : List Member) (w : List ℕ) → is_among w (names_behind before xs) ≡ (is_among w (member_texts xs) || is_among w before)
 among_behind before [] w = refl
 among_behind before (x ∷ xs) w = among_behind ((name_of_member x).text ∷ before) xs w ∙ turn (bytes_eq w (name_of_member x).text) (is_among w (member_texts xs)) (is_among w before)
   where

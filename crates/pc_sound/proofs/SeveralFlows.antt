@@ -11,7 +11,7 @@ use Rattle.pc_tree.specs.Depth.{place_of}
 use Rattle.pc_types.specs.Tree.{Tree}
 use Rattle.pc_types.specs.Below.{Bases, Static}
 use Rattle.pc_flow.specs.Environment.{Env}
-use Rattle.pc_expr.specs.Operations.{Mark}
+use Rattle.pc_expr.specs.Operations.{Mark, FlowMark}
 use Rattle.pc_expr.specs.Context.{Context, Flows, static, dynamic, wrong, FlowUnless, FlowAt, FlowsInto, is_early}
 use Rattle.pc_expr.specs.Labels.{Flowing, Marks, mark_of, type_of, Finds, IsFlowAt}
 use Rattle.pc_expr.specs.Lawful.{Lawful}
@@ -24,7 +24,8 @@ use Rattle.pc_sound.proofs.ValuesFlow.{of_static}
 use Rattle.pc_sound.proofs.Steps.{weaken, stopped_as}
 use Rattle.pc_sound.proofs.Keys.{Keyed}
 use Rattle.pc_sound.proofs.Expressions.{Covered, GoodEval}
-use Rattle.pc_sound.proofs.Flows.{Evaluates, found_here, early_code}
+use Rattle.pc_expr.proofs.Saying.{found_here}
+use Rattle.pc_sound.proofs.Flows.{Evaluates, early_code}
 use Rattle.pc_sound.proofs.Members.{HasEach}
 
 -- a type is static to each of these
@@ -38,20 +39,23 @@ each_static bases k s (t ∷ ts) v all h = (of_static bases k s t all.0 v h, eac
 
 -- the flows of a place are allowed where each code of them is a listed dynamic place
 module _ (around : Around) (p : Place) where
-  later_codes : (c : Option Code) (cs : Flowing) → Covered around (IsFlowAt p (c ∷ cs)) → Covered around (IsFlowAt p cs)
-  later_codes c cs covered f h = covered f (record { code = h.code; among = Contains-append_right (c ∷ []) cs (Some h.code) h.among; is = h.is })
+  later_flows : (x : FlowMark) (xs : Flowing) → Covered around (IsFlowAt p (x ∷ xs)) → Covered around (IsFlowAt p xs)
+  later_flows x xs covered f h = covered f (record { flow = h.flow; among = Contains-append_right (x ∷ []) xs h.flow h.among; code = h.code; found = h.found; is = h.is })
 
-  one_flow : (m : Mark) → (is_early m.codes ≡ true → ⊥) → (t : Tree) (c : Option Code) (cs : Flowing) → FlowAt around.bases m t c → Covered around (IsFlowAt p (c ∷ cs)) → Static around.bases m.type t ⊎ around.listed p
-  one_flow m punctual t c cs flow covered = go (is_early m.codes) refl flow
+  one_flow : (m : Mark) → (is_early m.codes ≡ true → ⊥) → (t : Tree) (x : FlowMark) (xs : Flowing) → FlowAt around.bases m t x → Covered around (IsFlowAt p (x ∷ xs)) → Static around.bases m.type t ⊎ around.listed p
+  one_flow m punctual t x xs at covered = go (is_early m.codes) refl at.code
     where
-      by_flow : (d : Option Code) → c ≡ d → Flows around.bases m.type t d → Static around.bases m.type t ⊎ around.listed p
-      by_flow _ is (static below) = inl below
-      by_flow _ is (dynamic n a) = inr (covered (finding p A1) (record { code = A1; among = (0, omega arith, is); is = refl })).0
-      by_flow _ is (wrong n) = absurd ((covered (finding p E12) (record { code = E12; among = (0, omega arith, is); is = refl })).1 refl)
+      found : (d : Code) → x.code ≡ Some d → IsFlowAt p (x ∷ xs) (finding p d)
+      found d is = record { flow = x; among = (0, omega arith, refl); code = d; found = is; is = refl }
 
-      go : (early : Test) → is_early m.codes ≡ early → FlowUnless early around.bases m.type t c → Static around.bases m.type t ⊎ around.listed p
+      by_flow : (d : Option Code) → x.code ≡ d → Flows around.bases m.type t d → Static around.bases m.type t ⊎ around.listed p
+      by_flow _ is (static below) = inl below
+      by_flow _ is (dynamic n a) = inr (covered (finding p A1) (found A1 is)).0
+      by_flow _ is (wrong n) = absurd ((covered (finding p E12) (found E12 is)).1 refl)
+
+      go : (early : Test) → is_early m.codes ≡ early → FlowUnless early around.bases m.type t x.code → Static around.bases m.type t ⊎ around.listed p
       go true is f = absurd (punctual is)
-      go false is f = by_flow c refl f
+      go false is f = by_flow x.code refl f
 
   -- where all flows are allowed, they are static or the place is listed
   pub settled_flows : (m : Mark) → (is_early m.codes ≡ true → ⊥) → (ts : List Tree) (cs : Flowing) → FlowsInto around.bases m ts cs → Covered around (IsFlowAt p cs) → AllStatic around.bases m.type ts ⊎ around.listed p
@@ -60,7 +64,7 @@ module _ (around : Around) (p : Place) where
   settled_flows m punctual (t ∷ ts) [] flows covered = absurd flows
   settled_flows m punctual (t ∷ ts) (c ∷ cs) flows covered = elim (one_flow m punctual t c cs flows.0 covered) [
     | inr l ↦ inr l
-    | inl s ↦ elim (settled_flows m punctual ts cs flows.1 (later_codes c cs covered)) [ inl all ↦ inl (s, all) | inr l ↦ inr l ]
+    | inl s ↦ elim (settled_flows m punctual ts cs flows.1 (later_flows c cs covered)) [ inl all ↦ inl (s, all) | inr l ↦ inr l ]
   ]
 
 -- an expression of which all findings are allowed is not one with E03

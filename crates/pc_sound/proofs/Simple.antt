@@ -11,7 +11,7 @@ use Rattle.pc_types.specs.Tree.{Tree, NoneType}
 use Rattle.pc_types.specs.Below.{Static}
 use Rattle.pc_flow.specs.Environment.{Env, declared_type, assign, assigned_type}
 use Rattle.pc_flow.specs.Narrowing.{narrow}
-use Rattle.pc_expr.specs.Operations.{clean}
+use Rattle.pc_expr.specs.Operations.{FlowMark, clean}
 use Rattle.pc_expr.specs.Context.{Context, FlowsInto}
 use Rattle.pc_expr.specs.Labels.{Flowing, Marks, mark_of, type_of, Finds, IsFlowAt}
 use Rattle.pc_expr.specs.Lawful.{Lawful}
@@ -121,8 +121,8 @@ module _ (around : Around) (ctx : Context) (fits : Fits around ctx) (m : Module)
   -- ---- `return`
 
   -- a flow is not in error where each finding is a listed place
-  flow_clean : (p : Place) (flows : Flowing) (c : Option Code) → flows ≡ c ∷ [] → Covered around (IsFlowAt p flows) → (d : Code) → c ≡ Some d → ¬ (IsError d)
-  flow_clean p flows c is covered d e = (covered (finding p d) (record { code = d; among = subst (λ l. Contains l (Some d)) (sym is) (subst (λ x. Contains (c ∷ []) x) e (first_among c [])); is = refl })).1
+  flow_clean : (p : Place) (flows : Flowing) (x : FlowMark) → flows ≡ x ∷ [] → Covered around (IsFlowAt p flows) → (d : Code) → x.code ≡ Some d → ¬ (IsError d)
+  flow_clean p flows x is covered d e = (covered (finding p d) (record { flow = x; among = subst (λ l. Contains l x) (sym is) (first_among x []); code = d; found = e; is = refl })).1
 
   pub returns_none_runs : (p : Place) → GoodStmt around ctx m returned (returns p None) (exec_node Step free parts (returns p None))
   returns_none_runs p = record { runs = go }
@@ -130,7 +130,7 @@ module _ (around : Around) (ctx : Context) (fits : Fits around ctx) (m : Module)
       go : (seen : Seen) (env : Env) (marks : StmtMarks (returns p None)) (out : Option Env) → LawfulStmt m ctx around.declared returned seen env (returns p None) marks out → Covered around (StmtFinds m ctx seen (returns p None) marks) → StmtKeyed (returns p None) marks → Runs around ctx env (ways_out around ctx m returned out [] []) [] (exec_node Step free parts (returns p None))
       go seen env marks out law covered keyed more lasts =
           let f = one_flow ctx.bases (clean NoneType) returned marks.flows law.0 in
-          let below : Static around.bases NoneType returned = subst (λ b. Static b NoneType returned) (sym fits.bases) (atom_flow ctx.bases NoneType returned f.0 tt f.2 (flow_clean p marks.flows f.0 f.1 (λ g h. covered g (inl h)))) in
+          let below : Static around.bases NoneType returned = subst (λ b. Static b NoneType returned) (sym fits.bases) (atom_flow ctx.bases NoneType returned f.0.code tt f.2.code (flow_clean p marks.flows f.0 f.1 (λ g h. covered g (inl h)))) in
           leads_comes around _ (Gives (leaves none)) _ λ k s at. (of_static around.bases k NoneType returned below none tt, at.known)
 
   pub returns_runs : (p : Place) (e : Expr) → GoodStmt around ctx m returned (returns p (Some e)) (exec_node Step free parts (returns p (Some e)))
@@ -168,7 +168,7 @@ module _ (around : Around) (ctx : Context) (fits : Fits around ctx) (m : Module)
           let l = subst (λ r. LawfulBinding m ctx around.declared env seen n r annotation e marks flows after) resolves law in
           let d = declared_type around.declared x in
           let f = one_flow around.bases (mark_of e marks) d flows (subst (λ b. FlowsInto b (mark_of e marks) (d ∷ []) flows) (sym fits.bases) l.flow) in
-          let t = assigned_type d (type_of e marks) f.0 in
+          let t = assigned_type d (type_of e marks) f.0.code in
           let ends : out ≡ Some (assign env x t) = is ∙ ap Some (l.after_is ∙ ap (λ c. assign env x (assigned_type d (type_of e marks) (only_code c))) f.1) in
           leads_bind around _ _ _ (λ k v s. At around env more k s × (HasType around.bases k t v × HasType around.bases k d v)) _
           (leads_from around _ (λ k s. At around env more k s × Unit {0}) _ _ (λ k s b. (b, tt))

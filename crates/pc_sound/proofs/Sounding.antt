@@ -1,8 +1,9 @@
--- The law of a module, from what is left to be shown of its initializers.
+-- The law of a module, from what is left to be shown of its initializers, under its lawful labelling.
 use Rattle.std.proofs.Common.{List}
 use Rattle.pc_source.specs.declared.place.Place.{Place}
 use Rattle.pc_tree.specs.Tree.{Module}
 use Rattle.pc_check.specs.Modules.{Labelling, IsLawful, nothing_before, constant_types}
+use Rattle.pc_check.proofs.LabelledModule.{every_module_has_a_labelling}
 use Rattle.pc_machine.specs.Runs.{Run, End, IsFault}
 use Rattle.pc_sound.specs.Sound.{HasNoError, HasEvaluated, Sound}
 use Rattle.pc_sound.proofs.Whole.{IsListedPlace}
@@ -24,4 +25,4 @@ sound_where_timely m marks lawful clean timely = sound_but_for m marks lawful cl
 
 -- the law
 pub sound : Sound
-sound m labelled clean = sound_where_timely m labelled.marks labelled.lawful clean (initializers_timely m labelled.marks labelled.lawful clean)
+sound m clean = let labelled = every_module_has_a_labelling m in sound_where_timely m labelled.marks labelled.lawful clean (initializers_timely m labelled.marks labelled.lawful clean)

@@ -9,7 +9,7 @@ use Rattle.pc_types.specs.Below.{Bases}
 use Rattle.pc_types.specs.Shape.{members}
 use Rattle.pc_class.specs.Facts as facts
 use Rattle.pc_flow.specs.Environment.{Env}
-use Rattle.pc_expr.specs.Operations.{found_of, has_error, operand_types, stored_type, stored_types, store_index_member, only_type}
+use Rattle.pc_expr.specs.Operations.{StoreOffer, store_codes, has_error, store_index_types, stored_types, store_index_member, only_type}
 use Rattle.pc_expr.specs.Context.{Context, FlowsInto}
 use Rattle.pc_expr.specs.Labels.{Flowing, Marks, mark_of, type_of, Finds, IsFlowAt}
 use Rattle.pc_check.specs.StatementLabels.{TargetMarks}
@@ -39,45 +39,50 @@ use Rattle.pc_sound.proofs.SeveralFlows.{flows_safe}
 use Rattle.pc_sound.proofs.Acting.{acting_safe}
 
 module _ (bases : Bases) (k : HeapTyping) where
-  -- the member of a type that an object is of, where nothing is found on any: its keys and values are of what the flows into all say
-  record Member (ms : List Tree) (v key w : Value) : Type 0 where
-    type : Tree
-    keyed : IsKeyed type
-    has : HasType bases k type v
-    clean : (store_index_member type).found ≡ []
-    keys : HasEach bases k (store_index_member type).takes key
-    values : HasEach bases k (stored_type (store_index_member type)) w
+  -- the member of a type that an object is of, where nothing is found of a store on any
+  pub record StoredIn (P : Tree → Type 0) (offer : Tree → StoreOffer) (ms : List Tree) (v : Value) : Type 0 where
+    pub member : Tree
+    pub known : P member
+    pub has : HasType bases k member v
+    pub clean : (offer member).found ≡ []
+    pub takes : (w : Value) → HasEach bases k (flat_map (λ o. o.takes) (map offer ms)) w → HasEach bases k (offer member).takes w
+    pub stores : (w : Value) → HasEach bases k (flat_map (λ o. o.stores) (map offer ms)) w → HasEach bases k (offer member).stores w
 
-  member_of : (ms : List Tree) (v key w : Value) → AllOf IsKeyed ms → HasSome bases k ms v → found_of (map store_index_member ms) ≡ [] → HasEach bases k (flat_map (λ o. o.takes) (map store_index_member ms)) key → HasEach bases k (flat_map stored_type (map store_index_member ms)) w → Member ms v key w
-  member_of [] v key w keyed h e keys values = absurd h
-  member_of (m ∷ ms) v key w keyed h e keys values = elim h [
+  pub stored_in : (P : Tree → Type 0) (offer : Tree → StoreOffer) (ms : List Tree) (v : Value) → AllOf P ms → HasSome bases k ms v → store_codes (map offer ms) ≡ [] → StoredIn P offer ms v
+  stored_in P offer [] v known h e = absurd h
+  stored_in P offer (m ∷ ms) v known h e = elim h [
     | inl x ↦ record {
-      type = m;
-      keyed = keyed.0;
+      member = m;
+      known = known.0;
       has = x;
-      clean = front_empty (store_index_member m).found (found_of (map store_index_member ms)) e;
-      keys = each_left bases k (store_index_member m).takes (flat_map (λ o. o.takes) (map store_index_member ms)) key keys;
-      values = each_left bases k (stored_type (store_index_member m)) (flat_map stored_type (map store_index_member ms)) w values;
+      clean = front_empty (offer m).found (store_codes (map offer ms)) e;
+      takes = λ w t. each_left bases k (offer m).takes (flat_map (λ o. o.takes) (map offer ms)) w t;
+      stores = λ w t. each_left bases k (offer m).stores (flat_map (λ o. o.stores) (map offer ms)) w t;
     }
-    | inr y ↦
-        let r = member_of ms v key w keyed.1 y (rest_empty (store_index_member m).found (found_of (map store_index_member ms)) e) (each_right bases k (store_index_member m).takes (flat_map (λ o. o.takes) (map store_index_member ms)) key keys) (each_right bases k (stored_type (store_index_member m)) (flat_map stored_type (map store_index_member ms)) w values) in
-        record { type = r.type; keyed = r.keyed; has = r.has; clean = r.clean; keys = r.keys; values = r.values }
+    | inr y ↦ let c = stored_in P offer ms v known.1 y (rest_empty (offer m).found (store_codes (map offer ms)) e) in record {
+      member = c.member;
+      known = c.known;
+      has = c.has;
+      clean = c.clean;
+      takes = λ w t. c.takes w (each_right bases k (offer m).takes (flat_map (λ o. o.takes) (map offer ms)) w t);
+      stores = λ w t. c.stores w (each_right bases k (offer m).stores (flat_map (λ o. o.stores) (map offer ms)) w t);
+    }
   ]
 
   module _ (classes : List facts.Class) (heap : Heap) (well : IsWell bases classes k heap) where
-    member_keeps : (t : Tree) (v key w : Value) → IsKeyed t → HasType bases k t v → (store_index_member t).found ≡ [] → HasEach bases k (store_index_member t).takes key → HasEach bases k (stored_type (store_index_member t)) w → ActsWell bases classes k NoneType (store_outcome heap (seen heap v) (seen heap key) key w)
+    member_keeps : (t : Tree) (v key w : Value) → IsKeyed t → HasType bases k t v → (store_index_member t).found ≡ [] → HasEach bases k (store_index_member t).takes key → HasEach bases k (store_index_member t).stores w → ActsWell bases classes k NoneType (store_outcome heap (seen heap v) (seen heap key) key w)
     member_keeps (ListOf t) v key w keyed h e keys values = store_keeps bases classes k heap t v key w well h keys.0 values.0
     member_keeps (DictOf s t) v key w keyed h e keys values = dict_store_keeps bases classes k heap s t v key w keyed.0 well h keys.0 values.0
     member_keeps _ v key w keyed h e keys values = absurd (not_empty e)
 
     -- a store into an object of a type of which nothing is found
-    item_store_keeps : (t : Tree) (v key w : Value) → IsKeyed t → HasType bases k t v → found_of (map store_index_member (members t)) ≡ [] → HasEach bases k (operand_types (map store_index_member (members t))) key → HasEach bases k (stored_types (map store_index_member (members t))) w → ActsWell bases classes k NoneType (store_outcome heap (seen heap v) (seen heap key) key w)
+    item_store_keeps : (t : Tree) (v key w : Value) → IsKeyed t → HasType bases k t v → store_codes (map store_index_member (members t)) ≡ [] → HasEach bases k (store_index_types (map store_index_member (members t))) key → HasEach bases k (stored_types (map store_index_member (members t))) w → ActsWell bases classes k NoneType (store_outcome heap (seen heap v) (seen heap key) key w)
     item_store_keeps t v key w keyed h found keys values =
         let offers = map store_index_member (members t) in
-        let all : operand_types offers ≡ flat_map (λ o. o.takes) offers = ap (λ codes. if has_error codes then [] else flat_map (λ o. o.takes) offers) found in
-        let all' : stored_types offers ≡ flat_map stored_type offers = ap (λ codes. if has_error codes then [] else flat_map stored_type offers) found in
-        let r = member_of (members t) v key w (keyed_members t keyed) (to_members bases k t v h) found (subst (λ l. HasEach bases k l key) all keys) (subst (λ l. HasEach bases k l w) all' values) in
-        member_keeps r.type v key w r.keyed r.has r.clean r.keys r.values
+        let all : store_index_types offers ≡ flat_map (λ o. o.takes) offers = ap (λ codes. if has_error codes then [] else flat_map (λ o. o.takes) offers) found in
+        let all' : stored_types offers ≡ flat_map (λ o. o.stores) offers = ap (λ codes. if has_error codes then [] else flat_map (λ o. o.stores) offers) found in
+        let c = stored_in IsKeyed store_index_member (members t) v (keyed_members t keyed) (to_members bases k t v h) found in
+        member_keeps c.member v key w c.known c.has c.clean (c.takes key (subst (λ l. HasEach bases k l key) all keys)) (c.stores w (subst (λ l. HasEach bases k l w) all' values))
 
 module _ (around : Around) (ctx : Context) (fits : Fits around ctx) (m : Module) (parts : Parts Step) (good : GoodEval around ctx parts.eval) (evaluates : (e : Expr) → Evaluates (place_of e) (parts.eval e)) (env : Env) where
   -- `e[i] = v`
@@ -86,7 +91,7 @@ module _ (around : Around) (ctx : Context) (fits : Fits around ctx) (m : Module)
       let object = type_of o target.object in
       let key = type_of i target.key in
       let offers = map store_index_member (members object) in
-      let keys = operand_types offers in
+      let keys = store_index_types offers in
       let values = stored_types offers in
       bind_safe around env _ _ _ (λ k w. HasType around.bases k (type_of e marks) w × HasEach around.bases k values w) _ (λ k k' x h. tt)
       (flows_safe around ctx parts.eval good evaluates env _ (only_type offers values) e marks values flows law.value (λ f h. covered f (inr (inl h))) (subst (λ b. FlowsInto b (mark_of e marks) values flows) (sym fits.bases) law.flow) (λ f h. covered f (inl h)) keyed)

@@ -11,9 +11,10 @@ use Rattle.pc_types.specs.Shape.{members}
 use Rattle.pc_flow.specs.Environment.{Env}
 use Rattle.pc_expr.specs.Operations.{Mark}
 use Rattle.pc_expr.specs.Context.{Context, name_mark}
-use Rattle.pc_expr.specs.Calls.{given, CallOffer, value_offer, value_offers, call_mark, length_mark, test_mark, positional_seat, named_seat}
+use Rattle.pc_expr.specs.Calls.{CallOffer, value_offer, value_offers, call_mark, positional_seat, named_seat}
 use Rattle.pc_expr.specs.Labels.{Marks, ItemsMarks, KeywordsMarks, mark_of, type_of, with_mark, Finds, ItemsFind, ArgumentsFind, KeywordsFind, IsFoundAt}
-use Rattle.pc_expr.specs.Lawful.{Lawful, LawfulItems, LawfulKeywords, is_length_of_one, whole_call_mark}
+use Rattle.pc_expr.specs.Lawful.{Lawful, LawfulItems, LawfulKeywords}
+use Rattle.pc_expr.proofs.SaidInLabels.{as_arguments}
 use Rattle.pc_value.specs.Value.{Value, Stop, Raised, Other, Outside, Cut, Out, Gives, Stops}
 use Rattle.pc_machine.specs.State.{State}
 use Rattle.pc_machine.specs.Names.{Meaning, means_value, means_unbound, means_function, means_class, means_reserved, means_nothing, meaning}
@@ -28,7 +29,7 @@ use Rattle.pc_sound.proofs.Steps.{bind_safe, comes_safe, may_stop_safe, weaken}
 use Rattle.pc_sound.proofs.Keys.{Keyed, ItemsKeyed, KeywordsKeyed}
 use Rattle.pc_sound.proofs.Expressions.{Covered, GoodEval, part}
 use Rattle.pc_sound.proofs.Flows.{Evaluates}
-use Rattle.pc_sound.proofs.Arguments.{found_in_arguments}
+use Rattle.pc_sound.proofs.Arguments.{}
 use Rattle.pc_sound.proofs.OrdinaryCalls.{impossible_safe, ordinary_safe}
 use Rattle.pc_sound.proofs.BuiltInMethods.{CalleeCodes}
 use Rattle.pc_sound.proofs.Globals.{KnowsNames, name_safe}
@@ -66,12 +67,6 @@ ordinary_call n (more_exprs a no_exprs) kws e = refl
 ordinary_call n (more_exprs a (more_exprs b (more_exprs c rest))) kws e = refl
 ordinary_call n (more_exprs a (more_exprs b no_exprs)) (more_keywords w x rest) e = refl
 ordinary_call n (more_exprs a (more_exprs b no_exprs)) no_keywords e = ap (λ t. if t then instance_test n a b else ordinary) (same_text_back n.text (codes "isinstance") ∙ (sym (and-true (bytes_eq (codes "isinstance") n.text)) ∙ e))
-
--- its label is that of its offers
-pub ordinary_mark : (ctx : Context) (env : Env) (c : Expr) (args : Exprs) (kws : Keywords) (offers : List CallOffer) (types : List Tree) (here : Mark) → is_instance_test c args kws ≡ false → is_length_of_one (given args kws) ctx.resolve c ≡ false → here ≡ whole_call_mark ctx env c args kws offers types → here ≡ call_mark ctx.bases offers
-ordinary_mark ctx env c args kws offers types here no_test no_length law =
-    law ∙ ap (λ t. if t then test_mark ctx env args else (if is_length_of_one (given args kws) ctx.resolve c then length_mark ctx.bases types else call_mark ctx.bases offers)) no_test
-    ∙ ap (λ t. if t then length_mark ctx.bases types else call_mark ctx.bases offers) no_length
 
 -- ---- values that are called
 
@@ -164,4 +159,4 @@ named_value_safe around ctx fits knows env parts n m law covered =
 
 -- what is found in the arguments of an ordinary call
 pub arguments_covered : (around : Around) (c : Expr) (args : Exprs) (kws : Keywords) (marks : ItemsMarks args) → is_instance_test c args kws ≡ false → Covered around (ArgumentsFind (is_instance_test c args kws) args marks) → Covered around (ItemsFind args marks)
-arguments_covered around c args kws marks no_test covered f h = covered f (subst (λ t. ArgumentsFind t args marks f) (sym no_test) (found_in_arguments args marks f h))
+arguments_covered around c args kws marks no_test covered f h = covered f (subst (λ t. ArgumentsFind t args marks f) (sym no_test) (as_arguments args marks f h))

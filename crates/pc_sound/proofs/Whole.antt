@@ -15,9 +15,10 @@ use Rattle.pc_scope.specs.Resolution.{function_of}
 use Rattle.pc_types.specs.Tree.{Tree, NoneType}
 use Rattle.pc_class.specs.Bases.{bases_of}
 use Rattle.pc_class.specs.Facts.{returned, classes_of}
-use Rattle.pc_class.proofs.Earlier.{smaller}
+use Rattle.pc_types.proofs.Earlier.{smaller}
 use Rattle.pc_expr.specs.Context.{Context}
 use Rattle.pc_expr.specs.Signatures.{initializer_context}
+use Rattle.pc_check.proofs.Scopes.{said_is_found}
 use Rattle.pc_check.specs.Modules.{Labelling, IsLawful, IsFinding, constant_types, Before, nothing_before, ItemsFind}
 use Rattle.pc_value.specs.Value.{Value, Raised, Other, Outside, Cut, Out, Gives, Stops}
 use Rattle.pc_machine.specs.State.{nothing_bound}
@@ -94,7 +95,7 @@ module _ (m : Module) (marks : Labelling m) where
 
   module _ (lawful : IsLawful m marks) (clean : HasNoError m) (premises : Premises) where
     listed_of : Listed m (IsListedPlace m) (ItemsFind m (constant_types m m.items marks) nothing_before m.items marks)
-    listed_of f h = let found : IsFinding m f = record { marks = marks; lawful = lawful; found = inr (inr h) } in (record { finding = f; found = found; dynamic = clean f found; at = refl }, clean f found)
+    listed_of f h = let found = said_is_found m marks lawful f h in (record { finding = f; found = found; dynamic = clean f found; at = refl }, clean f found)
 
     good : (n : ℕ) → AllGood m bodies n
     good n = all_good m bodies premises.forms n

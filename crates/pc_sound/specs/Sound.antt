@@ -5,7 +5,7 @@ use Rattle.pc_source.specs.declared.place.Place.{Place}
 use Rattle.pc_tree.specs.declared.code.Finding.{Finding}
 use Rattle.pc_tree.specs.Code.{IsError}
 use Rattle.pc_tree.specs.Tree.{Module}
-use Rattle.pc_check.specs.Modules.{HasLabelling, IsFinding}
+use Rattle.pc_check.specs.Modules.{IsFinding}
 use Rattle.pc_machine.specs.Runs.{Run, End, IsFault}
 
 -- no finding is an error
@@ -21,4 +21,4 @@ pub record HasEvaluated (m : Module) (events : List Place) : Type 0 where
 
 -- where no finding of a module is an error, each run of it that ends in a fault has by then evaluated a listed dynamic place
 abbrev pub Sound : Type 0
-Sound = (m : Module) → HasLabelling m → HasNoError m → (events : List Place) (end : End) → Run m events end → IsFault end → HasEvaluated m events
+Sound = (m : Module) → HasNoError m → (events : List Place) (end : End) → Run m events end → IsFault end → HasEvaluated m events

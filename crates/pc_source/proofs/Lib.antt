@@ -1,2 +1,3 @@
 pub mod CodingComments
 pub mod LastLine
+pub mod SourceRefusals

@@ -1,7 +1,9 @@
 pub mod Answers
 pub mod Coding
 pub mod Control
+pub mod Laws
 pub mod Lines
 pub mod Refusals
 pub mod Stream
 pub mod Text
+pub mod Within

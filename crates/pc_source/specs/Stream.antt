@@ -1,5 +1,8 @@
 -- Streams of items, each a value or a fault.
-use Rattle.std.specs.Prelude.{◌≡◌, List, [], ◌∷◌, Option, Some, None, Result, Ok, Err}
+use Rattle.std.specs.Prelude.{◌≡◌, ℕ, ◌≤◌, List, [], ◌∷◌, ◌++◌, map, Option, Some, None, Result, Ok, Err}
+use Rattle.pc_source.specs.declared.fault.Refusal.{Refusal}
+use Rattle.pc_source.specs.declared.fault.Fault.{Fault}
+use Rattle.pc_source.specs.declared.fault.Fault.TheVariants.{Refused}
 
 module _ {S A E : Type 0} (steps : S → Option (Result A E) → S → Type 0) where
   -- these items come from a state, up to its end or to its first fault
@@ -7,3 +10,12 @@ module _ {S A E : Type 0} (steps : S → Option (Result A E) → S → Type 0) w
   Comes s [] = (t : S) × steps s None t
   Comes s (Ok x ∷ xs) = (t : S) × steps s (Some (Ok x)) t × Comes t xs
   Comes s (Err e ∷ xs) = (xs ≡ []) × (t : S) × steps s (Some (Err e)) t
+
+module _ {S A : Type 0} (steps : S → Option (Result A Fault) → S → Type 0) where
+  -- what comes of a state up to its end, without a fault, has this property
+  abbrev pub ComesAs : (List A → Type 0) → S → Type 0
+  ComesAs P s = (xs : List A) → Comes steps s (map Ok xs) → P xs
+
+  -- each refusal that comes of a state stands from 0 to this length
+  abbrev pub RefusesWithin : ℕ → S → Type 0
+  RefusesWithin len s = (xs : List A) (refusal : Refusal) → Comes steps s (map Ok xs ++ Err (Refused refusal) ∷ []) → refusal.byte ≤ len

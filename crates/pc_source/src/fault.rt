@@ -124,6 +124,15 @@ pub enum Fault {
     OutOfMemory,
 }
 
+impl Fault {
+    /// The refusal of this code at this byte.
+    pub fn refused_at(code: RefusalCode, byte: usize) -> Fault
+        ensures { result ≡ fault.Refused (record { code = code; byte = byte }) }
+    {
+        Fault::Refused(Refusal { code, byte })
+    }
+}
+
 impl From<AllocError> for OutOfMemory {
     fn from(_error: AllocError) -> OutOfMemory {
         OutOfMemory

@@ -4,6 +4,7 @@
 mod coding;
 mod control;
 mod fault;
+pub mod laws;
 mod place;
 mod source;
 #[cfg(test)]

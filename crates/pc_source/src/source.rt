@@ -4,6 +4,7 @@ ghost use Rattle.pc_source.specs.Text.{IsText, IsSourceRefusal, IsFirstControl, 
 ghost use Rattle.pc_source.specs.Control.{IsControl};
 ghost use Rattle.pc_source.specs.Coding.{IsCoding};
 ghost use Rattle.pc_source.specs.Answers.{OnRefusal};
+ghost use Rattle.pc_source.specs.Within.{IsWithin};
 ghost use Rattle.pc_source.specs.Lines.{line_of, column_of};
 
 use crate::coding::first_coding;
@@ -48,17 +49,17 @@ pub fn read_source(alloc: Global, bytes: &[u8]) -> Result<Source, Fault>
     ensures text { IfOk result (λ s. s ≡ bytes.now) }
     ensures readable { IfOk result (λ _. IsText bytes.now) }
     ensures refused { IfErr result (OnRefusal (IsSourceRefusal bytes.now)) }
-    ensures within { IfErr result (OnRefusal (λ r. r.byte ≤ length bytes.now)) }
+    ensures within { IfErr result (IsWithin (length bytes.now)) }
 {
     if bytes.len() > LIMIT {
-        return Err(refusal(RefusalCode::S1, LIMIT));
+        return Err(Fault::refused_at(RefusalCode::S1, LIMIT));
     }
     if bytes.starts_with(&BYTE_ORDER_MARK) {
-        return Err(refusal(RefusalCode::S3, 0));
+        return Err(Fault::refused_at(RefusalCode::S3, 0));
     }
     let text = match simdutf8::compat::from_utf8(bytes) {
         Ok(text) => text,
-        Err(e) => return Err(refusal(RefusalCode::S2, e.valid_up_to())),
+        Err(e) => return Err(Fault::refused_at(RefusalCode::S2, e.valid_up_to())),
     };
     if let Some(fault) = character_fault(bytes) {
         return Err(Fault::Refused(fault));
@@ -97,12 +98,6 @@ fn character_fault(bytes: &[u8]) -> Option<Refusal>
             }
         }),
     }
-}
-
-fn refusal(code: RefusalCode, byte: usize) -> Fault
-    ensures { result ≡ Fault.Refused (record { code = code; byte = byte }) }
-{
-    Fault::Refused(Refusal { code, byte })
 }
 
 /// The bytes before a byte.

@@ -23,3 +23,4 @@ pub mod Starts
 pub mod Steps
 pub mod StringBodies
 pub mod Turns
+pub mod WithinText

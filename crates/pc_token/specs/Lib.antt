@@ -11,3 +11,4 @@ pub mod Remaining
 pub mod Spelling
 pub mod Splitting
 pub mod Strings
+pub mod Within

@@ -4,6 +4,7 @@
 mod bytes;
 mod gap;
 mod keywords;
+pub mod laws;
 mod name;
 mod number;
 mod operators;
@@ -12,8 +13,6 @@ mod reading;
 mod source_lines;
 mod stream;
 mod string;
-#[cfg(test)]
-mod tests;
 mod token;
 
 pub use source_lines::{lines, tokens};

@@ -18,7 +18,7 @@ use crate::number::{digit_count, is_bad_number, is_bad_point, number_len};
 use crate::operators::{Role, operator_at};
 use crate::string::{is_tripled, string_len};
 use crate::token::{Operator, Tok, TokenKind};
-use pc_source::{Fault, Refusal, RefusalCode};
+use pc_source::{Fault, RefusalCode};
 use std::alloc::Global;
 
 /// The greatest number of open brackets.
@@ -54,12 +54,6 @@ pub(crate) enum Next {
     Gap(usize),
     LineEnd(usize),
     Token(Found),
-}
-
-fn refusal(code: RefusalCode, byte: usize) -> Fault
-    ensures { result ≡ Fault.Refused (record { code = code; byte = byte }) }
-{
-    Fault::Refused(Refusal { code, byte })
 }
 
 /// Whether a tab stands among the blanks at the front of a line that goes on.
@@ -115,7 +109,7 @@ impl<'a> Reading<'a> {
         let len = blank_len(bytes);
         let spaces = space_len(bytes);
         if self.last.is_none() && is_bad_tab(bytes, spaces, len) {
-            return Err(refusal(RefusalCode::L7, self.at + spaces));
+            return Err(Fault::refused_at(RefusalCode::L7, self.at + spaces));
         }
         Ok(self.at + len)
     }
@@ -140,7 +134,7 @@ impl<'a> Reading<'a> {
     {
         let bytes = self.rest();
         if self.touches_word() || is_tripled(bytes) {
-            return Err(refusal(RefusalCode::L2, self.at));
+            return Err(Fault::refused_at(RefusalCode::L2, self.at));
         }
         match string_len(bytes) {
             Some(len) => Ok(Found {
@@ -148,7 +142,7 @@ impl<'a> Reading<'a> {
                 end: self.at + len,
                 form: None,
             }),
-            None => Err(refusal(RefusalCode::L2, self.at)),
+            None => Err(Fault::refused_at(RefusalCode::L2, self.at)),
         }
     }
 
@@ -172,12 +166,12 @@ impl<'a> Reading<'a> {
         ensures refused { IfErr result (OnRefusal (IsRefusedHere (context_of self.now) self.now.text.now)) }
     {
         if is_bad_number(self.text, self.at) {
-            return Err(refusal(RefusalCode::L3, self.at));
+            return Err(Fault::refused_at(RefusalCode::L3, self.at));
         }
         let bytes = self.rest();
         let len = number_len(bytes);
         if digit_count(&bytes[..len]) > DIGIT_LIMIT {
-            return Err(refusal(RefusalCode::L8, self.at));
+            return Err(Fault::refused_at(RefusalCode::L8, self.at));
         }
         Ok(Found {
             kind: TokenKind::Int,
@@ -203,7 +197,7 @@ impl<'a> Reading<'a> {
         }
         match operator_at(self.rest()) {
             Some(operator) => self.operator(operator),
-            None => Err(refusal(RefusalCode::L1, self.at)),
+            None => Err(Fault::refused_at(RefusalCode::L1, self.at)),
         }
     }
 
@@ -226,7 +220,7 @@ impl<'a> Reading<'a> {
         }
         let form = form_of(self.alloc, name)?;
         if is_bad_name(self.last, name, &form) {
-            return Err(refusal(RefusalCode::L4, self.at));
+            return Err(Fault::refused_at(RefusalCode::L4, self.at));
         }
         Ok(Found {
             kind: TokenKind::Name,
@@ -259,10 +253,10 @@ impl<'a> Reading<'a> {
         ensures refused { IfErr result (OnRefusal (IsRefusedHere (context_of self.now) self.now.text.now)) }
     {
         if let Some(code) = self.bracket_fault(operator) {
-            return Err(refusal(code, self.at));
+            return Err(Fault::refused_at(code, self.at));
         }
         if is_bad_point(self.rest()) {
-            return Err(refusal(RefusalCode::L3, self.at));
+            return Err(Fault::refused_at(RefusalCode::L3, self.at));
         }
         Ok(Found {
             kind: TokenKind::Operator(operator),

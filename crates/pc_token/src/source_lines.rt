@@ -1,9 +1,11 @@
 //! The logical lines of a source.
-ghost use Rattle.std.specs.Prelude.{◌≡◌, ◌↔◌, List, [], ◌∷◌, ◌++◌, map, Result, Ok, Err, IfOk, IfErr};
+ghost use Rattle.std.specs.Prelude.{◌≡◌, ◌↔◌, List, [], ◌∷◌, ◌++◌, length, map, Result, Ok, Err, IfOk, IfErr};
 ghost use Rattle.pc_source.specs.Answers.{OnRefusal};
+ghost use Rattle.pc_source.specs.Stream.{RefusesWithin};
+ghost use Rattle.pc_source.specs.Within.{IsWithin};
 ghost use Rattle.pc_source.specs.declared.fault.Refusal.{Refusal};
 ghost use Rattle.pc_token.specs.Lexeme.{LogicalLine};
-ghost use Rattle.pc_token.specs.Remaining.{HasLeft, all_read};
+ghost use Rattle.pc_token.specs.Remaining.{HasLeft, gives, all_read};
 ghost use Rattle.pc_token.specs.Splitting.{HasLines, HasOnly};
 
 use crate::stream::Lines;
@@ -23,6 +25,7 @@ use std::alloc::Global;
 pub fn lines(alloc: Global, source: &Source) -> Lines<'_>
     ensures one { (xs ys : List (Result LogicalLine Refusal)) → HasLines source.now xs → HasLines source.now ys → xs ≡ ys }
     ensures left { (items : List (Result LogicalLine Refusal)) → (HasLeft result items ↔ HasLines source.now items) }
+    ensures within { RefusesWithin gives (length source.now) result }
 {
     Lines {
         alloc,
@@ -43,6 +46,7 @@ pub fn lines(alloc: Global, source: &Source) -> Lines<'_>
 pub fn tokens(alloc: Global, source: &Source) -> Result<Vec<Line<'_>>, Fault>
     ensures read { IfOk result (λ v. HasOnly source.now (all_read v.items)) }
     ensures refused { IfErr result (OnRefusal (λ refusal. (before : List LogicalLine) × HasOnly source.now (map Ok before ++ Err refusal ∷ []))) }
+    ensures within { IfErr result (IsWithin (length source.now)) }
 {
     let mut found = Vec::new(alloc);
     for line in lines(alloc, source) {

@@ -1,6 +1,4 @@
-pub mod BytesLaws
 pub mod CodeOrder
-pub mod Composed
 pub mod Judging
 pub mod Main
 pub mod Members
@@ -9,3 +7,4 @@ pub mod Parts
 pub mod Whole
 pub mod WholeFindings
 pub mod WholeLabels
+pub mod WithinBytes

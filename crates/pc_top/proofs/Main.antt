@@ -8,22 +8,23 @@ use Rattle.pc_source.specs.Answers.{OnRefusal}
 use Rattle.pc_tree.specs.declared.code.Finding.{Finding}
 use Rattle.pc_tree.specs.Tree.{Module}
 use Rattle.pc_check.specs.Modules.{IsFinding}
+use Rattle.pc_check.proofs.LabelledModule.{every_module_has_a_labelling}
 use Rattle.pc_machine.specs.Runs.{Run, End, IsFault}
 use Rattle.pc_sound.proofs.Sounding.{sound}
 use Rattle.pc_top.specs.Fragment as part
 use Rattle.pc_top.specs.Part.{part_of, GoesBeyond}
-use Rattle.pc_top.specs.Bytes.{IsModuleOf, IsRefusalOf}
+use Rattle.pc_front.specs.Bytes.{IsModuleOf, IsRefusalOf}
 use Rattle.pc_top.specs.declared.report.Row.{Row}
 use Rattle.pc_top.specs.Checking.{findings_in}
 use Rattle.pc_top.specs.Report.{Lists, findings_of}
 use Rattle.pc_top.specs.Headline.{HasNoError, HasEvaluated, Headline, IsRefused, OnCheckFault, checked}
-use Rattle.pc_top.proofs.BytesLaws.{one_module}
-use Rattle.pc_top.proofs.WholeFindings.{exactly, labelled}
+use Rattle.pc_front.proofs.BytesLaws.{one_module}
+use Rattle.pc_top.proofs.WholeFindings.{exactly}
 
 module _ (bytes : List ℕ) (whole : Module) (program : part.Module) (typed : part_of whole ≡ Some program) where
   sound_here : (rows : List Row) → Lists bytes (IsFinding whole) rows → HasNoError rows → (events : List Place) (end : End) → Run whole events end → IsFault end → HasEvaluated rows events
   sound_here rows lists clean events end run fault =
-      let e = sound whole (labelled whole program typed) (λ f found. clean f ((lists.exact f).1 found)) events end run fault in
+      let e = sound whole (λ f found. clean f ((lists.exact f).1 found)) events end run fault in
       record { place = e.place; listed = (lists.exact e.place).1 e.found; dynamic = e.dynamic; event = e.event }
 
   pub headline_from : IsModuleOf bytes whole → (found : List Finding) (rows : List Row) → found ≡ findings_in program.body → Lists bytes (Contains found) rows → Headline bytes rows
@@ -33,7 +34,7 @@ module _ (bytes : List ℕ) (whole : Module) (program : part.Module) (typed : pa
         (λ h. (lists.exact f).1 (subst (λ l. Contains l f) (sym is) ((exactly whole program typed f).0 h))),
       ) in
       let listed : Lists bytes (IsFinding whole) rows = record { sorted = lists.sorted; exact = exact; placed = lists.placed } in
-      record { whole = whole; spelled = spelled; only = λ other h. one_module bytes other whole h spelled; listed = listed; sound = sound_here rows listed }
+      record { whole = whole; spelled = spelled; only = λ other h. one_module bytes other whole h spelled; labelled = every_module_has_a_labelling whole; listed = listed; sound = sound_here rows listed }
 
 -- a refusal of the bytes
 pub refused_bytes : (bytes : List ℕ) (f : Fault) → OnRefusal (IsRefusalOf bytes) f → OnCheckFault (IsRefused bytes) (checked f)

@@ -18,19 +18,21 @@ use Rattle.pc_scope.specs.Findings.{IsScopeCode, ScopeFinds, IsUnknown, IsUnknow
 use Rattle.pc_scope.specs.Findings as scope
 use Rattle.pc_class.specs.Findings.{ClassFinds}
 use Rattle.pc_class.specs.Findings as class
+use Rattle.pc_types.specs.Tree.{Tree}
 use Rattle.pc_flow.specs.Environment.{Env}
 use Rattle.pc_expr.specs.Context.{Context}
 use Rattle.pc_expr.specs.Signatures.{body_context}
 use Rattle.pc_expr.specs.Labels.{Finds, IsFoundAt, IsFlowAt}
 use Rattle.pc_check.specs.Statements.{Seen, SuiteFinds}
-use Rattle.pc_check.specs.Modules.{Labelling, HasLabelling, IsFinding, ItemsFind, nothing_before, constant_types}
+use Rattle.pc_check.specs.Modules.{Labelling, LabelsFind, IsFinding}
+use Rattle.pc_check.proofs.Scopes.{said_is_found}
 use Rattle.pc_check.proofs.OneModule.{one_labelling}
 use Rattle.pc_top.specs.Fragment.{Operator, Expr, int, str, binary, Stmt, pass, returns, returns_value, evaluates, first_of, Module}
 use Rattle.pc_top.specs.Checking.{code_of, type_in, found_at, found_in, found_in_stmt, unreachable_at, findings_in}
 use Rattle.pc_top.specs.Part.{part_of}
 use Rattle.pc_top.proofs.Members.{contains_here, contains_cases, contains_none}
 use Rattle.pc_top.proofs.Whole.{whole_expr, whole_body, whole_def, whole_module, is_whole}
-use Rattle.pc_top.proofs.WholeLabels.{expr_marks, suite_marks, bound_none, main_locals, marks, lawful, entry}
+use Rattle.pc_top.proofs.WholeLabels.{into_any, expr_marks, suite_marks, bound_none, main_locals, marks, lawful, entry}
 
 -- ---- expressions
 
@@ -77,8 +79,8 @@ record IsBehind (places : List Place) (f : Finding) : Type 0 where
   among : Contains places place
   is : f ≡ finding place E30
 
-no_flow : (p : Place) (f : Finding) → IsFlowAt p (None ∷ []) f → ⊥
-no_flow p f h = elim (contains_cases None [] (Some h.code) h.among) [ inl e ↦ absurd (grind (arith, e)) | inr n ↦ absurd (contains_none (Some h.code) n) ]
+no_flow : (t : Tree) (p : Place) (f : Finding) → IsFlowAt p (into_any t ∷ []) f → ⊥
+no_flow t p f h = elim (contains_cases (into_any t) [] h.flow h.among) [ inl e ↦ absurd (grind (arith, ap (λ x. x.code) e ∙ h.found)) | inr n ↦ absurd (contains_none h.flow n) ]
 
 at_first : (ss : List Stmt) (f : Finding) → Contains (unreachable_at ss) f → IsBehind (first_places (whole_body ss)) f
 at_first [] f h = absurd (contains_none f h)
@@ -125,12 +127,12 @@ module _ (m : tree.Module) (ctx : Context) (env : Env) (f : Finding) where
   suite_from seen (evaluates p e ∷ ss) h =
       elim (over h) [ inl own ↦ Contains-append_left (found_in e) (findings_in ss) f (found_from e f own) | inr other ↦ Contains-append_right (found_in e) (findings_in ss) f (suite_from seen ss other) ]
   suite_from seen (returns p ∷ ss) h = elim h [
-    | inl found ↦ elim found [ inl own ↦ elim own [ inl flow ↦ absurd (no_flow p f flow) | inr none ↦ absurd none ] | inr none ↦ absurd none ]
+    | inl found ↦ elim found [ inl own ↦ elim own [ inl flow ↦ absurd (no_flow _ p f flow) | inr none ↦ absurd none ] | inr none ↦ absurd none ]
     | inr behind ↦ from_first ss f behind
   ]
   suite_from seen (returns_value p e ∷ ss) h = elim h [
     | inl found ↦ elim found [
-      | inl own ↦ elim own [ inl flow ↦ absurd (no_flow _ f flow) | inr value ↦ Contains-append_left (found_in e) (unreachable_at ss) f (found_from e f value) ]
+      | inl own ↦ elim own [ inl flow ↦ absurd (no_flow _ _ f flow) | inr value ↦ Contains-append_left (found_in e) (unreachable_at ss) f (found_from e f value) ]
       | inr none ↦ absurd none
     ]
     | inr behind ↦ Contains-append_right (found_in e) (unreachable_at ss) f (from_first ss f behind)
@@ -231,20 +233,19 @@ module _ (dataclass any : Bool) (first name main : Place) (ss : List Stmt) where
   ctx = body_context whole [] (main_locals name ss)
 
   finding_from : (f : Finding) → Contains (findings_in ss) f → IsFinding whole f
-  finding_from f h = record {
-    marks = ours;
-    lawful = lawful dataclass any first name main ss;
-    found = elim (suite_to whole ctx (entry name ss) f [] ss h) [ inl found ↦ inr (inr (inl (inr (inr (inr found))))) | inr behind ↦ inl (scope_to f behind) ];
-  }
+  finding_from f h = elim (suite_to whole ctx (entry name ss) f [] ss h) [
+    | inl found ↦ said_is_found whole ours (lawful dataclass any first name main ss) f (inl (inr (inr (inr found))))
+    | inr behind ↦ record { marks = ours; lawful = lawful dataclass any first name main ss; found = inl (scope_to f behind) }
+  ]
 
   finding_to : (f : Finding) → IsFinding whole f → Contains (findings_in ss) f
   finding_to f h =
       let same : h.marks ≡ ours = one_labelling whole h.marks ours h.lawful (lawful dataclass any first name main ss) in
-      elim (subst (λ (l : Labelling whole). ScopeFinds whole f ⊎ (ClassFinds whole f ⊎ ItemsFind whole (constant_types whole whole.items l) nothing_before whole.items l f)) same h.found) [
+      elim (subst (λ (l : Labelling whole). ScopeFinds whole f ⊎ (ClassFinds whole f ⊎ LabelsFind whole l f)) same h.found) [
         | inl s ↦ suite_from whole ctx (entry name ss) f [] ss (inr (scope_from f s))
         | inr x ↦ elim x [
           | inl c ↦ absurd (class_none f c)
-          | inr i ↦ elim i [
+          | inr i ↦ elim i.said [
             | inl fn ↦ elim fn [
               | inl none ↦ absurd none
               | inr y ↦ elim y [ inl none ↦ absurd none | inr z ↦ elim z [ inl none ↦ absurd none | inr suite ↦ suite_from whole ctx (entry name ss) f [] ss (inl suite) ] ]
@@ -260,8 +261,3 @@ exactly m program h f =
     let w = is_whole m program h in
     subst (λ x. IsFinding x f ↔ Contains (findings_in program.body) f) (sym w.is)
     (finding_to m.imports_dataclass m.imports_any w.first w.name m.main program.body f, finding_from m.imports_dataclass m.imports_any w.first w.name m.main program.body f)
-
-pub labelled : (m : tree.Module) (program : Module) → part_of m ≡ Some program → HasLabelling m
-labelled m program h =
-    let w = is_whole m program h in
-    subst HasLabelling (sym w.is) (record { marks = marks m.imports_dataclass m.imports_any w.first w.name m.main program.body; lawful = lawful m.imports_dataclass m.imports_any w.first w.name m.main program.body })

@@ -12,7 +12,7 @@ use Rattle.pc_types.specs.Tree.{Tree}
 use Rattle.pc_types.specs.Tree as types
 use Rattle.pc_types.specs.Below.{Bases, object}
 use Rattle.pc_flow.specs.Environment.{Env, none_assigned}
-use Rattle.pc_expr.specs.Operations.{Mark, clean, binary_mark}
+use Rattle.pc_expr.specs.Operations.{Mark, FlowMark, clean, binary_mark}
 use Rattle.pc_expr.specs.Context.{Context, is_early, FlowUnless, static, FlowsInto}
 use Rattle.pc_expr.specs.Labels.{Marks, mark_of, type_of}
 use Rattle.pc_expr.specs.Lawful.{Lawful}
@@ -93,9 +93,13 @@ not_early (int p digits) = refl
 not_early (str p characters) = refl
 not_early (binary p op l r) = operator_not_early op (type_in l) (type_in r)
 
+-- the flow of a type into Any, in which nothing is found
+abbrev pub into_any : types.Tree → FlowMark
+into_any t = record { from = t; into = types.Any; code = None }
+
 -- anything flows into Any
-flows_into_any : (bases : Bases) (m : Mark) → is_early m.codes ≡ false → FlowsInto bases m (types.Any ∷ []) (None ∷ [])
-flows_into_any bases m h = (subst (λ early. FlowUnless early bases m.type types.Any None) (sym h) (static object), tt)
+flows_into_any : (bases : Bases) (m : Mark) → is_early m.codes ≡ false → FlowsInto bases m (types.Any ∷ []) (into_any m.type ∷ [])
+flows_into_any bases m h = (record { from = refl; into = refl; code = subst (λ early. FlowUnless early bases m.type types.Any None) (sym h) (static object) }, tt)
 
 module _ (ctx : Context) (declared : List Tree) (env : Env) where
   expr_lawful : (want : Option Tree) (x : Expr) → Lawful ctx declared env want (whole_expr x) (expr_marks x)
@@ -121,8 +125,8 @@ bound_none (evaluates p e ∷ ss) = bound_none ss
 abbrev pub suite_marks : Env → (ss : List Stmt) → SuiteMarks (whole_body ss)
 suite_marks env [] = tt
 suite_marks env (pass p ∷ ss) = (tt, (env, suite_marks env ss))
-suite_marks env (returns p ∷ ss) = (record { value = tt; flows = None ∷ [] }, tt)
-suite_marks env (returns_value p e ∷ ss) = (record { value = expr_marks e; flows = None ∷ [] }, tt)
+suite_marks env (returns p ∷ ss) = (record { value = tt; flows = into_any types.NoneType ∷ [] }, tt)
+suite_marks env (returns_value p e ∷ ss) = (record { value = expr_marks e; flows = into_any (type_of (whole_expr e) (expr_marks e)) ∷ [] }, tt)
 suite_marks env (evaluates p e ∷ ss) = (expr_marks e, (env, suite_marks env ss))
 
 abbrev pub suite_out : Env → List Stmt → Option Env

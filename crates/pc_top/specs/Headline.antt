@@ -7,9 +7,9 @@ use Rattle.pc_source.specs.declared.fault.Refusal.{Refusal}
 use Rattle.pc_tree.specs.declared.code.Finding.{Finding}
 use Rattle.pc_tree.specs.Code.{IsError}
 use Rattle.pc_tree.specs.Tree.{Module}
-use Rattle.pc_check.specs.Modules.{IsFinding}
+use Rattle.pc_check.specs.Modules.{HasLabelling, IsFinding}
 use Rattle.pc_machine.specs.Runs.{Run, End, IsFault}
-use Rattle.pc_top.specs.Bytes.{IsModuleOf, IsRefusalOf}
+use Rattle.pc_front.specs.Bytes.{IsModuleOf, IsRefusalOf}
 use Rattle.pc_top.specs.Part.{GoesBeyond}
 use Rattle.pc_top.specs.declared.report.Row.{Row}
 use Rattle.pc_top.specs.declared.fault.CheckFault.{CheckFault}
@@ -33,6 +33,8 @@ pub record Headline (bytes : List ℕ) (rows : List Row) : Type 0 where
   pub whole : Module
   pub spelled : IsModuleOf bytes whole
   pub only : (other : Module) → IsModuleOf bytes other → other ≡ whole
+  -- of its types there is a labelling, so its findings are those of one; the law `one_labelling` says that there is no other
+  pub labelled : HasLabelling whole
   pub listed : Lists bytes (IsFinding whole) rows
   pub sound : HasNoError rows → (events : List Place) (end : End) → Run whole events end → IsFault end → HasEvaluated rows events
 

@@ -1,4 +1,3 @@
-pub mod Bytes
 pub mod Checking
 pub mod Fragment
 pub mod Headline

@@ -1,5 +1,5 @@
 //! What names mean in a module, by the scopes of `pc_scope`.
-use crate::read_module;
+use pc_front::read_module;
 use pc_scope::{Builtin, Owner, Res, scopes};
 use pc_tree::Finding;
 use std::alloc::Global;

@@ -13,7 +13,7 @@ use Rattle.pc_types.proofs.Complete.{meets_from_assignable}
 use Rattle.pc_types.proofs.Agree.{flow_of_meets, meets_of_flow}
 
 mutual
-  seen_static : (t : Tree) → seen false t ≡ erase t
+  pub seen_static : (t : Tree) → seen false t ≡ erase t
   seen_static (ListOf t) = ap ListOf (seen_static t)
   seen_static (DictOf k v) = λ i. DictOf (seen_static k i) (seen_static v i)
   seen_static (TupleOf ts) = ap TupleOf (each_static ts)
@@ -25,7 +25,7 @@ mutual
   each_static (more t ts) = λ i. more (seen_static t i) (each_static ts i)
 
 mutual
-  seen_gradual : (t : Tree) → seen true t ≡ t
+  pub seen_gradual : (t : Tree) → seen true t ≡ t
   seen_gradual (ListOf t) = ap ListOf (seen_gradual t)
   seen_gradual (DictOf k v) = λ i. DictOf (seen_gradual k i) (seen_gradual v i)
   seen_gradual (TupleOf ts) = ap TupleOf (each_gradual ts)

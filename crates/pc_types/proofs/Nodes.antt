@@ -1,10 +1,10 @@
 -- Nodes, members and parts: how many there are, and which part stands where.
 use Rattle.std.proofs.Common.{◌≡◌, ℕ, zero, suc, ◌+◌, ◌<◌, ◌≤◌, length, take, ◌++◌, get_or, map, List, [], ◌∷◌, Vec, Global, All, Some, Result, Ok, Err, IfOk, refl, sym, ap, ◌∙◌, subst, arith}
 use Rattle.std.proofs.lemmas.List.{take_more}
-use Rattle.std.proofs.lemmas.List.Elements.{All-head, All-tail}
+use Rattle.std.proofs.lemmas.List.Elements.{All-nil, All-cons, All-head, All-tail}
 use Rattle.std.specs.List.{slice_get}
 use Rattle.pc_types.specs.Tree.{Tree, Trees, ListOf, DictOf, TupleOf, Union, end, more}
-use Rattle.pc_types.specs.Shape.{count, nodes, nodes_of, members, parts, listed, trees}
+use Rattle.pc_types.specs.Shape.{count, nodes, nodes_of, limit, members, parts, listed, trees}
 use Rattle.pc_types.specs.Head.{head_of, part_count}
 use Rattle.pc_types.specs.Normal.{IsNormal, AreNormal}
 use Rattle.pc_types.specs.Boxed.{tree_of, trees_in, IsGiven}
@@ -108,3 +108,32 @@ parts_count (Union a b) = refl
 parts_count (ListOf t) = refl
 parts_count (DictOf k v) = refl
 parts_count _ = refl
+
+all_got : {X : Type 0} (P : X → Type 0) (xs : List X) → ((k : ℕ) (x : X) → slice_get xs k ≡ Some x → P x) → All P xs
+all_got P [] f = All-nil P
+all_got P (x ∷ xs) f = All-cons P x xs (f zero x refl) (all_got P xs (λ k y e. f (suc k) y e))
+
+-- types in boxes that mean what is within a type that the store gave are ones that the store may give
+given_each : (t : BoxType) (ts : List BoxType) → IsGiven t → All (IsWithin (tree_of t)) (map tree_of ts) → All IsGiven ts
+given_each t [] g h = All-nil IsGiven
+given_each t (u ∷ ts) g h =
+    let w = All-head (IsWithin (tree_of t)) (tree_of u) (map tree_of ts) h in
+    let s = w.small in
+    let m = g.small in
+    All-cons IsGiven u ts (record { small = omega arith; normal = w.normal }) (given_each t ts g (All-tail (IsWithin (tree_of t)) (tree_of u) (map tree_of ts) h))
+
+-- the members of a type that the store gave, in boxes
+pub members_given : {E : Type 0} (t : BoxType) (r : Result (Vec BoxType Global) E) → IsGiven t → IfOk r (λ v. map tree_of v.items ≡ members (tree_of t)) → IfOk r (λ v. All IsGiven v.items)
+members_given t (Ok v) g e =
+    given_each t v.items g (subst (All (IsWithin (tree_of t))) (sym e) (all_got (IsWithin (tree_of t)) (members (tree_of t)) (λ k p h. member_within (tree_of t) k p g.normal h)))
+members_given t (Err x) g e = tt
+
+-- its parts
+pub parts_given : {E : Type 0} (t : BoxType) (r : Result (Vec BoxType Global) E) → IsGiven t → IfOk r (λ v. map tree_of v.items ≡ parts (tree_of t)) → IfOk r (λ v. All IsGiven v.items)
+parts_given t (Ok v) g e =
+    given_each t v.items g (subst (All (IsWithin (tree_of t))) (sym e) (all_got (IsWithin (tree_of t)) (parts (tree_of t)) (λ k p h. part_within (tree_of t) k p g.normal h)))
+parts_given t (Err x) g e = tt
+
+-- a type in boxes that means a tree in normal form within the limit is one that the store may give
+pub given_as : (u : BoxType) (t : Tree) → tree_of u ≡ t → IsNormal t → nodes t ≤ limit → IsGiven u
+given_as u t e n l = record { small = subst (λ x. nodes x ≤ limit) (sym e) l; normal = subst IsNormal (sym e) n }

@@ -29,3 +29,10 @@ either_second f i j s g = (λ h. g (j.0 h), λ z. ⊎_elim (λ x. absurd (is_no 
 -- the same fact said otherwise
 pub through_is : {X Z : Type 0} {r : Test} → (IsTrue r ↔ X) → (X ↔ Z) → IsTrue r ↔ Z
 through_is i j = (λ h. j.0 (i.0 h), λ z. i.1 (j.1 z))
+
+-- two tests of one fact are one
+pub same_test : {X : Type 0} (a b : Test) → IsTrue a ↔ X → IsTrue b ↔ X → a ≡ b
+same_test true true f g = refl
+same_test true false f g = sym (g.1 (f.0 refl))
+same_test false true f g = f.1 (g.0 refl)
+same_test false false f g = refl

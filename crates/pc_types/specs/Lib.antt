@@ -1,7 +1,9 @@
 pub mod Annotations
 pub mod Assignable
+pub mod Bases
 pub mod Below
 pub mod Boxed
+pub mod Computed
 pub mod Flow
 pub mod Head
 pub mod Join
@@ -9,3 +11,4 @@ pub mod Normal
 pub mod Shape
 pub mod Store
 pub mod Tree
+pub mod WellFormed

@@ -2,7 +2,9 @@ ghost use Rattle.pc_types.specs.Boxed.{tree_of, IsGiven};
 
 use crate::flow::{is_assignable, is_static};
 use crate::join::join;
-use crate::shape::{LIMIT, copies, copy, count_each, count_nodes, head, part};
+use crate::shape::{
+    LIMIT, copies, copy, count_each, count_nodes, head, members, part, parts, union,
+};
 use crate::{Head, Parents, TypeStore};
 use pc_source::OutOfMemory;
 use std::alloc::Global;
@@ -43,7 +45,7 @@ impl TypeStore for BoxStore {
 
     ghost has = { λ _ t. IsGiven t };
 
-    ghost tree = { λ _ t. tree_of t };
+    ghost tree = { tree_of };
 
     ghost normal = { λ _ t h. h.normal };
 
@@ -124,6 +126,22 @@ impl TypeStore for BoxStore {
 
     fn part(&self, alloc: Global, ty: &BoxType, number: usize) -> Result<BoxType, OutOfMemory> {
         copy(alloc, part(ty, number))
+    }
+
+    fn members(&self, alloc: Global, ty: &BoxType) -> Result<Vec<BoxType>, OutOfMemory> {
+        members(alloc, ty)
+    }
+
+    fn parts(&self, alloc: Global, ty: &BoxType) -> Result<Vec<BoxType>, OutOfMemory> {
+        parts(alloc, ty)
+    }
+
+    fn union(&mut self, alloc: Global, types: &[BoxType]) -> Result<Option<BoxType>, OutOfMemory> {
+        let union = union(alloc, types)?;
+        if count_nodes(&union) > LIMIT {
+            return Ok(None);
+        }
+        Ok(Some(union))
     }
 
     fn join(

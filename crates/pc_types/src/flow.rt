@@ -1,30 +1,14 @@
 // When a type flows into another.
 
 ghost use Rattle.std.specs.Prelude.{◌≡◌, ◌↔◌, length, IsTrue, true};
-ghost use Rattle.pc_types.specs.Below.{Below, Static};
-ghost use Rattle.pc_types.specs.Tree.{Class};
+ghost use Rattle.pc_types.specs.Below.{Static};
 ghost use Rattle.pc_types.specs.Assignable.{Assignable};
+ghost use Rattle.pc_types.specs.Computed.{static_test, assignable_test};
 ghost use Rattle.pc_types.specs.Flow.{Covers, Flow, FlowsBack, EachFlow, FlowFits, HeadFits, seen, seen_each};
-ghost use Rattle.pc_types.specs.Join.{reaches};
 ghost use Rattle.pc_types.specs.Normal.{IsNormal};
 ghost use Rattle.pc_types.specs.Boxed.{tree_of, trees_in, IsNoUnion};
 
 use crate::{BoxType, Parents};
-
-/// Whether a class is another one or has it as an ancestor.
-pub(crate) fn is_within(parents: &Parents, class: usize, ancestor: usize) -> bool
-    ensures below { IsTrue result ↔ Below parents.now (Class class) (Class ancestor) }
-    ensures steps { result ≡ reaches parents.now class class ancestor }
-{
-    let mut at = class;
-    while at != ancestor {
-        match parents.base(at) {
-            Some(base) => at = base,
-            None => return false,
-        }
-    }
-    true
-}
 
 /// Whether each member of the first has in the second a member of its head, or one above it.
 fn covers(parents: &Parents, gradual: bool, s: &BoxType, t: &BoxType) -> bool
@@ -58,7 +42,7 @@ fn head_fits(parents: &Parents, gradual: bool, s: &BoxType, t: &BoxType) -> bool
         BoxType::Str => matches!(t, BoxType::Str),
         BoxType::NoneType => matches!(t, BoxType::NoneType),
         BoxType::Class(c) => match t {
-            BoxType::Class(d) => is_within(parents, *c, *d),
+            BoxType::Class(d) => parents.is_within(*c, *d),
             _ => false,
         },
         BoxType::List(_) => matches!(t, BoxType::List(_)),
@@ -150,8 +134,10 @@ fn each_flows(parents: &Parents, gradual: bool, both: bool, ss: &[BoxType], ts: 
 pub(crate) fn is_static(parents: &Parents, s: &BoxType, t: &BoxType) -> bool
     requires left { IsNormal (tree_of s.now) }
     requires right { IsNormal (tree_of t.now) }
-    ensures { IsTrue result ↔ Static parents.now (tree_of s.now) (tree_of t.now) }
+    ensures value { IsTrue result ↔ Static parents.now (tree_of s.now) (tree_of t.now) }
+    ensures test { result ≡ static_test parents.now (tree_of s.now) (tree_of t.now) }
 {
+    parents.ordered();
     flows(parents, false, false, s, t)
 }
 
@@ -159,7 +145,9 @@ pub(crate) fn is_static(parents: &Parents, s: &BoxType, t: &BoxType) -> bool
 pub(crate) fn is_assignable(parents: &Parents, s: &BoxType, t: &BoxType) -> bool
     requires left { IsNormal (tree_of s.now) }
     requires right { IsNormal (tree_of t.now) }
-    ensures { IsTrue result ↔ Assignable parents.now (tree_of s.now) (tree_of t.now) }
+    ensures value { IsTrue result ↔ Assignable parents.now (tree_of s.now) (tree_of t.now) }
+    ensures test { result ≡ assignable_test parents.now (tree_of s.now) (tree_of t.now) }
 {
+    parents.ordered();
     flows(parents, true, false, s, t)
 }

@@ -8,8 +8,7 @@ ghost use Rattle.pc_types.specs.Shape.{ahead, union};
 ghost use Rattle.pc_types.specs.Join.{IsSplit, same_tree, same_trees, absorbs, is_absorbed, unabsorbed, is_before, by_rule, kept_with, one_with, one_of, parts_of, put_all, join_each, joined, join, within_limit};
 ghost use Rattle.pc_types.specs.Boxed.{tree_of, trees_in, IsGiven};
 
-use crate::flow::is_within;
-use crate::shape::{LIMIT, copy, count_nodes};
+use crate::shape::{LIMIT, copy, count_nodes, put_ahead};
 use crate::{BoxType, Parents};
 use pc_source::OutOfMemory;
 use std::alloc::Global;
@@ -73,7 +72,7 @@ fn does_absorb(parents: &Parents, a: &BoxType, m: &BoxType) -> bool
     match a {
         BoxType::Int => matches!(m, BoxType::Bool),
         BoxType::Class(d) => match m {
-            BoxType::Class(c) => c != d && is_within(parents, *c, *d),
+            BoxType::Class(c) => c != d && parents.is_within(*c, *d),
             _ => false,
         },
         _ => false,
@@ -128,19 +127,6 @@ fn split<'a>(t: &'a BoxType, never: &'a BoxType) -> Option<(&'a BoxType, &'a Box
         BoxType::Never => None,
         BoxType::Union(first, others) => Some((first, others)),
         _ => Some((t, never)),
-    }
-}
-
-/// A member ahead of those of a type.
-fn put_ahead(alloc: Global, m: BoxType, rest: BoxType) -> Result<BoxType, OutOfMemory>
-    ensures { IfOk result (λ u. tree_of u ≡ ahead (tree_of m) (tree_of rest)) }
-{
-    match rest {
-        BoxType::Never => Ok(m),
-        _ => {
-            let rest = Box::new(alloc, rest)?;
-            Ok(BoxType::Union(Box::new(alloc, m)?, rest))
-        }
     }
 }
 

@@ -5,6 +5,7 @@ mod boxed;
 mod flow;
 mod head;
 mod join;
+mod laws;
 mod parents;
 mod shape;
 mod store;
@@ -13,5 +14,8 @@ mod tests;
 
 pub use boxed::{BoxStore, BoxType};
 pub use head::Head;
+pub use laws::{
+    annotations_are_well_formed, bases_stand_before, joins_are_well_formed, subtyping_is_decided,
+};
 pub use parents::Parents;
 pub use store::TypeStore;

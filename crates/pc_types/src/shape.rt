@@ -1,7 +1,7 @@
 // The form of types in boxes: nodes, heads, parts, copies.
 
-ghost use Rattle.std.specs.Prelude.{◌≡◌, ◌<◌, ◌+◌, min, map, length, slice_get, IfOk, Some};
-ghost use Rattle.pc_types.specs.Shape.{nodes, nodes_of, parts, members};
+ghost use Rattle.std.specs.Prelude.{◌≡◌, ◌<◌, ◌+◌, ◌++◌, min, map, length, slice_get, IfOk, OnOk, Some};
+ghost use Rattle.pc_types.specs.Shape.{nodes, nodes_of, parts, members, ahead, union};
 ghost use Rattle.pc_types.specs.Head.{head_of};
 ghost use Rattle.pc_types.specs.Boxed.{tree_of, trees_in};
 
@@ -150,4 +150,72 @@ pub(crate) fn part(t: &BoxType, number: usize) -> &BoxType
         BoxType::Tuple(parts) => &parts[number],
         _ => member(t, number),
     }
+}
+
+/// Each member of a type behind other types.
+fn push_members(alloc: Global, t: &BoxType, out: &mut Vec<BoxType>) -> Result<(), OutOfMemory>
+    ensures { OnOk result (map tree_of out.new.items ≡ map tree_of out.old.items ++ members (tree_of t.now)) }
+{
+    match t {
+        BoxType::Never => Ok(()),
+        BoxType::Union(first, others) => {
+            out.push(copy(alloc, first)?)?;
+            push_members(alloc, others, out)
+        }
+        _ => {
+            out.push(copy(alloc, t)?)?;
+            Ok(())
+        }
+    }
+}
+
+/// The members of a type.
+pub(crate) fn members(alloc: Global, t: &BoxType) -> Result<Vec<BoxType>, OutOfMemory>
+    ensures { IfOk result (λ v. map tree_of v.items ≡ members (tree_of t.now)) }
+{
+    let mut out = Vec::new(alloc);
+    push_members(alloc, t, &mut out)?;
+    Ok(out)
+}
+
+/// The parts of a type.
+pub(crate) fn parts(alloc: Global, t: &BoxType) -> Result<Vec<BoxType>, OutOfMemory>
+    ensures { IfOk result (λ v. map tree_of v.items ≡ parts (tree_of t.now)) }
+{
+    match t {
+        BoxType::List(item) => Ok(vec![in alloc; copy(alloc, item)?]?),
+        BoxType::Dict(key, value) => {
+            let key = copy(alloc, key)?;
+            Ok(vec![in alloc; key, copy(alloc, value)?]?)
+        }
+        BoxType::Tuple(parts) => copies(alloc, parts),
+        BoxType::Union(_, _) => members(alloc, t),
+        _ => Ok(Vec::new(alloc)),
+    }
+}
+
+/// A member ahead of those of a type.
+pub(crate) fn put_ahead(alloc: Global, m: BoxType, rest: BoxType) -> Result<BoxType, OutOfMemory>
+    ensures { IfOk result (λ u. tree_of u ≡ ahead (tree_of m) (tree_of rest)) }
+{
+    match rest {
+        BoxType::Never => Ok(m),
+        _ => {
+            let rest = Box::new(alloc, rest)?;
+            Ok(BoxType::Union(Box::new(alloc, m)?, rest))
+        }
+    }
+}
+
+/// The union of members.
+pub(crate) fn union(alloc: Global, types: &[BoxType]) -> Result<BoxType, OutOfMemory>
+    ensures { IfOk result (λ u. tree_of u ≡ union (map tree_of types.now)) }
+{
+    let mut out = BoxType::Never;
+    let mut at = types.len();
+    while at > 0 {
+        at -= 1;
+        out = put_ahead(alloc, copy(alloc, &types[at])?, out)?;
+    }
+    Ok(out)
 }

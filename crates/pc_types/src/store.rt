@@ -2,8 +2,9 @@ ghost use Rattle.std.specs.Prelude.{◌≡◌, ◌↔◌, ◌<◌, ◌≤◌, Li
 ghost use Rattle.pc_types.specs.Tree.{Tree, Any, Object, Never, Int, Bool, Str, NoneType, Class, ListOf, DictOf, TupleOf};
 ghost use Rattle.pc_types.specs.Below.{Static};
 ghost use Rattle.pc_types.specs.Assignable.{Assignable};
+ghost use Rattle.pc_types.specs.Computed.{static_test, assignable_test};
 ghost use Rattle.pc_types.specs.Normal.{IsKey, IsNormal};
-ghost use Rattle.pc_types.specs.Shape.{nodes, limit, parts, trees};
+ghost use Rattle.pc_types.specs.Shape.{nodes, limit, members, parts, trees, union};
 ghost use Rattle.pc_types.specs.Join.{join};
 ghost use Rattle.pc_types.specs.Head.{head_of, part_count};
 ghost use Rattle.pc_types.specs.Store.{Means, Keeps, MeansWithin, MeansAny};
@@ -12,10 +13,8 @@ use crate::{Head, Parents};
 use pc_source::OutOfMemory;
 use std::alloc::Global;
 
-/// A store of types. Each of its types means, in the store that gave it, a type tree of at most 256
-/// nodes in normal form; what a type means never changes.
-///
-/// The unions of types are made by `join` alone.
+/// A store of types. Each of its types means a type tree of at most 256 nodes in normal form, by itself,
+/// whatever becomes of the store.
 pub trait TypeStore {
     /// A type of the store.
     type Ty: Drop;
@@ -24,53 +23,53 @@ pub trait TypeStore {
     ghost has: { Self → Self.Ty → Type 0 };
 
     /// The tree that the type means.
-    ghost tree: { Self → Self.Ty → Tree };
+    ghost tree: { Self.Ty → Tree };
 
     /// The type `Any`.
     fn any(&mut self, alloc: Global) -> Result<Self::Ty, OutOfMemory>
         ensures value { IfOk result (λ t. Means has tree self.new t Any) }
-        ensures kept { Keeps has tree self.old self.new };
+        ensures kept { Keeps has self.old self.new };
 
     /// The type `object`.
     fn object(&mut self, alloc: Global) -> Result<Self::Ty, OutOfMemory>
         ensures value { IfOk result (λ t. Means has tree self.new t Object) }
-        ensures kept { Keeps has tree self.old self.new };
+        ensures kept { Keeps has self.old self.new };
 
     /// The type `Never`.
     fn never(&mut self, alloc: Global) -> Result<Self::Ty, OutOfMemory>
         ensures value { IfOk result (λ t. Means has tree self.new t Never) }
-        ensures kept { Keeps has tree self.old self.new };
+        ensures kept { Keeps has self.old self.new };
 
     /// The type `int`.
     fn int(&mut self, alloc: Global) -> Result<Self::Ty, OutOfMemory>
         ensures value { IfOk result (λ t. Means has tree self.new t Int) }
-        ensures kept { Keeps has tree self.old self.new };
+        ensures kept { Keeps has self.old self.new };
 
     /// The type `bool`.
     fn bool(&mut self, alloc: Global) -> Result<Self::Ty, OutOfMemory>
         ensures value { IfOk result (λ t. Means has tree self.new t Bool) }
-        ensures kept { Keeps has tree self.old self.new };
+        ensures kept { Keeps has self.old self.new };
 
     /// The type `str`.
     fn str(&mut self, alloc: Global) -> Result<Self::Ty, OutOfMemory>
         ensures value { IfOk result (λ t. Means has tree self.new t Str) }
-        ensures kept { Keeps has tree self.old self.new };
+        ensures kept { Keeps has self.old self.new };
 
     /// The type `None`.
     fn none(&mut self, alloc: Global) -> Result<Self::Ty, OutOfMemory>
         ensures value { IfOk result (λ t. Means has tree self.new t NoneType) }
-        ensures kept { Keeps has tree self.old self.new };
+        ensures kept { Keeps has self.old self.new };
 
     /// The class of this number.
     fn class(&mut self, alloc: Global, number: usize) -> Result<Self::Ty, OutOfMemory>
         ensures value { IfOk result (λ t. Means has tree self.new t (Class number)) }
-        ensures kept { Keeps has tree self.old self.new };
+        ensures kept { Keeps has self.old self.new };
 
     /// `list[item]`, or none where it has over 256 nodes.
     fn list(&mut self, alloc: Global, item: &Self::Ty) -> Result<Option<Self::Ty>, OutOfMemory>
         requires { has self.old item.now }
-        ensures value { IfOk result (λ t. MeansWithin has tree self.new t (ListOf (tree self.old item.now))) }
-        ensures kept { Keeps has tree self.old self.new };
+        ensures value { IfOk result (λ t. MeansWithin has tree self.new t (ListOf (tree item.now))) }
+        ensures kept { Keeps has self.old self.new };
 
     /// `dict[key, value]`, or none where it has over 256 nodes. The key is `int` or `str`.
     fn dict(
@@ -81,38 +80,59 @@ pub trait TypeStore {
     ) -> Result<Option<Self::Ty>, OutOfMemory>
         requires key { has self.old key.now }
         requires value { has self.old value.now }
-        requires suits { IsKey (tree self.old key.now) }
-        ensures value { IfOk result (λ t. MeansWithin has tree self.new t (DictOf (tree self.old key.now) (tree self.old value.now))) }
-        ensures kept { Keeps has tree self.old self.new };
+        requires suits { IsKey (tree key.now) }
+        ensures value { IfOk result (λ t. MeansWithin has tree self.new t (DictOf (tree key.now) (tree value.now))) }
+        ensures kept { Keeps has self.old self.new };
 
     /// `tuple[parts]`, or none where it has over 256 nodes.
     fn tuple(&mut self, alloc: Global, parts: &[Self::Ty]) -> Result<Option<Self::Ty>, OutOfMemory>
         requires { All (has self.old) parts.now }
-        ensures value { IfOk result (λ t. MeansWithin has tree self.new t (TupleOf (trees (map (tree self.old) parts.now)))) }
-        ensures kept { Keeps has tree self.old self.new };
+        ensures value { IfOk result (λ t. MeansWithin has tree self.new t (TupleOf (trees (map tree parts.now)))) }
+        ensures kept { Keeps has self.old self.new };
 
     /// The same type again.
     fn copy(&self, alloc: Global, ty: &Self::Ty) -> Result<Self::Ty, OutOfMemory>
         requires { has self.now ty.now }
-        ensures { IfOk result (λ t. Means has tree self.now t (tree self.now ty.now)) };
+        ensures { IfOk result (λ t. Means has tree self.now t (tree ty.now)) };
 
     /// The type's head.
     fn head(&self, ty: &Self::Ty) -> Head
         requires { has self.now ty.now }
-        ensures head { result ≡ head_of (tree self.now ty.now) }
-        ensures parts { length (parts (tree self.now ty.now)) ≡ part_count result };
+        ensures head { result ≡ head_of (tree ty.now) }
+        ensures parts { length (parts (tree ty.now)) ≡ part_count result };
 
     /// How many nodes the type has, from 1 to 256.
     fn nodes(&self, ty: &Self::Ty) -> usize
         requires { has self.now ty.now }
-        ensures { result ≡ nodes (tree self.now ty.now) };
+        ensures { result ≡ nodes (tree ty.now) };
 
     /// The part of this number, from 0: a list's item, a dict's key and value, a tuple's parts, a
     /// union's members in order.
     fn part(&self, alloc: Global, ty: &Self::Ty, number: usize) -> Result<Self::Ty, OutOfMemory>
         requires ty { has self.now ty.now }
-        requires number { number < length (parts (tree self.now ty.now)) }
-        ensures { IfOk result (λ t. has self.now t × (slice_get (parts (tree self.now ty.now)) number ≡ Some (tree self.now t))) };
+        requires number { number < length (parts (tree ty.now)) }
+        ensures { IfOk result (λ t. has self.now t × (slice_get (parts (tree ty.now)) number ≡ Some (tree t))) };
+
+    /// The members of the type in order: none of `Never`, those of a union, else the type itself.
+    fn members(&self, alloc: Global, ty: &Self::Ty) -> Result<Vec<Self::Ty>, OutOfMemory>
+        requires { has self.now ty.now }
+        ensures held { IfOk result (λ ts. All (has self.now) ts.items) }
+        ensures value { IfOk result (λ ts. map tree ts.items ≡ members (tree ty.now)) };
+
+    /// The parts of the type in order: a list's item, a dict's key and value, a tuple's parts, a
+    /// union's members.
+    fn parts(&self, alloc: Global, ty: &Self::Ty) -> Result<Vec<Self::Ty>, OutOfMemory>
+        requires { has self.now ty.now }
+        ensures held { IfOk result (λ ts. All (has self.now) ts.items) }
+        ensures value { IfOk result (λ ts. map tree ts.items ≡ parts (tree ty.now)) };
+
+    /// The union of members that stand in the order of a union, or none where it has over 256 nodes:
+    /// `Never` of none, of one that type itself.
+    fn union(&mut self, alloc: Global, types: &[Self::Ty]) -> Result<Option<Self::Ty>, OutOfMemory>
+        requires types { All (has self.old) types.now }
+        requires order { IsNormal (union (map tree types.now)) }
+        ensures value { IfOk result (λ t. MeansWithin has tree self.new t (union (map tree types.now))) }
+        ensures kept { Keeps has self.old self.new };
 
     /// The join of two types, or none where a part of them has none or it has over 256 nodes.
     fn join(
@@ -124,26 +144,28 @@ pub trait TypeStore {
     ) -> Result<Option<Self::Ty>, OutOfMemory>
         requires left { has self.old s.now }
         requires right { has self.old t.now }
-        ensures value { IfOk result (λ u. MeansAny has tree self.new u (join parents.now (tree self.old s.now) (tree self.old t.now))) }
-        ensures kept { Keeps has tree self.old self.new };
+        ensures value { IfOk result (λ u. MeansAny has tree self.new u (join parents.now (tree s.now) (tree t.now))) }
+        ensures kept { Keeps has self.old self.new };
 
     /// Whether the first is static to the second: below it, each `Any` read as `object`.
     fn is_static(&mut self, parents: &Parents, s: &Self::Ty, t: &Self::Ty) -> bool
         requires left { has self.old s.now }
         requires right { has self.old t.now }
-        ensures value { IsTrue result ↔ Static parents.now (tree self.old s.now) (tree self.old t.now) }
-        ensures kept { Keeps has tree self.old self.new };
+        ensures value { IsTrue result ↔ Static parents.now (tree s.now) (tree t.now) }
+        ensures test { result ≡ static_test parents.now (tree s.now) (tree t.now) }
+        ensures kept { Keeps has self.old self.new };
 
     /// Whether the first is assignable to the second: below it for some reading of each `Any`.
     fn is_assignable(&mut self, parents: &Parents, s: &Self::Ty, t: &Self::Ty) -> bool
         requires left { has self.old s.now }
         requires right { has self.old t.now }
-        ensures value { IsTrue result ↔ Assignable parents.now (tree self.old s.now) (tree self.old t.now) }
-        ensures kept { Keeps has tree self.old self.new };
+        ensures value { IsTrue result ↔ Assignable parents.now (tree s.now) (tree t.now) }
+        ensures test { result ≡ assignable_test parents.now (tree s.now) (tree t.now) }
+        ensures kept { Keeps has self.old self.new };
 
     /// Each type is in normal form.
-    ghost normal: { (store : Self) (ty : Self.Ty) → has store ty → IsNormal (tree store ty) };
+    ghost normal: { (store : Self) (ty : Self.Ty) → has store ty → IsNormal (tree ty) };
 
     /// Each type has at most 256 nodes.
-    ghost small: { (store : Self) (ty : Self.Ty) → has store ty → nodes (tree store ty) ≤ limit };
+    ghost small: { (store : Self) (ty : Self.Ty) → has store ty → nodes (tree ty) ≤ limit };
 }

@@ -415,6 +415,64 @@ fn part_codes(alloc: Global, t: &BoxType) -> Result<String, Fail>
     Ok(out)
 }
 
+/// The codes of types.
+fn codes(alloc: Global, types: &[BoxType]) -> Result<String, Fail> {
+    let mut out = String::new(alloc);
+    for t in types {
+        spell(t, &mut out)?;
+        out.push(',')?;
+    }
+    Ok(out)
+}
+
+/// Types and their members.
+const MEMBERS: &str = "\
+N
+A A,
+O O,
+i i,
+L|in L|in,
+(2is (2is,
+|in i,n,
+|i|n(2i7 i,n,(2i7,
+|b|s|n|LiDii b,s,n,Li,Dii,";
+
+#[test]
+fn types_have_the_members_of_the_table(rt: HostRuntime) -> Result<(), Fail> {
+    let alloc = rt.alloc();
+    let parents = parents(alloc)?;
+    for row in MEMBERS.lines() {
+        let mut words = row.split(' ');
+        let t = of(alloc, &parents, words.next().ok_or("no type")?)?;
+        let members = codes(alloc, &BoxStore::new().members(alloc, &t)?)?;
+        assert_eq!(rt;
+            members.as_str(),
+            words.next().unwrap_or(""),
+            "members: {row}"
+        );
+    }
+    Ok(())
+}
+
+#[test]
+fn unions_are_made_of_members(rt: HostRuntime) -> Result<(), Fail> {
+    let alloc = rt.alloc();
+    let mut store = BoxStore::new();
+    let types = [
+        store.int(alloc)?,
+        store.none(alloc)?,
+        store.class(alloc, 7)?,
+    ];
+    let union = store.union(alloc, &types)?.ok_or("a union")?;
+    assert!(rt; has_code(alloc, &union, "|i|n7")?);
+    let none = [store.none(alloc)?];
+    let union = store.union(alloc, &none)?.ok_or("a member")?;
+    assert!(rt; has_code(alloc, &union, "n")?);
+    let union = store.union(alloc, &[])?.ok_or("no member")?;
+    assert!(rt; has_code(alloc, &union, "N")?);
+    Ok(())
+}
+
 #[test]
 fn types_have_the_shapes_of_the_table(rt: HostRuntime) -> Result<(), Fail> {
     let alloc = rt.alloc();
@@ -439,7 +497,10 @@ fn types_have_the_shapes_of_the_table(rt: HostRuntime) -> Result<(), Fail> {
             "nodes: {row}"
         );
         let parts = part_codes(alloc, &t)?;
-        assert_eq!(rt; parts.as_str(), words.next().unwrap_or(""), "parts: {row}");
+        let wanted = words.next().unwrap_or("");
+        assert_eq!(rt; parts.as_str(), wanted, "parts: {row}");
+        let parts = codes(alloc, &store.parts(alloc, &t)?)?;
+        assert_eq!(rt; parts.as_str(), wanted, "parts at once: {row}");
         assert!(rt;
             has_code(alloc, &store.copy(alloc, &t)?, code)?,
             "copy: {row}"
@@ -570,5 +631,12 @@ fn parents_stand_before_their_classes(rt: HostRuntime) -> Result<(), Fail> {
         Parents::new(vec![in alloc; None, Some(2), None]?).is_none(),
         "a later base"
     );
+    let parents = Parents::new(vec![in alloc; None, Some(0), Some(1), None]?).ok_or("bases")?;
+    assert_eq!(rt; parents.base(2), Some(1));
+    assert_eq!(rt; parents.base(4), None);
+    assert!(rt; parents.is_within(2, 0));
+    assert!(rt; parents.is_within(4, 4));
+    assert!(rt; !parents.is_within(0, 2));
+    assert!(rt; !parents.is_within(3, 0));
     Ok(())
 }

@@ -10,8 +10,6 @@ mod heap;
 mod iteration;
 mod operators;
 mod seen;
-#[cfg(test)]
-mod tests;
 mod text;
 mod value;
 mod whole;

@@ -3,7 +3,7 @@ use Rattle.std.specs.Prelude.{ℕ, List, []}
 use Rattle.pc_source.specs.declared.place.Place.{Place}
 use Rattle.pc_tree.specs.Tree.{Module}
 use Rattle.pc_machine.specs.Runs.{End, PlainRun}
-use Rattle.pc_top.specs.Bytes.{IsModuleOf}
+use Rattle.pc_front.specs.Bytes.{IsModuleOf}
 
 -- the bytes spell a module whose plain run, with that fuel and without choices, leaves these events and this end
 pub record RunsPlainly (bytes : List ℕ) (fuel : ℕ) (events : List Place) (end : End) : Type 0 where

@@ -2,6 +2,8 @@
 #![tactic(auto)]
 
 #[cfg(test)]
+mod actions_tests;
+#[cfg(test)]
 mod attributes_tests;
 #[cfg(test)]
 mod built_ins_tests;
@@ -35,6 +37,8 @@ mod traces;
 #[cfg(test)]
 mod truth_tests;
 mod words;
+#[cfg(test)]
+mod words_of_modules_tests;
 #[cfg(test)]
 mod words_tests;
 #[cfg(test)]

@@ -1,12 +1,13 @@
-ghost use Rattle.std.specs.Prelude.{IfOk, IfErr};
+ghost use Rattle.std.specs.Prelude.{length, IfOk, IfErr};
 ghost use Rattle.pc_source.specs.Answers.{OnRefusal};
+ghost use Rattle.pc_source.specs.Within.{IsWithin};
 ghost use Rattle.pc_run.specs.Traces.{end_of_rust};
-ghost use Rattle.pc_top.specs.Bytes.{IsRefusalOf};
+ghost use Rattle.pc_front.specs.Bytes.{IsRefusalOf};
 ghost use Rattle.pyrun.specs.Running.{RunsPlainly};
 
+use pc_front::read_module;
 use pc_run::{Trace, run};
 use pc_source::Fault;
-use pc_top::read_module;
 use std::alloc::Global;
 
 /// The trace of the plain run of the module that the bytes spell, with that fuel and without choices. Own rule of the profile.
@@ -17,6 +18,7 @@ use std::alloc::Global;
 pub fn traced(alloc: Global, bytes: &[u8], fuel: u64) -> Result<Trace, Fault>
     ensures runs { IfOk result (λ t. RunsPlainly bytes.now fuel t.events.items (end_of_rust t.end)) }
     ensures refused { IfErr result (OnRefusal (IsRefusalOf bytes.now)) }
+    ensures within { IfErr result (IsWithin (length bytes.now)) }
 {
     let program = read_module(alloc, bytes)?;
     let trace = run(alloc, &program, fuel, &[])?;

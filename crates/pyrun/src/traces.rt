@@ -1,6 +1,6 @@
 //! What the tests of runs share.
+use pc_front::read_module;
 use pc_run::{End, Trace, run, trace_text};
-use pc_top::read_module;
 use std::alloc::Global;
 use std::test::Fail;
 

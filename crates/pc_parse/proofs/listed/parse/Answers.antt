@@ -2,6 +2,7 @@ use Rattle.std.proofs.Common.{refl}
 use Rattle.std.specs.Prelude.{map}
 use Rattle.pc_token.specs.Lexeme.{lexeme_of}
 use Rattle.pc_parse.proofs.Copied.{listed_read, listed_refused, only}
+use Rattle.pc_parse.proofs.WithinTokens.{answer_within}
 use Rattle.pc_parse.proofs.listed.parse.Goals as goal
 
 pub returns-clause-found : goal.returns-clause-found
@@ -13,3 +14,6 @@ returns-clause-only c = only (map lexeme_of c.args.tokens.now) c.parse_from.resu
 
 pub returns-clause-refused : goal.returns-clause-refused
 returns-clause-refused c = listed_refused _ (λ b. refl) (record { tokens = c.args.tokens; at = 0 }) c.parse_from.result c.parse_from.ensures.refused
+
+pub returns-clause-within : goal.returns-clause-within
+returns-clause-within c = answer_within (map lexeme_of c.args.tokens.now) c.parse_from.result (returns-clause-refused c)

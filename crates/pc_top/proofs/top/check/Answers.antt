@@ -3,9 +3,10 @@ use Rattle.std.proofs.lemmas.Result.{err_from_is_err_and}
 use Rattle.pc_source.specs.Answers.{OnRefusal}
 use Rattle.pc_tree.specs.declared.code.Finding.{Finding}
 use Rattle.pc_tree.specs.Tree.{module_of}
-use Rattle.pc_top.specs.Bytes.{IsModuleOf, IsRefusalOf}
+use Rattle.pc_front.specs.Bytes.{IsModuleOf, IsRefusalOf}
 use Rattle.pc_top.specs.Report.{Lists}
 use Rattle.pc_top.proofs.Main.{headline_from, refused_bytes, beyond}
+use Rattle.pc_top.proofs.WithinBytes.{answer_within}
 use Rattle.pc_top.proofs.top.check.Goals as goal
 
 pub returns-in_err-module-clause-refused : goal.returns-in_err-module-clause-refused
@@ -24,3 +25,9 @@ returns-clause-headline c =
     headline_from c.args.bytes.now (module_of c.in_ok-module.module) c.in_ok-body.ensures.part c.in_ok-body.ensures.is
     (subst (λ (l : List ℕ). IsModuleOf l (module_of c.in_ok-module.module)) c.in_ok-source.ensures.text c.in_ok-module.ensures.read)
     c.in_ok-found.found.items c.in_ok-report.report (c.in_ok-found.ensures c.in_ok-body.ensures.part.body c.in_ok-body.ensures.body_is) lists
+
+pub returns-in_err-module-clause-within : goal.returns-in_err-module-clause-within
+returns-in_err-module-clause-within c = answer_within c.args.bytes.now _ (returns-in_err-module-clause-refused c)
+
+pub returns-in_err-body-clause-within : goal.returns-in_err-body-clause-within
+returns-in_err-body-clause-within c = answer_within c.args.bytes.now _ (returns-in_err-body-clause-refused c)

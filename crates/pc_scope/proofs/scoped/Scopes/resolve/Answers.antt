@@ -5,4 +5,6 @@ use Rattle.pc_scope.proofs.Meanings.{means}
 use Rattle.pc_scope.proofs.scoped.Scopes.resolve.Goals as goal
 
 pub returns : goal.returns
-returns c = record { resolved = λ m are. c.mean.ensures ∙ ap (λ (s : Scoped). meaning s.tables c.args.owner c.args.name.now) c.self.view_is ∙ means m c.args.self.now.tables are.tables c.args.owner c.args.name.now }
+returns c =
+    let e = c.mean.ensures ∙ ap (λ (s : Scoped). meaning s.tables c.args.owner c.args.name.now) c.self.view_is in
+    record { by_tables = e; resolved = λ m are. e ∙ means m c.args.self.now.tables are.tables c.args.owner c.args.name.now }

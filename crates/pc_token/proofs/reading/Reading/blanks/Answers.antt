@@ -9,7 +9,7 @@ use Rattle.pc_token.proofs.reading.Reading.blanks.Goals.{else-is_none-via-then-i
 pub returns-then-is_bad_tab-clause-refused : goal.returns-then-is_bad_tab-clause-refused
 returns-then-is_bad_tab-clause-refused c =
     let s = c.args.self.now in
-    refused_after (context_of s) s.text.now L7 (s.at + c.space_len-spaces.result) c.refusal.result c.refusal.ensures c.space_len-spaces.result refl
+    refused_after (context_of s) s.text.now L7 (s.at + c.space_len-spaces.result) c.refused_at.result c.refused_at.ensures c.space_len-spaces.result refl
     (tab_read (context_of s) s.text.now c.rest-bytes.result.now c.rest-bytes.ensures.rest c.blank_len-len.result c.space_len-spaces.result c.blank_len-len.ensures.len c.space_len-spaces.ensures.len
     (search rules) (search rules) (search rules))
 

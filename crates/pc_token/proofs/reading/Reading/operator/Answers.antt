@@ -8,7 +8,7 @@ use Rattle.pc_token.proofs.reading.Reading.operator.Goals as goal
 pub returns-in-Some-clause-refused : goal.returns-in-Some-clause-refused
 returns-in-Some-clause-refused c =
     let s = c.args.self.now in
-    refused_here (context_of s) s.text.now c.in-Some.code s.at c.refusal.result c.refusal.ensures refl
+    refused_here (context_of s) s.text.now c.in-Some.code s.at c.refused_at.result c.refused_at.ensures refl
     (bracket_read (context_of s) s.text.now c.args.operator c.in-Some.code c.requires.front (role_of c.args.operator) refl c.in-Some.ensures)
 
 pub returns-clause-next : goal.returns-clause-next

@@ -9,7 +9,7 @@ use Rattle.pc_token.proofs.reading.Reading.string.Goals.{then-touches_word-via-t
 pub returns-then-touches_word-clause-refused : goal.returns-then-touches_word-clause-refused
 returns-then-touches_word-clause-refused c =
     let s = c.args.self.now in
-    refused_here (context_of s) s.text.now L2 s.at c.refusal.result c.refusal.ensures refl
+    refused_here (context_of s) s.text.now L2 s.at c.refused_at.result c.refused_at.ensures refl
     (bad_string_read (context_of s) s.text.now c.rest-bytes.result.now c.rest-bytes.ensures.rest c.requires.here
     (elim c.then-touches_word.branch [
       | then-touches_word-via-then-touches_word w ↦ inr (inl (search rules))
@@ -25,5 +25,5 @@ returns-in-Some-clause-next c =
 pub returns-in-None-clause-refused : goal.returns-in-None-clause-refused
 returns-in-None-clause-refused c =
     let s = c.args.self.now in
-    refused_here (context_of s) s.text.now L2 s.at c.refusal-in-None.result c.refusal-in-None.ensures refl
+    refused_here (context_of s) s.text.now L2 s.at c.refused_at-in-None.result c.refused_at-in-None.ensures refl
     (bad_string_read (context_of s) s.text.now c.rest-bytes.result.now c.rest-bytes.ensures.rest c.requires.here (inl c.in-None.ensures))

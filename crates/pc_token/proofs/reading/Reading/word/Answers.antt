@@ -17,7 +17,7 @@ pub returns-then-is_bad_name-clause-refused : goal.returns-then-is_bad_name-clau
 returns-then-is_bad_name-clause-refused c =
     let s = c.args.self.now in
     let end = c.name_end-end in
-    refused_here (context_of s) s.text.now L4 s.at c.refusal.result c.refusal.ensures refl
+    refused_here (context_of s) s.text.now L4 s.at c.refused_at.result c.refused_at.ensures refl
     (bad_name_read (context_of s) s.text.now end.result end.ensures.utf8 c.requires.boundary end.ensures.boundary end.ensures.later c.requires.here end.ensures.run end.ensures.all
     (search rules) (ap (is_bad_name s.last) (sym c.range-name.ensures.value) ∙ sym c.is_bad_name.ensures ∙ c.if-is_bad_name.true))
 

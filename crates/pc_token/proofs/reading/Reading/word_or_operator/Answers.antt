@@ -25,6 +25,6 @@ pub returns-in-None-clause-refused : goal.returns-in-None-clause-refused
 returns-in-None-clause-refused c =
     let s = c.args.self.now in
     let r = c.requires in
-    refused_here (context_of s) s.text.now L1 s.at c.refusal.result c.refusal.ensures refl
+    refused_here (context_of s) s.text.now L1 s.at c.refused_at.result c.refused_at.ensures refl
     (stray_read (context_of s) s.text.now c.rest.result.now c.rest.ensures.rest c.rest.ensures.utf8 r.boundary c.rest.ensures.some r.no_blank r.no_comment r.no_line_end r.no_quote r.no_digit
     (search rules) (search rules))

@@ -1,0 +1,3 @@
+pub mod Listed
+pub mod Read
+pub mod Text

@@ -1,0 +1,182 @@
+// Types that names and `N[..]` in annotations stand for.
+
+ghost use Rattle.std.specs.Prelude.{◌≡◌, IfOk};
+ghost use Rattle.std.specs.Option.{option_map};
+ghost use Rattle.pc_tree.specs.Tree.{module_of};
+ghost use Rattle.pc_scope.specs.declared.resolution.Builtin.TheVariants as builtin;
+ghost use Rattle.pc_types.specs.Store.{Keeps, MeansAny};
+ghost use Rattle.pc_types.specs.Annotations.{atom, named_type, built_type, applied_type, empty_type, readings};
+ghost use Rattle.pc_ann.specs.Listed.{anns_of_list};
+ghost use Rattle.pc_ann.specs.Read.{AreRead, IsReadAny};
+
+use crate::reading::{Reading, Readings, Setting, read_as};
+use pc_scope::{Builtin, Res};
+use pc_source::OutOfMemory;
+use pc_tree::Ann;
+use pc_types::{Head, TypeStore};
+use std::alloc::Global;
+
+/// The type of a built-in name, if it has one. Typing specification, "Type annotations".
+fn atom<S: TypeStore>(
+    store: &mut S,
+    alloc: Global,
+    imports_any: bool,
+    builtin: Builtin,
+) -> Result<Option<S::Ty>, OutOfMemory>
+    ensures value { IfOk result (λ t. MeansAny S.has S.tree store.new t (atom imports_any builtin)) }
+    ensures kept { Keeps S.has store.old store.new }
+{
+    match builtin {
+        Builtin::Int => Ok(Some(store.int(alloc)?)),
+        Builtin::Bool => Ok(Some(store.bool(alloc)?)),
+        Builtin::Str => Ok(Some(store.str(alloc)?)),
+        Builtin::Object => Ok(Some(store.object(alloc)?)),
+        Builtin::Any => {
+            if imports_any {
+                Ok(Some(store.any(alloc)?))
+            } else {
+                Ok(None)
+            }
+        }
+        _ => Ok(None),
+    }
+}
+
+/// The type of a name that means this, if it has one.
+pub(crate) fn named_type<S: TypeStore>(
+    store: &mut S,
+    alloc: Global,
+    imports_any: bool,
+    meaning: Res,
+) -> Result<Option<S::Ty>, OutOfMemory>
+    ensures value { IfOk result (λ t. MeansAny S.has S.tree store.new t (named_type imports_any meaning)) }
+    ensures kept { Keeps S.has store.old store.new }
+{
+    match meaning {
+        Res::Builtin(builtin) => atom(store, alloc, imports_any, builtin),
+        Res::Class(class) => Ok(Some(store.class(alloc, class)?)),
+        _ => Ok(None),
+    }
+}
+
+/// `tuple[()]`, where the name means `tuple`.
+pub(crate) fn empty_tuple<S: TypeStore>(
+    store: &mut S,
+    alloc: Global,
+    meaning: Res,
+) -> Result<Option<Reading<S::Ty>>, OutOfMemory>
+    ensures value { IfOk result (λ r. IsReadAny S.has S.tree store.new (option_map (λ x. (x.head, x.ty)) r) (empty_type meaning)) }
+    ensures kept { Keeps S.has store.old store.new }
+{
+    match meaning {
+        Res::Builtin(Builtin::Tuple) => {
+            let ty = store.tuple(alloc, &[])?;
+            Ok(Some(Reading {
+                head: Head::Tuple(0),
+                ty,
+            }))
+        }
+        _ => Ok(None),
+    }
+}
+
+/// `list[T]`, of one argument.
+fn list_of<S: TypeStore>(
+    setting: &Setting,
+    store: &mut S,
+    alloc: Global,
+    parts: &[Ann],
+    arguments: &Readings<S::Ty>,
+) -> Result<Option<Reading<S::Ty>>, OutOfMemory>
+    requires { AreRead S.has S.tree store.old arguments.now.heads.items arguments.now.types (readings (module_of setting.now.tree.now) setting.now.parents.now (anns_of_list parts.now)) }
+    ensures value { IfOk result (λ r. IsReadAny S.has S.tree store.new (option_map (λ x. (x.head, x.ty)) r) (built_type builtin.List (readings (module_of setting.now.tree.now) setting.now.parents.now (anns_of_list parts.now)))) }
+    ensures kept { Keeps S.has store.old store.new }
+{
+    if arguments.heads.len() != 1 {
+        return Ok(None);
+    }
+    let ty = match &arguments.types {
+        None => None,
+        Some(types) => store.list(alloc, &types[0])?,
+    };
+    Ok(Some(Reading {
+        head: Head::List,
+        ty,
+    }))
+}
+
+/// `dict[K, V]`, of two arguments, the first of which is just `int` or `str`.
+fn dict_of<S: TypeStore>(
+    setting: &Setting,
+    store: &mut S,
+    alloc: Global,
+    parts: &[Ann],
+    arguments: &Readings<S::Ty>,
+) -> Result<Option<Reading<S::Ty>>, OutOfMemory>
+    requires { AreRead S.has S.tree store.old arguments.now.heads.items arguments.now.types (readings (module_of setting.now.tree.now) setting.now.parents.now (anns_of_list parts.now)) }
+    ensures value { IfOk result (λ r. IsReadAny S.has S.tree store.new (option_map (λ x. (x.head, x.ty)) r) (built_type builtin.Dict (readings (module_of setting.now.tree.now) setting.now.parents.now (anns_of_list parts.now)))) }
+    ensures kept { Keeps S.has store.old store.new }
+{
+    if arguments.heads.len() != 2 {
+        return Ok(None);
+    }
+    if !matches!(arguments.heads[0], Head::Int | Head::Str) {
+        return Ok(None);
+    }
+    let ty = match &arguments.types {
+        None => None,
+        Some(types) => store.dict(alloc, &types[0], &types[1])?,
+    };
+    Ok(Some(Reading {
+        head: Head::Dict,
+        ty,
+    }))
+}
+
+/// `tuple[T1, ..]`, of one argument or more.
+fn tuple_of<S: TypeStore>(
+    setting: &Setting,
+    store: &mut S,
+    alloc: Global,
+    parts: &[Ann],
+    arguments: &Readings<S::Ty>,
+) -> Result<Option<Reading<S::Ty>>, OutOfMemory>
+    requires { AreRead S.has S.tree store.old arguments.now.heads.items arguments.now.types (readings (module_of setting.now.tree.now) setting.now.parents.now (anns_of_list parts.now)) }
+    ensures value { IfOk result (λ r. IsReadAny S.has S.tree store.new (option_map (λ x. (x.head, x.ty)) r) (built_type builtin.Tuple (readings (module_of setting.now.tree.now) setting.now.parents.now (anns_of_list parts.now)))) }
+    ensures kept { Keeps S.has store.old store.new }
+{
+    let count = arguments.heads.len();
+    if count == 0 {
+        return Ok(None);
+    }
+    let head = Head::Tuple(count);
+    match &arguments.types {
+        None => Ok(Some(Reading { head, ty: None })),
+        Some(types) => {
+            let ty = store.tuple(alloc, types)?;
+            Ok(Some(Reading { head, ty }))
+        }
+    }
+}
+
+/// What a name makes of its arguments: a type where it means a built-in that takes them.
+/// Typing specification, "Type annotations".
+pub(crate) fn apply<S: TypeStore>(
+    setting: &Setting,
+    store: &mut S,
+    alloc: Global,
+    meaning: Res,
+    parts: &[Ann],
+    arguments: &Readings<S::Ty>,
+) -> Result<Option<Reading<S::Ty>>, OutOfMemory>
+    requires { AreRead S.has S.tree store.old arguments.now.heads.items arguments.now.types (readings (module_of setting.now.tree.now) setting.now.parents.now (anns_of_list parts.now)) }
+    ensures value { IfOk result (λ r. IsReadAny S.has S.tree store.new (option_map (λ x. (x.head, x.ty)) r) (applied_type meaning (readings (module_of setting.now.tree.now) setting.now.parents.now (anns_of_list parts.now)))) }
+    ensures kept { Keeps S.has store.old store.new }
+{
+    match meaning {
+        Res::Builtin(Builtin::List) => list_of(setting, store, alloc, parts, arguments),
+        Res::Builtin(Builtin::Dict) => dict_of(setting, store, alloc, parts, arguments),
+        Res::Builtin(Builtin::Tuple) => tuple_of(setting, store, alloc, parts, arguments),
+        _ => Ok(None),
+    }
+}

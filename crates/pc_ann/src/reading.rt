@@ -1,0 +1,176 @@
+// Parts of annotations read as types.
+
+ghost use Rattle.std.specs.Prelude.{◌≡◌, ◌++◌, ◌∷◌, [], IfOk, OnOk};
+ghost use Rattle.pc_tree.specs.Code.{finding};
+ghost use Rattle.pc_tree.specs.declared.code.Code.TheVariants.{E09, E10};
+ghost use Rattle.pc_tree.specs.Tree.{module_of, name_of, ann_of};
+ghost use Rattle.pc_scope.specs.Resolution.{resolve_in_module};
+ghost use Rattle.pc_scope.specs.Scoped.{AreScopes};
+ghost use Rattle.pc_types.specs.Tree.{Any};
+ghost use Rattle.pc_types.specs.Store.{Keeps};
+ghost use Rattle.pc_types.specs.Annotations.{reading, readings};
+ghost use Rattle.pc_ann.specs.Listed.{anns_of_list, part_findings, parts_findings};
+ghost use Rattle.pc_ann.specs.Read.{IsRead, AreRead, with_one};
+ghost use Rattle.std.specs.Option.{option_map};
+
+use crate::built::{apply, empty_tuple, named_type};
+use crate::union::unite;
+use pc_scope::{Owner, Res, Scopes};
+use pc_source::{OutOfMemory, Place};
+use pc_tree::{Ann, Code, Finding, Findings, Module, Name};
+use pc_types::{Head, Parents, TypeStore};
+use std::alloc::Global;
+
+/// What a part of an annotation is read as: the head of its type, and the type, none where it has over
+/// 256 nodes.
+#[derive(Drop)]
+pub(crate) struct Reading<Ty: Drop> {
+    pub head: Head,
+    pub ty: Option<Ty>,
+}
+
+/// What several parts are read as: the heads of their types, and the types, none where they have over
+/// 256 nodes together.
+#[derive(Drop)]
+pub(crate) struct Readings<Ty: Drop> {
+    pub heads: Vec<Head>,
+    pub types: Option<Vec<Ty>>,
+}
+
+/// Where the names of an annotation are looked up.
+#[derive(Drop)]
+pub(crate) struct Setting<'a> {
+    pub tree: &'a Module,
+    pub scopes: &'a Scopes,
+    pub parents: &'a Parents,
+}
+
+/// What a name of an annotation means.
+fn meaning(setting: &Setting, name: &Name) -> Res
+    requires { AreScopes (module_of setting.now.tree.now) setting.now.scopes.now }
+    ensures { result ≡ resolve_in_module (module_of setting.now.tree.now) (name_of name.now).text }
+{
+    setting.scopes.resolve(Owner::Module, name.text.as_str())
+}
+
+/// A type that was read.
+pub(crate) fn read_as<S: TypeStore>(store: &S, ty: S::Ty) -> Reading<S::Ty>
+    requires { S.has store.now ty }
+    ensures { IsRead S.has S.tree store.now result.head result.ty (S.tree ty) }
+{
+    Reading {
+        head: store.head(&ty),
+        ty: Some(ty),
+    }
+}
+
+/// A finding, and `Any` in place of a type.
+fn fault<S: TypeStore>(
+    store: &mut S,
+    alloc: Global,
+    found: &mut Findings,
+    place: Place,
+    code: Code,
+) -> Result<Reading<S::Ty>, OutOfMemory>
+    ensures typed { IfOk result (λ r. IsRead S.has S.tree store.new r.head r.ty Any) }
+    ensures pushed { OnOk result (found.new.items ≡ found.old.items ++ finding place code ∷ []) }
+    ensures kept { Keeps S.has store.old store.new }
+{
+    found.push(Finding { place, code })?;
+    let any = store.any(alloc)?;
+    Ok(read_as(store, any))
+}
+
+/// What a part of an annotation is read as, with its findings.
+#[cycle(read)]
+pub(crate) fn read<S: TypeStore>(
+    setting: &Setting,
+    store: &mut S,
+    alloc: Global,
+    found: &mut Findings,
+    ann: &Ann,
+) -> Result<Reading<S::Ty>, OutOfMemory>
+    requires { AreScopes (module_of setting.now.tree.now) setting.now.scopes.now }
+    ensures typed { IfOk result (λ r. IsRead S.has S.tree store.new r.head r.ty (reading (module_of setting.now.tree.now) setting.now.parents.now (ann_of ann.now))) }
+    ensures pushed { OnOk result (found.new.items ≡ found.old.items ++ part_findings (module_of setting.now.tree.now) setting.now.parents.now (ann_of ann.now)) }
+    ensures kept { Keeps S.has store.old store.new }
+{
+    match ann {
+        Ann::Name(name) => {
+            let meaning = meaning(setting, name);
+            match named_type(store, alloc, setting.tree.imports_any, meaning)? {
+                Some(ty) => Ok(read_as(store, ty)),
+                None => fault(store, alloc, found, name.place, Code::E09),
+            }
+        }
+        Ann::NoneValue(_) => {
+            let none = store.none(alloc)?;
+            Ok(read_as(store, none))
+        }
+        Ann::Apply(place, head, arguments) => {
+            let before = found.len();
+            let types = read_each(setting, store, alloc, found, arguments)?;
+            let meaning = meaning(setting, head);
+            match apply(setting, store, alloc, meaning, arguments, &types)? {
+                Some(reading) => Ok(reading),
+                None => {
+                    found.truncate(before);
+                    fault(store, alloc, found, *place, Code::E09)
+                }
+            }
+        }
+        Ann::ApplyEmpty(place, head) => {
+            let meaning = meaning(setting, head);
+            match empty_tuple(store, alloc, meaning)? {
+                Some(reading) => Ok(reading),
+                None => fault(store, alloc, found, *place, Code::E09),
+            }
+        }
+        Ann::Union(place, parts) => {
+            let types = read_each(setting, store, alloc, found, parts)?;
+            match unite(setting, store, alloc, parts, types)? {
+                Some(reading) => Ok(reading),
+                None => fault(store, alloc, found, *place, Code::E10),
+            }
+        }
+    }
+}
+
+/// What several parts are read as, with their findings in order.
+#[cycle(read)]
+fn read_each<S: TypeStore>(
+    setting: &Setting,
+    store: &mut S,
+    alloc: Global,
+    found: &mut Findings,
+    parts: &[Ann],
+) -> Result<Readings<S::Ty>, OutOfMemory>
+    requires { AreScopes (module_of setting.now.tree.now) setting.now.scopes.now }
+    ensures typed { IfOk result (λ r. AreRead S.has S.tree store.new r.heads.items r.types (readings (module_of setting.now.tree.now) setting.now.parents.now (anns_of_list parts.now))) }
+    ensures pushed { OnOk result (found.new.items ≡ found.old.items ++ parts_findings (module_of setting.now.tree.now) setting.now.parents.now (anns_of_list parts.now)) }
+    ensures kept { Keeps S.has store.old store.new }
+{
+    let mut heads = Vec::new(alloc);
+    let mut types = Some(Vec::new(alloc));
+    for part in parts {
+        let reading = read(setting, store, alloc, found, part)?;
+        heads.push(reading.head)?;
+        types = with_type(types, reading.ty)?;
+    }
+    Ok(Readings { heads, types })
+}
+
+/// One type more, where there are all of them.
+fn with_type<Ty: Drop>(
+    types: Option<Vec<Ty>>,
+    ty: Option<Ty>,
+) -> Result<Option<Vec<Ty>>, OutOfMemory>
+    ensures { IfOk result (λ o. option_map (λ v. v.items) o ≡ with_one (option_map (λ v. v.items) types) ty) }
+{
+    let Some(mut types) = types else {
+        return Ok(None)
+    };
+    let Some(ty) = ty else { return Ok(None) };
+    types.push(ty)?;
+    Ok(Some(types))
+}

@@ -1,0 +1,113 @@
+// Unions in annotations.
+
+ghost use Rattle.std.specs.Prelude.{◌≡◌, IfOk};
+ghost use Rattle.std.specs.List.{list_all};
+ghost use Rattle.std.specs.Option.{option_map};
+ghost use Rattle.pc_tree.specs.Tree.{module_of};
+ghost use Rattle.pc_types.specs.Store.{Keeps};
+ghost use Rattle.pc_types.specs.Annotations.{union_type, readings};
+ghost use Rattle.pc_ann.specs.Listed.{anns_of_list};
+ghost use Rattle.pc_ann.specs.Read.{AreRead, IsReadAny, is_member_head, head_absorbs, heads_apart, heads_make_union, united_head};
+
+use crate::ordered::{in_order, rank};
+use crate::reading::{Reading, Readings, Setting};
+use pc_source::OutOfMemory;
+use pc_tree::Ann;
+use pc_types::{Head, Parents, TypeStore};
+use std::alloc::Global;
+
+/// A union of more members has more than 256 nodes.
+const MOST_MEMBERS: usize = 128;
+
+/// Whether a type with this head may stand in a union. Own rule of the profile.
+fn is_member(head: Head) -> bool
+    ensures { result ≡ is_member_head head }
+{
+    !matches!(
+        head,
+        Head::Any | Head::Object | Head::Never | Head::Union(_)
+    )
+}
+
+/// Whether a member with the first head absorbs one with the second.
+fn does_absorb(parents: &Parents, head: Head, other: Head) -> bool
+    ensures { result ≡ head_absorbs parents.now head other }
+{
+    match head {
+        Head::Int => matches!(other, Head::Bool),
+        Head::Class(ancestor) => match other {
+            Head::Class(class) => class != ancestor && parents.is_within(class, ancestor),
+            _ => false,
+        },
+        _ => false,
+    }
+}
+
+/// Whether members of two heads may stand in one union.
+fn are_apart(parents: &Parents, head: Head, other: Head) -> bool
+    ensures { result ≡ heads_apart parents.now head other }
+{
+    rank(head) != rank(other)
+        && !does_absorb(parents, head, other)
+        && !does_absorb(parents, other, head)
+}
+
+/// Whether a member may stand in one union with each of others.
+fn is_apart_from(parents: &Parents, head: Head, others: &[Head]) -> bool
+    ensures { result ≡ list_all (heads_apart parents.now head) others.now }
+{
+    others.iter().all(|other| are_apart(parents, head, *other))
+}
+
+/// Whether types with these heads make a union. Own rule of the profile.
+fn make_union(parents: &Parents, heads: &[Head]) -> bool
+    ensures { result ≡ heads_make_union parents.now heads.now }
+{
+    for i in 0..heads.len() {
+        if !is_member(heads[i]) || !is_apart_from(parents, heads[i], &heads[i + 1..]) {
+            return false;
+        }
+    }
+    true
+}
+
+/// The head of the union of members with these heads.
+fn united_head(heads: &[Head]) -> Head
+    ensures { result ≡ united_head heads.now }
+{
+    match heads {
+        [] => Head::Never,
+        [head] => *head,
+        _ => Head::Union(heads.len()),
+    }
+}
+
+/// The union of the types that parts of an annotation are read as, if they make one.
+/// Typing specification, "Union types"; own rules of the profile.
+pub(crate) fn unite<S: TypeStore>(
+    setting: &Setting,
+    store: &mut S,
+    alloc: Global,
+    parts: &[Ann],
+    types: Readings<S::Ty>,
+) -> Result<Option<Reading<S::Ty>>, OutOfMemory>
+    requires { AreRead S.has S.tree store.old types.heads.items types.types (readings (module_of setting.now.tree.now) setting.now.parents.now (anns_of_list parts.now)) }
+    ensures value { IfOk result (λ r. IsReadAny S.has S.tree store.new (option_map (λ x. (x.head, x.ty)) r) (union_type setting.now.parents.now (readings (module_of setting.now.tree.now) setting.now.parents.now (anns_of_list parts.now)))) }
+    ensures kept { Keeps S.has store.old store.new }
+{
+    setting.parents.ordered();
+    let Readings { heads, types } = types;
+    if !make_union(setting.parents, &heads) {
+        return Ok(None);
+    }
+    let head = united_head(&heads);
+    let Some(types) = types else {
+        return Ok(Some(Reading { head, ty: None }));
+    };
+    if types.len() > MOST_MEMBERS {
+        return Ok(Some(Reading { head, ty: None }));
+    }
+    let members = in_order(store, alloc, types)?;
+    let ty = store.union(alloc, &members)?;
+    Ok(Some(Reading { head, ty }))
+}

@@ -1,0 +1,92 @@
+// Whole annotations.
+
+ghost use Rattle.std.specs.Prelude.{◌≡◌, ◌↔◌, ◌⊎◌, ◌++◌, Contains, IfOk, OnOk};
+ghost use Rattle.pc_tree.specs.declared.code.Finding.{Finding as FindingOf};
+ghost use Rattle.pc_tree.specs.Tree.{module_of, ann_of, option_ann_of};
+ghost use Rattle.pc_scope.specs.Scoped.{AreScopes};
+ghost use Rattle.pc_types.specs.Store.{Means, Keeps};
+ghost use Rattle.pc_types.specs.Annotations.{read_ann, read_option, AnnFinds, OptionFinds};
+ghost use Rattle.pc_ann.specs.Listed.{ann_findings, option_findings};
+
+use crate::reading::{Setting, read};
+use pc_scope::Scopes;
+use pc_source::OutOfMemory;
+use pc_tree::{Ann, Code, Finding, Findings, Module};
+use pc_types::{Parents, TypeStore};
+use std::alloc::Global;
+
+/// The type of an annotation, with its findings put behind `found`.
+fn read_whole<S: TypeStore>(
+    setting: &Setting,
+    store: &mut S,
+    alloc: Global,
+    found: &mut Findings,
+    ann: &Ann,
+) -> Result<S::Ty, OutOfMemory>
+    requires { AreScopes (module_of setting.now.tree.now) setting.now.scopes.now }
+    ensures typed { IfOk result (λ t. Means S.has S.tree store.new t (read_ann (module_of setting.now.tree.now) setting.now.parents.now (ann_of ann.now))) }
+    ensures pushed { OnOk result (found.new.items ≡ found.old.items ++ ann_findings (module_of setting.now.tree.now) setting.now.parents.now (ann_of ann.now)) }
+    ensures kept { Keeps S.has store.old store.new }
+{
+    let reading = read(setting, store, alloc, found, ann)?;
+    match reading.ty {
+        Some(ty) => Ok(ty),
+        None => {
+            found.push(Finding {
+                place: ann.place(),
+                code: Code::E26,
+            })?;
+            store.any(alloc)
+        }
+    }
+}
+
+/// The type that an annotation of a module is read as, `Any` where it is too large, with what is found in
+/// it put behind `found`: E09, E10 and E26. The list of its findings stands in their order.
+///
+/// Typing specification, "Type annotations"; PEP 604; the codes are own rules of the profile.
+pub fn read_ann<S: TypeStore>(
+    store: &mut S,
+    alloc: Global,
+    parents: &Parents,
+    tree: &Module,
+    scopes: &Scopes,
+    found: &mut Findings,
+    ann: &Ann,
+) -> Result<S::Ty, OutOfMemory>
+    requires { AreScopes (module_of tree.now) scopes.now }
+    ensures typed { IfOk result (λ t. Means S.has S.tree store.new t (read_ann (module_of tree.now) parents.now (ann_of ann.now))) }
+    ensures pushed { OnOk result (found.new.items ≡ found.old.items ++ ann_findings (module_of tree.now) parents.now (ann_of ann.now)) }
+    ensures found { OnOk result ((f : FindingOf) → Contains found.new.items f ↔ (Contains found.old.items f ⊎ AnnFinds (module_of tree.now) parents.now (ann_of ann.now) f)) }
+    ensures kept { Keeps S.has store.old store.new }
+{
+    let setting = Setting {
+        tree,
+        scopes,
+        parents,
+    };
+    read_whole(&setting, store, alloc, found, ann)
+}
+
+/// The type that an annotation is read as where there is one, and else `Any`, with what is found in it
+/// put behind `found`. Typing specification, "Type annotations".
+pub fn read_option<S: TypeStore>(
+    store: &mut S,
+    alloc: Global,
+    parents: &Parents,
+    tree: &Module,
+    scopes: &Scopes,
+    found: &mut Findings,
+    ann: &Option<Ann>,
+) -> Result<S::Ty, OutOfMemory>
+    requires { AreScopes (module_of tree.now) scopes.now }
+    ensures typed { IfOk result (λ t. Means S.has S.tree store.new t (read_option (module_of tree.now) parents.now (option_ann_of ann.now))) }
+    ensures pushed { OnOk result (found.new.items ≡ found.old.items ++ option_findings (module_of tree.now) parents.now (option_ann_of ann.now)) }
+    ensures found { OnOk result ((f : FindingOf) → Contains found.new.items f ↔ (Contains found.old.items f ⊎ OptionFinds (module_of tree.now) parents.now (option_ann_of ann.now) f)) }
+    ensures kept { Keeps S.has store.old store.new }
+{
+    match ann {
+        Some(ann) => read_ann(store, alloc, parents, tree, scopes, found, ann),
+        None => store.any(alloc),
+    }
+}

@@ -1,0 +1,116 @@
+-- A map that tells fields, or methods, by their names: with one more, and where others are added.
+use Rattle.std.proofs.Common.{◌≡◌, ◌<◌, ℕ, zero, suc, List, [], ◌∷◌, ◌++◌, length, refl, sym, ap, ◌∙◌, subst, arith, length-append, append_assoc, append-nil}
+use Rattle.std.specs.Prelude.{Bool, true, false, cond, if◌then◌else◌, Option, Some, None, slice_get, bytes_eq}
+use Rattle.std.specs.Option.{option_or}
+use Rattle.std.proofs.lemmas.List.Folds.{find-append}
+use Rattle.std.proofs.lemmas.Slice.Eq.{bytes_eq-Decides}
+use Rattle.pc_class.specs.Named.{Named, IsMap, named_at, KeepsNamed}
+use Rattle.pc_class.specs.Entries.{Entry}
+use Rattle.pc_class.specs.Outlines.{at_number, IsNumberIn, first_named, IsHeld, all_own, AreOther, AreNew}
+
+get_left : {A : Type 0} (xs ys : List A) (i : ℕ) → i < length xs → slice_get (xs ++ ys) i ≡ slice_get xs i
+get_left [] ys i h = absurd (omega arith)
+get_left (x ∷ xs) ys zero h = refl
+get_left (x ∷ xs) ys (suc i) h = get_left xs ys i (omega arith)
+
+get_end : {A : Type 0} (xs : List A) (y : A) → slice_get (xs ++ y ∷ []) (length xs) ≡ Some y
+get_end [] y = refl
+get_end (x ∷ xs) y = get_end xs y
+
+pub at_left : {A : Type 0} (xs ys : List A) (o : Option ℕ) → IsNumberIn xs o → at_number (xs ++ ys) o ≡ at_number xs o
+at_left xs ys None h = refl
+at_left xs ys (Some i) h = get_left xs ys i h
+
+pub within_left : {A : Type 0} (xs ys : List A) (o : Option ℕ) → IsNumberIn xs o → IsNumberIn (xs ++ ys) o
+within_left xs ys None h = tt
+within_left xs ys (Some i) h = let e = length-append xs ys in omega arith
+
+module _ {X : Type 0} (name : X → List ℕ) where
+  -- maps and lists that only grow
+  pub held_kept : (d d' : Named) (all more : List X) (at : ℕ) (these : List X) → IsHeld name d all at these → KeepsNamed d d' → IsHeld name d' (all ++ more) at these
+  held_kept d d' all more at these h k = record {
+    is_map = let i = h.is_map in let l = k.more in omega arith;
+    within = λ n. subst (IsNumberIn (all ++ more)) (sym (k.same at n h.is_map)) (within_left all more (named_at d at n) (h.within n));
+    same = λ n. ap (at_number (all ++ more)) (k.same at n h.is_map) ∙ at_left all more (named_at d at n) (h.within n) ∙ h.same n;
+  }
+
+  -- one more
+  pub held_more : (d d' : Named) (all : List X) (at at' : ℕ) (these these' : List X) (x : X) → IsHeld name d all at these → IsMap d' at'
+      → ((n : List ℕ) → named_at d' at' n ≡ (if bytes_eq n (name x) then Some (length all) else named_at d at n))
+      → ((n : List ℕ) → first_named name these' n ≡ (if bytes_eq n (name x) then Some x else first_named name these n))
+      → IsHeld name d' (all ++ x ∷ []) at' these'
+  held_more d d' all at at' these these' x h is_map put next = record {
+    is_map = is_map;
+    within = λ n. subst (IsNumberIn (all ++ x ∷ [])) (sym (put n)) (go_within n (bytes_eq n (name x)));
+    same = λ n. ap (at_number (all ++ x ∷ [])) (put n) ∙ go n (bytes_eq n (name x)) ∙ sym (next n);
+  }
+    where
+      go_within : (n : List ℕ) (b : Bool) → IsNumberIn (all ++ x ∷ []) (if b then Some (length all) else named_at d at n)
+      go_within n true = let e = length-append all (x ∷ []) in omega arith
+      go_within n false = within_left all (x ∷ []) (named_at d at n) (h.within n)
+
+      go : (n : List ℕ) (b : Bool) → at_number (all ++ x ∷ []) (if b then Some (length all) else named_at d at n) ≡ (if b then Some x else first_named name these n)
+      go n true = get_end all x
+      go n false = at_left all (x ∷ []) (named_at d at n) (h.within n) ∙ h.same n
+
+  -- the first of a name among these and one more behind them
+  pub named_behind : (these : List X) (x : X) → first_named name these (name x) ≡ None → (n : List ℕ) → first_named name (these ++ x ∷ []) n ≡ (if bytes_eq n (name x) then Some x else first_named name these n)
+  named_behind these x none n = find-append (λ y. bytes_eq n (name y)) these (x ∷ []) ∙ go (bytes_eq n (name x)) refl (first_named name these n) refl
+    where
+      go : (b : Bool) → bytes_eq n (name x) ≡ b → (o : Option X) → first_named name these n ≡ o → option_or (first_named name these n) (cond b (Some x) None) ≡ (if b then Some x else first_named name these n)
+      go true e o f = ap (λ q. option_or q (Some x)) (ap (first_named name these) ((bytes_eq-Decides n (name x)).0 e) ∙ none)
+      go false e None f = ap (λ q. option_or q None) f ∙ sym f
+      go false e (Some y) f = ap (λ q. option_or q None) f ∙ sym f
+
+  -- and ahead of others
+  pub named_ahead : (own others : List X) (x : X) → first_named name own (name x) ≡ None → (n : List ℕ) → first_named name ((own ++ x ∷ []) ++ others) n ≡ (if bytes_eq n (name x) then Some x else first_named name (own ++ others) n)
+  named_ahead own others x none n =
+      find-append (λ y. bytes_eq n (name y)) (own ++ x ∷ []) others
+      ∙ ap (λ q. option_or q (first_named name others n)) (named_behind own x none n)
+      ∙ go (bytes_eq n (name x))
+    where
+      go : (b : Bool) → option_or (if b then Some x else first_named name own n) (first_named name others n) ≡ (if b then Some x else first_named name (own ++ others) n)
+      go true = refl
+      go false = sym (find-append (λ y. bytes_eq n (name y)) own others)
+
+-- maps that stay, stay on
+pub named_same : (d : Named) → KeepsNamed d d
+named_same d = record { more = omega arith; same = λ at n h. refl }
+
+pub named_on : (a b c : Named) → KeepsNamed a b → KeepsNamed b c → KeepsNamed a c
+named_on a b c k l = let x = k.more in let y = l.more in record {
+  more = omega arith;
+  same = λ at n h. l.same at n (omega arith) ∙ k.same at n h;
+}
+
+-- what a walk over entries has added so far, ahead of others, and what is still to come
+pub record SoFar {X : Type 0} (name : X → List ℕ) (own : Entry → List X) (d : Named) (all : List X) (at : ℕ) (others start : List X) (entries rest : List Entry) : Type 0 where
+  pub these : List X
+  pub held : IsHeld name d all at (these ++ others)
+  pub new : AreNew name own these rest
+  pub total : these ++ all_own own rest ≡ start ++ all_own own entries
+
+module _ {X : Type 0} (name : X → List ℕ) (own : Entry → List X) where
+  -- at the start
+  pub far_start : (d : Named) (all : List X) (at : ℕ) (others start : List X) (entries : List Entry) → IsHeld name d all at (start ++ others) → AreNew name own start entries → SoFar name own d all at others start entries entries
+  far_start d all at others start entries h n = record { these = start; held = h; new = n; total = refl }
+
+  -- one entry more
+  pub far_more : (d d' : Named) (all all' : List X) (at at' : ℕ) (others start : List X) (entries : List Entry) (e : Entry) (rest : List Entry) → SoFar name own d all at others start entries (e ∷ rest)
+      → ((these : List X) → IsHeld name d all at (these ++ others) → AreOther name these (own e) → IsHeld name d' all' at' ((these ++ own e) ++ others)) → SoFar name own d' all' at' others start entries rest
+  far_more d d' all all' at at' others start entries e rest f step = record {
+    these = f.these ++ own e;
+    held = step f.these f.held f.new.0;
+    new = f.new.1;
+    total = append_assoc f.these (own e) (all_own own rest) ∙ f.total;
+  }
+
+  -- at the end
+  pub far_end : (d : Named) (all : List X) (at : ℕ) (others start : List X) (entries : List Entry) → SoFar name own d all at others start entries [] → IsHeld name d all at ((start ++ all_own own entries) ++ others)
+  far_end d all at others start entries f = subst (λ (ys : List X). IsHeld name d all at (ys ++ others)) (sym (append-nil f.these) ∙ f.total) f.held
+
+  -- so where there are no others
+  pub far_alone : (d d' : Named) (all all' : List X) (at at' : ℕ) (start : List X) (entries : List Entry) (e : Entry) (rest : List Entry) → SoFar name own d all at [] start entries (e ∷ rest)
+      → ((these : List X) → IsHeld name d all at these → AreOther name these (own e) → IsHeld name d' all' at' (these ++ own e)) → SoFar name own d' all' at' [] start entries rest
+  far_alone d d' all all' at at' start entries e rest f step = far_more d d' all all' at at' [] start entries e rest f λ these h o.
+      subst (IsHeld name d' all' at') (sym (append-nil (these ++ own e))) (step these (subst (IsHeld name d all at) (append-nil these) h) o)

@@ -1,0 +1,261 @@
+-- The list of an expression's findings has just what stands under its labels and is not found of scopes.
+use Rattle.std.proofs.Common.{◌≡◌, ◌⊎◌, ◌↔◌, List, [], ◌∷◌, ◌++◌, refl, sym, ap, ◌∙◌, subst, inl, inr, Contains}
+use Rattle.std.specs.Prelude.{Bool as Test, true, false, if◌then◌else◌, Option, Some, None}
+use Rattle.std.proofs.lemmas.List.Elements.{Contains-append_left, Contains-append_right}
+use Rattle.pc_source.specs.declared.place.Place.{Place}
+use Rattle.pc_tree.specs.declared.code.Code.{Code}
+use Rattle.pc_tree.specs.declared.code.Finding.{Finding}
+use Rattle.pc_tree.specs.Code.{finding}
+use Rattle.pc_tree.specs.Tree.{Expr, Exprs, Entries, Keywords, name, number, text, truth, nothing, tuple, list, dict, negative, negation, binary, compare, is_none, is_not_none, conjunction, disjunction, attribute, index, call, no_exprs, more_exprs, no_entries, more_entries, no_keywords, more_keywords}
+use Rattle.pc_tree.specs.Depth.{place_of}
+use Rattle.pc_scope.specs.Expressions.{is_instance_test}
+use Rattle.pc_scope.proofs.Among.{none_among, first_among, later_among, among_first, either}
+use Rattle.pc_expr.specs.Operations.{FlowMark}
+use Rattle.pc_expr.specs.Labels.{Flowing, Marks, ItemsMarks, EntriesMarks, KeywordsMarks, is_of_scopes, second_place, IsFoundAt, IsFlowAt, IsCodeAt, Finds, ItemsFind, ArgumentsFind, EntriesFind, KeywordsFind}
+use Rattle.pc_expr.specs.Found.{own_at, codes_at, code_at, flows_at, found_in, found_in_items, found_in_arguments, found_in_entries, found_in_keywords, IsOwn}
+
+-- ---- the findings of codes and of flows
+
+-- a list that has one finding unless a test holds
+listed_unless : (b : Test) (g f : Finding) → Contains (if b then [] else g ∷ []) f → (f ≡ g) × (b ≡ false)
+listed_unless true g f h = absurd (none_among f h)
+listed_unless false g f h = elim (among_first g [] f h) [ inl e ↦ (sym e, refl) | inr n ↦ absurd (none_among f n) ]
+
+lists_unless : (b : Test) (g : Finding) → b ≡ false → Contains (if b then [] else g ∷ []) g
+lists_unless true g e = absurd (cc e)
+lists_unless false g e = first_among g []
+
+-- what is listed is no finding of scopes
+abbrev IsFoundElsewhere : Finding → Type 0
+IsFoundElsewhere f = is_of_scopes f.code ≡ false
+
+own_listed : (p : Place) (c : Code) (f : Finding) → Contains (own_at p c) f → (f ≡ finding p c) × IsFoundElsewhere f
+own_listed p c f h =
+    let r = listed_unless (is_of_scopes c) (finding p c) f h in
+    (r.0, ap (λ g. is_of_scopes g.code) r.0 ∙ r.1)
+
+own_lists : (p : Place) (c : Code) (f : Finding) → f ≡ finding p c → IsFoundElsewhere f → Contains (own_at p c) f
+own_lists p c f e own = subst (Contains (own_at p c)) (sym e) (lists_unless (is_of_scopes c) (finding p c) (sym (ap (λ g. is_of_scopes g.code) e) ∙ own))
+
+codes_listed : (p : Place) (cs : List Code) (f : Finding) → Contains (codes_at p cs) f → IsFoundAt p cs f × IsFoundElsewhere f
+codes_listed p [] f h = absurd (none_among f h)
+codes_listed p (c ∷ cs) f h = either (own_at p c) (codes_at p cs) f h
+    (λ a. let r = own_listed p c f a in (record { code = c; among = first_among c cs; is = r.0 }, r.1))
+    (λ b. let r = codes_listed p cs f b in (record { code = r.0.code; among = later_among c cs r.0.code r.0.among; is = r.0.is }, r.1))
+
+lists_code : (p : Place) (cs : List Code) (c : Code) (f : Finding) → Contains cs c → f ≡ finding p c → IsFoundElsewhere f → Contains (codes_at p cs) f
+lists_code p [] c f h e own = absurd (none_among c h)
+lists_code p (d ∷ cs) c f h e own = elim (among_first d cs c h) [
+  | inl same ↦ Contains-append_left (own_at p d) (codes_at p cs) f (own_lists p d f (e ∙ ap (finding p) (sym same)) own)
+  | inr rest ↦ Contains-append_right (own_at p d) (codes_at p cs) f (lists_code p cs c f rest e own)
+]
+
+codes_list : (p : Place) (cs : List Code) (f : Finding) → IsFoundAt p cs f → IsFoundElsewhere f → Contains (codes_at p cs) f
+codes_list p cs f h own = lists_code p cs h.code f h.among h.is own
+
+code_listed : (p : Place) (c : Option Code) (f : Finding) → Contains (code_at p c) f → IsCodeAt p c f × IsFoundElsewhere f
+code_listed p None f h = absurd (none_among f h)
+code_listed p (Some c) f h = own_listed p c f h
+
+code_lists : (p : Place) (c : Option Code) (f : Finding) → IsCodeAt p c f → IsFoundElsewhere f → Contains (code_at p c) f
+code_lists p None f h own = absurd h
+code_lists p (Some c) f h own = own_lists p c f h own
+
+flow_listed : (p : Place) (g : FlowMark) (gs : Flowing) (c : Option Code) (f : Finding) → g.code ≡ c → Contains (code_at p c) f → IsFlowAt p (g ∷ gs) f × IsFoundElsewhere f
+flow_listed p g gs None f e h = absurd (none_among f h)
+flow_listed p g gs (Some c) f e h =
+    let r = own_listed p c f h in
+    (record { flow = g; among = first_among g gs; code = c; found = e; is = r.0 }, r.1)
+
+flows_listed : (p : Place) (fs : Flowing) (f : Finding) → Contains (flows_at p fs) f → IsFlowAt p fs f × IsFoundElsewhere f
+flows_listed p [] f h = absurd (none_among f h)
+flows_listed p (g ∷ gs) f h = either (code_at p g.code) (flows_at p gs) f h
+    (λ a. flow_listed p g gs g.code f refl a)
+    (λ b. let r = flows_listed p gs f b in (record { flow = r.0.flow; among = later_among g gs r.0.flow r.0.among; code = r.0.code; found = r.0.found; is = r.0.is }, r.1))
+
+lists_flow : (p : Place) (fs : Flowing) (g : FlowMark) (f : Finding) → Contains fs g → Contains (code_at p g.code) f → Contains (flows_at p fs) f
+lists_flow p [] g f h k = absurd (none_among g h)
+lists_flow p (d ∷ fs) g f h k = elim (among_first d fs g h) [
+  | inl same ↦ Contains-append_left (code_at p d.code) (flows_at p fs) f (subst (λ (x : FlowMark). Contains (code_at p x.code) f) (sym same) k)
+  | inr rest ↦ Contains-append_right (code_at p d.code) (flows_at p fs) f (lists_flow p fs g f rest k)
+]
+
+flows_list : (p : Place) (fs : Flowing) (f : Finding) → IsFlowAt p fs f → IsFoundElsewhere f → Contains (flows_at p fs) f
+flows_list p fs f h own =
+    lists_flow p fs h.flow f h.among (subst (λ (c : Option Code). Contains (code_at p c) f) (sym h.found) (own_lists p h.code f h.is own))
+
+-- ---- two lists, one after the other
+
+-- a list has the findings of which something stands, those of scopes left out
+abbrev Lists : Finding → List Finding → Type 0 → Type 0
+Lists f xs P = (Contains xs f → P × IsFoundElsewhere f) × (P → IsFoundElsewhere f → Contains xs f)
+
+-- it has the same of what comes to the same
+same_listed : (f : Finding) (xs : List Finding) {P Q : Type 0} → (P → Q) → (Q → P) → Lists f xs P → Lists f xs Q
+same_listed f xs to from h = (λ c. let r = h.0 c in (to r.0, r.1), λ q own. h.1 (from q) own)
+
+-- one list after another has what either has
+in_turn : (f : Finding) (xs ys : List Finding) {P Q : Type 0} → Lists f xs P → Lists f ys Q → Lists f (xs ++ ys) (P ⊎ Q)
+in_turn f xs ys h k = (
+  λ c. either xs ys f c (λ a. let r = h.0 a in (inl r.0, r.1)) (λ b. let r = k.0 b in (inr r.0, r.1)),
+  λ s own. elim s [ inl p ↦ Contains-append_left xs ys f (h.1 p own) | inr q ↦ Contains-append_right xs ys f (k.1 q own) ],
+)
+
+turned : {P Q : Type 0} → P ⊎ Q → Q ⊎ P
+turned s = elim s [ inl p ↦ inr p | inr q ↦ inl q ]
+
+third_first : {P Q R : Type 0} → P ⊎ (Q ⊎ R) → R ⊎ (P ⊎ Q)
+third_first s = elim s [ inl p ↦ inr (inl p) | inr t ↦ elim t [ inl q ↦ inr (inr q) | inr r ↦ inl r ] ]
+
+first_third : {P Q R : Type 0} → R ⊎ (P ⊎ Q) → P ⊎ (Q ⊎ R)
+first_third s = elim s [ inl r ↦ inr (inr r) | inr t ↦ elim t [ inl p ↦ inl p | inr q ↦ inr (inl q) ] ]
+
+second_first : {P Q R : Type 0} → P ⊎ (Q ⊎ R) → Q ⊎ (P ⊎ R)
+second_first s = elim s [ inl p ↦ inr (inl p) | inr t ↦ elim t [ inl q ↦ inl q | inr r ↦ inr (inr r) ] ]
+
+two_behind : {P Q R S : Type 0} → P ⊎ (Q ⊎ (R ⊎ S)) → R ⊎ (S ⊎ (P ⊎ Q))
+two_behind s = elim s [
+  | inl p ↦ inr (inr (inl p))
+  | inr t ↦ elim t [ inl q ↦ inr (inr (inr q)) | inr u ↦ elim u [ inl r ↦ inl r | inr x ↦ inr (inl x) ] ]
+]
+
+-- what is found of a call: in the callee, in the arguments, in those by name, at the call, at what stands second
+of_call : {C A K H S : Type 0} → C ⊎ (A ⊎ (K ⊎ (H ⊎ S))) → H ⊎ (C ⊎ (S ⊎ (A ⊎ K)))
+of_call s = elim s [
+  | inl c ↦ inr (inl c)
+  | inr t ↦ elim t [
+    | inl a ↦ inr (inr (inr (inl a)))
+    | inr u ↦ elim u [ inl k ↦ inr (inr (inr (inr k))) | inr v ↦ elim v [ inl h ↦ inl h | inr x ↦ inr (inr (inl x)) ] ]
+  ]
+]
+
+call_of : {C A K H S : Type 0} → H ⊎ (C ⊎ (S ⊎ (A ⊎ K))) → C ⊎ (A ⊎ (K ⊎ (H ⊎ S)))
+call_of s = elim s [
+  | inl h ↦ inr (inr (inr (inl h)))
+  | inr t ↦ elim t [
+    | inl c ↦ inl c
+    | inr u ↦ elim u [ inl x ↦ inr (inr (inr (inr x))) | inr v ↦ elim v [ inl a ↦ inr (inl a) | inr k ↦ inr (inr (inl k)) ] ]
+  ]
+]
+
+of_entry : {K F V G R : Type 0} → K ⊎ (F ⊎ (V ⊎ (G ⊎ R))) → (F ⊎ K) ⊎ ((G ⊎ V) ⊎ R)
+of_entry s = elim s [
+  | inl k ↦ inl (inr k)
+  | inr t ↦ elim t [
+    | inl x ↦ inl (inl x)
+    | inr u ↦ elim u [ inl v ↦ inr (inl (inr v)) | inr w ↦ elim w [ inl g ↦ inr (inl (inl g)) | inr r ↦ inr (inr r) ] ]
+  ]
+]
+
+entry_of : {K F V G R : Type 0} → (F ⊎ K) ⊎ ((G ⊎ V) ⊎ R) → K ⊎ (F ⊎ (V ⊎ (G ⊎ R)))
+entry_of s = elim s [
+  | inl t ↦ elim t [ inl x ↦ inr (inl x) | inr k ↦ inl k ]
+  | inr t ↦ elim t [
+    | inl u ↦ elim u [ inl g ↦ inr (inr (inr (inl g))) | inr v ↦ inr (inr (inl v)) ]
+    | inr r ↦ inr (inr (inr (inr r)))
+  ]
+]
+
+-- ---- the lists of codes and of flows
+
+at_codes : (f : Finding) (p : Place) (cs : List Code) → Lists f (codes_at p cs) (IsFoundAt p cs f)
+at_codes f p cs = (codes_listed p cs f, codes_list p cs f)
+
+at_code : (f : Finding) (p : Place) (c : Option Code) → Lists f (code_at p c) (IsCodeAt p c f)
+at_code f p c = (code_listed p c f, code_lists p c f)
+
+at_flows : (f : Finding) (p : Place) (fs : Flowing) → Lists f (flows_at p fs) (IsFlowAt p fs f)
+at_flows f p fs = (flows_listed p fs f, flows_list p fs f)
+
+nothing_listed : (f : Finding) → Lists f [] ⊥
+nothing_listed f = (λ h. absurd (none_among f h), λ h own. absurd h)
+
+-- ---- the forms of expressions
+
+-- parts, and then the codes of the whole
+over_parts : (f : Finding) (xs : List Finding) {P : Type 0} (p : Place) (cs : List Code) → Lists f xs P → Lists f (xs ++ codes_at p cs) (IsFoundAt p cs f ⊎ P)
+over_parts f xs p cs h = same_listed f (xs ++ codes_at p cs) turned turned (in_turn f xs (codes_at p cs) h (at_codes f p cs))
+
+-- two operands, and then the codes of the whole
+over_operands : (f : Finding) (xs ys : List Finding) {P Q : Type 0} (p : Place) (cs : List Code) → Lists f xs P → Lists f ys Q → Lists f (xs ++ (ys ++ codes_at p cs)) (IsFoundAt p cs f ⊎ (P ⊎ Q))
+over_operands f xs ys p cs h k =
+    same_listed f (xs ++ (ys ++ codes_at p cs)) third_first first_third (in_turn f xs (ys ++ codes_at p cs) h (in_turn f ys (codes_at p cs) k (at_codes f p cs)))
+
+-- two operands, the codes of the whole, and a flow of one of them
+over_flow : (f : Finding) (xs ys : List Finding) {P Q : Type 0} (p q : Place) (cs : List Code) (fs : Flowing) → Lists f xs P → Lists f ys Q → Lists f (xs ++ (ys ++ (codes_at p cs ++ flows_at q fs))) (IsFoundAt p cs f ⊎ (IsFlowAt q fs f ⊎ (P ⊎ Q)))
+over_flow f xs ys p q cs fs h k =
+    let last = in_turn f (codes_at p cs) (flows_at q fs) (at_codes f p cs) (at_flows f q fs) in
+    same_listed f (xs ++ (ys ++ (codes_at p cs ++ flows_at q fs))) two_behind two_behind
+    (in_turn f xs (ys ++ (codes_at p cs ++ flows_at q fs)) h (in_turn f ys (codes_at p cs ++ flows_at q fs) k last))
+
+-- an item with its flows, and then the others
+over_item : (f : Finding) (xs ys : List Finding) {P Q : Type 0} (p : Place) (fs : Flowing) → Lists f xs P → Lists f ys Q → Lists f (xs ++ (flows_at p fs ++ ys)) (IsFlowAt p fs f ⊎ (P ⊎ Q))
+over_item f xs ys p fs h k =
+    same_listed f (xs ++ (flows_at p fs ++ ys)) second_first second_first (in_turn f xs (flows_at p fs ++ ys) h (in_turn f (flows_at p fs) ys (at_flows f p fs) k))
+
+mutual
+  in_expression : (f : Finding) (e : Expr) (m : Marks e) → Lists f (found_in e m) (Finds e m f)
+  in_expression f (name n) m = at_codes f n.place m.codes
+  in_expression f (number p d) m = at_codes f p m.codes
+  in_expression f (text p d) m = at_codes f p m.codes
+  in_expression f (truth p d) m = at_codes f p m.codes
+  in_expression f (nothing p) m = at_codes f p m.codes
+  in_expression f (tuple p es) m = over_parts f (found_in_items es m.items) p m.here.codes (in_items f es m.items)
+  in_expression f (list p es) m = over_parts f (found_in_items es m.items) p m.here.codes (in_items f es m.items)
+  in_expression f (dict p es) m = over_parts f (found_in_entries es m.entries) p m.here.codes (in_entries f es m.entries)
+  in_expression f (negative p e) m = over_parts f (found_in e m.operand) p m.here.codes (in_expression f e m.operand)
+  in_expression f (negation p e) m = over_parts f (found_in e m.operand) p m.here.codes (in_expression f e m.operand)
+  in_expression f (binary p o l r) m = over_operands f (found_in l m.left) (found_in r m.right) p m.here.codes (in_expression f l m.left) (in_expression f r m.right)
+  in_expression f (compare p o l r) m = over_flow f (found_in l m.left) (found_in r m.right) p (place_of l) m.here.codes m.flows (in_expression f l m.left) (in_expression f r m.right)
+  in_expression f (is_none p e) m = over_parts f (found_in e m.operand) p m.here.codes (in_expression f e m.operand)
+  in_expression f (is_not_none p e) m = over_parts f (found_in e m.operand) p m.here.codes (in_expression f e m.operand)
+  in_expression f (conjunction p l r) m = over_operands f (found_in l m.left) (found_in r m.right) p m.here.codes (in_expression f l m.left) (in_expression f r m.right)
+  in_expression f (disjunction p l r) m = over_operands f (found_in l m.left) (found_in r m.right) p m.here.codes (in_expression f l m.left) (in_expression f r m.right)
+  in_expression f (attribute p e field) m = over_parts f (found_in e m.object) p m.here.codes (in_expression f e m.object)
+  in_expression f (index p e i) m = over_flow f (found_in e m.object) (found_in i m.key) p (place_of i) m.here.codes m.flows (in_expression f e m.object) (in_expression f i m.key)
+  in_expression f (call p c args kws) m =
+      let is_test = is_instance_test c args kws in
+      let a = found_in_arguments is_test args m.arguments in
+      let k = found_in_keywords kws m.keywords in
+      let h = codes_at p m.here.codes in
+      let s = code_at (second_place args p) m.second in
+      same_listed f (found_in c m.callee ++ (a ++ (k ++ (h ++ s)))) of_call call_of
+      (in_turn f (found_in c m.callee) (a ++ (k ++ (h ++ s))) (in_expression f c m.callee)
+      (in_turn f a (k ++ (h ++ s)) (in_arguments f is_test args m.arguments)
+      (in_turn f k (h ++ s) (in_keywords f kws m.keywords)
+      (in_turn f h s (at_codes f p m.here.codes) (at_code f (second_place args p) m.second)))))
+
+  in_items : (f : Finding) (es : Exprs) (m : ItemsMarks es) → Lists f (found_in_items es m) (ItemsFind es m f)
+  in_items f no_exprs m = nothing_listed f
+  in_items f (more_exprs e rest) m = over_item f (found_in e m.first) (found_in_items rest m.rest) (place_of e) m.flows (in_expression f e m.first) (in_items f rest m.rest)
+
+  in_arguments : (f : Finding) (is_test : Test) (es : Exprs) (m : ItemsMarks es) → Lists f (found_in_arguments is_test es m) (ArgumentsFind is_test es m f)
+  in_arguments f is_test no_exprs m = nothing_listed f
+  in_arguments f true (more_exprs e rest) m = in_expression f e m.first
+  in_arguments f false (more_exprs e rest) m =
+      over_item f (found_in e m.first) (found_in_arguments false rest m.rest) (place_of e) m.flows (in_expression f e m.first) (in_arguments f false rest m.rest)
+
+  in_entries : (f : Finding) (es : Entries) (m : EntriesMarks es) → Lists f (found_in_entries es m) (EntriesFind es m f)
+  in_entries f no_entries m = nothing_listed f
+  in_entries f (more_entries key value rest) m =
+      let k = found_in key m.key in
+      let x = flows_at (place_of key) m.key_flows in
+      let v = found_in value m.value in
+      let y = flows_at (place_of value) m.value_flows in
+      let r = found_in_entries rest m.rest in
+      same_listed f (k ++ (x ++ (v ++ (y ++ r)))) of_entry entry_of
+      (in_turn f k (x ++ (v ++ (y ++ r))) (in_expression f key m.key)
+      (in_turn f x (v ++ (y ++ r)) (at_flows f (place_of key) m.key_flows)
+      (in_turn f v (y ++ r) (in_expression f value m.value)
+      (in_turn f y r (at_flows f (place_of value) m.value_flows) (in_entries f rest m.rest)))))
+
+  in_keywords : (f : Finding) (es : Keywords) (m : KeywordsMarks es) → Lists f (found_in_keywords es m) (KeywordsFind es m f)
+  in_keywords f no_keywords m = nothing_listed f
+  in_keywords f (more_keywords parameter value rest) m =
+      over_item f (found_in value m.first) (found_in_keywords rest m.rest) (place_of value) m.flows (in_expression f value m.first) (in_keywords f rest m.rest)
+
+-- the list has just what stands under the labels and is not found of scopes
+pub findings_listed : (e : Expr) (m : Marks e) (f : Finding) → Contains (found_in e m) f ↔ IsOwn e m f
+findings_listed e m f =
+    let h = in_expression f e m in
+    (λ c. let r = h.0 c in record { stands = r.0; own = r.1 }, λ o. h.1 o.stands o.own)

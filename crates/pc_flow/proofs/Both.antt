@@ -1,0 +1,57 @@
+-- What is given of the parts of a condition is given of the whole.
+use Rattle.std.proofs.Common.{◌≡◌, ℕ, Bool as Test, true, false, not, List, Option, Result, sym, subst}
+use Rattle.std.specs.Prelude.{IfOk}
+use Rattle.std.proofs.lemmas.Result.{IfOk-weaker}
+use Rattle.pc_source.specs.declared.place.Place.{Place}
+use Rattle.pc_tree.specs.Tree.{Expr, conjunction, disjunction}
+use Rattle.pc_scope.specs.declared.resolution.Res.{Res}
+use Rattle.pc_types.specs.Tree.{Tree}
+use Rattle.pc_types.specs.Below.{Bases, AreSmaller}
+use Rattle.pc_types.specs.Store.{Keeps}
+use Rattle.pc_flow.specs.Environment.{Env, join_env}
+use Rattle.pc_flow.specs.Narrowing.{narrow}
+use Rattle.pc_flow.specs.WellFormed.{IsWellFormedEnv, AreWellFormed}
+use Rattle.pc_flow.specs.Stored.{env_of, GivesEnv}
+use Rattle.pc_flow.specs.Ways.{GivesBoth, GivesWellFormed}
+use Rattle.pc_flow.specs.declared.narrowing.BothWays.{BothWays}
+use Rattle.pc_flow.proofs.Given.{env_kept}
+use Rattle.pc_flow.proofs.Conditions.{conditions_well_formed}
+
+module _ {Store Ty : Type 0} (has : Store → Ty → Type 0) (tree : Ty → Tree) (bases : Bases) (ds : List Tree) (resolve : List ℕ → Res) where
+  -- what a negation gives is given the other way round
+  pub swapped_gives : (store : Store) (n m : BothWays Ty) (env : Test → Env) → m.where_true ≡ n.where_false → m.where_false ≡ n.where_true → GivesBoth has tree store n env → GivesBoth has tree store m (λ holds. env (not holds))
+  swapped_gives store n m env e f g = record {
+    where_true = subst (λ (types : List (Option Ty)). GivesEnv has tree store types (env false)) (sym e) g.where_false;
+    where_false = subst (λ (types : List (Option Ty)). GivesEnv has tree store types (env true)) (sym f) g.where_true;
+  }
+
+  module _ (one two three : Store) (p : Place) (a b : Expr) (env : Env) (first second : BothWays Ty) (met : List (Option Ty)) (k : Keeps has two three) (f : GivesBoth has tree one first (λ holds. narrow bases ds resolve holds a env)) where
+    -- a conjunction
+    pub both_hold : GivesBoth has tree two second (λ holds. narrow bases ds resolve holds b (env_of tree first.where_true)) → GivesEnv has tree three met (join_env bases ds (env_of tree first.where_false) (env_of tree second.where_false)) → GivesBoth has tree three (record { where_true = second.where_true; where_false = met }) (λ holds. narrow bases ds resolve holds (conjunction p a b) env)
+    both_hold s j =
+        let t = rw f.where_true.is at s in
+        record {
+          where_true = env_kept has two three k tree second.where_true _ t.where_true;
+          where_false = rw (f.where_false.is, t.where_false.is) at j;
+        }
+
+    -- a disjunction
+    pub either_holds : GivesBoth has tree two second (λ holds. narrow bases ds resolve holds b (env_of tree first.where_false)) → GivesEnv has tree three met (join_env bases ds (env_of tree first.where_true) (env_of tree second.where_true)) → GivesBoth has tree three (record { where_true = met; where_false = second.where_false }) (λ holds. narrow bases ds resolve holds (disjunction p a b) env)
+    either_holds s j =
+        let t = rw f.where_false.is at s in
+        record {
+          where_true = rw (f.where_true.is, t.where_true.is) at j;
+          where_false = env_kept has two three k tree second.where_false _ t.where_false;
+        }
+
+  -- and it is well-formed, where the environment before was
+  module _ (o : AreSmaller bases) (w : AreWellFormed bases ds) (store : Store) (e : Expr) (env : Env) (k : IsWellFormedEnv bases env) where
+    pub well_formed : (n : BothWays Ty) → GivesBoth has tree store n (λ holds. narrow bases ds resolve holds e env) → GivesWellFormed has tree bases store n (λ holds. narrow bases ds resolve holds e env)
+    well_formed n g = record {
+      both = g;
+      where_true = subst (IsWellFormedEnv bases) (sym g.where_true.is) (conditions_well_formed bases ds resolve true e env o w k);
+      where_false = subst (IsWellFormedEnv bases) (sym g.where_false.is) (conditions_well_formed bases ds resolve false e env o w k);
+    }
+
+    pub well_formed_result : {E : Type 0} (r : Result (BothWays Ty) E) → IfOk r (λ n. GivesBoth has tree store n (λ holds. narrow bases ds resolve holds e env)) → IfOk r (λ n. GivesWellFormed has tree bases store n (λ holds. narrow bases ds resolve holds e env))
+    well_formed_result r g = IfOk-weaker r (λ n. GivesBoth has tree store n (λ holds. narrow bases ds resolve holds e env)) (λ n. GivesWellFormed has tree bases store n (λ holds. narrow bases ds resolve holds e env)) well_formed g

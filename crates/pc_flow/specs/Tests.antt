@@ -1,0 +1,74 @@
+-- What the program tests for, and how a member of a type stands to it (private to this crate; its proofs tie it to narrowing).
+use Rattle.std.specs.Prelude.{ℕ, Option, Some, None, if◌then◌else◌}
+use Rattle.pc_types.specs.Tree.{Tree, Any, Never, Int, Bool, Str, NoneType, Class, ListOf, Union}
+use Rattle.pc_types.specs.Below.{Bases}
+use Rattle.pc_types.specs.Join.{reaches}
+use Rattle.pc_types.specs.Store.{Means}
+use Rattle.pc_types.specs.declared.head.Head.{Head}
+use Rattle.pc_types.specs.declared.head.Head.TheVariants as heads
+use Rattle.pc_flow.specs.Narrowing.{Tested, for_none, for_type, for_list}
+use Rattle.pc_flow.specs.Stored.{GivesOne}
+use Rattle.pc_flow.specs.declared.testing.Left.{Left}
+use Rattle.pc_flow.specs.declared.testing.Split.{Split}
+use Rattle.pc_flow.specs.declared.testing.Test.{Test}
+use Rattle.pc_flow.specs.declared.testing.Test.TheVariants as tests
+use Rattle.pc_flow.specs.declared.testing.Standing.{Standing}
+use Rattle.pc_flow.specs.declared.testing.Standing.TheVariants.{Within, Above, Beside}
+
+-- what is tested for
+abbrev pub tested_of : Test → Tested
+tested_of tests.None = for_none
+tested_of tests.List = for_list
+tested_of tests.Int = for_type Int
+tested_of tests.Bool = for_type Bool
+tested_of tests.Str = for_type Str
+tested_of (tests.Class c) = for_type (Class c)
+
+-- what is tested for, if anything is
+abbrev pub option_tested : Option Test → Option Tested
+option_tested None = None
+option_tested (Some test) = Some (tested_of test)
+
+-- what is left of Any where the test is true
+abbrev pub type_for : Test → Tree
+type_for tests.None = NoneType
+type_for tests.List = ListOf Any
+type_for tests.Int = Int
+type_for tests.Bool = Bool
+type_for tests.Str = Str
+type_for (tests.Class c) = Class c
+
+-- how a class stands to the class tested for
+abbrev pub class_standing : Bases → (tested class : ℕ) → Standing
+class_standing bases c d = if reaches bases d d c then Within else (if reaches bases c c d then Above else Beside)
+
+-- how a type with a head stands to a test
+abbrev pub how_stands : Bases → Test → Head → Standing
+how_stands bases test heads.Any = Above
+how_stands bases test heads.Object = Above
+how_stands bases tests.None heads.None = Within
+how_stands bases tests.List heads.List = Within
+how_stands bases tests.Int heads.Int = Within
+how_stands bases tests.Int heads.Bool = Within
+how_stands bases tests.Bool heads.Bool = Within
+how_stands bases tests.Bool heads.Int = Above
+how_stands bases tests.Str heads.Str = Within
+how_stands bases (tests.Class c) (heads.Class d) = class_standing bases c d
+how_stands bases test _ = Beside
+
+-- a type that is one member: neither Never nor a union
+abbrev pub IsOne : Tree → Type 0
+IsOne Never = ⊥
+IsOne (Union a b) = ⊥
+IsOne _ = Unit {0}
+
+module _ {Store Ty : Type 0} (has : Store → Ty → Type 0) (tree : Ty → Tree) (store : Store) where
+  -- what is left of a member where a test is true, and where it is false
+  pub record GivesLeft (l : Left Ty) (p f : Option Tree) : Type 0 where
+    pub passing : GivesOne has tree store l.passing p
+    pub failing : GivesOne has tree store l.failing f
+
+  -- types of the store: this one where a test is true, and where it is false
+  pub record Splits (s : Split Ty) (p f : Tree) : Type 0 where
+    pub passing : Means has tree store s.passing p
+    pub failing : Means has tree store s.failing f

@@ -1,0 +1,54 @@
+ghost use Rattle.std.specs.Prelude.{◌≡◌, List, Option, Some, None, IfOk, replicate, slice_set, slice_index_or};
+ghost use Rattle.std.specs.Option.{option_copied};
+
+use crate::locals::{no_types, set_type, type_of};
+use pc_source::OutOfMemory;
+use std::alloc::Global;
+use std::marker::Model;
+
+/// For each local of a function, by its number, its declared type, or none as long as it isn't known: a table that is filled
+/// as the text is read, beside the environments of its function, which share it. Contracts see it as that list.
+///
+/// Own rule of the profile.
+#[derive(Drop)]
+pub struct DeclaredTypes<Ty: Drop> {
+    types: Vec<Option<Ty>>,
+}
+
+impl<Ty: Drop> Model for DeclaredTypes<Ty> {
+    ghost Value = { List (Option Ty) };
+
+    ghost view = { λ d. d.types.items };
+}
+
+impl<Ty: Drop> DeclaredTypes<Ty> {
+    /// So many locals, of which no declared type is known.
+    pub fn new(alloc: Global, locals: usize) -> Result<DeclaredTypes<Ty>, OutOfMemory>
+        ensures { IfOk result (λ d. d ≡ replicate locals None) }
+    {
+        Ok(DeclaredTypes {
+            types: no_types(alloc, locals)?,
+        })
+    }
+
+    /// The declared types, by the locals' numbers.
+    pub(crate) fn types(&self) -> &[Option<Ty>]
+        ensures { result.now ≡ self.now }
+    {
+        &self.types
+    }
+
+    /// The declared type of a local, or none where it isn't known or there is no local of this number.
+    pub fn declared(&self, local: usize) -> Option<&Ty>
+        ensures { option_copied result ≡ slice_index_or self.now local None }
+    {
+        type_of(&self.types, local)
+    }
+
+    /// Declares a local: it has this declared type from now on. Where there is no local of this number nothing changes.
+    pub fn declare(&mut self, local: usize, ty: Ty)
+        ensures { self.new ≡ slice_set self.old local (Some ty) }
+    {
+        set_type(&mut self.types, local, ty);
+    }
+}

@@ -1,0 +1,205 @@
+// A type where a test of it is true, and where it is false.
+
+ghost use Rattle.std.specs.Prelude.{◌≡◌, ◌≤◌, ◌++◌, IfOk, OnOk, All, map, option_to_list};
+ghost use Rattle.pc_types.specs.Tree.{Any, ListOf};
+ghost use Rattle.pc_types.specs.Shape.{nodes, limit, union};
+ghost use Rattle.pc_types.specs.Normal.{IsNormal};
+ghost use Rattle.pc_types.specs.Store.{Means, Keeps};
+ghost use Rattle.pc_types.specs.WellFormed.{IsWellFormed};
+ghost use Rattle.pc_flow.specs.Narrowing.{passing, failing, member_passing, member_failing};
+ghost use Rattle.pc_flow.specs.Tests.{tested_of, type_for, class_standing, how_stands, IsOne, GivesLeft, Splits};
+
+use pc_source::OutOfMemory;
+use pc_types::{Head, Parents, TypeStore};
+use std::alloc::Global;
+
+/// What a local may be tested for. Own rule of the profile.
+#[derive(Clone, Copy, Debug, PartialEq, Eq)]
+pub enum Test {
+    None,
+    List,
+    Int,
+    Bool,
+    Str,
+    /// The class of this number.
+    Class(usize),
+}
+
+/// How a member of a type stands to what is tested for.
+#[derive(Clone, Copy, Debug, PartialEq, Eq)]
+pub enum Standing {
+    /// It is what is tested for, or below it.
+    Within,
+    /// It is above it.
+    Above,
+    /// Neither.
+    Beside,
+}
+
+/// What is left of a member where a test is true, and where it is false.
+#[derive(Drop)]
+pub struct Left<Ty: Drop> {
+    pub passing: Option<Ty>,
+    pub failing: Option<Ty>,
+}
+
+/// A type where a test of it is true, and where it is false.
+#[derive(Drop)]
+pub struct Split<Ty: Drop> {
+    pub passing: Ty,
+    pub failing: Ty,
+}
+
+/// How a class stands to the class that is tested for.
+fn class_stands(parents: &Parents, tested: usize, class: usize) -> Standing
+    ensures { result ≡ class_standing parents.now tested class }
+{
+    if parents.is_within(class, tested) {
+        return Standing::Within;
+    }
+    if parents.is_within(tested, class) {
+        return Standing::Above;
+    }
+    Standing::Beside
+}
+
+/// How a type with a head stands to a test.
+fn how_stands(parents: &Parents, test: Test, head: Head) -> Standing
+    ensures { result ≡ how_stands parents.now test head }
+{
+    match (head, test) {
+        (Head::Any, _) => Standing::Above,
+        (Head::Object, _) => Standing::Above,
+        (Head::None, Test::None) => Standing::Within,
+        (Head::List, Test::List) => Standing::Within,
+        (Head::Int, Test::Int) => Standing::Within,
+        (Head::Int, Test::Bool) => Standing::Above,
+        (Head::Bool, Test::Int) => Standing::Within,
+        (Head::Bool, Test::Bool) => Standing::Within,
+        (Head::Str, Test::Str) => Standing::Within,
+        (Head::Class(class), Test::Class(tested)) => class_stands(parents, tested, class),
+        _ => Standing::Beside,
+    }
+}
+
+/// The type `list[Any]`.
+fn list_of_any<S: TypeStore>(store: &mut S, alloc: Global) -> Result<S::Ty, OutOfMemory>
+    ensures value { IfOk result (λ t. Means S.has S.tree store.new t (ListOf Any)) }
+    ensures kept { Keeps S.has store.old store.new }
+{
+    let any = store.any(alloc)?;
+    match store.list(alloc, &any)? {
+        Some(list) => Ok(list),
+        None => Ok(any),
+    }
+}
+
+/// What is left of `Any` where a test is true.
+fn type_for<S: TypeStore>(store: &mut S, alloc: Global, test: Test) -> Result<S::Ty, OutOfMemory>
+    ensures value { IfOk result (λ t. Means S.has S.tree store.new t (type_for test)) }
+    ensures kept { Keeps S.has store.old store.new }
+{
+    match test {
+        Test::None => store.none(alloc),
+        Test::List => list_of_any(store, alloc),
+        Test::Int => store.int(alloc),
+        Test::Bool => store.bool(alloc),
+        Test::Str => store.str(alloc),
+        Test::Class(class) => store.class(alloc, class),
+    }
+}
+
+/// What is left of a member where a test is true, and where it is false.
+fn left_of<S: TypeStore>(
+    store: &mut S,
+    alloc: Global,
+    parents: &Parents,
+    test: Test,
+    member: &S::Ty,
+) -> Result<Left<S::Ty>, OutOfMemory>
+    requires has { S.has store.old member.now }
+    requires one { IsOne (S.tree member.now) }
+    ensures value { IfOk result (λ l. GivesLeft S.has S.tree store.new l (member_passing parents.now (tested_of test) (S.tree member.now)) (member_failing parents.now (tested_of test) (S.tree member.now))) }
+    ensures kept { Keeps S.has store.old store.new }
+{
+    let head = store.head(member);
+    match how_stands(parents, test, head) {
+        Standing::Within => {
+            let member = store.copy(alloc, member)?;
+            Ok(Left {
+                passing: Some(member),
+                failing: None,
+            })
+        }
+        Standing::Above => {
+            let tested = type_for(store, alloc, test)?;
+            let member = store.copy(alloc, member)?;
+            Ok(Left {
+                passing: Some(tested),
+                failing: Some(member),
+            })
+        }
+        Standing::Beside => {
+            let member = store.copy(alloc, member)?;
+            Ok(Left {
+                passing: None,
+                failing: Some(member),
+            })
+        }
+    }
+}
+
+/// Adds a type to a list, if there is one.
+fn add_left<Ty: Drop>(types: &mut Vec<Ty>, ty: Option<Ty>) -> Result<(), OutOfMemory>
+    ensures { OnOk result (types.new.items ≡ types.old.items ++ option_to_list ty) }
+{
+    if let Some(ty) = ty {
+        types.push(ty)?;
+    }
+    Ok(())
+}
+
+/// The union of what is left of a type's members: it has no more nodes than that type.
+fn union_left<S: TypeStore>(
+    store: &mut S,
+    alloc: Global,
+    types: &[S::Ty],
+) -> Result<S::Ty, OutOfMemory>
+    requires types { All (S.has store.old) types.now }
+    requires order { IsNormal (union (map S.tree types.now)) }
+    requires small { nodes (union (map S.tree types.now)) ≤ limit }
+    ensures value { IfOk result (λ t. Means S.has S.tree store.new t (union (map S.tree types.now))) }
+    ensures kept { Keeps S.has store.old store.new }
+{
+    match store.union(alloc, types)? {
+        Some(union) => Ok(union),
+        None => store.never(alloc),
+    }
+}
+
+/// A type where a test of it is true, and where it is false. Own rule of the profile.
+pub(crate) fn split_type<S: TypeStore>(
+    store: &mut S,
+    alloc: Global,
+    parents: &Parents,
+    test: Test,
+    ty: &S::Ty,
+) -> Result<Split<S::Ty>, OutOfMemory>
+    requires has { S.has store.old ty.now }
+    requires well_formed { IsWellFormed parents.now (S.tree ty.now) }
+    ensures value { IfOk result (λ s. Splits S.has S.tree store.new s (passing parents.now (tested_of test) (S.tree ty.now)) (failing parents.now (tested_of test) (S.tree ty.now))) }
+    ensures kept { Keeps S.has store.old store.new }
+{
+    parents.ordered();
+    let members = store.members(alloc, ty)?;
+    let mut passing = Vec::new(alloc);
+    let mut failing = Vec::new(alloc);
+    for i in 0..members.len() {
+        let left = left_of(store, alloc, parents, test, &members[i])?;
+        add_left(&mut passing, left.passing)?;
+        add_left(&mut failing, left.failing)?;
+    }
+    let passing = union_left(store, alloc, &passing)?;
+    let failing = union_left(store, alloc, &failing)?;
+    Ok(Split { passing, failing })
+}

@@ -1,0 +1,4 @@
+pub mod BytesLaws
+pub mod Composed
+pub mod OneRefusal
+pub mod WithinBytes

@@ -1,0 +1,43 @@
+ghost use Rattle.std.specs.Prelude.{length, IfOk, IfErr};
+ghost use Rattle.pc_source.specs.Answers.{OnRefusal};
+ghost use Rattle.pc_source.specs.Text.{IsText};
+ghost use Rattle.pc_source.specs.Within.{IsWithin};
+ghost use Rattle.pc_tree.specs.Tree.{module_of};
+ghost use Rattle.pc_front.specs.Bytes.{IsModuleOf, IsRefusalOf};
+
+use pc_layout::layout_of;
+use pc_parse::parse_from;
+use pc_source::{Fault, Source, read_source};
+use pc_token::lines;
+use pc_tree::Module;
+use std::alloc::Global;
+
+/// The module of a source text. Language Reference 10 "Full Grammar specification".
+///
+/// # Errors
+///
+/// The refusal of the first of tokens, layout and grammar that has no answer, at its fault of the
+/// least byte; `OutOfMemory` where a growth was refused.
+pub fn module_in(alloc: Global, source: &Source) -> Result<Module, Fault>
+    requires { IsText source.now }
+    ensures read { IfOk result (λ m. IsModuleOf source.now (module_of m)) }
+    ensures refused { IfErr result (OnRefusal (IsRefusalOf source.now)) }
+    ensures within { IfErr result (IsWithin (length source.now)) }
+{
+    parse_from(alloc, layout_of(alloc, source, lines(alloc, source)))
+}
+
+/// The module that the bytes spell. Language Reference 10 "Full Grammar specification".
+///
+/// # Errors
+///
+/// The refusal of the first of source, tokens, layout and grammar that has no answer, at its fault of the
+/// least byte; `OutOfMemory` where a growth was refused.
+pub fn read_module(alloc: Global, bytes: &[u8]) -> Result<Module, Fault>
+    ensures read { IfOk result (λ m. IsModuleOf bytes.now (module_of m)) }
+    ensures refused { IfErr result (OnRefusal (IsRefusalOf bytes.now)) }
+    ensures within { IfErr result (IsWithin (length bytes.now)) }
+{
+    let text = read_source(alloc, bytes)?;
+    module_in(alloc, &text)
+}

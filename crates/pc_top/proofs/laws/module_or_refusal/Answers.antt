@@ -1,5 +1,0 @@
-use Rattle.pc_top.proofs.BytesLaws.{no_refusal}
-use Rattle.pc_top.proofs.laws.module_or_refusal.Goals as goal
-
-pub returns : goal.returns
-returns c = no_refusal
