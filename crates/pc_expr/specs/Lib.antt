@@ -6,4 +6,5 @@ pub mod Labels
 pub mod Lawful
 pub mod Operations
 pub mod Signatures
+pub mod Standing
 pub mod WellFormed

@@ -1,9 +1,13 @@
 //! The types of expressions, and what is found in them.
 #![tactic(auto)]
 
+mod label;
 mod laws;
+mod setting;
 
 pub use laws::{
     contexts_are_well_formed, expressions_have_labels, findings_are_listed, labels_are_lawful,
     one_labelling_of_expressions,
 };
+pub use label::{Label, Offer};
+pub use setting::{Setting, Signature};
