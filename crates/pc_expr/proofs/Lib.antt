@@ -6,6 +6,7 @@ pub mod Expected
 pub mod FoundList
 pub mod Names
 pub mod Offers
+pub mod Once
 pub mod One
 pub mod Rows
 pub mod SaidByLabels

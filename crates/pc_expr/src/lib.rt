@@ -5,9 +5,9 @@ mod label;
 mod laws;
 mod setting;
 
+pub use label::{Label, Offer};
 pub use laws::{
     contexts_are_well_formed, expressions_have_labels, findings_are_listed, labels_are_lawful,
     one_labelling_of_expressions,
 };
-pub use label::{Label, Offer};
 pub use setting::{Setting, Signature};
