@@ -12,6 +12,7 @@ pub mod Rows
 pub mod SaidByLabels
 pub mod SaidInLabels
 pub mod Same
+pub mod SameCodes
 pub mod Saying
 pub mod Silent
 pub mod WellFormed

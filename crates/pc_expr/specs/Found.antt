@@ -55,13 +55,13 @@ flow_codes flows = flat_map (λ f. option_to_list f.code) flows
 abbrev pub flows_at : Place → Flowing → List Finding
 flows_at p flows = codes_at p (flow_codes flows)
 
--- the findings under the labels of an expression, of items, of arguments, and of the entries of a dict: of the parts first
-abbrev mutual
-  -- of an expression: what is found in its parts, and then at it
-  pub found_in : (e : Expr) → Marks e → List Finding
-  found_in e m = found_in_parts e m ++ codes_at (place_of e) (mark_of e m).codes
+-- the findings in the parts of an expression, with those of its own codes behind them
+abbrev pub whole : (e : Expr) → Marks e → List Finding → List Finding
+whole e m parts = parts ++ codes_at (place_of e) (mark_of e m).codes
 
-  -- what is found in its parts and of their flows
+-- the findings in the parts of an expression, under the labels of items, of arguments, and of the entries of a dict
+abbrev mutual
+  -- what is found in the parts of an expression and of their flows
   pub found_in_parts : (e : Expr) → Marks e → List Finding
   found_in_parts (name n) m = []
   found_in_parts (number p digits) m = []
@@ -71,42 +71,46 @@ abbrev mutual
   found_in_parts (tuple p items) m = found_in_items items m.items
   found_in_parts (list p items) m = found_in_items items m.items
   found_in_parts (dict p entries) m = found_in_entries entries m.entries
-  found_in_parts (negative p e) m = found_in e m.operand
-  found_in_parts (negation p e) m = found_in e m.operand
-  found_in_parts (binary p operator l r) m = found_in l m.left ++ found_in r m.right
-  found_in_parts (compare p operator l r) m = found_in l m.left ++ (found_in r m.right ++ flows_at (place_of l) m.flows)
-  found_in_parts (is_none p e) m = found_in e m.operand
-  found_in_parts (is_not_none p e) m = found_in e m.operand
-  found_in_parts (conjunction p l r) m = found_in l m.left ++ found_in r m.right
-  found_in_parts (disjunction p l r) m = found_in l m.left ++ found_in r m.right
-  found_in_parts (attribute p e field) m = found_in e m.object
-  found_in_parts (index p e i) m = found_in e m.object ++ (found_in i m.key ++ flows_at (place_of i) m.flows)
+  found_in_parts (negative p e) m = whole e m.operand (found_in_parts e m.operand)
+  found_in_parts (negation p e) m = whole e m.operand (found_in_parts e m.operand)
+  found_in_parts (binary p operator l r) m = whole l m.left (found_in_parts l m.left) ++ whole r m.right (found_in_parts r m.right)
+  found_in_parts (compare p operator l r) m = whole l m.left (found_in_parts l m.left) ++ (whole r m.right (found_in_parts r m.right) ++ flows_at (place_of l) m.flows)
+  found_in_parts (is_none p e) m = whole e m.operand (found_in_parts e m.operand)
+  found_in_parts (is_not_none p e) m = whole e m.operand (found_in_parts e m.operand)
+  found_in_parts (conjunction p l r) m = whole l m.left (found_in_parts l m.left) ++ whole r m.right (found_in_parts r m.right)
+  found_in_parts (disjunction p l r) m = whole l m.left (found_in_parts l m.left) ++ whole r m.right (found_in_parts r m.right)
+  found_in_parts (attribute p e field) m = whole e m.object (found_in_parts e m.object)
+  found_in_parts (index p e i) m = whole e m.object (found_in_parts e m.object) ++ (whole i m.key (found_in_parts i m.key) ++ flows_at (place_of i) m.flows)
   found_in_parts (call p callee arguments keywords) m =
-      found_in callee m.callee
+      whole callee m.callee (found_in_parts callee m.callee)
       ++ (found_in_arguments (is_instance_test callee arguments keywords) arguments m.arguments
       ++ (found_in_keywords keywords m.keywords ++ code_at (second_place arguments p) m.second))
 
   -- of items, each with its flows
   pub found_in_items : (es : Exprs) → ItemsMarks es → List Finding
   found_in_items no_exprs m = []
-  found_in_items (more_exprs e rest) m = found_in e m.first ++ (flows_at (place_of e) m.flows ++ found_in_items rest m.rest)
+  found_in_items (more_exprs e rest) m = whole e m.first (found_in_parts e m.first) ++ (flows_at (place_of e) m.flows ++ found_in_items rest m.rest)
 
   -- of arguments; of a test of an instance what stands second is not looked at
   pub found_in_arguments : (is_test : Test) → (es : Exprs) → ItemsMarks es → List Finding
   found_in_arguments is_test no_exprs m = []
-  found_in_arguments true (more_exprs e rest) m = found_in e m.first
-  found_in_arguments false (more_exprs e rest) m = found_in e m.first ++ (flows_at (place_of e) m.flows ++ found_in_arguments false rest m.rest)
+  found_in_arguments true (more_exprs e rest) m = whole e m.first (found_in_parts e m.first)
+  found_in_arguments false (more_exprs e rest) m = whole e m.first (found_in_parts e m.first) ++ (flows_at (place_of e) m.flows ++ found_in_arguments false rest m.rest)
 
   -- of the entries of a dict, each key and value with its flows
   pub found_in_entries : (es : Entries) → EntriesMarks es → List Finding
   found_in_entries no_entries m = []
   found_in_entries (more_entries key value rest) m =
-      found_in key m.key ++ (flows_at (place_of key) m.key_flows ++ (found_in value m.value ++ (flows_at (place_of value) m.value_flows ++ found_in_entries rest m.rest)))
+      whole key m.key (found_in_parts key m.key) ++ (flows_at (place_of key) m.key_flows ++ (whole value m.value (found_in_parts value m.value) ++ (flows_at (place_of value) m.value_flows ++ found_in_entries rest m.rest)))
 
   -- of arguments by name, each with its flows
   pub found_in_keywords : (es : Keywords) → KeywordsMarks es → List Finding
   found_in_keywords no_keywords m = []
-  found_in_keywords (more_keywords parameter value rest) m = found_in value m.first ++ (flows_at (place_of value) m.flows ++ found_in_keywords rest m.rest)
+  found_in_keywords (more_keywords parameter value rest) m = whole value m.first (found_in_parts value m.first) ++ (flows_at (place_of value) m.flows ++ found_in_keywords rest m.rest)
+
+-- the findings under the labels of an expression: what is found in its parts, and then at it
+abbrev pub found_in : (e : Expr) → Marks e → List Finding
+found_in e m = whole e m (found_in_parts e m)
 
 -- a finding under labels that is not found of scopes
 pub record IsOwn (e : Expr) (m : Marks e) (f : Finding) : Type 0 where
