@@ -1,11 +1,16 @@
+pub mod ByHead
 pub mod Called
 pub mod ComputedFlows
 pub mod ComputedLawful
 pub mod Contexts
 pub mod Expected
+pub mod Flowing
 pub mod FoundList
+pub mod Literals
 pub mod Names
-pub mod Offers
+pub mod NamesRead
+pub mod OfferedTypes
+pub mod Offering
 pub mod Once
 pub mod One
 pub mod Rows

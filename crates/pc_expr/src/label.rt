@@ -1,10 +1,10 @@
-ghost use Rattle.std.specs.Prelude.{◌≡◌, ◌++◌, IfOk, OnOk, flat_map};
+ghost use Rattle.std.specs.Prelude.{◌≡◌, ◌++◌, IfOk, OnOk, flat_map, option_to_list};
 ghost use Rattle.pc_types.specs.Tree.{Tree};
 ghost use Rattle.pc_types.specs.Store.{Keeps};
 ghost use Rattle.pc_expr.specs.Operations.{clean, in_error};
 ghost use Rattle.pc_expr.specs.Context.{is_early};
 ghost use Rattle.pc_expr.specs.Labels.{is_of_scopes};
-ghost use Rattle.pc_expr.specs.Found.{own_at, has_code, add_code};
+ghost use Rattle.pc_expr.specs.Found.{own_at, has_code, add_code, once_onto};
 ghost use Rattle.pc_expr.specs.Standing.{mark_with, IsMark};
 
 use pc_source::{OutOfMemory, Place};
@@ -29,7 +29,8 @@ pub struct Offer<Ty: Drop> {
 
 /// A label of a type at which nothing is found.
 pub(crate) fn clean<Ty: Drop>(alloc: Global, ty: Ty) -> Label<Ty>
-    ensures { (tree : Ty → Tree) → mark_with tree result ≡ clean (tree ty) }
+    ensures mark { (tree : Ty → Tree) → mark_with tree result ≡ clean (tree ty) }
+    ensures ty { result.ty ≡ ty }
 {
     Label {
         ty,
@@ -100,4 +101,14 @@ pub(crate) fn add_code(codes: &mut Vec<Code>, code: Code) -> Result<(), OutOfMem
         codes.push(code)?;
     }
     Ok(())
+}
+
+/// Adds a code, if there is one, unless it is one of the codes.
+pub(crate) fn add_found(codes: &mut Vec<Code>, found: Option<Code>) -> Result<(), OutOfMemory>
+    ensures { OnOk result (codes.new.items ≡ once_onto codes.old.items (option_to_list found)) }
+{
+    match found {
+        Some(code) => add_code(codes, code),
+        None => Ok(()),
+    }
 }

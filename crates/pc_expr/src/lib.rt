@@ -1,8 +1,12 @@
 //! The types of expressions, and what is found in them.
 #![tactic(auto)]
 
+mod flows;
 mod label;
 mod laws;
+mod members;
+mod naming;
+mod offers;
 mod setting;
 
 pub use label::{Label, Offer};
