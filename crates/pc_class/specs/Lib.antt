@@ -7,4 +7,5 @@ pub mod NamesFound
 pub mod Outlines
 pub mod Overrides
 pub mod Shared
+pub mod Tables
 pub mod WellFormed

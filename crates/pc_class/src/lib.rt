@@ -9,6 +9,8 @@ mod named;
 mod outline;
 mod outlines;
 mod shared;
+mod table;
 
 pub use laws::{classes_are_well_formed, methods_are_judged_once, names_are_found};
 pub use pc_types::bases_stand_before;
+pub use table::{ClassTable, Field, Method, Parameter};

@@ -4,6 +4,8 @@ pub mod Context
 pub mod Found
 pub mod Labels
 pub mod Lawful
+pub mod Operating
 pub mod Operations
 pub mod Signatures
+pub mod Standing
 pub mod WellFormed
