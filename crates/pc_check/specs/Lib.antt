@@ -1,4 +1,5 @@
 pub mod Agreement
+pub mod ComputedStatements
 pub mod Labelled
 pub mod Modules
 pub mod StatementLabels
