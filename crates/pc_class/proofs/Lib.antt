@@ -4,6 +4,7 @@ pub mod EntriesGiven
 pub mod EntryWalk
 pub mod FoundBases
 pub mod FoundLate
+pub mod FoundOfClasses
 pub mod Holding
 pub mod ItemsBuilt
 pub mod Judged
