@@ -3,6 +3,7 @@ pub mod Called
 pub mod ComputedFlows
 pub mod ComputedLawful
 pub mod Contexts
+pub mod Displayed
 pub mod Expected
 pub mod Flowing
 pub mod FoundList

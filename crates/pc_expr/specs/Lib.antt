@@ -1,6 +1,7 @@
 pub mod Calls
 pub mod Computed
 pub mod Context
+pub mod Displays
 pub mod Found
 pub mod Labels
 pub mod Lawful

@@ -1,6 +1,7 @@
 //! The types of expressions, and what is found in them.
 #![tactic(auto)]
 
+mod display;
 mod flows;
 mod label;
 mod laws;
