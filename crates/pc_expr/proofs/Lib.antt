@@ -1,14 +1,19 @@
 pub mod ByHead
 pub mod Called
+pub mod CallsKept
 pub mod ComputedFlows
 pub mod ComputedLawful
 pub mod Contexts
 pub mod Displayed
+pub mod ErrorsOfCalls
 pub mod Expected
+pub mod Filling
+pub mod FirstNames
 pub mod Flowing
 pub mod FoundList
 pub mod Literals
 pub mod Names
+pub mod NamesGiven
 pub mod NamesRead
 pub mod OfferedTypes
 pub mod Offering
@@ -20,5 +25,6 @@ pub mod SaidInLabels
 pub mod Same
 pub mod SameCodes
 pub mod Saying
+pub mod SeatTypes
 pub mod Silent
 pub mod WellFormed

@@ -1,3 +1,4 @@
+pub mod Calling
 pub mod Calls
 pub mod Computed
 pub mod Context

@@ -1,13 +1,18 @@
 //! The types of expressions, and what is found in them.
 #![tactic(auto)]
 
+mod arguments;
+mod call_offers;
 mod display;
 mod flows;
+mod given;
 mod label;
 mod laws;
 mod members;
 mod naming;
 mod offers;
+mod params;
+mod seats;
 mod setting;
 
 pub use label::{Label, Offer};
