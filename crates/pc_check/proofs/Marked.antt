@@ -25,7 +25,7 @@ set_bound (o ∷ os) zero t = refl
 set_bound (o ∷ os) (suc x) t = ap (λ ts. unwrap_or o Any ∷ ts) (set_bound os x t)
 
 -- where none is bound
-none_bound : (n x : ℕ) → bound_type (replicate n None) x ≡ None
+pub none_bound : (n x : ℕ) → bound_type (replicate n None) x ≡ None
 none_bound zero x = refl
 none_bound (suc n) zero = refl
 none_bound (suc n) (suc x) = none_bound n x

@@ -4,3 +4,4 @@ pub mod Labelled
 pub mod Modules
 pub mod StatementLabels
 pub mod Statements
+pub mod WalkLaw
