@@ -3,11 +3,14 @@
 
 mod arguments;
 mod call_offers;
+mod calling;
 mod flows;
+mod functions;
 mod given;
 mod label;
 mod laws;
 mod members;
+mod methods;
 mod naming;
 mod offers;
 mod params;
