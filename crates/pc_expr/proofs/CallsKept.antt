@@ -1,8 +1,9 @@
 -- What a call comes to stays of the store's types over calls that may add types, and is added member by member.
 use Rattle.std.proofs.Common.{◌≡◌, ◌<◌, ◌≤◌, ◌+◌, drop, ℕ, List, [], ◌∷◌, ◌++◌, Option, Some, None, refl, sym, ap, ◌∙◌, length, get_or, subst, append_assoc, append-nil}
-use Rattle.std.specs.Prelude.{All, map}
+use Rattle.std.specs.Prelude.{All, map, flat_map}
 use Rattle.std.specs.Borrow.{Bor}
-use Rattle.std.proofs.lemmas.List.{map_push}
+use Rattle.std.proofs.lemmas.List.{map_push, drop_all}
+use Rattle.pc_tree.proofs.Stops.{cons_at}
 use Rattle.std.proofs.lemmas.List.Elements.{All-push, All-weaker, All-get_or}
 use Rattle.pc_types.specs.Tree.{Tree}
 use Rattle.pc_types.specs.Store.{Keeps}
@@ -13,7 +14,7 @@ use Rattle.pc_expr.specs.declared.call_offers.CallOffer.{CallOffer as RustCallOf
 use Rattle.pc_types.specs.Shape.{members}
 use Rattle.pc_flow.proofs.Rest.{mapped_rest, mapped_end}
 use Rattle.pc_expr.specs.Calls.{CallOffer, value_offer, value_offers}
-use Rattle.pc_expr.specs.Calling.{offer_called, HasLent, HasParams, HasCalled, HasCalledIfAny, HasCallOffer, IsCallOffer, AreCallOffers}
+use Rattle.pc_expr.specs.Calling.{offer_called, HasLent, HasParams, HasCalled, HasCalledIfAny, HasCallOffer, IsCallOffer, IsOnlyOffer, AreCallOffers}
 
 module _ {Store Ty : Type 0} (has : Store → Ty → Type 0) where
   pub item_held : (old new : Store) (xs : List Ty) (i : ℕ) (x : Ty) → Keeps has old new → All (has old) xs → i < length xs → x ≡ get_or xs i x → has new x
@@ -70,3 +71,23 @@ module _ {Store Ty : Type 0} (has : Store → Ty → Type 0) (tree : Ty → Tree
   pub values_all : (start now : Store) (before : List CallOffer) (offers : List (RustCallOffer Ty)) (ms : List Ty) (i : ℕ) (t : Tree) → length ms ≤ i → map tree ms ≡ members t
       → IsAdded start now (map value_offer (drop i (map tree ms))) (before ++ map value_offer (map tree ms)) offers → AreCallOffers has tree now offers (before ++ value_offers t)
   values_all start now before offers ms i t h e a = subst (λ (ts : List Tree). AreCallOffers has tree now offers (before ++ map value_offer ts)) e (added_all start now _ _ offers (ap (map value_offer) (mapped_end tree ms i h)) a)
+
+  -- what a call comes to on one more member, added behind the others
+  pub pushed_one : (old new : Store) (t : CallOffer) (offers : List (RustCallOffer Ty)) (o : RustCallOffer Ty) → Keeps has old new → All (HasCallOffer (has old)) offers → IsCallOffer has tree new o t → AreCallOffers has tree new (offers ++ o ∷ []) (map (offer_called tree) offers ++ t ∷ [])
+  pushed_one old new t offers o k h is = record {
+    given = All-push (HasCallOffer (has new)) offers o (offers_kept has old new k offers h) is.given;
+    is = map_push (offer_called tree) offers o ∙ ap (λ (u : CallOffer). map (offer_called tree) offers ++ u ∷ []) is.is;
+  }
+
+  module _ (F : Tree → List CallOffer) where
+    -- what the calls on one more member come to, and on all
+    pub members_more : (start old new : Store) (whole : List CallOffer) (offers others : List (RustCallOffer Ty)) (ms : List Ty) (i : ℕ) (m : Ty) → i < length ms → m ≡ get_or ms i m → Keeps has old new
+        → IsAdded start old (flat_map F (map tree (drop i ms))) whole offers → AreCallOffers has tree new others (map (offer_called tree) offers ++ F (tree m)) → IsAdded start new (flat_map F (map tree (drop (i + 1) ms))) whole others
+    members_more start old new whole offers others ms i m less is k a are =
+        added_several start old new (F (tree m)) (flat_map F (map tree (drop (i + 1) ms))) whole offers others k (subst (λ (l : List Ty). IsAdded start old (flat_map F (map tree l)) whole offers) (cons_at ms i m less is) a) are
+
+    pub members_all : (start now : Store) (whole : List CallOffer) (offers : List (RustCallOffer Ty)) (ms : List Ty) (i : ℕ) → length ms ≤ i → IsAdded start now (flat_map F (map tree (drop i ms))) whole offers → AreCallOffers has tree now offers whole
+    members_all start now whole offers ms i h a = added_all start now _ whole offers (ap (λ (l : List Ty). flat_map F (map tree l)) (drop_all i ms h)) a
+
+  pub pushed_only : (old new : Store) (ts : List CallOffer) (offers : List (RustCallOffer Ty)) (o : RustCallOffer Ty) → Keeps has old new → All (HasCallOffer (has old)) offers → IsOnlyOffer has tree new o ts → AreCallOffers has tree new (offers ++ o ∷ []) (map (offer_called tree) offers ++ ts)
+  pushed_only old new ts offers o k h is = subst (λ (us : List CallOffer). AreCallOffers has tree new (offers ++ o ∷ []) (map (offer_called tree) offers ++ us)) is.is (pushed_one old new (offer_called tree o) offers o k h (record { given = is.given; is = refl }))

@@ -1,4 +1,5 @@
 pub mod ByHead
+pub mod CallLabels
 pub mod Called
 pub mod CallsKept
 pub mod ComputedFlows
@@ -11,7 +12,9 @@ pub mod Filling
 pub mod FirstNames
 pub mod Flowing
 pub mod FoundList
+pub mod HeldClasses
 pub mod Literals
+pub mod MethodOffers
 pub mod Names
 pub mod NamesGiven
 pub mod NamesRead

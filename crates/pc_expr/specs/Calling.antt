@@ -1,23 +1,33 @@
 -- What the programs that judge calls hold and answer, in terms of the definitions.
 -- Own rule of the profile.
-use Rattle.std.specs.Prelude.{◌≡◌, ◌||◌, ◌&&◌, not, ℕ, List, [], ◌∷◌, if◌then◌else◌, map, Bool as Test, true, false, nat_eq, Option, Some, None, All, option_to_list, slice_get, string_bytes, bytes_eq}
+use Rattle.std.specs.Prelude.{◌≡◌, ◌||◌, ◌&&◌, not, ℕ, List, [], ◌∷◌, if◌then◌else◌, map, flat_map, Bool as Test, true, false, nat_eq, Option, Some, None, All, option_to_list, slice_get, string_bytes, bytes_eq}
 use Rattle.std.specs.Option.{option_map}
 use Rattle.std.specs.Borrow.{Bor}
 use Rattle.indexmap.specs.IndexMap.{IndexMap, get_by}
 use Rattle.indexmap.specs.IndexSet.{IndexSet}
+use Rattle.pc_tree.specs.declared.code.Code.{Code}
+use Rattle.pc_tree.specs.declared.code.Code.TheVariants.{A4, E15}
+use Rattle.pc_tree.specs.Tree.{Exprs}
+use Rattle.pc_scope.specs.declared.resolution.Res.{Res}
 use Rattle.pc_scope.specs.Resolution.{is_among, index_of}
-use Rattle.pc_types.specs.Tree.{Tree}
+use Rattle.pc_types.specs.Tree.{Tree, Any, ListOf, DictOf}
+use Rattle.pc_types.specs.Below.{Bases}
+use Rattle.pc_types.specs.declared.head.Head.{Head}
+use Rattle.pc_types.specs.declared.head.Head.TheVariants as heads
 use Rattle.pc_class.specs.Facts.{field_of}
 use Rattle.pc_class.specs.declared.table.Parameter.{Parameter as RustParameter}
 use Rattle.pc_class.specs.Tables.{parameter_lent, HasParameter}
+use Rattle.pc_flow.specs.Narrowing.{second_argument, test_of_argument}
 use Rattle.pc_expr.specs.Context.{Signature}
-use Rattle.pc_expr.specs.Calls.{Given, CallOffer, Seat, positional_seat, named_seat, builtin_signature, type_at}
+use Rattle.pc_expr.specs.Calls.{Given, CallOffer, CallRule, member_rule, length_rule, test_rule, Seat, positional_seat, named_seat, builtin_signature, type_at, list_offers, dict_offers, fails_at_callee, second_code}
 use Rattle.pc_expr.specs.Standing.{HasIfAny}
 use Rattle.pc_expr.specs.declared.arguments.Given.{Given as RustGiven}
 use Rattle.pc_expr.specs.declared.params.Params.{Params}
 use Rattle.pc_expr.specs.declared.call_offers.Called.{Called}
 use Rattle.pc_expr.specs.declared.call_offers.Called.TheVariants as called
 use Rattle.pc_expr.specs.declared.call_offers.CallOffer.{CallOffer as RustCallOffer}
+use Rattle.pc_expr.specs.declared.call_offers.CallRule.{CallRule as RustCallRule}
+use Rattle.pc_expr.specs.declared.call_offers.CallRule.TheVariants as rule
 use Rattle.pc_expr.specs.declared.seats.Argument.{Argument}
 use Rattle.pc_expr.specs.declared.seats.Argument.TheVariants as argument
 use Rattle.pc_expr.specs.declared.seats.Seat.{Seat as RustSeat}
@@ -84,6 +94,19 @@ module _ {Ty : Type 0} (tree : Ty → Tree) where
     calls = option_to_list (option_map (signature_called (tree o.gives)) o.calls);
   }
 
+-- what is found at the callee, and at the call, on each member
+abbrev pub found_at_callee : {Ty : Type 0} → List (RustCallOffer Ty) → List Code
+found_at_callee os = flat_map (λ o. option_to_list o.at_callee) os
+
+abbrev pub found_at_call : {Ty : Type 0} → List (RustCallOffer Ty) → List Code
+found_at_call os = flat_map (λ o. option_to_list o.at_call) os
+
+-- the rule of a call
+abbrev pub rule_of : RustCallRule → CallRule
+rule_of rule.Member = member_rule
+rule_of rule.Length = length_rule
+rule_of rule.Test = test_rule
+
 module _ {Ty : Type 0} (has : Ty → Type 0) where
   -- the store gave the type of a parameter that is lent
   abbrev pub HasLent : Bor (RustParameter Ty) → Type 0
@@ -117,6 +140,11 @@ module _ {Store Ty : Type 0} (has : Store → Ty → Type 0) (tree : Ty → Tree
     pub given : HasCallOffer (has store) o
     pub is : offer_called tree o ≡ meant
 
+  -- a call offer with types of the store, which means the only one of these
+  pub record IsOnlyOffer (o : RustCallOffer Ty) (meant : List CallOffer) : Type 0 where
+    pub given : HasCallOffer (has store) o
+    pub is : offer_called tree o ∷ [] ≡ meant
+
   -- call offers with types of the store, which mean these
   pub record AreCallOffers (os : List (RustCallOffer Ty)) (meant : List CallOffer) : Type 0 where
     pub given : All (HasCallOffer (has store)) os
@@ -143,6 +171,29 @@ builtin_number (argument.Name word) = if bytes_eq word.now [] then Some 0 else N
 abbrev pub types_at : Argument → Signature → List Tree
 types_at (argument.Position k) s = type_at (slice_get s.parameters k)
 types_at (argument.Name word) s = type_at (field_of s.parameters word.now)
+
+-- a head is that of Any or object
+abbrev pub is_head_of_any : Head → Test
+is_head_of_any heads.Any = true
+is_head_of_any heads.Object = true
+is_head_of_any _ = false
+
+-- the class whose instances have a head, if it is that of a class
+abbrev pub class_in_head : Head → Option ℕ
+class_in_head (heads.Class c) = Some c
+class_in_head _ = None
+
+-- a method call on what is no instance of a class
+abbrev pub other_offers : Bases → Given → List ℕ → Tree → List CallOffer
+other_offers bases g word (ListOf t) = list_offers g word t
+other_offers bases g word (DictOf k v) = dict_offers bases g word k v
+other_offers bases g word Any = fails_at_callee A4 ∷ []
+other_offers bases g word _ = fails_at_callee E15 ∷ []
+
+-- the code at the second argument of a call of a rule, which only a test of an instance has
+abbrev pub second_code_of : (List ℕ → Res) → CallRule → Exprs → (early : Test) → Option Code
+second_code_of resolve test_rule arguments early = second_code (test_of_argument resolve (second_argument arguments)) early
+second_code_of resolve _ arguments early = None
 
 -- the seat of an argument by position or by name
 abbrev pub seat_of : List CallOffer → Argument → Seat

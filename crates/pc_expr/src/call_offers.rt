@@ -31,6 +31,14 @@ pub struct CallOffer<'t, Ty: Drop> {
     pub calls: Option<Called<'t, Ty>>,
 }
 
+/// The rule of a call: by the members of what is called, by the length of an argument, or as a test of an instance.
+#[derive(Clone, Copy, Debug, PartialEq, Eq)]
+pub enum CallRule {
+    Member,
+    Length,
+    Test,
+}
+
 /// A call that gives a type, with nothing found, and whose arguments flow nowhere.
 pub fn plain_call<'t, Ty: Drop>(gives: Ty) -> CallOffer<'t, Ty>
     ensures offer { (tree : Ty → Tree) → offer_called tree result ≡ plain_call (tree gives) }

@@ -3,12 +3,15 @@
 
 mod arguments;
 mod call_offers;
+mod calling;
 mod display;
 mod flows;
+mod functions;
 mod given;
 mod label;
 mod laws;
 mod members;
+mod methods;
 mod naming;
 mod offers;
 mod params;
