@@ -8,6 +8,7 @@ mod laws;
 mod members;
 mod naming;
 mod offers;
+mod pairs;
 mod setting;
 
 pub use label::{Label, Offer};
