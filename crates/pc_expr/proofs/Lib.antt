@@ -7,6 +7,7 @@ pub mod Displayed
 pub mod Expected
 pub mod Flowing
 pub mod FoundList
+pub mod KindPairs
 pub mod Literals
 pub mod Names
 pub mod NamesRead
