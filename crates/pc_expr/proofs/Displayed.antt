@@ -3,8 +3,9 @@ use Rattle.std.proofs.Common.{◌≡◌, ◌∙◌, ◌≤◌, ◌<◌, ◌+◌,
 use Rattle.std.specs.Prelude.{nat_le, Bool as Test, All, true, false, Option, Some, None, map, slice_get, nat_eq, Result, IfOk}
 use Rattle.std.proofs.lemmas.Bool.{false≢true}
 use Rattle.std.proofs.lemmas.Bool.Decides.{nat_tests}
+use Rattle.std.specs.List.{list_all}
 use Rattle.std.specs.Option.{option_map}
-use Rattle.pc_tree.specs.declared.code.Code.TheVariants.{E26}
+use Rattle.pc_tree.specs.declared.code.Code.TheVariants.{E22, E26}
 use Rattle.pc_types.specs.declared.head.Head.TheVariants as heads
 use Rattle.pc_types.specs.declared.head.Head.{Head}
 use Rattle.pc_types.specs.Tree.{Tree, Trees, Any, Object, Never, Int, Bool, Str, NoneType, Class, ListOf, DictOf, TupleOf, Union}
@@ -15,7 +16,10 @@ use Rattle.pc_flow.specs.Environment.{join_all}
 use Rattle.pc_flow.proofs.Rest.{mapped_rest, mapped_end}
 use Rattle.pc_expr.specs.Operations.{Mark, clean, in_error, display_mark}
 use Rattle.pc_types.specs.Normal.{IsKey, IsNormal}
-use Rattle.pc_expr.specs.Displays.{is_tuple}
+use Rattle.pc_types.specs.Computed.{static_test}
+use Rattle.pc_expr.specs.Context.{Context}
+use Rattle.pc_expr.specs.Computed.{keys_mark, dict_mark}
+use Rattle.pc_expr.specs.Displays.{is_tuple, keyed_mark, own_dict_mark}
 use Rattle.pc_expr.specs.Standing.{mark_with, IsMark}
 use Rattle.pc_expr.specs.declared.label.Label.{Label}
 use Rattle.pc_expr.proofs.Once.{clean_is, mark_as, marks_as}
@@ -116,3 +120,40 @@ given_at P xs i x h lt is = subst P (sym is) (h i x lt)
 
 pub dict_fits : (t x y : Tree) → t ≡ DictOf x y → IsNormal t → nodes t ≤ limit → IsKey x × (nodes (DictOf x y) ≤ limit)
 dict_fits t x y e n h = ((subst IsNormal e n).0, subst (λ (u : Tree). nodes u ≤ limit) e h)
+
+-- ---- dict displays of which no dict is expected
+
+pub keys_none : (bases : Bases) {Ty : Type 0} (tree : Ty → Tree) (ks : List Ty) (values : List Tree) → length ks ≡ 0 → in_error E22 ≡ own_dict_mark bases (map tree ks) values
+keys_none bases tree [] values h = refl
+keys_none bases tree (k ∷ ks) values h = absurd (omega arith)
+
+pub keys_some : (bases : Bases) {Ty : Type 0} (tree : Ty → Tree) (ks : List Ty) (values : List Tree) (int str : Test) → ¬ (length ks ≡ 0) → list_all (λ t. static_test bases t Int) (map tree ks) ≡ int → list_all (λ t. static_test bases t Str) (map tree ks) ≡ str → keyed_mark bases int str values ≡ own_dict_mark bases (map tree ks) values
+keys_some bases tree [] values int str h i s = absurd (h refl)
+keys_some bases tree (k ∷ ks) values int str h i s = rw (sym i, sym s) refl
+
+pub keys_int : (bases : Bases) {Ty : Type 0} (tree : Ty → Tree) (ks : List Ty) (values : List Tree) → ¬ (length ks ≡ 0) → list_all (λ t. static_test bases t Int) (map tree ks) ≡ true → display_mark (DictOf Int (join_all bases values)) ≡ own_dict_mark bases (map tree ks) values
+keys_int bases tree ks values h i = keys_some bases tree ks values true (list_all (λ t. static_test bases t Str) (map tree ks)) h i refl
+
+-- the definition's label is the same
+keyed_same : (ctx : Context) (declared : List Tree) (assignable : Tree → Tree → Test) (int str : Test) (values : List Tree) → keyed_mark ctx.bases int str values ≡ keys_mark ctx declared (static_test ctx.bases) assignable int str values
+keyed_same ctx declared assignable true str values = refl
+keyed_same ctx declared assignable false true values = refl
+keyed_same ctx declared assignable false false values = refl
+
+pub own_same : (ctx : Context) (declared : List Tree) (assignable : Tree → Tree → Test) (keys values : List Tree) → own_dict_mark ctx.bases keys values ≡ dict_mark ctx declared (static_test ctx.bases) assignable None keys values
+own_same ctx declared assignable [] values = refl
+own_same ctx declared assignable (k ∷ ks) values = keyed_same ctx declared assignable _ _ values
+
+pub own_at : (ctx : Context) (bases : Bases) (declared : List Tree) (assignable : Tree → Tree → Test) (keys values : List Tree) → ctx.bases ≡ bases → own_dict_mark bases keys values ≡ dict_mark ctx declared (static_test bases) assignable None keys values
+own_at ctx bases declared assignable keys values e =
+    subst (λ (b : Bases). own_dict_mark b keys values ≡ dict_mark ctx declared (static_test b) assignable None keys values) e (own_same ctx declared assignable keys values)
+
+module _ {Ty : Type 0} (tree : Ty → Tree) (p : Tree → Test) (types : List Ty) (i : ℕ) (x : Ty) where
+  pub all_later : i < length types → x ≡ get_or types i x → p (tree x) ≡ true → list_all p (drop i (map tree types)) ≡ list_all p (map tree types) → list_all p (drop (i + 1) (map tree types)) ≡ list_all p (map tree types)
+  all_later lt is h v = rw h at (rw (mapped_rest tree types i x lt is) at v)
+
+  pub not_all : i < length types → x ≡ get_or types i x → p (tree x) ≡ false → list_all p (drop i (map tree types)) ≡ list_all p (map tree types) → false ≡ list_all p (map tree types)
+  not_all lt is h v = rw h at (rw (mapped_rest tree types i x lt is) at v)
+
+pub all_so : {Ty : Type 0} (tree : Ty → Tree) (p : Tree → Test) (types : List Ty) (i : ℕ) → length types ≤ i → list_all p (drop i (map tree types)) ≡ list_all p (map tree types) → true ≡ list_all p (map tree types)
+all_so tree p types i le v = rw (mapped_end tree types i le) at v

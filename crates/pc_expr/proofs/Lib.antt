@@ -13,6 +13,7 @@ pub mod FirstNames
 pub mod Flowing
 pub mod FoundList
 pub mod HeldClasses
+pub mod KindPairs
 pub mod Literals
 pub mod MethodOffers
 pub mod Names

@@ -1,8 +1,14 @@
 -- What the program that labels displays is given and answers: types that may stand as parts of a display.
 -- Own rule of the profile.
-use Rattle.std.specs.Prelude.{◌≡◌, ◌≤◌, ℕ, Bool as Test, false, nat_eq, Option, Some, None}
+use Rattle.std.specs.Prelude.{◌≡◌, ◌≤◌, ℕ, List, [], ◌∷◌, Bool as Test, true, false, nat_eq, Option, Some, None}
+use Rattle.std.specs.List.{list_all}
 use Rattle.std.specs.Option.{option_map}
-use Rattle.pc_types.specs.Tree.{Tree, ListOf, DictOf, TupleOf}
+use Rattle.pc_types.specs.Tree.{Tree, Int, Str, ListOf, DictOf, TupleOf}
+use Rattle.pc_types.specs.Below.{Bases}
+use Rattle.pc_types.specs.Computed.{static_test}
+use Rattle.pc_flow.specs.Environment.{join_all}
+use Rattle.pc_tree.specs.declared.code.Code.TheVariants.{E22}
+use Rattle.pc_expr.specs.Operations.{Mark, in_error, display_mark}
 use Rattle.pc_types.specs.Shape.{nodes, limit, count}
 use Rattle.pc_types.specs.Normal.{IsKey}
 use Rattle.pc_expr.specs.Lawful.{KeyValue}
@@ -32,6 +38,17 @@ HasKeyValueIfAny has (Some kv) = has kv.key × has kv.value
 abbrev pub is_tuple : ℕ → Tree → Test
 is_tuple n (TupleOf ts) = nat_eq (count ts) n
 is_tuple n _ = false
+
+-- the label of a dict display whose keys are all int, or all str
+abbrev pub keyed_mark : Bases → (int str : Test) → (values : List Tree) → Mark
+keyed_mark bases true str values = display_mark (DictOf Int (join_all bases values))
+keyed_mark bases false true values = display_mark (DictOf Str (join_all bases values))
+keyed_mark bases false false values = in_error E22
+
+-- the label of a dict display of which no dict is expected, by the test of static subtyping
+abbrev pub own_dict_mark : Bases → (keys values : List Tree) → Mark
+own_dict_mark bases [] values = in_error E22
+own_dict_mark bases (k ∷ ks) values = keyed_mark bases (list_all (λ t. static_test bases t Int) (k ∷ ks)) (list_all (λ t. static_test bases t Str) (k ∷ ks)) values
 
 module _ {Store Ty : Type 0} (has : Store → Ty → Type 0) (tree : Ty → Tree) where
   -- an item type of the store, which means this one, of which there is a list

@@ -8,6 +8,7 @@ pub mod Labels
 pub mod Lawful
 pub mod Operating
 pub mod Operations
+pub mod Pairing
 pub mod Signatures
 pub mod Standing
 pub mod WellFormed

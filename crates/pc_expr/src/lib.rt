@@ -14,6 +14,7 @@ mod members;
 mod methods;
 mod naming;
 mod offers;
+mod pairs;
 mod params;
 mod seats;
 mod setting;
