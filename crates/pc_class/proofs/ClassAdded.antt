@@ -1,6 +1,6 @@
 -- One more class of a module over its base: what the table has of it is what the definition says.
 use Rattle.std.proofs.Common.{◌≡◌, ◌<◌, ℕ, zero, suc, List, [], ◌∷◌, ◌++◌, length, map, refl, sym, ap, ◌∙◌, subst, arith, append-nil}
-use Rattle.std.specs.Prelude.{Bool, true, false, ◌||◌, Option, Some, None, is_some, All, slice_get, slice_index_or, bytes_eq}
+use Rattle.std.specs.Prelude.{Bool, true, ◌||◌, Option, Some, None, is_some, All, slice_get, slice_index_or, bytes_eq}
 use Rattle.std.specs.Option.{option_map}
 use Rattle.std.specs.List.{list_any}
 use Rattle.std.proofs.lemmas.Option.{same_Some}
@@ -10,10 +10,8 @@ use Rattle.std.proofs.lemmas.List.Folds.{list_any-append}
 use Rattle.pc_tree.specs.Tree.{ClassDef, Module}
 use Rattle.pc_types.specs.Tree.{Tree}
 use Rattle.pc_types.specs.Bases.{base_named}
-use Rattle.pc_class.specs.declared.entries.Held.{Held}
 use Rattle.pc_class.specs.declared.table.Parameter.{Parameter as RustParameter}
 use Rattle.pc_class.specs.declared.table.Method.{Method as RustMethod}
-use Rattle.pc_class.specs.declared.parts.Span.{Span}
 use Rattle.pc_class.specs.declared.parts.ClassNode.{ClassNode}
 use Rattle.pc_class.specs.Facts.{Parameter, Method, Class, inherited, class_behind, own_fields, own_methods}
 use Rattle.pc_class.specs.Named.{Named, named_at, IsMap, KeepsNamed}
@@ -22,11 +20,11 @@ use Rattle.pc_class.specs.Entries.{HasMaps, inherited_by, inherited_in, entries_
 use Rattle.pc_class.specs.Outlines.{at_number, IsNumberIn, first_named, IsHeld, field_name, method_name as class_method_name, own_field, own_method, all_own, AreNew}
 use Rattle.pc_class.specs.Tables.{Entry, empty_entry, inherited_entry, HasParameter, HasMethod, parameter_with, method_with, class_with, classes_with}
 use Rattle.pc_class.specs.declared.parts.TableParts.{TableParts}
-use Rattle.pc_class.specs.Parts.{parameter_name, method_name, inherited_node, entries_behind, entries_in, IsNode, AreNodes, IsTable, HasParts}
+use Rattle.pc_class.specs.Parts.{parameter_name, method_name, inherited_node, entries_behind, entries_in, AreNodes, IsTable, HasParts}
 use Rattle.pc_class.specs.Built.{Added, IsClassAt}
 use Rattle.pc_class.proofs.Holding.{held_kept, named_on}
 use Rattle.pc_class.proofs.TableReads.{find_map, inherits_there}
-use Rattle.pc_class.proofs.TableMore.{entry_next, entries_next, nodes_next}
+use Rattle.pc_class.proofs.TableMore.{entries_next, nodes_next}
 use Rattle.pc_class.proofs.OwnMembers.{SameInherited, entries_same, fields_are, methods_are, defaults_are, new_fields, new_methods}
 use Rattle.pc_class.proofs.ClassesBuilt.{below_class}
 

@@ -1,5 +1,5 @@
 -- The store gave the types of a table's classes, where it gave those of all fields and methods.
-use Rattle.std.proofs.Common.{◌≡◌, ℕ, zero, suc, List, [], ◌∷◌, ◌++◌, sym, ap, subst}
+use Rattle.std.proofs.Common.{ℕ, zero, suc, List, [], ◌∷◌, ◌++◌, sym, subst}
 use Rattle.std.specs.Prelude.{Option, Some, None, All}
 use Rattle.std.proofs.lemmas.List.Elements.{All-nil, All-head, All-tail, All-append, All-push, All-take, All-drop}
 use Rattle.pc_class.specs.declared.table.Parameter.{Parameter as RustParameter}
@@ -7,7 +7,7 @@ use Rattle.pc_class.specs.declared.table.Method.{Method as RustMethod}
 use Rattle.pc_class.specs.declared.parts.Span.{Span}
 use Rattle.pc_class.specs.declared.parts.ClassNode.{ClassNode}
 use Rattle.pc_class.specs.declared.parts.TableParts.{TableParts}
-use Rattle.pc_class.specs.Tables.{Entry, empty_entry, inherited_entry, HasParameter, HasMethod, HasEntry, HasEntries}
+use Rattle.pc_class.specs.Tables.{Entry, inherited_entry, HasParameter, HasMethod, HasEntry, HasEntries}
 use Rattle.pc_class.specs.Parts.{part, entry_over, entries_behind, entries_in, HasParts}
 use Rattle.pc_class.proofs.ClassAdded.{entries_are_behind}
 

@@ -1,5 +1,5 @@
 -- What is found as a class table is built is just what the rules on names find.
-use Rattle.std.proofs.Common.{◌≡◌, ◌↔◌, ◌⊎◌, ◌+◌, ℕ, zero, suc, List, [], ◌∷◌, ◌++◌, sym, ap, ◌∙◌, subst, inl, inr, arith}
+use Rattle.std.proofs.Common.{◌≡◌, ◌↔◌, ◌+◌, ℕ, zero, suc, List, [], ◌∷◌, sym, ap, ◌∙◌, subst, inl, inr, arith}
 use Rattle.std.specs.Prelude.{Some, slice_get, Contains}
 use Rattle.std.specs.List.{list_any}
 use Rattle.std.proofs.lemmas.Option.{same_Some}
@@ -12,10 +12,10 @@ use Rattle.pc_scope.specs.Found.{at_code}
 use Rattle.pc_types.specs.Bases.{bases_of}
 use Rattle.pc_class.specs.Facts.{Parameter}
 use Rattle.pc_class.specs.Entries.{inherited_by, class_entries, clash_places, late_places, missing_bases}
-use Rattle.pc_class.specs.Findings.{ClassNumbered, IsFieldBehind, base_class}
+use Rattle.pc_class.specs.Findings.{ClassNumbered, base_class}
 use Rattle.pc_class.specs.Outlines.{class_found, classes_found}
 use Rattle.pc_class.specs.Built.{class_findings}
-use Rattle.pc_class.specs.NamesFound.{FindsBase, NamesFind, base, clash, order}
+use Rattle.pc_class.specs.NamesFound.{NamesFind, base, clash, order}
 use Rattle.pc_class.proofs.ItemsBuilt.{AreAhead}
 use Rattle.pc_class.proofs.FoundBases.{bases_found}
 use Rattle.pc_class.proofs.FoundLate.{late_found}

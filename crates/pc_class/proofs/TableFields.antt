@@ -1,5 +1,5 @@
 -- The fields of a class, put one behind another from the last of the class itself to the first of its first ancestor.
-use Rattle.std.proofs.Common.{◌≡◌, ◌<◌, ◌≤◌, ◌+◌, ◌-◌, ℕ, zero, suc, List, [], ◌∷◌, ◌++◌, length, map, take, drop, reverse, get_or, refl, sym, ap, ◌∙◌, subst, arith, length-drop, append_assoc}
+use Rattle.std.proofs.Common.{◌≡◌, ◌<◌, ◌≤◌, ◌+◌, ◌-◌, ℕ, zero, suc, List, [], ◌∷◌, ◌++◌, length, map, take, drop, reverse, get_or, refl, sym, ap, ◌∙◌, arith, length-drop, append_assoc}
 use Rattle.std.specs.Prelude.{Option, Some, None, All, Contains, slice_get, slice_index_or}
 use Rattle.std.specs.Borrow.{Bor}
 use Rattle.std.proofs.lemmas.List.{map-append, reverse-append, reverse-reverse, get_or-drop}
@@ -11,8 +11,8 @@ use Rattle.pc_class.specs.declared.table.Method.{Method as RustMethod}
 use Rattle.pc_class.specs.declared.parts.Span.{Span}
 use Rattle.pc_class.specs.declared.parts.ClassNode.{ClassNode}
 use Rattle.pc_class.specs.Named.{Named}
-use Rattle.pc_class.specs.Tables.{Entry, empty_entry, inherited_entry, parameter_with, parameter_lent, IsField, IsLent}
-use Rattle.pc_class.specs.Parts.{part, lent, entry_over, AreNodes}
+use Rattle.pc_class.specs.Tables.{Entry, empty_entry, inherited_entry, parameter_with, parameter_lent, IsLent}
+use Rattle.pc_class.specs.Parts.{part, lent, AreNodes}
 
 abbrev span : ℕ → ℕ → Span
 span start end = record { start = start; end = end }

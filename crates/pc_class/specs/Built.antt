@@ -1,6 +1,6 @@
 -- What a class table is built from, and what one more class adds to it.
 -- Own rule of the profile.
-use Rattle.std.specs.Prelude.{◌≡◌, ℕ, suc, List, [], ◌∷◌, ◌++◌, length, map, Some, All, slice_get}
+use Rattle.std.specs.Prelude.{◌≡◌, ℕ, suc, List, [], ◌∷◌, ◌++◌, map, Some, All, slice_get}
 use Rattle.pc_tree.specs.Tree.{ClassDef, Module, module_of}
 use Rattle.pc_tree.specs.declared.code.Code.TheVariants.{E07}
 use Rattle.pc_tree.specs.declared.code.Finding.{Finding}

@@ -9,9 +9,9 @@ use Rattle.pc_class.specs.declared.table.Method.{Method as RustMethod}
 use Rattle.pc_class.specs.declared.parts.Span.{Span}
 use Rattle.pc_class.specs.declared.parts.ClassNode.{ClassNode}
 use Rattle.pc_class.specs.declared.parts.TableParts.{TableParts}
-use Rattle.pc_class.specs.Named.{Named, IsMap}
+use Rattle.pc_class.specs.Named.{Named}
 use Rattle.pc_class.specs.Outlines.{IsHeld}
-use Rattle.pc_class.specs.Tables.{Entry, empty_entry, inherited_entry, HasParameter, HasMethod}
+use Rattle.pc_class.specs.Tables.{Entry, inherited_entry, HasParameter, HasMethod}
 
 -- the items of a list from one place on and before another
 abbrev pub part : {X : Type 0} → List X → Span → List X

@@ -1,4 +1,4 @@
-use Rattle.std.proofs.Common.{◌≡◌, ◌∙◌, ◌++◌, [], List, map, sym, ap, subst, append_assoc}
+use Rattle.std.proofs.Common.{◌∙◌, ◌++◌, [], List, map, sym, ap, subst, append_assoc}
 use Rattle.pc_tree.specs.declared.code.Code.TheVariants.{E07}
 use Rattle.pc_tree.specs.declared.code.Finding.{Finding}
 use Rattle.pc_tree.specs.declared.tree.Item.{Item as RustItem}
@@ -8,7 +8,6 @@ use Rattle.pc_scope.specs.Found.{at_code}
 use Rattle.pc_types.specs.Below.{Bases}
 use Rattle.pc_types.specs.Bases.{bases_of}
 use Rattle.pc_class.specs.Entries.{missing_bases}
-use Rattle.pc_class.specs.Outlines.{classes_found}
 use Rattle.pc_class.specs.Built.{found_behind, class_findings}
 use Rattle.pc_class.specs.Facts.{Class}
 use Rattle.pc_class.specs.Parts.{entries_in}
