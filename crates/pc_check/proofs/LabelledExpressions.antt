@@ -128,7 +128,7 @@ module _ (setting : Setting) where
         lawful = λ F gF s. record { value = v.marks; lawful = v.lawful F gF s; callee = refl; arguments = q.lawful F gF s; keywords = r.lawful F gF s; here = refl; second = refl };
       }
 
-  range_item_well_formed : (b : Test) → IsWellFormed ctx.bases (if b then clean Int else record { type = Any; codes = A5 ∷ [] }).type
+  pub range_item_well_formed : (b : Test) → IsWellFormed ctx.bases (if b then clean Int else record { type = Any; codes = A5 ∷ [] }).type
   range_item_well_formed true = (tt, tt, omega arith)
   range_item_well_formed false = (tt, tt, omega arith)
 

@@ -42,7 +42,7 @@ any_long zero = refl
 any_long (suc n) = ap suc (any_long n)
 
 -- where no local is assigned
-none_well_formed : (bases : Bases) (n : ℕ) → IsWellFormedEnv bases (none_assigned n)
+pub none_well_formed : (bases : Bases) (n : ℕ) → IsWellFormedEnv bases (none_assigned n)
 none_well_formed bases zero = tt
 none_well_formed bases (suc n) = (tt, none_well_formed bases n)
 
@@ -81,7 +81,7 @@ params_labelled m before (p ∷ ps) =
 -- ---- functions
 
 -- what a function is entered with
-entries_well_formed : (m : Module) (owner : Owner) (f : FuncDef) → ParametersWellFormed (bases_of m) (entries_of m owner f)
+pub entries_well_formed : (m : Module) (owner : Owner) (f : FuncDef) → ParametersWellFormed (bases_of m) (entries_of m owner f)
 entries_well_formed m owners.Module f = params_well_formed m f.params
 entries_well_formed m (owners.Func i) f = params_well_formed m f.params
 entries_well_formed m (owners.Method c i) f = ((tt, tt, omega arith), params_well_formed m f.params)

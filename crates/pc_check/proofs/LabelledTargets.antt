@@ -93,7 +93,7 @@ module _ (setting : Setting) where
 
   -- ---- stores
 
-  only_well_formed : (os : List StoreOffer) (ts : List Tree) → AreWellFormed ctx.bases ts → IsWellFormedIfAny ctx.bases (only_type os ts)
+  pub only_well_formed : (os : List StoreOffer) (ts : List Tree) → AreWellFormed ctx.bases ts → IsWellFormedIfAny ctx.bases (only_type os ts)
   only_well_formed (o ∷ []) (t ∷ []) k = k.0
   only_well_formed [] ts k = tt
   only_well_formed (o ∷ []) [] k = tt

@@ -18,3 +18,11 @@ pub mod SaidInStatements
 pub mod Scopes
 pub mod StoredTypes
 pub mod Tables
+pub mod WalkedBindings
+pub mod WalkedEnvironments
+pub mod WalkedExpressions
+pub mod WalkedFindings
+pub mod WalkedFunctions
+pub mod WalkedStatements
+pub mod WalkedStores
+pub mod WalkedTables

@@ -8,16 +8,9 @@ use Rattle.pc_scope.specs.Resolution.{is_among}
 use Rattle.pc_types.specs.Tree.{Tree, Any}
 use Rattle.pc_flow.specs.Environment.{declared_type}
 use Rattle.pc_expr.specs.Context.{Context}
+use Rattle.pc_check.specs.ComputedStatements.{type_table, bound_type}
 use Rattle.pc_check.specs.Statements.{Seen}
 use Rattle.pc_check.specs.Labelled.{Locals}
-
--- the declared types, Any for locals not bound so far
-abbrev pub type_table : List (Option Tree) → List Tree
-type_table os = map (λ o. unwrap_or o Any) os
-
--- the declared type of a local, if it is bound so far
-abbrev pub bound_type : List (Option Tree) → ℕ → Option Tree
-bound_type os x = slice_index_or os x None
 
 -- as the table says
 pub type_of_bound : (os : List (Option Tree)) (x : ℕ) → declared_type (type_table os) x ≡ unwrap_or (bound_type os x) Any
@@ -32,7 +25,7 @@ set_bound (o ∷ os) zero t = refl
 set_bound (o ∷ os) (suc x) t = ap (λ ts. unwrap_or o Any ∷ ts) (set_bound os x t)
 
 -- where none is bound
-none_bound : (n x : ℕ) → bound_type (replicate n None) x ≡ None
+pub none_bound : (n x : ℕ) → bound_type (replicate n None) x ≡ None
 none_bound zero x = refl
 none_bound (suc n) zero = refl
 none_bound (suc n) (suc x) = none_bound n x

@@ -3,6 +3,7 @@ ghost use Rattle.pc_tree.specs.Tree.{Module};
 ghost use Rattle.pc_scope.specs.Findings.{ScopeFinds};
 ghost use Rattle.pc_check.specs.Agreement.{AgreesWithScopes};
 ghost use Rattle.pc_check.specs.Labelled.{StatementsAreLabelled, SuitesAreLabelled, FunctionsAreLabelled, ClassesAreLabelled};
+ghost use Rattle.pc_check.specs.WalkLaw.{WalksOfStatementsSayWhatLabelsSay, WalksOfSuitesSayWhatLabelsSay, BodiesFindWhatLabelsSay};
 ghost use Rattle.pc_check.specs.Modules.{Labelling, IsLawful, IsFinding, HasLabelling, HasOneLabelling, HasExactlyOneLabelling};
 
 /// The law that a module has at most one lawful labelling.
@@ -44,4 +45,13 @@ pub fn findings_of_scopes()
 /// alone, and labels have them for their types.
 pub fn labels_agree_with_scopes()
     ensures { (m : Module) (marks : Labelling m) → IsLawful m marks → AgreesWithScopes m marks }
+{}
+
+/// The law that a walk over a statement, and over a suite, comes to what any lawful labels of it say: from a table of declared
+/// types and an environment that fit them, to the environments of the labels; and that it finds just what stands under them,
+/// but for what is found of scopes. So does the walk over the body of a function, with E21 at its name.
+pub fn walks_say_what_labels_say()
+    ensures statement { WalksOfStatementsSayWhatLabelsSay }
+    ensures suite { WalksOfSuitesSayWhatLabelsSay }
+    ensures body { BodiesFindWhatLabelsSay }
 {}

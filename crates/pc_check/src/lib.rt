@@ -6,4 +6,5 @@ mod laws;
 pub use laws::{
     every_module_has_a_labelling, every_module_has_exactly_one_labelling, findings_of_scopes,
     functions_have_labels, labels_agree_with_scopes, one_labelling, suites_have_labels,
+    walks_say_what_labels_say,
 };

@@ -27,7 +27,7 @@ use Rattle.pc_flow.specs.WellFormed.{IsWellFormedIfAny, IsWellFormedEnv, AreWell
 use Rattle.pc_flow.proofs.Conditions.{join_object_well_formed}
 use Rattle.pc_expr.proofs.WellFormed.{any_well_formed, never_well_formed, bool_well_formed, str_well_formed, none_well_formed, class_well_formed, item_well_formed, key_well_formed, value_well_formed, members_well_formed, append_well_formed, if_any, all_well_formed}
 use Rattle.pc_expr.proofs.Names.{name_well_formed}
-use Rattle.pc_expr.proofs.Offers.{ParameterWellFormed, FoundMethodWellFormed, field_well_formed, method_well_formed, each_well_formed, length_well_formed, offers_well_formed}
+use Rattle.pc_expr.proofs.OfferedTypes.{ParameterWellFormed, FoundMethodWellFormed, field_well_formed, method_well_formed, each_well_formed, length_well_formed, offers_well_formed}
 use Rattle.pc_class.specs.WellFormed.{ParametersWellFormed, ClassesWellFormed}
 use Rattle.pc_class.proofs.WellFormed.{class_at_well_formed}
 use Rattle.pc_expr.specs.WellFormed.{SignatureWellFormed, SignaturesWellFormed, ContextWellFormed}

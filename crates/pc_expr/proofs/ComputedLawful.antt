@@ -23,7 +23,7 @@ use Rattle.pc_expr.specs.Computed.{keys_mark, dict_mark, labels, items_labels, e
 use Rattle.pc_expr.proofs.WellFormed.{any_well_formed, int_well_formed, bool_well_formed, str_well_formed, none_well_formed, all_well_formed}
 use Rattle.pc_expr.proofs.One.{one_labelling}
 use Rattle.pc_expr.proofs.Names.{name_well_formed}
-use Rattle.pc_expr.proofs.Offers.{each_well_formed, negative_well_formed, attribute_well_formed, index_well_formed, offers_well_formed, operands_well_formed, binary_well_formed}
+use Rattle.pc_expr.proofs.OfferedTypes.{each_well_formed, negative_well_formed, attribute_well_formed, index_well_formed, offers_well_formed, operands_well_formed, binary_well_formed}
 use Rattle.pc_expr.proofs.Called.{SeatWellFormed, ObjectWellFormed, positional_well_formed, named_well_formed, keyword_well_formed, callee_well_formed, whole_call_well_formed, callee_mark_well_formed}
 use Rattle.pc_expr.proofs.Expected.{DictWellFormed, int_dict, str_dict, wanted_members, list_item_well_formed, list_seat_well_formed, list_well_formed, tuple_parts_well_formed, part_seat_well_formed, tuple_well_formed, dict_parts_well_formed, key_seat_well_formed, value_seat_well_formed, compare_well_formed, compare_types_well_formed}
 use Rattle.pc_expr.proofs.ComputedFlows.{AreTests, into_is, flows_well_formed, are_tests}

@@ -13,7 +13,7 @@ use Rattle.pc_expr.specs.Lawful.{list_item, KeyValue, dict_parts, tuple_parts, m
 use Rattle.pc_types.specs.WellFormed.{IsWellFormed}
 use Rattle.pc_flow.specs.WellFormed.{IsWellFormedIfAny, AreWellFormed}
 use Rattle.pc_expr.proofs.WellFormed.{bool_well_formed, item_well_formed, key_well_formed, value_well_formed, parts_well_formed, members_well_formed, at_well_formed, trees_normal, all_well_formed}
-use Rattle.pc_expr.proofs.Offers.{OffersWellFormed, each_well_formed, contain_well_formed, operands_well_formed, offers_well_formed, order_well_formed, display_well_formed}
+use Rattle.pc_expr.proofs.OfferedTypes.{OffersWellFormed, each_well_formed, contain_well_formed, operands_well_formed, offers_well_formed, order_well_formed, display_well_formed}
 use Rattle.pc_expr.proofs.Called.{SeatWellFormed, nowhere_well_formed}
 
 module _ (bases : Bases) where

@@ -1,6 +1,6 @@
 -- The list of an expression's findings has just what stands under its labels and is not found of scopes.
 use Rattle.std.proofs.Common.{◌≡◌, ◌⊎◌, ◌↔◌, List, [], ◌∷◌, ◌++◌, refl, sym, ap, ◌∙◌, subst, inl, inr, Contains}
-use Rattle.std.specs.Prelude.{Bool as Test, true, false, if◌then◌else◌, Option, Some, None}
+use Rattle.std.specs.Prelude.{Bool as Test, true, false, if◌then◌else◌, Option, Some, None, flat_map, option_to_list}
 use Rattle.std.proofs.lemmas.List.Elements.{Contains-append_left, Contains-append_right}
 use Rattle.pc_source.specs.declared.place.Place.{Place}
 use Rattle.pc_tree.specs.declared.code.Code.{Code}
@@ -12,7 +12,8 @@ use Rattle.pc_scope.specs.Expressions.{is_instance_test}
 use Rattle.pc_scope.proofs.Among.{none_among, first_among, later_among, among_first, either}
 use Rattle.pc_expr.specs.Operations.{FlowMark}
 use Rattle.pc_expr.specs.Labels.{Flowing, Marks, ItemsMarks, EntriesMarks, KeywordsMarks, is_of_scopes, second_place, IsFoundAt, IsFlowAt, IsCodeAt, Finds, ItemsFind, ArgumentsFind, EntriesFind, KeywordsFind}
-use Rattle.pc_expr.specs.Found.{own_at, codes_at, code_at, flows_at, found_in, found_in_items, found_in_arguments, found_in_entries, found_in_keywords, IsOwn}
+use Rattle.pc_expr.specs.Found.{own_at, once, codes_at, code_at, flow_codes, flows_at, found_in, found_in_items, found_in_arguments, found_in_entries, found_in_keywords, IsOwn}
+use Rattle.pc_expr.proofs.SameCodes.{once_has, once_from}
 
 -- ---- the findings of codes and of flows
 
@@ -37,21 +38,26 @@ own_listed p c f h =
 own_lists : (p : Place) (c : Code) (f : Finding) → f ≡ finding p c → IsFoundElsewhere f → Contains (own_at p c) f
 own_lists p c f e own = subst (Contains (own_at p c)) (sym e) (lists_unless (is_of_scopes c) (finding p c) (sym (ap (λ g. is_of_scopes g.code) e) ∙ own))
 
-codes_listed : (p : Place) (cs : List Code) (f : Finding) → Contains (codes_at p cs) f → IsFoundAt p cs f × IsFoundElsewhere f
-codes_listed p [] f h = absurd (none_among f h)
-codes_listed p (c ∷ cs) f h = either (own_at p c) (codes_at p cs) f h
+listed_codes : (p : Place) (cs : List Code) (f : Finding) → Contains (flat_map (own_at p) cs) f → IsFoundAt p cs f × IsFoundElsewhere f
+listed_codes p [] f h = absurd (none_among f h)
+listed_codes p (c ∷ cs) f h = either (own_at p c) (flat_map (own_at p) cs) f h
     (λ a. let r = own_listed p c f a in (record { code = c; among = first_among c cs; is = r.0 }, r.1))
-    (λ b. let r = codes_listed p cs f b in (record { code = r.0.code; among = later_among c cs r.0.code r.0.among; is = r.0.is }, r.1))
+    (λ b. let r = listed_codes p cs f b in (record { code = r.0.code; among = later_among c cs r.0.code r.0.among; is = r.0.is }, r.1))
 
-lists_code : (p : Place) (cs : List Code) (c : Code) (f : Finding) → Contains cs c → f ≡ finding p c → IsFoundElsewhere f → Contains (codes_at p cs) f
+lists_code : (p : Place) (cs : List Code) (c : Code) (f : Finding) → Contains cs c → f ≡ finding p c → IsFoundElsewhere f → Contains (flat_map (own_at p) cs) f
 lists_code p [] c f h e own = absurd (none_among c h)
 lists_code p (d ∷ cs) c f h e own = elim (among_first d cs c h) [
-  | inl same ↦ Contains-append_left (own_at p d) (codes_at p cs) f (own_lists p d f (e ∙ ap (finding p) (sym same)) own)
-  | inr rest ↦ Contains-append_right (own_at p d) (codes_at p cs) f (lists_code p cs c f rest e own)
+  | inl same ↦ Contains-append_left (own_at p d) (flat_map (own_at p) cs) f (own_lists p d f (e ∙ ap (finding p) (sym same)) own)
+  | inr rest ↦ Contains-append_right (own_at p d) (flat_map (own_at p) cs) f (lists_code p cs c f rest e own)
 ]
 
+codes_listed : (p : Place) (cs : List Code) (f : Finding) → Contains (codes_at p cs) f → IsFoundAt p cs f × IsFoundElsewhere f
+codes_listed p cs f h =
+    let r = listed_codes p (once cs) f h in
+    (record { code = r.0.code; among = once_from cs r.0.code r.0.among; is = r.0.is }, r.1)
+
 codes_list : (p : Place) (cs : List Code) (f : Finding) → IsFoundAt p cs f → IsFoundElsewhere f → Contains (codes_at p cs) f
-codes_list p cs f h own = lists_code p cs h.code f h.among h.is own
+codes_list p cs f h own = lists_code p (once cs) h.code f (once_has cs h.code h.among) h.is own
 
 code_listed : (p : Place) (c : Option Code) (f : Finding) → Contains (code_at p c) f → IsCodeAt p c f × IsFoundElsewhere f
 code_listed p None f h = absurd (none_among f h)
@@ -61,28 +67,36 @@ code_lists : (p : Place) (c : Option Code) (f : Finding) → IsCodeAt p c f → 
 code_lists p None f h own = absurd h
 code_lists p (Some c) f h own = own_lists p c f h own
 
-flow_listed : (p : Place) (g : FlowMark) (gs : Flowing) (c : Option Code) (f : Finding) → g.code ≡ c → Contains (code_at p c) f → IsFlowAt p (g ∷ gs) f × IsFoundElsewhere f
-flow_listed p g gs None f e h = absurd (none_among f h)
-flow_listed p g gs (Some c) f e h =
-    let r = own_listed p c f h in
-    (record { flow = g; among = first_among g gs; code = c; found = e; is = r.0 }, r.1)
+-- a code of flows is the code of one of them
+record HasFlow (fs : Flowing) (c : Code) : Type 0 where
+  flow : FlowMark
+  among : Contains fs flow
+  found : flow.code ≡ Some c
 
-flows_listed : (p : Place) (fs : Flowing) (f : Finding) → Contains (flows_at p fs) f → IsFlowAt p fs f × IsFoundElsewhere f
-flows_listed p [] f h = absurd (none_among f h)
-flows_listed p (g ∷ gs) f h = either (code_at p g.code) (flows_at p gs) f h
-    (λ a. flow_listed p g gs g.code f refl a)
-    (λ b. let r = flows_listed p gs f b in (record { flow = r.0.flow; among = later_among g gs r.0.flow r.0.among; code = r.0.code; found = r.0.found; is = r.0.is }, r.1))
+one_code : (g : FlowMark) (c : Code) (o : Option Code) → g.code ≡ o → Contains (option_to_list o) c → g.code ≡ Some c
+one_code g c None e h = absurd (none_among c h)
+one_code g c (Some d) e h = elim (among_first d [] c h) [ inl s ↦ e ∙ ap (λ x. Some x) s | inr n ↦ absurd (none_among c n) ]
 
-lists_flow : (p : Place) (fs : Flowing) (g : FlowMark) (f : Finding) → Contains fs g → Contains (code_at p g.code) f → Contains (flows_at p fs) f
-lists_flow p [] g f h k = absurd (none_among g h)
-lists_flow p (d ∷ fs) g f h k = elim (among_first d fs g h) [
-  | inl same ↦ Contains-append_left (code_at p d.code) (flows_at p fs) f (subst (λ (x : FlowMark). Contains (code_at p x.code) f) (sym same) k)
-  | inr rest ↦ Contains-append_right (code_at p d.code) (flows_at p fs) f (lists_flow p fs g f rest k)
+flow_with : (fs : Flowing) (c : Code) → Contains (flow_codes fs) c → HasFlow fs c
+flow_with [] c h = absurd (none_among c h)
+flow_with (g ∷ gs) c h = either (option_to_list g.code) (flow_codes gs) c h
+    (λ a. record { flow = g; among = first_among g gs; found = one_code g c g.code refl a })
+    (λ b. let r = flow_with gs c b in record { flow = r.flow; among = later_among g gs r.flow r.among; found = r.found })
+
+code_with : (fs : Flowing) (g : FlowMark) (c : Code) → Contains fs g → g.code ≡ Some c → Contains (flow_codes fs) c
+code_with [] g c h e = absurd (none_among g h)
+code_with (d ∷ fs) g c h e = elim (among_first d fs g h) [
+  | inl same ↦ Contains-append_left (option_to_list d.code) (flow_codes fs) c (subst (λ (o : Option Code). Contains (option_to_list o) c) (sym (ap (λ (x : FlowMark). x.code) same ∙ e)) (first_among c []))
+  | inr rest ↦ Contains-append_right (option_to_list d.code) (flow_codes fs) c (code_with fs g c rest e)
 ]
 
-flows_list : (p : Place) (fs : Flowing) (f : Finding) → IsFlowAt p fs f → IsFoundElsewhere f → Contains (flows_at p fs) f
-flows_list p fs f h own =
-    lists_flow p fs h.flow f h.among (subst (λ (c : Option Code). Contains (code_at p c) f) (sym h.found) (own_lists p h.code f h.is own))
+flow_of_code : (p : Place) (fs : Flowing) (f : Finding) → IsFoundAt p (flow_codes fs) f → IsFlowAt p fs f
+flow_of_code p fs f h =
+    let r = flow_with fs h.code h.among in
+    record { flow = r.flow; among = r.among; code = h.code; found = r.found; is = h.is }
+
+code_of_flow : (p : Place) (fs : Flowing) (f : Finding) → IsFlowAt p fs f → IsFoundAt p (flow_codes fs) f
+code_of_flow p fs f h = record { code = h.code; among = code_with fs h.flow h.code h.among h.found; is = h.is }
 
 -- ---- two lists, one after the other
 
@@ -113,28 +127,22 @@ first_third s = elim s [ inl r ↦ inr (inr r) | inr t ↦ elim t [ inl p ↦ in
 second_first : {P Q R : Type 0} → P ⊎ (Q ⊎ R) → Q ⊎ (P ⊎ R)
 second_first s = elim s [ inl p ↦ inr (inl p) | inr t ↦ elim t [ inl q ↦ inl q | inr r ↦ inr (inr r) ] ]
 
-two_behind : {P Q R S : Type 0} → P ⊎ (Q ⊎ (R ⊎ S)) → R ⊎ (S ⊎ (P ⊎ Q))
-two_behind s = elim s [
-  | inl p ↦ inr (inr (inl p))
-  | inr t ↦ elim t [ inl q ↦ inr (inr (inr q)) | inr u ↦ elim u [ inl r ↦ inl r | inr x ↦ inr (inl x) ] ]
-]
-
--- what is found of a call: in the callee, in the arguments, in those by name, at the call, at what stands second
-of_call : {C A K H S : Type 0} → C ⊎ (A ⊎ (K ⊎ (H ⊎ S))) → H ⊎ (C ⊎ (S ⊎ (A ⊎ K)))
+-- what is found of a call: in the callee, in the arguments, in those by name, at what stands second
+of_call : {C A K S : Type 0} → C ⊎ (A ⊎ (K ⊎ S)) → C ⊎ (S ⊎ (A ⊎ K))
 of_call s = elim s [
-  | inl c ↦ inr (inl c)
+  | inl c ↦ inl c
   | inr t ↦ elim t [
-    | inl a ↦ inr (inr (inr (inl a)))
-    | inr u ↦ elim u [ inl k ↦ inr (inr (inr (inr k))) | inr v ↦ elim v [ inl h ↦ inl h | inr x ↦ inr (inr (inl x)) ] ]
+    | inl a ↦ inr (inr (inl a))
+    | inr u ↦ elim u [ inl k ↦ inr (inr (inr k)) | inr x ↦ inr (inl x) ]
   ]
 ]
 
-call_of : {C A K H S : Type 0} → H ⊎ (C ⊎ (S ⊎ (A ⊎ K))) → C ⊎ (A ⊎ (K ⊎ (H ⊎ S)))
+call_of : {C A K S : Type 0} → C ⊎ (S ⊎ (A ⊎ K)) → C ⊎ (A ⊎ (K ⊎ S))
 call_of s = elim s [
-  | inl h ↦ inr (inr (inr (inl h)))
+  | inl c ↦ inl c
   | inr t ↦ elim t [
-    | inl c ↦ inl c
-    | inr u ↦ elim u [ inl x ↦ inr (inr (inr (inr x))) | inr v ↦ elim v [ inl a ↦ inr (inl a) | inr k ↦ inr (inr (inl k)) ] ]
+    | inl x ↦ inr (inr (inr x))
+    | inr v ↦ elim v [ inl a ↦ inr (inl a) | inr k ↦ inr (inr (inl k)) ]
   ]
 ]
 
@@ -165,7 +173,7 @@ at_code : (f : Finding) (p : Place) (c : Option Code) → Lists f (code_at p c) 
 at_code f p c = (code_listed p c f, code_lists p c f)
 
 at_flows : (f : Finding) (p : Place) (fs : Flowing) → Lists f (flows_at p fs) (IsFlowAt p fs f)
-at_flows f p fs = (flows_listed p fs f, flows_list p fs f)
+at_flows f p fs = same_listed f (flows_at p fs) (flow_of_code p fs f) (code_of_flow p fs f) (at_codes f p (flow_codes fs))
 
 nothing_listed : (f : Finding) → Lists f [] ⊥
 nothing_listed f = (λ h. absurd (none_among f h), λ h own. absurd h)
@@ -176,17 +184,14 @@ nothing_listed f = (λ h. absurd (none_among f h), λ h own. absurd h)
 over_parts : (f : Finding) (xs : List Finding) {P : Type 0} (p : Place) (cs : List Code) → Lists f xs P → Lists f (xs ++ codes_at p cs) (IsFoundAt p cs f ⊎ P)
 over_parts f xs p cs h = same_listed f (xs ++ codes_at p cs) turned turned (in_turn f xs (codes_at p cs) h (at_codes f p cs))
 
--- two operands, and then the codes of the whole
-over_operands : (f : Finding) (xs ys : List Finding) {P Q : Type 0} (p : Place) (cs : List Code) → Lists f xs P → Lists f ys Q → Lists f (xs ++ (ys ++ codes_at p cs)) (IsFoundAt p cs f ⊎ (P ⊎ Q))
-over_operands f xs ys p cs h k =
-    same_listed f (xs ++ (ys ++ codes_at p cs)) third_first first_third (in_turn f xs (ys ++ codes_at p cs) h (in_turn f ys (codes_at p cs) k (at_codes f p cs)))
+-- two operands, and a flow of one of them
+over_flow : (f : Finding) (xs ys : List Finding) {P Q : Type 0} (q : Place) (fs : Flowing) → Lists f xs P → Lists f ys Q → Lists f (xs ++ (ys ++ flows_at q fs)) (IsFlowAt q fs f ⊎ (P ⊎ Q))
+over_flow f xs ys q fs h k =
+    same_listed f (xs ++ (ys ++ flows_at q fs)) third_first first_third (in_turn f xs (ys ++ flows_at q fs) h (in_turn f ys (flows_at q fs) k (at_flows f q fs)))
 
--- two operands, the codes of the whole, and a flow of one of them
-over_flow : (f : Finding) (xs ys : List Finding) {P Q : Type 0} (p q : Place) (cs : List Code) (fs : Flowing) → Lists f xs P → Lists f ys Q → Lists f (xs ++ (ys ++ (codes_at p cs ++ flows_at q fs))) (IsFoundAt p cs f ⊎ (IsFlowAt q fs f ⊎ (P ⊎ Q)))
-over_flow f xs ys p q cs fs h k =
-    let last = in_turn f (codes_at p cs) (flows_at q fs) (at_codes f p cs) (at_flows f q fs) in
-    same_listed f (xs ++ (ys ++ (codes_at p cs ++ flows_at q fs))) two_behind two_behind
-    (in_turn f xs (ys ++ (codes_at p cs ++ flows_at q fs)) h (in_turn f ys (codes_at p cs ++ flows_at q fs) k last))
+-- two operands, and then the codes of the whole
+over_operands : (f : Finding) (xs ys : List Finding) {P Q : Type 0} (p : Place) (cs : List Code) → Lists f xs P → Lists f ys Q → Lists f ((xs ++ ys) ++ codes_at p cs) (IsFoundAt p cs f ⊎ (P ⊎ Q))
+over_operands f xs ys p cs h k = over_parts f (xs ++ ys) p cs (in_turn f xs ys h k)
 
 -- an item with its flows, and then the others
 over_item : (f : Finding) (xs ys : List Finding) {P Q : Type 0} (p : Place) (fs : Flowing) → Lists f xs P → Lists f ys Q → Lists f (xs ++ (flows_at p fs ++ ys)) (IsFlowAt p fs f ⊎ (P ⊎ Q))
@@ -206,24 +211,29 @@ mutual
   in_expression f (negative p e) m = over_parts f (found_in e m.operand) p m.here.codes (in_expression f e m.operand)
   in_expression f (negation p e) m = over_parts f (found_in e m.operand) p m.here.codes (in_expression f e m.operand)
   in_expression f (binary p o l r) m = over_operands f (found_in l m.left) (found_in r m.right) p m.here.codes (in_expression f l m.left) (in_expression f r m.right)
-  in_expression f (compare p o l r) m = over_flow f (found_in l m.left) (found_in r m.right) p (place_of l) m.here.codes m.flows (in_expression f l m.left) (in_expression f r m.right)
+  in_expression f (compare p o l r) m =
+      let xs = found_in l m.left in
+      let ys = found_in r m.right in
+      over_parts f (xs ++ (ys ++ flows_at (place_of l) m.flows)) p m.here.codes (over_flow f xs ys (place_of l) m.flows (in_expression f l m.left) (in_expression f r m.right))
   in_expression f (is_none p e) m = over_parts f (found_in e m.operand) p m.here.codes (in_expression f e m.operand)
   in_expression f (is_not_none p e) m = over_parts f (found_in e m.operand) p m.here.codes (in_expression f e m.operand)
   in_expression f (conjunction p l r) m = over_operands f (found_in l m.left) (found_in r m.right) p m.here.codes (in_expression f l m.left) (in_expression f r m.right)
   in_expression f (disjunction p l r) m = over_operands f (found_in l m.left) (found_in r m.right) p m.here.codes (in_expression f l m.left) (in_expression f r m.right)
   in_expression f (attribute p e field) m = over_parts f (found_in e m.object) p m.here.codes (in_expression f e m.object)
-  in_expression f (index p e i) m = over_flow f (found_in e m.object) (found_in i m.key) p (place_of i) m.here.codes m.flows (in_expression f e m.object) (in_expression f i m.key)
+  in_expression f (index p e i) m =
+      let xs = found_in e m.object in
+      let ys = found_in i m.key in
+      over_parts f (xs ++ (ys ++ flows_at (place_of i) m.flows)) p m.here.codes (over_flow f xs ys (place_of i) m.flows (in_expression f e m.object) (in_expression f i m.key))
   in_expression f (call p c args kws) m =
       let is_test = is_instance_test c args kws in
       let a = found_in_arguments is_test args m.arguments in
       let k = found_in_keywords kws m.keywords in
-      let h = codes_at p m.here.codes in
       let s = code_at (second_place args p) m.second in
-      same_listed f (found_in c m.callee ++ (a ++ (k ++ (h ++ s)))) of_call call_of
-      (in_turn f (found_in c m.callee) (a ++ (k ++ (h ++ s))) (in_expression f c m.callee)
-      (in_turn f a (k ++ (h ++ s)) (in_arguments f is_test args m.arguments)
-      (in_turn f k (h ++ s) (in_keywords f kws m.keywords)
-      (in_turn f h s (at_codes f p m.here.codes) (at_code f (second_place args p) m.second)))))
+      over_parts f (found_in c m.callee ++ (a ++ (k ++ s))) p m.here.codes
+      (same_listed f (found_in c m.callee ++ (a ++ (k ++ s))) of_call call_of
+      (in_turn f (found_in c m.callee) (a ++ (k ++ s)) (in_expression f c m.callee)
+      (in_turn f a (k ++ s) (in_arguments f is_test args m.arguments)
+      (in_turn f k s (in_keywords f kws m.keywords) (at_code f (second_place args p) m.second)))))
 
   in_items : (f : Finding) (es : Exprs) (m : ItemsMarks es) → Lists f (found_in_items es m) (ItemsFind es m f)
   in_items f no_exprs m = nothing_listed f

@@ -1,81 +1,116 @@
 -- What is found under the labels of an expression, as a list in the order in which a walk comes to it: computed twin of what stands
 -- under labels, but for E02 and E03, which are found of scopes.
 -- Own rule of the profile.
-use Rattle.std.specs.Prelude.{◌≡◌, ◌↔◌, List, [], ◌∷◌, ◌++◌, flat_map, Bool as Test, true, false, if◌then◌else◌, Option, Some, None, Contains}
+use Rattle.std.specs.Prelude.{◌≡◌, ◌↔◌, List, [], ◌∷◌, ◌++◌, flat_map, Bool as Test, true, false, if◌then◌else◌, Option, Some, None, Contains, option_to_list, bytes_eq}
+use Rattle.std.specs.List.{list_any}
 use Rattle.pc_source.specs.declared.place.Place.{Place}
 use Rattle.pc_tree.specs.declared.code.Code.{Code}
 use Rattle.pc_tree.specs.declared.code.Finding.{Finding}
-use Rattle.pc_tree.specs.Code.{finding}
+use Rattle.pc_tree.specs.Code.{finding, text_of}
 use Rattle.pc_tree.specs.Tree.{Expr, Exprs, Entries, Keywords, name, number, text, truth, nothing, tuple, list, dict, negative, negation, binary, compare, is_none, is_not_none, conjunction, disjunction, attribute, index, call, no_exprs, more_exprs, no_entries, more_entries, no_keywords, more_keywords}
 use Rattle.pc_tree.specs.Depth.{place_of}
 use Rattle.pc_scope.specs.Expressions.{is_instance_test}
-use Rattle.pc_expr.specs.Labels.{Flowing, Marks, ItemsMarks, EntriesMarks, KeywordsMarks, is_of_scopes, second_place, Finds}
+use Rattle.pc_expr.specs.Operations.{Mark}
+use Rattle.pc_expr.specs.Labels.{Flowing, Marks, ItemsMarks, EntriesMarks, KeywordsMarks, mark_of, is_of_scopes, second_place, Finds}
 
 -- the finding of a code at a place, none of a code that is found of scopes
 abbrev pub own_at : Place → Code → List Finding
 own_at p c = if is_of_scopes c then [] else finding p c ∷ []
 
--- the findings of a label's codes at its place
+-- a code is one of these
+abbrev pub has_code : List Code → Code → Test
+has_code cs c = list_any (λ d. bytes_eq (text_of c) (text_of d)) cs
+
+-- codes with one more behind them, unless it is one of them
+abbrev pub add_code : List Code → Code → List Code
+add_code cs c = if has_code cs c then cs else cs ++ c ∷ []
+
+-- codes with others behind them, each of those that is new, once
+abbrev pub once_onto : List Code → List Code → List Code
+once_onto before [] = before
+once_onto before (c ∷ cs) = once_onto (add_code before c) cs
+
+-- each code once, where it stands first
+abbrev pub once : List Code → List Code
+once cs = once_onto [] cs
+
+-- a label with each code once
+abbrev pub brief : Mark → Mark
+brief m = record { type = m.type; codes = once m.codes }
+
+-- the findings of a label's codes at its place, each once
 abbrev pub codes_at : Place → List Code → List Finding
-codes_at p codes = flat_map (own_at p) codes
+codes_at p codes = flat_map (own_at p) (once codes)
 
 -- the finding of a code that there may be
 abbrev pub code_at : Place → Option Code → List Finding
 code_at p None = []
 code_at p (Some c) = own_at p c
 
--- the findings of flows at the place of what flows
-abbrev pub flows_at : Place → Flowing → List Finding
-flows_at p flows = flat_map (λ f. code_at p f.code) flows
+-- the codes of flows
+abbrev pub flow_codes : Flowing → List Code
+flow_codes flows = flat_map (λ f. option_to_list f.code) flows
 
--- the findings under the labels of an expression, of items, of arguments, and of the entries of a dict: of the parts first
+-- the findings of flows at the place of what flows, each code once
+abbrev pub flows_at : Place → Flowing → List Finding
+flows_at p flows = codes_at p (flow_codes flows)
+
+-- the findings in the parts of an expression, with those of its own codes behind them
+abbrev pub whole : (e : Expr) → Marks e → List Finding → List Finding
+whole e m parts = parts ++ codes_at (place_of e) (mark_of e m).codes
+
+-- the findings in the parts of an expression, under the labels of items, of arguments, and of the entries of a dict
 abbrev mutual
-  -- of an expression: what is found in its parts, and then at it
-  pub found_in : (e : Expr) → Marks e → List Finding
-  found_in (name n) m = codes_at n.place m.codes
-  found_in (number p digits) m = codes_at p m.codes
-  found_in (text p characters) m = codes_at p m.codes
-  found_in (truth p value) m = codes_at p m.codes
-  found_in (nothing p) m = codes_at p m.codes
-  found_in (tuple p items) m = found_in_items items m.items ++ codes_at p m.here.codes
-  found_in (list p items) m = found_in_items items m.items ++ codes_at p m.here.codes
-  found_in (dict p entries) m = found_in_entries entries m.entries ++ codes_at p m.here.codes
-  found_in (negative p e) m = found_in e m.operand ++ codes_at p m.here.codes
-  found_in (negation p e) m = found_in e m.operand ++ codes_at p m.here.codes
-  found_in (binary p operator l r) m = found_in l m.left ++ (found_in r m.right ++ codes_at p m.here.codes)
-  found_in (compare p operator l r) m = found_in l m.left ++ (found_in r m.right ++ (codes_at p m.here.codes ++ flows_at (place_of l) m.flows))
-  found_in (is_none p e) m = found_in e m.operand ++ codes_at p m.here.codes
-  found_in (is_not_none p e) m = found_in e m.operand ++ codes_at p m.here.codes
-  found_in (conjunction p l r) m = found_in l m.left ++ (found_in r m.right ++ codes_at p m.here.codes)
-  found_in (disjunction p l r) m = found_in l m.left ++ (found_in r m.right ++ codes_at p m.here.codes)
-  found_in (attribute p e field) m = found_in e m.object ++ codes_at p m.here.codes
-  found_in (index p e i) m = found_in e m.object ++ (found_in i m.key ++ (codes_at p m.here.codes ++ flows_at (place_of i) m.flows))
-  found_in (call p callee arguments keywords) m =
-      found_in callee m.callee
+  -- what is found in the parts of an expression and of their flows
+  pub found_in_parts : (e : Expr) → Marks e → List Finding
+  found_in_parts (name n) m = []
+  found_in_parts (number p digits) m = []
+  found_in_parts (text p characters) m = []
+  found_in_parts (truth p value) m = []
+  found_in_parts (nothing p) m = []
+  found_in_parts (tuple p items) m = found_in_items items m.items
+  found_in_parts (list p items) m = found_in_items items m.items
+  found_in_parts (dict p entries) m = found_in_entries entries m.entries
+  found_in_parts (negative p e) m = whole e m.operand (found_in_parts e m.operand)
+  found_in_parts (negation p e) m = whole e m.operand (found_in_parts e m.operand)
+  found_in_parts (binary p operator l r) m = whole l m.left (found_in_parts l m.left) ++ whole r m.right (found_in_parts r m.right)
+  found_in_parts (compare p operator l r) m = whole l m.left (found_in_parts l m.left) ++ (whole r m.right (found_in_parts r m.right) ++ flows_at (place_of l) m.flows)
+  found_in_parts (is_none p e) m = whole e m.operand (found_in_parts e m.operand)
+  found_in_parts (is_not_none p e) m = whole e m.operand (found_in_parts e m.operand)
+  found_in_parts (conjunction p l r) m = whole l m.left (found_in_parts l m.left) ++ whole r m.right (found_in_parts r m.right)
+  found_in_parts (disjunction p l r) m = whole l m.left (found_in_parts l m.left) ++ whole r m.right (found_in_parts r m.right)
+  found_in_parts (attribute p e field) m = whole e m.object (found_in_parts e m.object)
+  found_in_parts (index p e i) m = whole e m.object (found_in_parts e m.object) ++ (whole i m.key (found_in_parts i m.key) ++ flows_at (place_of i) m.flows)
+  found_in_parts (call p callee arguments keywords) m =
+      whole callee m.callee (found_in_parts callee m.callee)
       ++ (found_in_arguments (is_instance_test callee arguments keywords) arguments m.arguments
-      ++ (found_in_keywords keywords m.keywords ++ (codes_at p m.here.codes ++ code_at (second_place arguments p) m.second)))
+      ++ (found_in_keywords keywords m.keywords ++ code_at (second_place arguments p) m.second))
 
   -- of items, each with its flows
   pub found_in_items : (es : Exprs) → ItemsMarks es → List Finding
   found_in_items no_exprs m = []
-  found_in_items (more_exprs e rest) m = found_in e m.first ++ (flows_at (place_of e) m.flows ++ found_in_items rest m.rest)
+  found_in_items (more_exprs e rest) m = whole e m.first (found_in_parts e m.first) ++ (flows_at (place_of e) m.flows ++ found_in_items rest m.rest)
 
   -- of arguments; of a test of an instance what stands second is not looked at
   pub found_in_arguments : (is_test : Test) → (es : Exprs) → ItemsMarks es → List Finding
   found_in_arguments is_test no_exprs m = []
-  found_in_arguments true (more_exprs e rest) m = found_in e m.first
-  found_in_arguments false (more_exprs e rest) m = found_in e m.first ++ (flows_at (place_of e) m.flows ++ found_in_arguments false rest m.rest)
+  found_in_arguments true (more_exprs e rest) m = whole e m.first (found_in_parts e m.first)
+  found_in_arguments false (more_exprs e rest) m = whole e m.first (found_in_parts e m.first) ++ (flows_at (place_of e) m.flows ++ found_in_arguments false rest m.rest)
 
   -- of the entries of a dict, each key and value with its flows
   pub found_in_entries : (es : Entries) → EntriesMarks es → List Finding
   found_in_entries no_entries m = []
   found_in_entries (more_entries key value rest) m =
-      found_in key m.key ++ (flows_at (place_of key) m.key_flows ++ (found_in value m.value ++ (flows_at (place_of value) m.value_flows ++ found_in_entries rest m.rest)))
+      whole key m.key (found_in_parts key m.key) ++ (flows_at (place_of key) m.key_flows ++ (whole value m.value (found_in_parts value m.value) ++ (flows_at (place_of value) m.value_flows ++ found_in_entries rest m.rest)))
 
   -- of arguments by name, each with its flows
   pub found_in_keywords : (es : Keywords) → KeywordsMarks es → List Finding
   found_in_keywords no_keywords m = []
-  found_in_keywords (more_keywords parameter value rest) m = found_in value m.first ++ (flows_at (place_of value) m.flows ++ found_in_keywords rest m.rest)
+  found_in_keywords (more_keywords parameter value rest) m = whole value m.first (found_in_parts value m.first) ++ (flows_at (place_of value) m.flows ++ found_in_keywords rest m.rest)
+
+-- the findings under the labels of an expression: what is found in its parts, and then at it
+abbrev pub found_in : (e : Expr) → Marks e → List Finding
+found_in e m = whole e m (found_in_parts e m)
 
 -- a finding under labels that is not found of scopes
 pub record IsOwn (e : Expr) (m : Marks e) (f : Finding) : Type 0 where

@@ -1,9 +1,14 @@
+pub mod Calling
 pub mod Calls
 pub mod Computed
 pub mod Context
+pub mod Displays
 pub mod Found
 pub mod Labels
 pub mod Lawful
+pub mod Operating
 pub mod Operations
+pub mod Pairing
 pub mod Signatures
+pub mod Standing
 pub mod WellFormed

@@ -1,9 +1,27 @@
 //! The types of expressions, and what is found in them.
 #![tactic(auto)]
 
+mod arguments;
+mod call_offers;
+mod calling;
+mod display;
+mod flows;
+mod functions;
+mod given;
+mod label;
 mod laws;
+mod members;
+mod methods;
+mod naming;
+mod offers;
+mod pairs;
+mod params;
+mod seats;
+mod setting;
 
+pub use label::{Label, Offer};
 pub use laws::{
     contexts_are_well_formed, expressions_have_labels, findings_are_listed, labels_are_lawful,
     one_labelling_of_expressions,
 };
+pub use setting::{Setting, Signature};

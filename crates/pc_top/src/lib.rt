@@ -15,6 +15,8 @@ pub use top::check;
 #[cfg(test)]
 mod annotations_tests;
 #[cfg(test)]
+mod classes_tests;
+#[cfg(test)]
 mod scopes_tests;
 #[cfg(test)]
 mod tests;

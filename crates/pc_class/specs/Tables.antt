@@ -1,0 +1,98 @@
+-- What a class table holds: of each class its base, its fields and its methods, with types of a store; and the classes that it means.
+-- Own rule of the profile.
+use Rattle.std.specs.Prelude.{ℕ, List, [], map, Option, Some, None, All, Contains, slice_index_or, string_bytes}
+use Rattle.std.specs.Borrow.{Bor}
+use Rattle.pc_types.specs.Tree.{Tree}
+use Rattle.pc_class.specs.Facts.{Parameter, Method, Class}
+use Rattle.pc_class.specs.declared.table.Parameter.{Parameter as RustParameter}
+use Rattle.pc_class.specs.declared.table.Method.{Method as RustMethod}
+
+-- a class of a table: its base, its fields with those of its base first, and its methods with those of its base behind them
+pub record Entry (Ty : Type 0) : Type 0 where
+  pub base : Option ℕ
+  pub fields : List (RustParameter Ty)
+  pub methods : List (RustMethod Ty)
+
+-- a class without base, fields and methods
+abbrev pub empty_entry : {Ty : Type 0} → Entry Ty
+empty_entry = record { base = None; fields = []; methods = [] }
+
+-- what a class inherits: its base among the classes before it, or nothing where it has none
+abbrev pub inherited_entry : {Ty : Type 0} → List (Entry Ty) → Option ℕ → Entry Ty
+inherited_entry earlier None = empty_entry
+inherited_entry earlier (Some b) = slice_index_or earlier b empty_entry
+
+module _ {Ty : Type 0} (tree : Ty → Tree) where
+  -- a parameter with the type that it means
+  abbrev pub parameter_with : RustParameter Ty → Parameter
+  parameter_with p = record { name = string_bytes p.name; type = tree p.ty; has_default = p.has_default }
+
+  -- parameters with the types that they mean
+  abbrev pub parameters_with : List (RustParameter Ty) → List Parameter
+  parameters_with ps = map parameter_with ps
+
+  -- a method with the types that it means
+  abbrev pub method_with : RustMethod Ty → Method
+  method_with x = record { name = string_bytes x.name; owner = x.owner; number = x.number; place = x.place; parameters = parameters_with x.params.items; returns = tree x.ret }
+
+  -- a class with the types that it means
+  abbrev pub class_with : Entry Ty → Class
+  class_with c = record { base = c.base; fields = parameters_with c.fields; methods = map method_with c.methods }
+
+  -- the classes that a table means
+  abbrev pub classes_with : List (Entry Ty) → List Class
+  classes_with cs = map class_with cs
+
+  -- a parameter that is lent, with the type that it means
+  abbrev pub parameter_lent : Bor (RustParameter Ty) → Parameter
+  parameter_lent p = parameter_with p.now
+
+  -- a method that is lent, with the types that it means
+  abbrev pub method_lent : Bor (RustMethod Ty) → Method
+  method_lent x = method_with x.now
+
+module _ {Ty : Type 0} (has : Ty → Type 0) where
+  -- the store gave a parameter's type
+  abbrev pub HasParameter : RustParameter Ty → Type 0
+  HasParameter p = has p.ty
+
+  -- the store gave the types of a method's parameters, and the type that it returns
+  pub record HasMethod (x : RustMethod Ty) : Type 0 where
+    pub params : All HasParameter x.params.items
+    pub ret : has x.ret
+
+  -- the store gave the types of a class
+  pub record HasEntry (c : Entry Ty) : Type 0 where
+    pub fields : All HasParameter c.fields
+    pub methods : All HasMethod c.methods
+
+  -- the store gave the types of a table
+  abbrev pub HasEntries : List (Entry Ty) → Type 0
+  HasEntries cs = All HasEntry cs
+
+module _ {Ty : Type 0} (cs : List (Entry Ty)) where
+  -- a field of one of the classes of a table
+  pub record IsField (p : RustParameter Ty) : Type 0 where
+    pub class : Entry Ty
+    pub listed : Contains cs class
+    pub among : Contains class.fields p
+
+  -- a method of one of them
+  pub record IsMethod (x : RustMethod Ty) : Type 0 where
+    pub class : Entry Ty
+    pub listed : Contains cs class
+    pub among : Contains class.methods x
+
+  -- a field that is lent is one of the table's
+  abbrev pub IsLent : Bor (RustParameter Ty) → Type 0
+  IsLent p = IsField p.now
+
+  -- so is one that there may be
+  abbrev pub IsFieldIfAny : Option (Bor (RustParameter Ty)) → Type 0
+  IsFieldIfAny None = Unit {0}
+  IsFieldIfAny (Some p) = IsField p.now
+
+  -- and a method that there may be
+  abbrev pub IsMethodIfAny : Option (Bor (RustMethod Ty)) → Type 0
+  IsMethodIfAny None = Unit {0}
+  IsMethodIfAny (Some x) = IsMethod x.now

@@ -1,0 +1,13 @@
+use Rattle.std.proofs.Common.{All}
+use Rattle.pc_types.specs.Store.{Keeps}
+use Rattle.pc_expr.specs.Standing.{mark_with}
+use Rattle.pc_expr.proofs.Flowing.{IsFound}
+use Rattle.pc_expr.proofs.flows.find_flows.Given as goal
+
+abbrev pub invariant-loop-ty : goal.invariant-loop-ty
+invariant-loop-ty g l = record {
+  kept : Keeps g.S.TypeStore.has l.fn.store l.store;
+  label : g.S.TypeStore.has l.store l.label.ty;
+  into : All (g.S.TypeStore.has l.store) l.into;
+  found : IsFound g.S.TypeStore.tree l.parents (mark_with g.S.TypeStore.tree l.label) l.into l.ty-index l.codes.items;
+}

@@ -1,0 +1,85 @@
+// Flows of a labelled expression into types.
+
+ghost use Rattle.std.specs.Prelude.{◌≡◌, ◌++◌, All, IfOk, OnOk, map, option_to_list};
+ghost use Rattle.pc_types.specs.Computed.{static_test, assignable_test};
+ghost use Rattle.pc_types.specs.Store.{Keeps};
+ghost use Rattle.pc_expr.specs.Operations.{Mark};
+ghost use Rattle.pc_expr.specs.Context.{is_early};
+ghost use Rattle.pc_expr.specs.Computed.{code_unless, flows_of};
+ghost use Rattle.pc_expr.specs.Found.{codes_at, flows_at, brief};
+ghost use Rattle.pc_expr.specs.Standing.{mark_with};
+
+use crate::label::{Label, add_found, find_codes, is_early};
+use pc_source::{OutOfMemory, Place};
+use pc_tree::{Code, Findings};
+use pc_types::{Parents, TypeStore};
+use std::alloc::Global;
+
+/// The code of a flow of a labelled expression into a type: none where it is static or E03 stands at the expression, A1 where
+/// it is assignable alone, else E12.
+fn flow_code<S: TypeStore>(
+    store: &mut S,
+    parents: &Parents,
+    label: &Label<S::Ty>,
+    into: &S::Ty,
+) -> Option<Code>
+    requires label { S.has store.old label.now.ty }
+    requires into { S.has store.old into.now }
+    ensures value { result ≡ code_unless (static_test parents.now) (assignable_test parents.now) (is_early label.now.codes.items) (S.tree label.now.ty) (S.tree into.now) }
+    ensures kept { Keeps S.has store.old store.new }
+{
+    if is_early(&label.codes) || store.is_static(parents, &label.ty, into) {
+        return None;
+    }
+    if store.is_assignable(parents, &label.ty, into) {
+        return Some(Code::A1);
+    }
+    Some(Code::E12)
+}
+
+/// Finds the flow of a labelled expression, which stands at this place, into a type, and answers its code. Typing
+/// specification, "Type system concepts", assignability; own rule of the profile.
+pub fn find_flow<S: TypeStore>(
+    store: &mut S,
+    alloc: Global,
+    parents: &Parents,
+    place: Place,
+    label: &Label<S::Ty>,
+    into: &S::Ty,
+    found: &mut Findings,
+) -> Result<Option<Code>, OutOfMemory>
+    requires label { S.has store.old label.now.ty }
+    requires into { S.has store.old into.now }
+    ensures value { IfOk result (λ c. c ≡ code_unless (static_test parents.now) (assignable_test parents.now) (is_early label.now.codes.items) (S.tree label.now.ty) (S.tree into.now)) }
+    ensures found { IfOk result (λ c. found.new.items ≡ found.old.items ++ codes_at place (option_to_list c)) }
+    ensures kept { Keeps S.has store.old store.new }
+{
+    let code = flow_code(store, parents, label, into);
+    let mut codes = Vec::new(alloc);
+    add_found(&mut codes, code)?;
+    find_codes(place, &codes, found)?;
+    Ok(code)
+}
+
+/// Finds the flows of a labelled expression, which stands at this place, into several types, each code once.
+pub fn find_flows<S: TypeStore>(
+    store: &mut S,
+    alloc: Global,
+    parents: &Parents,
+    place: Place,
+    label: &Label<S::Ty>,
+    into: &[S::Ty],
+    found: &mut Findings,
+) -> Result<(), OutOfMemory>
+    requires label { S.has store.old label.now.ty }
+    requires into { All (S.has store.old) into.now }
+    ensures found { (m : Mark) → mark_with S.tree label.now ≡ brief m → OnOk result (found.new.items ≡ found.old.items ++ flows_at place (flows_of parents.now m (map S.tree into.now))) }
+    ensures kept { Keeps S.has store.old store.new }
+{
+    let mut codes = Vec::new(alloc);
+    for ty in into {
+        let code = flow_code(store, parents, label, ty);
+        add_found(&mut codes, code)?;
+    }
+    find_codes(place, &codes, found)
+}

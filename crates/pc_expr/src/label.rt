@@ -1,0 +1,114 @@
+ghost use Rattle.std.specs.Prelude.{◌≡◌, ◌++◌, IfOk, OnOk, flat_map, option_to_list};
+ghost use Rattle.pc_types.specs.Tree.{Tree};
+ghost use Rattle.pc_types.specs.Store.{Keeps};
+ghost use Rattle.pc_expr.specs.Operations.{clean, in_error};
+ghost use Rattle.pc_expr.specs.Context.{is_early};
+ghost use Rattle.pc_expr.specs.Labels.{is_of_scopes};
+ghost use Rattle.pc_expr.specs.Found.{own_at, has_code, add_code, once_onto};
+ghost use Rattle.pc_expr.specs.Standing.{mark_with, IsMark};
+
+use pc_source::{OutOfMemory, Place};
+use pc_tree::{Code, Finding, Findings};
+use pc_types::TypeStore;
+use std::alloc::Global;
+
+/// What a node is labelled with: its type, and the codes that are found at it.
+#[derive(Drop)]
+pub struct Label<Ty: Drop> {
+    pub ty: Ty,
+    pub codes: Vec<Code>,
+}
+
+/// What an operation comes to on one member: what is found, what it gives, and what an operand of it flows into.
+#[derive(Drop)]
+pub struct Offer<Ty: Drop> {
+    pub found: Option<Code>,
+    pub gives: Ty,
+    pub takes: Option<Ty>,
+}
+
+/// A label of a type at which nothing is found.
+pub(crate) fn clean<Ty: Drop>(alloc: Global, ty: Ty) -> Label<Ty>
+    ensures mark { (tree : Ty → Tree) → mark_with tree result ≡ clean (tree ty) }
+    ensures ty { result.ty ≡ ty }
+{
+    Label {
+        ty,
+        codes: Vec::new(alloc),
+    }
+}
+
+/// The label of an expression in error: `Any`, with the error's code.
+pub(crate) fn in_error<S: TypeStore>(
+    store: &mut S,
+    alloc: Global,
+    code: Code,
+) -> Result<Label<S::Ty>, OutOfMemory>
+    ensures value { IfOk result (λ l. IsMark S.has S.tree store.new l (in_error code)) }
+    ensures kept { Keeps S.has store.old store.new }
+{
+    let ty = store.any(alloc)?;
+    let mut codes = Vec::new(alloc);
+    codes.push(code)?;
+    Ok(Label { ty, codes })
+}
+
+/// Whether the first of the codes is E03: then no other finding stands at the node.
+pub(crate) fn is_early(codes: &[Code]) -> bool
+    ensures { result ≡ is_early codes.now }
+{
+    match codes {
+        [Code::E03, ..] => true,
+        _ => false,
+    }
+}
+
+/// Whether a code is found of scopes.
+fn is_of_scopes(code: Code) -> bool
+    ensures { result ≡ is_of_scopes code }
+{
+    matches!(code, Code::E02 | Code::E03)
+}
+
+/// Adds the findings of codes at a place, but for those of codes that are found of scopes.
+pub(crate) fn find_codes(
+    place: Place,
+    codes: &[Code],
+    found: &mut Findings,
+) -> Result<(), OutOfMemory>
+    ensures { OnOk result (found.new.items ≡ found.old.items ++ flat_map (own_at place) codes.now) }
+{
+    for code in codes {
+        if !is_of_scopes(*code) {
+            found.push(Finding { place, code: *code })?;
+        }
+    }
+    Ok(())
+}
+
+/// Whether a code is one of these.
+fn has_code(codes: &[Code], code: Code) -> bool
+    ensures { result ≡ has_code codes.now code }
+{
+    codes.contains(&code)
+}
+
+/// Adds a code, unless it is one of the codes.
+pub(crate) fn add_code(codes: &mut Vec<Code>, code: Code) -> Result<(), OutOfMemory>
+    ensures { OnOk result (codes.new.items ≡ add_code codes.old.items code) }
+{
+    if !has_code(codes, code) {
+        codes.push(code)?;
+    }
+    Ok(())
+}
+
+/// Adds a code, if there is one, unless it is one of the codes.
+pub(crate) fn add_found(codes: &mut Vec<Code>, found: Option<Code>) -> Result<(), OutOfMemory>
+    ensures { OnOk result (codes.new.items ≡ once_onto codes.old.items (option_to_list found)) }
+{
+    match found {
+        Some(code) => add_code(codes, code),
+        None => Ok(()),
+    }
+}
