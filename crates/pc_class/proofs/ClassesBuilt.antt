@@ -22,7 +22,7 @@ get_front (x ∷ xs) ys (suc i) h = get_front xs ys i (omega arith)
 
 module _ (m : Module) where
   -- classes that stand before others stay
-  kept : (earlier : List Class) (c : ℕ) (cs : List ClassDef) (i : ℕ) → i < length earlier → slice_get (classes_behind m earlier c cs) i ≡ slice_get earlier i
+  pub kept : (earlier : List Class) (c : ℕ) (cs : List ClassDef) (i : ℕ) → i < length earlier → slice_get (classes_behind m earlier c cs) i ≡ slice_get earlier i
   kept earlier c [] i h = refl
   kept earlier c (class ∷ rest) i h =
       let more = earlier ++ class_behind m earlier c class ∷ [] in

@@ -17,7 +17,7 @@ use Rattle.pc_class.specs.Findings.{ClassNumbered, HasNoBase}
 use Rattle.pc_class.specs.Entries.{missing_base, missing_bases}
 use Rattle.pc_class.specs.NamesFound.{FindsBase}
 use Rattle.pc_class.proofs.ClassesBuilt.{base_here}
-use Rattle.pc_class.proofs.ItemsOutlined.{AreAhead}
+use Rattle.pc_class.proofs.ItemsBuilt.{AreAhead}
 
 module _ (m : Module) (f : Finding) where
   -- at one class

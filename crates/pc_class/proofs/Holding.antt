@@ -5,8 +5,7 @@ use Rattle.std.specs.Option.{option_or}
 use Rattle.std.proofs.lemmas.List.Folds.{find-append}
 use Rattle.std.proofs.lemmas.Slice.Eq.{bytes_eq-Decides}
 use Rattle.pc_class.specs.Named.{Named, IsMap, named_at, KeepsNamed}
-use Rattle.pc_class.specs.Entries.{Entry}
-use Rattle.pc_class.specs.Outlines.{at_number, IsNumberIn, first_named, IsHeld, all_own, AreOther, AreNew}
+use Rattle.pc_class.specs.Outlines.{at_number, IsNumberIn, first_named, IsHeld}
 
 get_left : {A : Type 0} (xs ys : List A) (i : ℕ) → i < length xs → slice_get (xs ++ ys) i ≡ slice_get xs i
 get_left [] ys i h = absurd (omega arith)
@@ -82,35 +81,3 @@ named_on a b c k l = let x = k.more in let y = l.more in record {
   more = omega arith;
   same = λ at n h. l.same at n (omega arith) ∙ k.same at n h;
 }
-
--- what a walk over entries has added so far, ahead of others, and what is still to come
-pub record SoFar {X : Type 0} (name : X → List ℕ) (own : Entry → List X) (d : Named) (all : List X) (at : ℕ) (others start : List X) (entries rest : List Entry) : Type 0 where
-  pub these : List X
-  pub held : IsHeld name d all at (these ++ others)
-  pub new : AreNew name own these rest
-  pub total : these ++ all_own own rest ≡ start ++ all_own own entries
-
-module _ {X : Type 0} (name : X → List ℕ) (own : Entry → List X) where
-  -- at the start
-  pub far_start : (d : Named) (all : List X) (at : ℕ) (others start : List X) (entries : List Entry) → IsHeld name d all at (start ++ others) → AreNew name own start entries → SoFar name own d all at others start entries entries
-  far_start d all at others start entries h n = record { these = start; held = h; new = n; total = refl }
-
-  -- one entry more
-  pub far_more : (d d' : Named) (all all' : List X) (at at' : ℕ) (others start : List X) (entries : List Entry) (e : Entry) (rest : List Entry) → SoFar name own d all at others start entries (e ∷ rest)
-      → ((these : List X) → IsHeld name d all at (these ++ others) → AreOther name these (own e) → IsHeld name d' all' at' ((these ++ own e) ++ others)) → SoFar name own d' all' at' others start entries rest
-  far_more d d' all all' at at' others start entries e rest f step = record {
-    these = f.these ++ own e;
-    held = step f.these f.held f.new.0;
-    new = f.new.1;
-    total = append_assoc f.these (own e) (all_own own rest) ∙ f.total;
-  }
-
-  -- at the end
-  pub far_end : (d : Named) (all : List X) (at : ℕ) (others start : List X) (entries : List Entry) → SoFar name own d all at others start entries [] → IsHeld name d all at ((start ++ all_own own entries) ++ others)
-  far_end d all at others start entries f = subst (λ (ys : List X). IsHeld name d all at (ys ++ others)) (sym (append-nil f.these) ∙ f.total) f.held
-
-  -- so where there are no others
-  pub far_alone : (d d' : Named) (all all' : List X) (at at' : ℕ) (start : List X) (entries : List Entry) (e : Entry) (rest : List Entry) → SoFar name own d all at [] start entries (e ∷ rest)
-      → ((these : List X) → IsHeld name d all at these → AreOther name these (own e) → IsHeld name d' all' at' (these ++ own e)) → SoFar name own d' all' at' [] start entries rest
-  far_alone d d' all all' at at' start entries e rest f step = far_more d d' all all' at at' [] start entries e rest f λ these h o.
-      subst (IsHeld name d' all' at') (sym (append-nil (these ++ own e))) (step these (subst (IsHeld name d all at) (append-nil these) h) o)

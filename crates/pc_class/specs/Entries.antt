@@ -3,7 +3,7 @@
 -- Own rules of the profile; library reference, `dataclasses`, order of fields.
 use Rattle.std.specs.Prelude.{ℕ, suc, List, [], ◌∷◌, ◌++◌, Bool, false, ◌&&◌, ◌||◌, not, if◌then◌else◌, Option, Some, None, is_some, codes, bytes_eq}
 use Rattle.pc_source.specs.declared.place.Place.{Place}
-use Rattle.pc_tree.specs.Tree.{Name, Member, field_member, method_member, ClassDef, member_of, Module}
+use Rattle.pc_tree.specs.Tree.{Name, Field, Member, field_member, method_member, ClassDef, member_of, Module}
 use Rattle.pc_tree.specs.Stopping.{one_if, name_of_member}
 use Rattle.pc_scope.specs.Reserved.{is_reserved}
 use Rattle.pc_scope.specs.Resolution.{is_among}
@@ -75,9 +75,13 @@ entry_seen e = record { member = member_of e.member.now; number = e.number; bind
 
 -- ---- fields and methods
 
+-- a field as a parameter of its class
+abbrev pub parameter_made : Module → Field → Parameter
+parameter_made m f = record { name = f.name.text; type = read_ann m (bases_of m) f.annotation; has_default = is_some f.default }
+
 -- the field that a member is, as a parameter of its class
 abbrev pub field_made : Module → Member → List Parameter
-field_made m (field_member f) = record { name = f.name.text; type = read_ann m (bases_of m) f.annotation; has_default = is_some f.default } ∷ []
+field_made m (field_member f) = parameter_made m f ∷ []
 field_made m (method_member f) = []
 
 -- the method that a member is

@@ -1,4 +1,5 @@
 pub use Rattle.pc_types.specs.Bases
+pub mod Built
 pub mod Entries
 pub mod Facts
 pub mod Findings
@@ -6,6 +7,7 @@ pub mod Named
 pub mod NamesFound
 pub mod Outlines
 pub mod Overrides
+pub mod Parts
 pub mod Shared
 pub mod Tables
 pub mod WellFormed

@@ -1,40 +1,29 @@
--- What each class of a module has, by names alone: its fields and methods as numbers in two lists that all classes share.
+-- What a map of names holds, what the entries of a class bind, and what is found of a class's members by their names.
 -- Own rule of the profile.
-use Rattle.std.specs.Prelude.{◌≡◌, ◌<◌, ℕ, suc, List, [], ◌∷◌, ◌++◌, map, find, length, false, if◌then◌else◌, Option, Some, None, is_some, slice_get, slice_index_or, bytes_eq}
+use Rattle.std.specs.Prelude.{◌≡◌, ◌<◌, ℕ, suc, List, [], ◌∷◌, ◌++◌, find, length, if◌then◌else◌, Option, Some, None, slice_get, bytes_eq}
 use Rattle.std.specs.Borrow.{Bor}
 use Rattle.std.specs.List.{list_any}
 use Rattle.pc_tree.specs.declared.tree.Field.{Field as RustField}
+use Rattle.pc_tree.specs.declared.tree.FuncDef.{FuncDef as RustFuncDef}
 use Rattle.pc_tree.specs.Tree.{ClassDef, Item, Module, field_of, func_of}
-use Rattle.pc_types.specs.Bases.{base_named, bases_of}
+use Rattle.pc_types.specs.Bases.{base_named}
 use Rattle.pc_tree.specs.declared.code.Code.TheVariants.{E06, E08}
 use Rattle.pc_tree.specs.declared.code.Finding.{Finding}
 use Rattle.pc_scope.specs.Bindings.{as_class, classes_in}
 use Rattle.pc_scope.specs.Found.{at_code}
-use Rattle.pc_types.specs.Annotations.{read_ann}
-use Rattle.pc_class.specs.declared.outline.BoundMethod.{BoundMethod}
-use Rattle.pc_class.specs.declared.outline.ClassOutline.{ClassOutline}
-use Rattle.pc_class.specs.declared.outline.Outline.{Outline}
-use Rattle.pc_class.specs.Facts.{Parameter, Method, Class, method_made, class_at, inherited, classes_of}
+use Rattle.pc_class.specs.Facts.{Parameter, Method, Class, method_made, inherited, classes_of}
 use Rattle.pc_class.specs.Named.{Named, IsMap, named_at}
-use Rattle.pc_class.specs.Entries.{HasMaps, Entry, field_made, methods_made, inherited_by, class_entries, clash_places, late_places}
+use Rattle.pc_class.specs.Entries.{Entry, parameter_made, field_made, methods_made, inherited_by, class_entries, clash_places, late_places}
 
--- a field of the program as a parameter of its class
-abbrev pub field_seen : Module → Bor RustField → Parameter
-field_seen m f = let t = field_of f.now in record { name = t.name.text; type = read_ann m (bases_of m) t.annotation; has_default = is_some t.default }
-
--- a method of the program that its class binds
-abbrev pub method_seen : Module → BoundMethod → Method
-method_seen m b = method_made m b.class b.number (func_of b.def.now)
-
--- the field that there is, if there is one
+-- the field that there is, if there is one, as a parameter of its class
 abbrev pub fields_seen : Module → Option (Bor RustField) → List Parameter
 fields_seen m None = []
-fields_seen m (Some f) = field_seen m f ∷ []
+fields_seen m (Some f) = parameter_made m (field_of f.now) ∷ []
 
--- the method that there is, if there is one
-abbrev pub methods_seen : Module → Option BoundMethod → List Method
-methods_seen m None = []
-methods_seen m (Some b) = method_seen m b ∷ []
+-- the method that there is, if there is one, with its class and its number there
+abbrev pub methods_seen : Module → ℕ → ℕ → Option (Bor RustFuncDef) → List Method
+methods_seen m c number None = []
+methods_seen m c number (Some f) = method_made m c number (func_of f.now) ∷ []
 
 -- what stands at a number, if there is one
 abbrev pub at_number : {X : Type 0} → List X → Option ℕ → Option X
@@ -87,37 +76,6 @@ AreOther name those (x ∷ xs) = (first_named name those (name x) ≡ None) × A
 abbrev pub AreNew : {X : Type 0} → (name : X → List ℕ) → (own : Entry → List X) → (those : List X) → List Entry → Type 0
 AreNew name own those [] = Unit {0}
 AreNew name own those (e ∷ es) = AreOther name those (own e) × AreNew name own (those ++ own e) es
-
--- what is held of a class: a map of its fields, a map of its methods, and whether a field of it has a default
-pub record IsOutlined (m : Module) (d : Named) (fields : List Parameter) (methods : List Method) (o : ClassOutline) (class : Class) : Type 0 where
-  pub fields_held : IsHeld field_name d fields o.held.fields class.fields
-  pub methods_held : IsHeld method_name d methods o.held.methods class.methods
-  pub defaulted : o.defaulted ≡ list_any (λ (p : Parameter). p.has_default) class.fields
-
--- the outlines of the first classes of a module
-pub record AreOutlined (m : Module) (o : Outline) : Type 0 where
-  pub empty : IsHeld field_name o.named (map (field_seen m) o.fields.items) 0 []
-  pub empty_methods : IsHeld method_name o.named (map (method_seen m) o.methods.items) 0 []
-  pub each : (c : ℕ) (class : ClassOutline) → slice_get o.classes.items c ≡ Some class → IsOutlined m o.named (map (field_seen m) o.fields.items) (map (method_seen m) o.methods.items) class (class_at (classes_of m) c)
-
--- the outline of nothing
-abbrev pub empty_outline : ClassOutline
-empty_outline = record { held = record { fields = 0; methods = 0 }; defaulted = false }
-
--- the outline of a base among those of the classes before, of nothing where there is no base
-abbrev pub inherited_outline : List ClassOutline → Option ℕ → ClassOutline
-inherited_outline classes None = empty_outline
-inherited_outline classes (Some b) = slice_index_or classes b empty_outline
-
--- the maps of each outline are there, and the empty one
-pub record AreMaps (o : Outline) : Type 0 where
-  pub none : IsMap o.named 0
-  pub each : (c : ℕ) (class : ClassOutline) → slice_get o.classes.items c ≡ Some class → HasMaps o.named class.held
-
--- a class is the next of the module, behind those that are outlined, and this is its base
-pub record IsNext (m : Module) (o : Outline) (base : Option ℕ) (class : ClassDef) : Type 0 where
-  pub is : slice_get (classes_in m.items) (length o.classes.items) ≡ Some class
-  pub based : base ≡ base_named m (length o.classes.items) class.base
 
 -- what is found of the members of a class by their names, given what its base has: E06, E08
 abbrev pub found_over : Class → ClassDef → List Finding

@@ -1,12 +1,11 @@
 -- What a class table holds: of each class its base, its fields and its methods, with types of a store; and the classes that it means.
 -- Own rule of the profile.
-use Rattle.std.specs.Prelude.{ℕ, List, map, Option, Some, None, All, string_bytes}
+use Rattle.std.specs.Prelude.{ℕ, List, [], map, Option, Some, None, All, Contains, slice_index_or, string_bytes}
 use Rattle.std.specs.Borrow.{Bor}
 use Rattle.pc_types.specs.Tree.{Tree}
 use Rattle.pc_class.specs.Facts.{Parameter, Method, Class}
 use Rattle.pc_class.specs.declared.table.Parameter.{Parameter as RustParameter}
 use Rattle.pc_class.specs.declared.table.Method.{Method as RustMethod}
-use Rattle.pc_class.specs.declared.table.ClassEntry.{ClassEntry}
 
 -- a class of a table: its base, its fields with those of its base first, and its methods with those of its base behind them
 pub record Entry (Ty : Type 0) : Type 0 where
@@ -14,9 +13,14 @@ pub record Entry (Ty : Type 0) : Type 0 where
   pub fields : List (RustParameter Ty)
   pub methods : List (RustMethod Ty)
 
--- a class of a table as the program has it
-abbrev pub entry_seen : {Ty : Type 0} → ClassEntry Ty → Entry Ty
-entry_seen c = record { base = c.base; fields = c.fields.items; methods = c.methods.items }
+-- a class without base, fields and methods
+abbrev pub empty_entry : {Ty : Type 0} → Entry Ty
+empty_entry = record { base = None; fields = []; methods = [] }
+
+-- what a class inherits: its base among the classes before it, or nothing where it has none
+abbrev pub inherited_entry : {Ty : Type 0} → List (Entry Ty) → Option ℕ → Entry Ty
+inherited_entry earlier None = empty_entry
+inherited_entry earlier (Some b) = slice_index_or earlier b empty_entry
 
 module _ {Ty : Type 0} (tree : Ty → Tree) where
   -- a parameter with the type that it means
@@ -66,16 +70,29 @@ module _ {Ty : Type 0} (has : Ty → Type 0) where
   abbrev pub HasEntries : List (Entry Ty) → Type 0
   HasEntries cs = All HasEntry cs
 
-  -- the store gave the type of a parameter that is lent
-  abbrev pub HasLent : Bor (RustParameter Ty) → Type 0
-  HasLent p = HasParameter p.now
+module _ {Ty : Type 0} (cs : List (Entry Ty)) where
+  -- a field of one of the classes of a table
+  pub record IsField (p : RustParameter Ty) : Type 0 where
+    pub class : Entry Ty
+    pub listed : Contains cs class
+    pub among : Contains class.fields p
 
-  -- of one that there may be
-  abbrev pub HasLentIfAny : Option (Bor (RustParameter Ty)) → Type 0
-  HasLentIfAny None = Unit {0}
-  HasLentIfAny (Some p) = HasLent p
+  -- a method of one of them
+  pub record IsMethod (x : RustMethod Ty) : Type 0 where
+    pub class : Entry Ty
+    pub listed : Contains cs class
+    pub among : Contains class.methods x
 
-  -- and the types of a method that there may be
-  abbrev pub HasMethodIfAny : Option (Bor (RustMethod Ty)) → Type 0
-  HasMethodIfAny None = Unit {0}
-  HasMethodIfAny (Some x) = HasMethod x.now
+  -- a field that is lent is one of the table's
+  abbrev pub IsLent : Bor (RustParameter Ty) → Type 0
+  IsLent p = IsField p.now
+
+  -- so is one that there may be
+  abbrev pub IsFieldIfAny : Option (Bor (RustParameter Ty)) → Type 0
+  IsFieldIfAny None = Unit {0}
+  IsFieldIfAny (Some p) = IsField p.now
+
+  -- and a method that there may be
+  abbrev pub IsMethodIfAny : Option (Bor (RustMethod Ty)) → Type 0
+  IsMethodIfAny None = Unit {0}
+  IsMethodIfAny (Some x) = IsMethod x.now

@@ -2,7 +2,7 @@ ghost use Rattle.std.specs.Prelude.{ℕ};
 ghost use Rattle.pc_tree.specs.Tree.{ClassDef, FuncDef, Module};
 ghost use Rattle.pc_class.specs.Bases.{bases_of};
 ghost use Rattle.pc_class.specs.Facts.{method_made};
-ghost use Rattle.pc_class.specs.NamesFound.{BasesAreFound, LateFieldsAreFound};
+ghost use Rattle.pc_class.specs.NamesFound.{BasesAreFound, LateFieldsAreFound, ClassFindingsAreListed};
 ghost use Rattle.pc_class.specs.Overrides.{IsJudgedOnce, overridden};
 ghost use Rattle.pc_class.specs.Findings.{base_class};
 ghost use Rattle.pc_class.specs.WellFormed.{ClassesAreWellFormed};
@@ -19,8 +19,10 @@ pub fn classes_are_well_formed()
     ensures { ClassesAreWellFormed }
 {}
 
-/// The law that the lists of missing bases (E07) and of late fields (E08) hold just what the rules find.
+/// The law that the lists of missing bases (E07) and of late fields (E08) hold just what the rules find; so does the list of what
+/// is found as a class table is built, with the names that clash (E06) by the entries of the classes.
 pub fn names_are_found()
     ensures bases { BasesAreFound }
     ensures late_fields { LateFieldsAreFound }
+    ensures all { ClassFindingsAreListed }
 {}

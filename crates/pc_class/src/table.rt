@@ -1,10 +1,14 @@
-ghost use Rattle.std.specs.Prelude.{◌≡◌, List, map, All, IfOk, slice_get};
+ghost use Rattle.std.specs.Prelude.{◌≡◌, ◌↔◌, ◌<◌, ◌++◌, List, length, map, reverse, Some, All, IsTrue, IfOk, OnOk};
 ghost use Rattle.std.specs.Option.{option_map};
-ghost use Rattle.pc_types.specs.Tree.{Tree};
+ghost use Rattle.pc_types.specs.Below.{Below};
+ghost use Rattle.pc_types.specs.Tree.{Tree, Class};
 ghost use Rattle.pc_class.specs.Facts.{field_of, method_of, class_at};
-ghost use Rattle.pc_class.specs.Tables.{Entry, entry_seen, classes_with, parameter_lent, method_lent, HasEntries, HasLent, HasLentIfAny, HasMethodIfAny};
+ghost use Rattle.pc_class.specs.Parts.{part, lent, IsSpan, bases_in, entries_in, IsTable};
+ghost use Rattle.pc_class.specs.Tables.{Entry, inherited_entry, classes_with, parameter_lent, method_lent, IsLent, IsFieldIfAny, IsMethodIfAny};
 
+use crate::parts::{Span, TableParts};
 use pc_source::{OutOfMemory, Place};
+use pc_types::Parents;
 use std::alloc::Global;
 use std::marker::Model;
 
@@ -30,12 +34,42 @@ pub struct Method<Ty: Drop> {
     pub ret: Ty,
 }
 
-/// What a class has: its base, its fields with those of its base first, and its methods with those of its base behind them.
-#[derive(Drop)]
-pub(crate) struct ClassEntry<Ty: Drop> {
-    pub base: Option<usize>,
-    pub fields: Vec<Parameter<Ty>>,
-    pub methods: Vec<Method<Ty>>,
+/// Puts the fields of these places behind others, from the last to the first.
+fn push_backwards<'t, Ty: Drop>(
+    all: &mut Vec<&'t Parameter<Ty>>,
+    fields: &'t [Parameter<Ty>],
+    span: Span,
+) -> Result<(), OutOfMemory>
+    requires { IsSpan (length fields.now) span }
+    ensures { OnOk result (map lent all.new.items ≡ map lent all.old.items ++ reverse (part fields.entry.now span)) }
+{
+    let mut end = span.end;
+    while end > span.start {
+        end -= 1;
+        all.push(&fields[end])?;
+    }
+    Ok(())
+}
+
+/// The fields of a class, those of its ancestors first.
+fn fields_of<Ty: Drop>(
+    parts: &TableParts<Ty>,
+    alloc: Global,
+    class: usize,
+) -> Result<Vec<&Parameter<Ty>>, OutOfMemory>
+    requires table { IsTable parts.now }
+    requires class { class < length parts.now.classes.items }
+    ensures { IfOk result (λ ps. map lent ps.items ≡ (inherited_entry (entries_in parts.entry.now) (Some class)).fields) }
+{
+    let mut all = Vec::new(alloc);
+    let mut at = Some(class);
+    while let Some(number) = at {
+        let node = parts.classes[number];
+        push_backwards(&mut all, &parts.fields, node.fields)?;
+        at = node.base;
+    }
+    all.reverse();
+    Ok(all)
 }
 
 /// The classes of a module, each with its fields and methods and those of its ancestors. Contracts see it as the list of these.
@@ -43,59 +77,81 @@ pub(crate) struct ClassEntry<Ty: Drop> {
 /// Library reference, `dataclasses`; Language Reference 3.12, 8.8 "Class definitions".
 #[derive(Drop)]
 pub struct ClassTable<Ty: Drop> {
-    classes: Vec<ClassEntry<Ty>>,
+    parts: TableParts<Ty>,
+    parents: Parents,
 }
 
 impl<Ty: Drop> Model for ClassTable<Ty> {
     ghost Value = { List (Entry Ty) };
 
-    ghost view = { λ t. map entry_seen t.classes.items };
+    ghost view = { λ t. entries_in t.parts };
+
+    ghost invariant = { λ t. IsTable t.parts × (t.parents ≡ bases_in (entries_in t.parts)) };
 }
 
 impl<Ty: Drop> ClassTable<Ty> {
+    /// The table that is made of these, with the parents of its classes.
+    pub(crate) fn of(parts: TableParts<Ty>, parents: Parents) -> ClassTable<Ty>
+        requires table { IsTable parts }
+        requires parents { parents ≡ bases_in (entries_in parts) }
+        ensures { result ≡ entries_in parts }
+    {
+        ClassTable { parts, parents }
+    }
+
+    /// The parents of the classes.
+    pub fn parents(&self) -> &Parents
+        ensures { result.now ≡ bases_in self.now }
+    {
+        &self.parents
+    }
+
+    /// Whether a class is another one or has it as an ancestor. Language Reference 3.12, 8.8 "Class definitions".
+    pub fn is_sub(&self, class: usize, other: usize) -> bool
+        ensures { IsTrue result ↔ Below (bases_in self.now) (Class class) (Class other) }
+    {
+        self.parents.is_within(class, other)
+    }
+
     /// The field of a name, which the class or an ancestor of it has, if one has.
     pub fn field(&self, class: usize, name: &str) -> Option<&Parameter<Ty>>
         ensures value { (tree : Ty → Tree) → option_map (parameter_lent tree) result ≡ field_of (class_at (classes_with tree self.now) class).fields name.now }
-        ensures held { (has : Ty → Type 0) → HasEntries has self.now → HasLentIfAny has result }
+        ensures listed { IsFieldIfAny self.now result }
     {
-        if class >= self.classes.len() {
+        let parts = &self.parts;
+        if class >= parts.classes.len() {
             return None;
         }
-        for field in &self.classes[class].fields {
-            if name == field.name.as_str() {
-                return Some(field);
-            }
+        match parts.named.get(parts.classes[class].held.fields, name) {
+            None => None,
+            Some(number) => Some(&parts.fields[number]),
         }
-        None
     }
 
     /// The nearest method of a name, on the way from the class to its ancestors, if there is one.
     pub fn method(&self, class: usize, name: &str) -> Option<&Method<Ty>>
         ensures value { (tree : Ty → Tree) → option_map (method_lent tree) result ≡ method_of (class_at (classes_with tree self.now) class).methods name.now }
-        ensures held { (has : Ty → Type 0) → HasEntries has self.now → HasMethodIfAny has result }
+        ensures listed { IsMethodIfAny self.now result }
     {
-        if class >= self.classes.len() {
+        let parts = &self.parts;
+        if class >= parts.classes.len() {
             return None;
         }
-        for method in &self.classes[class].methods {
-            if name == method.name.as_str() {
-                return Some(method);
-            }
+        match parts.named.get(parts.classes[class].held.methods, name) {
+            None => None,
+            Some(number) => Some(&parts.methods[number]),
         }
-        None
     }
 
     /// The fields of a class, those of its ancestors first: the parameters of a call of it.
     pub fn fields(&self, alloc: Global, class: usize) -> Result<Vec<&Parameter<Ty>>, OutOfMemory>
         ensures value { (tree : Ty → Tree) → IfOk result (λ ps. map (parameter_lent tree) ps.items ≡ (class_at (classes_with tree self.now) class).fields) }
-        ensures held { (has : Ty → Type 0) → HasEntries has self.now → IfOk result (λ ps. All (HasLent has) ps.items) }
+        ensures listed { IfOk result (λ ps. All (IsLent self.now) ps.items) }
     {
-        let mut all = Vec::new(alloc);
-        if class < self.classes.len() {
-            for field in &self.classes[class].fields {
-                all.push(field)?;
-            }
+        if class >= self.parts.classes.len() {
+            return Ok(Vec::new(alloc));
         }
+        let all = fields_of(&self.parts, alloc, class)?;
         Ok(all)
     }
 }

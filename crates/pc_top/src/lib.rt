@@ -13,6 +13,8 @@ pub use report::{Report, Row};
 pub use top::check;
 
 #[cfg(test)]
+mod classes_tests;
+#[cfg(test)]
 mod scopes_tests;
 #[cfg(test)]
 mod tests;

@@ -1,0 +1,39 @@
+use Rattle.std.proofs.Common.{◌≡◌, ◌∙◌, ◌++◌, [], List, map, sym, ap, subst, append_assoc}
+use Rattle.pc_tree.specs.declared.code.Code.TheVariants.{E07}
+use Rattle.pc_tree.specs.declared.code.Finding.{Finding}
+use Rattle.pc_tree.specs.declared.tree.Item.{Item as RustItem}
+use Rattle.pc_tree.specs.Tree.{module_of, item_of}
+use Rattle.pc_scope.specs.Bindings.{classes_in}
+use Rattle.pc_scope.specs.Found.{at_code}
+use Rattle.pc_types.specs.Below.{Bases}
+use Rattle.pc_types.specs.Bases.{bases_of}
+use Rattle.pc_class.specs.Entries.{missing_bases}
+use Rattle.pc_class.specs.Outlines.{classes_found}
+use Rattle.pc_class.specs.Built.{found_behind, class_findings}
+use Rattle.pc_class.specs.Facts.{Class}
+use Rattle.pc_class.specs.Parts.{entries_in}
+use Rattle.pc_class.specs.Tables.{HasEntries}
+use Rattle.pc_class.proofs.EntriesGiven.{table_given}
+use Rattle.pc_class.proofs.ItemsBuilt.{found_listed, bases_are, bases_there}
+use Rattle.pc_class.proofs.building.class_table.Goals as goal
+
+pub returns-clause-found : goal.returns-clause-found
+unfolding class_findings
+returns-clause-found g c =
+    let m = module_of c.args.tree.now in
+    let old = c.args.found.now.items in
+    let cs = classes_in m.items in
+    c.in_ok-parts.ensures.found
+    ∙ ap (λ (fs : List Finding). fs ++ found_behind m [] 0 cs) (c.in_ok-find_missing_bases.ensures
+    ∙ ap (λ (xs : List RustItem). old ++ at_code E07 (missing_bases c.args.parents.now 0 (classes_in (map item_of xs)))) c.deref.ensures.value
+    ∙ ap (λ (bs : Bases). old ++ at_code E07 (missing_bases bs 0 cs)) c.requires.parents)
+    ∙ append_assoc old (at_code E07 (missing_bases (bases_of m) 0 cs)) (found_behind m [] 0 cs)
+    ∙ ap (λ (fs : List Finding). old ++ (at_code E07 (missing_bases (bases_of m) 0 cs) ++ fs)) (found_listed m)
+
+pub returns-clause-given : goal.returns-clause-given
+returns-clause-given g c = subst (HasEntries (g.S.TypeStore.has c.all_classes.new.store)) (sym c.of-2.ensures) (table_given (g.S.TypeStore.has c.all_classes.new.store) c.in_ok-parts.parts c.in_ok-parts.ensures.given)
+
+pub of-requires-2-clause-parents : goal.of-requires-2-clause-parents
+of-requires-2-clause-parents g c =
+    c.in_ok-own_parents.ensures ∙ sym (bases_are (module_of c.args.tree.now)) ∙ ap (map (λ (x : Class). x.base)) (sym c.in_ok-parts.ensures.classes)
+    ∙ bases_there g.S.TypeStore.tree (entries_in c.in_ok-parts.parts)

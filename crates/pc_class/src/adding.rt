@@ -1,0 +1,289 @@
+// One more class in a class table.
+
+ghost use Rattle.std.specs.Prelude.{◌≡◌, ◌+◌, ℕ, length, ◌++◌, ◌∷◌, [], List, map, None, OnOk, IfOk};
+ghost use Rattle.pc_tree.specs.Tree.{Module as Tree, class_of};
+ghost use Rattle.pc_types.specs.Store.{Keeps};
+ghost use Rattle.pc_types.specs.Bases.{base_named};
+ghost use Rattle.pc_class.specs.declared.table.Parameter.{Parameter as ParameterOf};
+ghost use Rattle.pc_class.specs.declared.table.Method.{Method as MethodOf};
+ghost use Rattle.pc_class.specs.Facts.{class_behind, inherited};
+ghost use Rattle.pc_class.specs.Named.{IsMap, KeepsNamed};
+ghost use Rattle.pc_class.specs.Entries.{entry_seen};
+ghost use Rattle.pc_class.specs.Outlines.{IsHeld, first_named, field_name, method_name as class_method_name, fields_seen, methods_seen, own_field, own_method, all_own, AreOther, AreNew, found_over};
+ghost use Rattle.pc_class.specs.Tables.{HasParameter, HasMethod, parameter_with, method_with, classes_with};
+ghost use Rattle.pc_class.specs.Parts.{parameter_name, method_name, inherited_node, entries_in, IsTable, HasParts};
+ghost use Rattle.pc_class.specs.Built.{IsSetting, module_in, Added, IsClassAt};
+
+use crate::entries::{Entry, Held, entries, find_clashes, find_late_fields};
+use crate::named::NamedMaps;
+use crate::parts::{ClassNode, Span, TableParts};
+use crate::reading::{Setting, read_field, read_method};
+use crate::table::{Method, Parameter};
+use pc_source::OutOfMemory;
+use pc_tree::{ClassDef, Field, Findings, FuncDef, Member};
+use pc_types::TypeStore;
+use std::alloc::Global as Allocator;
+
+/// The field that an entry binds, if it binds one.
+fn own_field<'m>(entry: &Entry<'m>) -> Option<&'m Field>
+    ensures { (m : Tree) → fields_seen m result ≡ own_field m (entry_seen entry.now) }
+{
+    if !entry.binds {
+        return None;
+    }
+    match entry.member {
+        Member::Field(field) => Some(field),
+        Member::Method(_) => None,
+    }
+}
+
+/// The method that an entry of a class binds, if it binds one.
+fn own_method<'m>(entry: &Entry<'m>) -> Option<&'m FuncDef>
+    ensures { (m : Tree) (class : ℕ) → methods_seen m class entry.now.number result ≡ own_method m class (entry_seen entry.now) }
+{
+    if !entry.binds {
+        return None;
+    }
+    match entry.member {
+        Member::Field(_) => None,
+        Member::Method(def) => Some(def),
+    }
+}
+
+/// One more field that a class binds, behind those that it has already; the map that tells it too.
+fn add_field<Ty: Drop>(
+    named: &mut NamedMaps,
+    alloc: Allocator,
+    fields: &mut Vec<Parameter<Ty>>,
+    at: usize,
+    field: Parameter<Ty>,
+) -> Result<usize, OutOfMemory>
+    requires { IsMap named.old at }
+    ensures within { IfOk result (λ new. IsMap named.new new) }
+    ensures kept { OnOk result (KeepsNamed named.old named.new) }
+    ensures fields { OnOk result (fields.new.items ≡ fields.old.items ++ field ∷ []) }
+    ensures held { (front back : List (ParameterOf Ty)) → IsHeld parameter_name named.old fields.old.items at (front ++ back) → first_named parameter_name front (parameter_name field) ≡ None → IfOk result (λ new. IsHeld parameter_name named.new fields.new.items new ((front ++ field ∷ []) ++ back)) }
+{
+    let number = fields.len();
+    let new = named.put(alloc, at, field.name.as_str(), number)?;
+    fields.push(field)?;
+    Ok(new)
+}
+
+/// One more method that a class binds, ahead of those that it inherits; the map that tells it too.
+fn add_method<Ty: Drop>(
+    named: &mut NamedMaps,
+    alloc: Allocator,
+    methods: &mut Vec<Method<Ty>>,
+    at: usize,
+    method: Method<Ty>,
+) -> Result<usize, OutOfMemory>
+    requires { IsMap named.old at }
+    ensures within { IfOk result (λ new. IsMap named.new new) }
+    ensures kept { OnOk result (KeepsNamed named.old named.new) }
+    ensures methods { OnOk result (methods.new.items ≡ methods.old.items ++ method ∷ []) }
+    ensures held { (front back : List (MethodOf Ty)) → IsHeld method_name named.old methods.old.items at (front ++ back) → first_named method_name front (method_name method) ≡ None → IfOk result (λ new. IsHeld method_name named.new methods.new.items new ((front ++ method ∷ []) ++ back)) }
+{
+    let number = methods.len();
+    let new = named.put(alloc, at, method.name.as_str(), number)?;
+    methods.push(method)?;
+    Ok(new)
+}
+
+/// So for the field that an entry binds, if it binds one.
+fn add_own_field<S: TypeStore>(
+    setting: &Setting,
+    store: &mut S,
+    alloc: Allocator,
+    named: &mut NamedMaps,
+    fields: &mut Vec<Parameter<S::Ty>>,
+    at: usize,
+    entry: &Entry,
+) -> Result<usize, OutOfMemory>
+    requires map { IsMap named.old at }
+    requires setting { IsSetting setting.now }
+    ensures within { IfOk result (λ new. IsMap named.new new) }
+    ensures kept { OnOk result (KeepsNamed named.old named.new) }
+    ensures store { Keeps S.has store.old store.new }
+    ensures added { (front back : List (ParameterOf S.Ty)) → IsHeld parameter_name named.old fields.old.items at (front ++ back) → AreOther field_name (map (parameter_with S.tree) front) (own_field (module_in setting.now) (entry_seen entry.now)) → IfOk result (λ new. Added parameter_name (HasParameter (S.has store.new)) (parameter_with S.tree) named.new fields.old.items fields.new.items new front back (own_field (module_in setting.now) (entry_seen entry.now))) }
+{
+    match own_field(entry) {
+        Some(field) => {
+            let parameter = read_field(setting, store, alloc, field)?;
+            let new = add_field(named, alloc, fields, at, parameter)?;
+            Ok(new)
+        }
+        None => Ok(at),
+    }
+}
+
+/// So for the method that an entry of a class binds, if it binds one.
+fn add_own_method<S: TypeStore>(
+    setting: &Setting,
+    store: &mut S,
+    alloc: Allocator,
+    named: &mut NamedMaps,
+    methods: &mut Vec<Method<S::Ty>>,
+    class: usize,
+    at: usize,
+    entry: &Entry,
+) -> Result<usize, OutOfMemory>
+    requires map { IsMap named.old at }
+    requires setting { IsSetting setting.now }
+    ensures within { IfOk result (λ new. IsMap named.new new) }
+    ensures kept { OnOk result (KeepsNamed named.old named.new) }
+    ensures store { Keeps S.has store.old store.new }
+    ensures added { (front back : List (MethodOf S.Ty)) → IsHeld method_name named.old methods.old.items at (front ++ back) → AreOther class_method_name (map (method_with S.tree) front) (own_method (module_in setting.now) class (entry_seen entry.now)) → IfOk result (λ new. Added method_name (HasMethod (S.has store.new)) (method_with S.tree) named.new methods.old.items methods.new.items new front back (own_method (module_in setting.now) class (entry_seen entry.now))) }
+{
+    match own_method(entry) {
+        Some(def) => {
+            let method = read_method(setting, store, alloc, class, entry.number, def)?;
+            let new = add_method(named, alloc, methods, at, method)?;
+            Ok(new)
+        }
+        None => Ok(at),
+    }
+}
+
+/// Adds the fields that the entries of a class bind, behind those that it inherits; the map that tells them all.
+fn add_fields<S: TypeStore>(
+    setting: &Setting,
+    store: &mut S,
+    alloc: Allocator,
+    named: &mut NamedMaps,
+    fields: &mut Vec<Parameter<S::Ty>>,
+    inherited: usize,
+    entries: &[Entry],
+) -> Result<usize, OutOfMemory>
+    requires map { IsMap named.old inherited }
+    requires setting { IsSetting setting.now }
+    ensures within { IfOk result (λ new. IsMap named.new new) }
+    ensures kept { OnOk result (KeepsNamed named.old named.new) }
+    ensures store { Keeps S.has store.old store.new }
+    ensures added { (front back : List (ParameterOf S.Ty)) → IsHeld parameter_name named.old fields.old.items inherited (front ++ back) → AreNew field_name (own_field (module_in setting.now)) (map (parameter_with S.tree) front) (map entry_seen entries.now) → IfOk result (λ new. Added parameter_name (HasParameter (S.has store.new)) (parameter_with S.tree) named.new fields.old.items fields.new.items new front back (all_own (own_field (module_in setting.now)) (map entry_seen entries.now))) }
+{
+    let mut at = inherited;
+    for entry in entries {
+        at = add_own_field(setting, store, alloc, named, fields, at, entry)?;
+    }
+    Ok(at)
+}
+
+/// Adds the methods that the entries of a class bind, ahead of those that it inherits; the map that tells them all.
+fn add_methods<S: TypeStore>(
+    setting: &Setting,
+    store: &mut S,
+    alloc: Allocator,
+    named: &mut NamedMaps,
+    methods: &mut Vec<Method<S::Ty>>,
+    class: usize,
+    inherited: usize,
+    entries: &[Entry],
+) -> Result<usize, OutOfMemory>
+    requires map { IsMap named.old inherited }
+    requires setting { IsSetting setting.now }
+    ensures within { IfOk result (λ new. IsMap named.new new) }
+    ensures kept { OnOk result (KeepsNamed named.old named.new) }
+    ensures store { Keeps S.has store.old store.new }
+    ensures added { (front back : List (MethodOf S.Ty)) → IsHeld method_name named.old methods.old.items inherited (front ++ back) → AreNew class_method_name (own_method (module_in setting.now) class) (map (method_with S.tree) front) (map entry_seen entries.now) → IfOk result (λ new. Added method_name (HasMethod (S.has store.new)) (method_with S.tree) named.new methods.old.items methods.new.items new front back (all_own (own_method (module_in setting.now) class) (map entry_seen entries.now))) }
+{
+    let mut at = inherited;
+    for entry in entries {
+        at = add_own_method(setting, store, alloc, named, methods, class, at, entry)?;
+    }
+    Ok(at)
+}
+
+/// A base without fields and methods, for classes that have none.
+const EMPTY: ClassNode = ClassNode {
+    base: None,
+    held: Held {
+        fields: 0,
+        methods: 0,
+    },
+    defaulted: false,
+    fields: Span { start: 0, end: 0 },
+    methods: Span { start: 0, end: 0 },
+};
+
+/// The base among the classes before, or an empty one.
+fn inherited(classes: &[ClassNode], base: Option<usize>) -> ClassNode
+    ensures { result ≡ inherited_node classes.now base }
+{
+    match base {
+        None => EMPTY,
+        Some(base) => {
+            if base < classes.len() {
+                classes[base]
+            } else {
+                EMPTY
+            }
+        }
+    }
+}
+
+/// One more class, over its base among those before it; what is found of its members by their names: E06, E08. Library
+/// reference, `dataclasses`; own rules of the profile.
+pub(crate) fn add_class<S: TypeStore>(
+    setting: &Setting,
+    store: &mut S,
+    alloc: Allocator,
+    parts: &mut TableParts<S::Ty>,
+    found: &mut Findings,
+    definition: &ClassDef,
+) -> Result<(), OutOfMemory>
+    requires setting { IsSetting setting.now }
+    requires table { IsTable parts.old }
+    requires given { HasParts (S.has store.old) parts.old }
+    requires class { IsClassAt (module_in setting.now) (length parts.old.classes.items) (class_of definition.now) }
+    ensures store { Keeps S.has store.old store.new }
+    ensures table { OnOk result (IsTable parts.new) }
+    ensures given { OnOk result (HasParts (S.has store.new) parts.new) }
+    ensures more { OnOk result (length parts.new.classes.items ≡ length parts.old.classes.items + 1) }
+    ensures classes { OnOk result (classes_with S.tree (entries_in parts.new) ≡ classes_with S.tree (entries_in parts.old) ++ class_behind (module_in setting.now) (classes_with S.tree (entries_in parts.old)) (length parts.old.classes.items) (class_of definition.now) ∷ []) }
+    ensures found { OnOk result (found.new.items ≡ found.old.items ++ found_over (inherited (classes_with S.tree (entries_in parts.old)) (base_named (module_in setting.now) (length parts.old.classes.items) (class_of definition.now).base)) (class_of definition.now)) }
+{
+    let class = parts.classes.len();
+    let base = setting.parents.base(class);
+    let inherited = inherited(&parts.classes, base);
+    let members = entries(alloc, &parts.named, inherited.held, &definition.members)?;
+    find_clashes(found, &members)?;
+    let defaulted = find_late_fields(found, inherited.defaulted, &members)?;
+    let fields_start = parts.fields.len();
+    let fields = add_fields(
+        setting,
+        store,
+        alloc,
+        &mut parts.named,
+        &mut parts.fields,
+        inherited.held.fields,
+        &members,
+    )?;
+    let fields_end = parts.fields.len();
+    let methods_start = parts.methods.len();
+    let methods = add_methods(
+        setting,
+        store,
+        alloc,
+        &mut parts.named,
+        &mut parts.methods,
+        class,
+        inherited.held.methods,
+        &members,
+    )?;
+    let methods_end = parts.methods.len();
+    parts.classes.push(ClassNode {
+        base,
+        held: Held { fields, methods },
+        defaulted,
+        fields: Span {
+            start: fields_start,
+            end: fields_end,
+        },
+        methods: Span {
+            start: methods_start,
+            end: methods_end,
+        },
+    })?;
+    Ok(())
+}

@@ -1,0 +1,123 @@
+// The class table of a module, one item after another.
+
+ghost use Rattle.std.specs.Prelude.{◌≡◌, ◌++◌, ◌∷◌, ◌+◌, [], length, OnOk, IfOk};
+ghost use Rattle.pc_tree.specs.Tree.{item_of, module_of};
+ghost use Rattle.pc_scope.specs.Bindings.{classes_in};
+ghost use Rattle.pc_scope.specs.Scoped.{AreScopes};
+ghost use Rattle.pc_types.specs.Bases.{bases_of};
+ghost use Rattle.pc_types.specs.Store.{Keeps};
+ghost use Rattle.pc_class.specs.Facts.{classes_behind, classes_of};
+ghost use Rattle.pc_class.specs.Outlines.{IsAhead};
+ghost use Rattle.pc_class.specs.Tables.{classes_with, HasEntries};
+ghost use Rattle.pc_class.specs.Parts.{entries_in, IsTable, HasParts};
+ghost use Rattle.pc_class.specs.Built.{IsSetting, module_in, found_behind, class_findings};
+
+use crate::adding::add_class;
+use crate::bases::find_missing_bases;
+use crate::named::NamedMaps;
+use crate::parts::TableParts;
+use crate::reading::Setting;
+use crate::table::ClassTable;
+use pc_scope::Scopes;
+use pc_source::OutOfMemory;
+use pc_tree::{Findings, Item, ItemKind, Module};
+use pc_types::{Parents, TypeStore};
+use std::alloc::Global as Allocator;
+
+/// What a table without classes is made of.
+fn no_classes<Ty: Drop>(alloc: Allocator) -> Result<TableParts<Ty>, OutOfMemory>
+    ensures table { IfOk result IsTable }
+    ensures classes { IfOk result (λ p. p.classes.items ≡ []) }
+    ensures fields { IfOk result (λ p. p.fields.items ≡ []) }
+    ensures methods { IfOk result (λ p. p.methods.items ≡ []) }
+{
+    let named = NamedMaps::new(alloc)?;
+    Ok(TableParts {
+        named,
+        classes: Vec::new(alloc),
+        fields: Vec::new(alloc),
+        methods: Vec::new(alloc),
+    })
+}
+
+/// One more item of the module: the class, if it is one, and what is found of its members by their names.
+fn add_item<S: TypeStore>(
+    setting: &Setting,
+    store: &mut S,
+    alloc: Allocator,
+    parts: &mut TableParts<S::Ty>,
+    found: &mut Findings,
+    item: &Item,
+) -> Result<(), OutOfMemory>
+    requires setting { IsSetting setting.now }
+    requires table { IsTable parts.old }
+    requires given { HasParts (S.has store.old) parts.old }
+    requires class { IsAhead (module_in setting.now) (length parts.old.classes.items) (item_of item.now) }
+    ensures store { Keeps S.has store.old store.new }
+    ensures table { OnOk result (IsTable parts.new) }
+    ensures given { OnOk result (HasParts (S.has store.new) parts.new) }
+    ensures more { OnOk result (length parts.new.classes.items ≡ length parts.old.classes.items + length (classes_in (item_of item.now ∷ []))) }
+    ensures classes { OnOk result (classes_with S.tree (entries_in parts.new) ≡ classes_behind (module_in setting.now) (classes_with S.tree (entries_in parts.old)) (length parts.old.classes.items) (classes_in (item_of item.now ∷ []))) }
+    ensures found { OnOk result (found.new.items ≡ found.old.items ++ found_behind (module_in setting.now) (classes_with S.tree (entries_in parts.old)) (length parts.old.classes.items) (classes_in (item_of item.now ∷ []))) }
+{
+    match &item.kind {
+        ItemKind::Constant(_) => Ok(()),
+        ItemKind::Class(definition) => {
+            add_class(setting, store, alloc, parts, found, definition)?;
+            Ok(())
+        }
+        ItemKind::Def(_) => Ok(()),
+    }
+}
+
+/// What the table of all classes of the module is made of.
+fn all_classes<S: TypeStore>(
+    setting: &Setting,
+    store: &mut S,
+    alloc: Allocator,
+    found: &mut Findings,
+) -> Result<TableParts<S::Ty>, OutOfMemory>
+    requires { IsSetting setting.now }
+    ensures store { Keeps S.has store.old store.new }
+    ensures table { IfOk result IsTable }
+    ensures given { IfOk result (HasParts (S.has store.new)) }
+    ensures classes { IfOk result (λ p. classes_with S.tree (entries_in p) ≡ classes_of (module_in setting.now)) }
+    ensures found { OnOk result (found.new.items ≡ found.old.items ++ found_behind (module_in setting.now) [] 0 (classes_in (module_in setting.now).items)) }
+{
+    let items = setting.tree.items.as_slice();
+    let mut parts = no_classes(alloc)?;
+    for item in items {
+        add_item(setting, store, alloc, &mut parts, found, item)?;
+    }
+    Ok(parts)
+}
+
+/// The class table of a module, with what is found of its classes put behind `found`: E06, E07 and E08. The annotations of the
+/// members are read for their types alone.
+///
+/// Library reference, `dataclasses`; Language Reference 3.12, 8.8 "Class definitions"; the codes are own rules of the profile.
+pub fn class_table<S: TypeStore>(
+    store: &mut S,
+    alloc: Allocator,
+    parents: &Parents,
+    tree: &Module,
+    scopes: &Scopes,
+    found: &mut Findings,
+) -> Result<ClassTable<S::Ty>, OutOfMemory>
+    requires scopes { AreScopes (module_of tree.now) scopes.now }
+    requires parents { parents.now ≡ bases_of (module_of tree.now) }
+    ensures classes { IfOk result (λ t. classes_with S.tree t ≡ classes_of (module_of tree.now)) }
+    ensures given { IfOk result (HasEntries (S.has store.new)) }
+    ensures kept { Keeps S.has store.old store.new }
+    ensures found { OnOk result (found.new.items ≡ found.old.items ++ class_findings (module_of tree.now)) }
+{
+    find_missing_bases(found, parents, &tree.items)?;
+    let setting = Setting {
+        tree,
+        scopes,
+        parents,
+    };
+    let parts = all_classes(&setting, store, alloc, found)?;
+    let own_parents = Parents::of(alloc, tree, scopes)?;
+    Ok(ClassTable::of(parts, own_parents))
+}
