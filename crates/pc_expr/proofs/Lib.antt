@@ -6,8 +6,11 @@ pub mod Contexts
 pub mod Expected
 pub mod Flowing
 pub mod FoundList
+pub mod InitializersListed
+pub mod LiteralPlaces
 pub mod Literals
 pub mod Names
+pub mod NamesBound
 pub mod NamesRead
 pub mod OfferedTypes
 pub mod Offering
@@ -19,5 +22,6 @@ pub mod SaidInLabels
 pub mod Same
 pub mod SameCodes
 pub mod Saying
+pub mod SignaturesListed
 pub mod Silent
 pub mod WellFormed

@@ -7,5 +7,7 @@ pub mod Lawful
 pub mod Operating
 pub mod Operations
 pub mod Signatures
+pub mod SignaturesFound
+pub mod SignaturesHeld
 pub mod Standing
 pub mod WellFormed

@@ -1,6 +1,8 @@
 //! The types of expressions, and what is found in them.
 #![tactic(auto)]
 
+mod bound;
+mod defaults;
 mod flows;
 mod label;
 mod laws;
