@@ -35,11 +35,11 @@ use Rattle.pc_flow.specs.Environment.{Env}
 use Rattle.pc_expr.specs.Operations.{clean}
 use Rattle.pc_expr.specs.Context.{Context}
 use Rattle.pc_expr.specs.Labels.{Flowing, is_of_scopes, mark_of, Finds}
-use Rattle.pc_expr.specs.Signatures.{literal_type, literal_place, LawfulDefault, DefaultFinds, ParamsMarks, LawfulParams, ParamsFind, binds_name, body_context, initializer_context}
+use Rattle.pc_expr.specs.Signatures.{literal_type, literal_place, LawfulDefault, DefaultFinds, ParamsMarks, LawfulParams, ParamsFind, binds_name, body_context, initializer_context, annotated_types}
 use Rattle.pc_expr.proofs.Saying.{none_among, among_first, IsPart, IsEarlyHere, PartSays, Said, no_flow_of_scopes}
 use Rattle.pc_expr.proofs.SaidByLabels.{said}
 use Rattle.pc_expr.proofs.SaidInLabels.{said_found}
-use Rattle.pc_check.specs.Modules.{entries_of, names_entered, ReturnsWell, leaves, may_complete, may_not, FunctionMarks, LawfulFunction, FunctionFinds, MembersMarks, LawfulMembers, MembersFind, ItemMarks, ItemsMarks, item_constants, constant_types, annotated_types, Before, before_next, nothing_before, LawfulItem, LawfulItems, ItemFinds, ItemsFind, Labelling, IsLawful, LabelsSay}
+use Rattle.pc_check.specs.Modules.{entries_of, names_entered, ReturnsWell, leaves, may_complete, may_not, FunctionMarks, LawfulFunction, FunctionFinds, MembersMarks, LawfulMembers, MembersFind, ItemMarks, ItemsMarks, item_constants, constant_types, Before, before_next, nothing_before, LawfulItem, LawfulItems, ItemFinds, ItemsFind, Labelling, IsLawful, LabelsSay}
 use Rattle.pc_check.specs.Agreement.{AgreesWithScopes}
 use Rattle.pc_check.proofs.SaidByStatements.{no_code, no_flows, no_annotation, suite_said}
 use Rattle.pc_check.proofs.SaidInStatements.{suite_found}

@@ -23,11 +23,11 @@ use Rattle.pc_flow.specs.Environment.{Env, declared_type, none_assigned}
 use Rattle.pc_expr.specs.Context.{Context, FlowsInto}
 use Rattle.pc_expr.specs.Labels.{Flowing, mark_of}
 use Rattle.pc_expr.specs.Operations.{clean}
-use Rattle.pc_expr.specs.Signatures.{body_context, initializer_context, literal_type, LawfulDefault, binds_name, ParamsMarks, LawfulParams}
+use Rattle.pc_expr.specs.Signatures.{body_context, initializer_context, literal_type, LawfulDefault, binds_name, ParamsMarks, LawfulParams, annotated_types, first_of_types}
 use Rattle.pc_expr.proofs.Same.{SameWhere}
 use Rattle.pc_expr.proofs.One.{into_one, one}
 use Rattle.pc_check.specs.Statements.{Seen}
-use Rattle.pc_check.specs.Modules.{entries_of, names_entered, DeclaredEntry, LawfulEntry, entered, entry_env, ReturnsWell, leaves, may_complete, may_not, FunctionMarks, LawfulFunction, MembersMarks, LawfulMembers, ItemMarks, ItemsMarks, item_constants, constant_types, annotated_types, first_of_types, Before, before_next, nothing_before, LawfulItem, LawfulItems, HasOneLabelling}
+use Rattle.pc_check.specs.Modules.{entries_of, names_entered, DeclaredEntry, LawfulEntry, entered, entry_env, ReturnsWell, leaves, may_complete, may_not, FunctionMarks, LawfulFunction, MembersMarks, LawfulMembers, ItemMarks, ItemsMarks, item_constants, constant_types, Before, before_next, nothing_before, LawfulItem, LawfulItems, HasOneLabelling}
 use Rattle.pc_check.proofs.OneStatement.{IsAmong, among_right, assign_kept, SameSeen, suite_one}
 
 some_inj : {A : Type 0} {x y : A} → Some x ≡ Some y → x ≡ y

@@ -4,7 +4,7 @@ use Rattle.std.specs.Prelude.{◌≡◌, ◌⊎◌, ℕ, suc, List, [], ◌∷�
 use Rattle.pc_tree.specs.declared.code.Code.{Code}
 use Rattle.pc_tree.specs.declared.code.Code.TheVariants.{E21}
 use Rattle.pc_tree.specs.declared.code.Finding.{Finding}
-use Rattle.pc_tree.specs.Tree.{Ann, FuncDef, Member, field_member, method_member, Item, constant_item, class_item, def_item, Module}
+use Rattle.pc_tree.specs.Tree.{FuncDef, Member, field_member, method_member, Item, constant_item, class_item, def_item, Module}
 use Rattle.pc_tree.specs.Depth.{place_of}
 use Rattle.pc_scope.specs.declared.resolution.Owner.{Owner}
 use Rattle.pc_scope.specs.declared.resolution.Owner.TheVariants as owners
@@ -23,7 +23,7 @@ use Rattle.pc_flow.specs.Environment.{Env, none_assigned, assign, declared_type}
 use Rattle.pc_expr.specs.Context.{FlowsInto}
 use Rattle.pc_expr.specs.Labels.{Flowing, Marks, mark_of, type_of, Finds, IsFlowAt, IsCodeAt, is_of_scopes}
 use Rattle.pc_expr.specs.Lawful.{Lawful}
-use Rattle.pc_expr.specs.Signatures.{body_context, initializer_context, LawfulDefault, DefaultFinds, ParamsMarks, LawfulParams, ParamsFind, binds_name}
+use Rattle.pc_expr.specs.Signatures.{body_context, initializer_context, LawfulDefault, DefaultFinds, ParamsMarks, LawfulParams, ParamsFind, binds_name, constant_type, annotated_types, first_of_types}
 use Rattle.pc_check.specs.StatementLabels.{SuiteMarks}
 use Rattle.pc_check.specs.Statements.{Seen, LawfulSuite, SuiteFinds}
 
@@ -130,11 +130,6 @@ abbrev pub ItemsMarks : List Item → Type 0
 ItemsMarks [] = Unit {0}
 ItemsMarks (i ∷ rest) = ItemMarks i × ItemsMarks rest
 
--- a constant's type is its annotation, else its initializer's type
-abbrev pub constant_type : Module → Option Ann → Tree → Tree
-constant_type m None from = from
-constant_type m (Some a) from = read_ann m (bases_of m) a
-
 -- the type of an item that is a constant, none for a class or a def
 abbrev pub item_constants : Module → (i : Item) → ItemMarks i → List Tree
 item_constants m (constant_item p c) marks = constant_type m c.annotation (type_of c.value marks.value) ∷ []
@@ -145,16 +140,6 @@ item_constants m (def_item p f) marks = []
 abbrev pub constant_types : Module → (items : List Item) → ItemsMarks items → List Tree
 constant_types m [] marks = []
 constant_types m (i ∷ rest) marks = item_constants m i marks.0 ++ constant_types m rest marks.1
-
--- an initializer flows into the annotation and is expected there; where the name is bound already or reserved, nothing is expected and it flows nowhere
-abbrev pub annotated_types : Module → (binds : Test) → Option Ann → List Tree
-annotated_types m true (Some a) = read_ann m (bases_of m) a ∷ []
-annotated_types m binds a = []
-
--- the first of some types, if there is one
-abbrev pub first_of_types : List Tree → Option Tree
-first_of_types [] = None
-first_of_types (t ∷ ts) = Some t
 
 -- what stands before an item: constants' types, the numbers of classes and functions, names
 pub record Before : Type 0 where

@@ -27,7 +27,7 @@ lists_unless true g e = absurd (cc e)
 lists_unless false g e = first_among g []
 
 -- what is listed is no finding of scopes
-abbrev IsFoundElsewhere : Finding → Type 0
+abbrev pub IsFoundElsewhere : Finding → Type 0
 IsFoundElsewhere f = is_of_scopes f.code ≡ false
 
 own_listed : (p : Place) (c : Code) (f : Finding) → Contains (own_at p c) f → (f ≡ finding p c) × IsFoundElsewhere f
@@ -101,15 +101,15 @@ code_of_flow p fs f h = record { code = h.code; among = code_with fs h.flow h.co
 -- ---- two lists, one after the other
 
 -- a list has the findings of which something stands, those of scopes left out
-abbrev Lists : Finding → List Finding → Type 0 → Type 0
+abbrev pub Lists : Finding → List Finding → Type 0 → Type 0
 Lists f xs P = (Contains xs f → P × IsFoundElsewhere f) × (P → IsFoundElsewhere f → Contains xs f)
 
 -- it has the same of what comes to the same
-same_listed : (f : Finding) (xs : List Finding) {P Q : Type 0} → (P → Q) → (Q → P) → Lists f xs P → Lists f xs Q
+pub same_listed : (f : Finding) (xs : List Finding) {P Q : Type 0} → (P → Q) → (Q → P) → Lists f xs P → Lists f xs Q
 same_listed f xs to from h = (λ c. let r = h.0 c in (to r.0, r.1), λ q own. h.1 (from q) own)
 
 -- one list after another has what either has
-in_turn : (f : Finding) (xs ys : List Finding) {P Q : Type 0} → Lists f xs P → Lists f ys Q → Lists f (xs ++ ys) (P ⊎ Q)
+pub in_turn : (f : Finding) (xs ys : List Finding) {P Q : Type 0} → Lists f xs P → Lists f ys Q → Lists f (xs ++ ys) (P ⊎ Q)
 in_turn f xs ys h k = (
   λ c. either xs ys f c (λ a. let r = h.0 a in (inl r.0, r.1)) (λ b. let r = k.0 b in (inr r.0, r.1)),
   λ s own. elim s [ inl p ↦ Contains-append_left xs ys f (h.1 p own) | inr q ↦ Contains-append_right xs ys f (k.1 q own) ],
@@ -172,10 +172,10 @@ at_codes f p cs = (codes_listed p cs f, codes_list p cs f)
 at_code : (f : Finding) (p : Place) (c : Option Code) → Lists f (code_at p c) (IsCodeAt p c f)
 at_code f p c = (code_listed p c f, code_lists p c f)
 
-at_flows : (f : Finding) (p : Place) (fs : Flowing) → Lists f (flows_at p fs) (IsFlowAt p fs f)
+pub at_flows : (f : Finding) (p : Place) (fs : Flowing) → Lists f (flows_at p fs) (IsFlowAt p fs f)
 at_flows f p fs = same_listed f (flows_at p fs) (flow_of_code p fs f) (code_of_flow p fs f) (at_codes f p (flow_codes fs))
 
-nothing_listed : (f : Finding) → Lists f [] ⊥
+pub nothing_listed : (f : Finding) → Lists f [] ⊥
 nothing_listed f = (λ h. absurd (none_among f h), λ h own. absurd h)
 
 -- ---- the forms of expressions

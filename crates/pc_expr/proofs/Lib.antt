@@ -13,10 +13,13 @@ pub mod FirstNames
 pub mod Flowing
 pub mod FoundList
 pub mod HeldClasses
+pub mod InitializersListed
 pub mod KindPairs
+pub mod LiteralPlaces
 pub mod Literals
 pub mod MethodOffers
 pub mod Names
+pub mod NamesBound
 pub mod NamesGiven
 pub mod NamesRead
 pub mod OfferedTypes
@@ -30,5 +33,6 @@ pub mod Same
 pub mod SameCodes
 pub mod Saying
 pub mod SeatTypes
+pub mod SignaturesListed
 pub mod Silent
 pub mod WellFormed

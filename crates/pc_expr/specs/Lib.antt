@@ -10,5 +10,7 @@ pub mod Operating
 pub mod Operations
 pub mod Pairing
 pub mod Signatures
+pub mod SignaturesFound
+pub mod SignaturesHeld
 pub mod Standing
 pub mod WellFormed

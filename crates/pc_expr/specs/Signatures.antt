@@ -3,13 +3,13 @@
 use Rattle.std.specs.Prelude.{◌≡◌, ◌⊎◌, ℕ, List, [], ◌∷◌, map, length, Bool as Test, true, false, ◌||◌, not, Option, Some, None}
 use Rattle.pc_source.specs.declared.place.Place.{Place}
 use Rattle.pc_tree.specs.declared.code.Finding.{Finding}
-use Rattle.pc_tree.specs.Tree.{Name, Literal, number_literal, negative_literal, text_literal, truth_literal, none_literal, Param, FuncDef, Module}
+use Rattle.pc_tree.specs.Tree.{Ann, Name, Literal, number_literal, negative_literal, text_literal, truth_literal, none_literal, Param, FuncDef, Module}
 use Rattle.pc_scope.specs.Reserved.{is_reserved}
 use Rattle.pc_scope.specs.Bindings.{functions_in, classes_in}
 use Rattle.pc_scope.specs.Resolution.{is_among, resolve_among, resolve_in_module}
 use Rattle.pc_types.specs.Tree.{Tree, Int, Bool, Str, NoneType}
 use Rattle.pc_types.specs.Below.{Bases}
-use Rattle.pc_types.specs.Annotations.{read_option, OptionFinds}
+use Rattle.pc_types.specs.Annotations.{read_ann, read_option, OptionFinds}
 use Rattle.pc_class.specs.Bases.{bases_of}
 use Rattle.pc_class.specs.Facts.{parameters_of, returned, classes_of}
 use Rattle.pc_expr.specs.Operations.{clean}
@@ -98,3 +98,20 @@ LawfulParams m before (p ∷ ps) marks = record {
 abbrev pub ParamsFind : Module → (ps : List Param) → ParamsMarks ps → Finding → Type 0
 ParamsFind m [] marks f = ⊥
 ParamsFind m (p ∷ ps) marks f = OptionFinds m (bases_of m) p.annotation f ⊎ (DefaultFinds p.default marks.default f ⊎ ParamsFind m ps marks.rest f)
+
+-- ---- constants
+
+-- a constant's type is its annotation, else its initializer's type
+abbrev pub constant_type : Module → Option Ann → Tree → Tree
+constant_type m None from = from
+constant_type m (Some a) from = read_ann m (bases_of m) a
+
+-- an initializer flows into the annotation and is expected there; where the name is bound already or reserved, nothing is expected and it flows nowhere
+abbrev pub annotated_types : Module → (binds : Test) → Option Ann → List Tree
+annotated_types m true (Some a) = read_ann m (bases_of m) a ∷ []
+annotated_types m binds a = []
+
+-- the first of some types, if there is one
+abbrev pub first_of_types : List Tree → Option Tree
+first_of_types [] = None
+first_of_types (t ∷ ts) = Some t

@@ -2,8 +2,10 @@
 #![tactic(auto)]
 
 mod arguments;
+mod bound;
 mod call_offers;
 mod calling;
+mod defaults;
 mod display;
 mod flows;
 mod functions;

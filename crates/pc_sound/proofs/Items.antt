@@ -18,8 +18,8 @@ use Rattle.pc_class.specs.Facts.{Parameter, parameters_of, returned, classes_of}
 use Rattle.pc_expr.specs.Context.{FlowsInto}
 use Rattle.pc_expr.specs.Labels.{mark_of}
 use Rattle.pc_expr.specs.Lawful.{Lawful}
-use Rattle.pc_expr.specs.Signatures.{initializer_context, binds_name}
-use Rattle.pc_check.specs.Modules.{annotated_types, first_of_types, Before, before_next, ItemMarks, ItemsMarks, LawfulItem, LawfulItems, ItemFinds, ItemsFind}
+use Rattle.pc_expr.specs.Signatures.{initializer_context, binds_name, annotated_types, first_of_types}
+use Rattle.pc_check.specs.Modules.{Before, before_next, ItemMarks, ItemsMarks, LawfulItem, LawfulItems, ItemFinds, ItemsFind}
 use Rattle.pc_value.specs.Value.{Gives}
 use Rattle.pc_machine.specs.State.{State, Function, Class, Globals}
 use Rattle.pc_machine.specs.Names.{meaning, meaning_of_global, meaning_of_local, global_of}

@@ -6,8 +6,8 @@ use Rattle.pc_tree.specs.Tree.{Ann, Item, constant_item, class_item, def_item, M
 use Rattle.pc_types.specs.Tree.{Tree}
 use Rattle.pc_class.specs.Bases.{bases_of}
 use Rattle.pc_expr.specs.Labels.{type_of}
-use Rattle.pc_expr.specs.Signatures.{initializer_context, binds_name}
-use Rattle.pc_check.specs.Modules.{ItemsMarks, LawfulItems, Before, before_next, nothing_before, annotated_types, first_of_types, constant_type, constant_types, Labelling, IsLawful}
+use Rattle.pc_expr.specs.Signatures.{initializer_context, binds_name, annotated_types, first_of_types, constant_type}
+use Rattle.pc_check.specs.Modules.{ItemsMarks, LawfulItems, Before, before_next, nothing_before, constant_types, Labelling, IsLawful}
 use Rattle.pc_sound.proofs.Lists.{get_one_more}
 use Rattle.pc_sound.proofs.Keys.{IsKeyed, keyed_type}
 use Rattle.pc_sound.proofs.KeyedTypes.{OptionKeyed}

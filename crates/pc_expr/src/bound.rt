@@ -1,0 +1,28 @@
+// Names that are bound already.
+
+ghost use Rattle.std.specs.Prelude.{◌≡◌, OnOk};
+ghost use Rattle.pc_expr.specs.SignaturesFound.{bound_in, with_name};
+
+use indexmap::IndexSet;
+use pc_source::OutOfMemory;
+use std::alloc::Global;
+
+/// The names that are bound already.
+pub(crate) type Texts = IndexSet<String>;
+
+/// Whether a name is bound already.
+pub(crate) fn is_bound(bound: &Texts, name: &str) -> bool
+    ensures { result ≡ bound_in bound.now name.now }
+{
+    bound.contains(name)
+}
+
+/// One more name is bound.
+pub(crate) fn bind(bound: &mut Texts, alloc: Global, name: &str) -> Result<(), OutOfMemory>
+    ensures { OnOk result (bound_in bound.new ≡ with_name (bound_in bound.old) name.now) }
+{
+    if !bound.contains(name) {
+        bound.insert(String::from_str(alloc, name)?)?;
+    }
+    Ok(())
+}

@@ -1,0 +1,132 @@
+// Defaults of parameters and fields.
+
+ghost use Rattle.std.specs.Prelude.{◌≡◌, ◌++◌, ◌∷◌, [], IfOk, OnOk};
+ghost use Rattle.pc_tree.specs.Tree.{literal_of, option_literal_of};
+ghost use Rattle.pc_scope.specs.Reserved.{is_reserved};
+ghost use Rattle.pc_types.specs.Store.{Means, Keeps};
+ghost use Rattle.pc_expr.specs.Operations.{Mark, clean};
+ghost use Rattle.pc_expr.specs.Computed.{flows_of};
+ghost use Rattle.pc_expr.specs.Found.{brief, flows_at};
+ghost use Rattle.pc_expr.specs.Signatures.{literal_type};
+ghost use Rattle.pc_expr.specs.SignaturesFound.{bound_in, binds_text, literal_findings, default_findings};
+ghost use Rattle.pc_expr.specs.Standing.{IsMark, mark_with};
+
+use crate::bound::{Texts, is_bound};
+use crate::flows::find_flow;
+use crate::label::Label;
+use pc_source::{OutOfMemory, Place};
+use pc_tree::{Findings, Literal, LiteralKind};
+use pc_types::{Parents, TypeStore};
+use std::alloc::Global;
+
+/// A name is reserved.
+pub(crate) fn is_reserved(name: &str) -> bool
+    ensures { result ≡ is_reserved name.now }
+{
+    pc_tree::is_reserved(name)
+}
+
+/// A text is bound as a name where it stands: it is not reserved, and not bound already.
+pub(crate) fn binds(bound: &Texts, name: &str) -> bool
+    ensures { result ≡ binds_text (bound_in bound.now) name.now }
+{
+    !(is_reserved(name) || is_bound(bound, name))
+}
+
+/// The type of a default's literal.
+fn literal_type<S: TypeStore>(
+    store: &mut S,
+    alloc: Global,
+    literal: &Literal,
+) -> Result<S::Ty, OutOfMemory>
+    ensures typed { IfOk result (λ t. Means S.has S.tree store.new t (literal_type (literal_of literal.now))) }
+    ensures kept { Keeps S.has store.old store.new }
+{
+    match &literal.kind {
+        LiteralKind::Int(_) => store.int(alloc),
+        LiteralKind::NegativeInt(_) => store.int(alloc),
+        LiteralKind::Str(_) => store.str(alloc),
+        LiteralKind::True => store.bool(alloc),
+        LiteralKind::False => store.bool(alloc),
+        LiteralKind::NoneValue => store.none(alloc),
+    }
+}
+
+/// The label of a default's literal.
+fn literal_label<S: TypeStore>(
+    store: &mut S,
+    alloc: Global,
+    literal: &Literal,
+) -> Result<Label<S::Ty>, OutOfMemory>
+    ensures marked { IfOk result (λ l. IsMark S.has S.tree store.new l (clean (literal_type (literal_of literal.now)))) }
+    ensures kept { Keeps S.has store.old store.new }
+{
+    let ty = literal_type(store, alloc, literal)?;
+    Ok(Label {
+        ty,
+        codes: Vec::new(alloc),
+    })
+}
+
+/// Finds the flow of a labelled expression, which stands at this place, into one type.
+pub(crate) fn find_into<S: TypeStore>(
+    store: &mut S,
+    alloc: Global,
+    parents: &Parents,
+    place: Place,
+    label: &Label<S::Ty>,
+    into: &S::Ty,
+    found: &mut Findings,
+) -> Result<(), OutOfMemory>
+    requires label { S.has store.old label.now.ty }
+    requires into { S.has store.old into.now }
+    ensures pushed { (m : Mark) → mark_with S.tree label.now ≡ brief m → OnOk result (found.new.items ≡ found.old.items ++ flows_at place (flows_of parents.now m (S.tree into.now ∷ []))) }
+    ensures kept { Keeps S.has store.old store.new }
+{
+    find_flow(store, alloc, parents, place, label, into, found)?;
+    Ok(())
+}
+
+/// Finds the flow of a default's literal into its type.
+fn find_literal<S: TypeStore>(
+    store: &mut S,
+    alloc: Global,
+    parents: &Parents,
+    literal: &Literal,
+    into: &S::Ty,
+    found: &mut Findings,
+) -> Result<(), OutOfMemory>
+    requires { S.has store.old into.now }
+    ensures pushed { OnOk result (found.new.items ≡ found.old.items ++ literal_findings parents.now (literal_of literal.now) (S.tree into.now)) }
+    ensures kept { Keeps S.has store.old store.new }
+{
+    let label = literal_label(store, alloc, literal)?;
+    find_into(store, alloc, parents, literal.place, &label, into, found)
+}
+
+/// Finds the flow of a default into its type, at the literal; into what binds no name nothing flows. Language Reference
+/// 3.12, 8.7 "Function definitions"; library reference, `dataclasses`.
+pub(crate) fn find_default<S: TypeStore>(
+    store: &mut S,
+    alloc: Global,
+    parents: &Parents,
+    binds: bool,
+    default: &Option<Literal>,
+    into: &S::Ty,
+    found: &mut Findings,
+) -> Result<(), OutOfMemory>
+    requires { S.has store.old into.now }
+    ensures pushed { OnOk result (found.new.items ≡ found.old.items ++ default_findings parents.now binds (option_literal_of default.now) (S.tree into.now)) }
+    ensures kept { Keeps S.has store.old store.new }
+{
+    match default {
+        None => Ok(()),
+        Some(literal) => {
+            if binds {
+                find_literal(store, alloc, parents, literal, into, found)
+            } else {
+                Ok(())
+            }
+        }
+    }
+}
