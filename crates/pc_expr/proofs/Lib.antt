@@ -31,4 +31,6 @@ pub mod SameCodes
 pub mod Saying
 pub mod SeatTypes
 pub mod Silent
+pub mod StoredByHead
+pub mod Storing
 pub mod WellFormed

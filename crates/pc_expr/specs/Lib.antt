@@ -11,4 +11,5 @@ pub mod Operations
 pub mod Pairing
 pub mod Signatures
 pub mod Standing
+pub mod Storing
 pub mod WellFormed
