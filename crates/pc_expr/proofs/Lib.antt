@@ -23,6 +23,7 @@ pub mod OfferedTypes
 pub mod Offering
 pub mod Once
 pub mod One
+pub mod Operators
 pub mod Rows
 pub mod SaidByLabels
 pub mod SaidInLabels
