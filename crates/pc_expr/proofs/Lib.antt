@@ -26,6 +26,7 @@ pub mod OfferedTypes
 pub mod Offering
 pub mod Once
 pub mod One
+pub mod Operators
 pub mod Rows
 pub mod SaidByLabels
 pub mod SaidInLabels
@@ -35,4 +36,6 @@ pub mod Saying
 pub mod SeatTypes
 pub mod SignaturesListed
 pub mod Silent
+pub mod StoredByHead
+pub mod Storing
 pub mod WellFormed

@@ -25,7 +25,7 @@ use Rattle.pc_expr.specs.declared.label.Offer.{Offer as RustOffer}
 use Rattle.pc_expr.proofs.Once.{onto_append, once_error}
 
 module _ {Store Ty : Type 0} (has : Store → Ty → Type 0) (a b : Store) (k : Keeps has a b) where
-  if_any_kept : (o : Option Ty) → HasIfAny (has a) o → HasIfAny (has b) o
+  pub if_any_kept : (o : Option Ty) → HasIfAny (has a) o → HasIfAny (has b) o
   if_any_kept None h = tt
   if_any_kept (Some ty) h = k ty h
 

@@ -13,4 +13,5 @@ pub mod Signatures
 pub mod SignaturesFound
 pub mod SignaturesHeld
 pub mod Standing
+pub mod Storing
 pub mod WellFormed

@@ -20,6 +20,7 @@ mod pairs;
 mod params;
 mod seats;
 mod setting;
+mod stores;
 
 pub use label::{Label, Offer};
 pub use laws::{
@@ -27,3 +28,6 @@ pub use laws::{
     one_labelling_of_expressions,
 };
 pub use setting::{Setting, Signature};
+pub use stores::{
+    StoreOffer, StoreTarget, only_type, store_codes, store_index_types, store_offers, stored_types,
+};

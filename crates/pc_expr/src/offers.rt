@@ -88,7 +88,7 @@ pub fn member_offers<S: TypeStore>(
 }
 
 /// Whether one of the codes is an error.
-fn has_error(codes: &[Code]) -> bool
+pub(crate) fn has_error(codes: &[Code]) -> bool
     ensures { result ≡ has_error codes.now }
 {
     codes.iter().any(|code| code.is_error())
@@ -142,7 +142,7 @@ fn is_wrong<Ty: Drop>(offers: &[Offer<Ty>]) -> bool
 }
 
 /// Adds a type again, if there is one.
-fn add_copy<S: TypeStore>(
+pub(crate) fn add_copy<S: TypeStore>(
     store: &S,
     alloc: Global,
     ty: &Option<S::Ty>,
