@@ -15,8 +15,6 @@ pub use top::check;
 #[cfg(test)]
 mod annotations_tests;
 #[cfg(test)]
-mod classes_tests;
-#[cfg(test)]
 mod scopes_tests;
 #[cfg(test)]
 mod tests;
