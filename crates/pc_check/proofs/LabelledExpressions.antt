@@ -11,7 +11,7 @@ use Rattle.pc_types.specs.WellFormed.{IsWellFormed}
 use Rattle.pc_flow.specs.Environment.{Env}
 use Rattle.pc_flow.specs.WellFormed.{AreWellFormed, IsWellFormedEnv, IsWellFormedIfAny}
 use Rattle.pc_expr.specs.Operations.{Mark, clean, iterate_member, offers_mark}
-use Rattle.pc_expr.specs.Calls.{Seat, call_mark, given, is_suited, named_seat, positional_seat}
+use Rattle.pc_expr.specs.Calls.{Seat, call_mark, given, is_suited, named_seat, positional_seat, is_range, range_item, range_offers, range_signature}
 use Rattle.pc_expr.specs.Context.{FlowsInto}
 use Rattle.pc_expr.specs.Labels.{Flowing, ItemsMarks, KeywordsMarks, Marks, mark_of, type_of, with_mark}
 use Rattle.pc_expr.specs.Lawful.{Lawful, LawfulItems, LawfulKeywords, keyword_seat}
@@ -22,7 +22,7 @@ use Rattle.pc_expr.proofs.ComputedFlows.{flows_are_lawful}
 use Rattle.pc_expr.proofs.ComputedLawful.{has_labels}
 use Rattle.pc_expr.proofs.Same.{SameWhere}
 use Rattle.pc_expr.proofs.One.{one}
-use Rattle.pc_check.specs.Statements.{LawfulIterable, LawfulRange, LawfulValues, RangeOrValues, Seen, is_range, range_item, range_offers, range_signature}
+use Rattle.pc_check.specs.Statements.{LawfulIterable, LawfulRange, LawfulValues, RangeOrValues, Seen}
 use Rattle.pc_check.proofs.StoredTypes.{turns_well_formed}
 use Rattle.pc_check.specs.Labelled.{Agree, IsTable, Setting, Settled}
 

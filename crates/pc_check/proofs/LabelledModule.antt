@@ -27,16 +27,16 @@ module _ (m : Module) where
     lawful : (all : List Tree) → LawfulItem m all b (constant_item p c) marks
     well_formed : IsWellFormed (bases_of m) (constant_type m c.annotation (type_of c.value marks.value))
 
-  wants_well_formed : (b : Test) (a : Option Ann) → AreWellFormed (bases_of m) (annotated_types m b a)
+  pub wants_well_formed : (b : Test) (a : Option Ann) → AreWellFormed (bases_of m) (annotated_types m b a)
   wants_well_formed true (Some a) = (read_ann_well_formed m (bases_of m) (smaller m) a, tt)
   wants_well_formed true None = tt
   wants_well_formed false a = tt
 
-  first_well_formed : (ts : List Tree) → AreWellFormed (bases_of m) ts → IsWellFormedIfAny (bases_of m) (first_of_types ts)
+  pub first_well_formed : (ts : List Tree) → AreWellFormed (bases_of m) ts → IsWellFormedIfAny (bases_of m) (first_of_types ts)
   first_well_formed [] k = tt
   first_well_formed (t ∷ ts) k = k.0
 
-  constant_well_formed : (a : Option Ann) (t : Tree) → IsWellFormed (bases_of m) t → IsWellFormed (bases_of m) (constant_type m a t)
+  pub constant_well_formed : (a : Option Ann) (t : Tree) → IsWellFormed (bases_of m) t → IsWellFormed (bases_of m) (constant_type m a t)
   constant_well_formed None t k = k
   constant_well_formed (Some a) t k = read_ann_well_formed m (bases_of m) (smaller m) a
 
@@ -52,7 +52,7 @@ module _ (m : Module) where
         well_formed = constant_well_formed c.annotation (type_of c.value v.marks) v.well_formed;
       }
 
-  one_more : (ts : List Tree) (t : Tree) → AreWellFormed (bases_of m) ts → IsWellFormed (bases_of m) t → AreWellFormed (bases_of m) (ts ++ t ∷ [])
+  pub one_more : (ts : List Tree) (t : Tree) → AreWellFormed (bases_of m) ts → IsWellFormed (bases_of m) t → AreWellFormed (bases_of m) (ts ++ t ∷ [])
   one_more [] t k h = (h, tt)
   one_more (u ∷ ts) t k h = (k.0, one_more ts t k.1 h)
 

@@ -9,13 +9,13 @@ use Rattle.pc_scope.specs.Bindings.{texts}
 use Rattle.pc_types.specs.Tree.{Any, Tree}
 use Rattle.pc_types.specs.WellFormed.{IsWellFormed}
 use Rattle.pc_flow.specs.Environment.{Env, assign, assigned_type, declared_type}
-use Rattle.pc_flow.specs.WellFormed.{AreWellFormed, IsWellFormedIfAny}
+use Rattle.pc_flow.specs.WellFormed.{AreWellFormed}
 use Rattle.pc_expr.specs.Operations.{Mark, StoreOffer, clean, only_type, store_codes, store_index_types, stored_types}
 use Rattle.pc_expr.specs.Context.{FlowsInto}
 use Rattle.pc_expr.specs.Labels.{Flowing, Marks, mark_of, type_of}
 use Rattle.pc_check.specs.StatementLabels.{TargetMarks}
 use Rattle.pc_check.specs.Statements.{LawfulStore, LawfulTarget, Seen, Undeclared, UndeclaredName, attribute_offers, index_offers, is_first, only_code}
-use Rattle.pc_check.proofs.StoredTypes.{fields_stored, items_stored, keys_stored}
+use Rattle.pc_check.proofs.StoredTypes.{fields_stored, items_stored, keys_stored, only_well_formed}
 use Rattle.pc_flow.proofs.Conditions.{assigned_well_formed}
 use Rattle.pc_check.specs.Labelled.{Agree, IsTable, Setting, Settled}
 use Rattle.pc_check.proofs.BoundNames.{here_among, within_later, within_one, within_right}
@@ -93,13 +93,6 @@ module _ (setting : Setting) where
 
   -- ---- stores
 
-  pub only_well_formed : (os : List StoreOffer) (ts : List Tree) → AreWellFormed ctx.bases ts → IsWellFormedIfAny ctx.bases (only_type os ts)
-  only_well_formed (o ∷ []) (t ∷ []) k = k.0
-  only_well_formed [] ts k = tt
-  only_well_formed (o ∷ []) [] k = tt
-  only_well_formed (o ∷ []) (t ∷ u ∷ ts) k = tt
-  only_well_formed (o ∷ p ∷ os) ts k = tt
-
   -- a store has labels of its target, of the value and of their flows
   pub record StoreLabelled (ds : List Tree) (seen : Seen) (env : Env) (t : Target) (e : Expr) : Type 0 where
     pub target : TargetMarks t
@@ -112,7 +105,7 @@ module _ (setting : Setting) where
       let q = expr_labelled setting ds seen env None x g h tt in
       let os = attribute_offers m ctx ds f.text (type_of x q.marks) in
       let k : AreWellFormed ctx.bases (stored_types os) = fields_stored ctx.bases ctx.classes ck.classes f.text (type_of x q.marks) q.well_formed in
-      let v = expr_labelled setting ds seen env (only_type os (stored_types os)) e g h (only_well_formed os (stored_types os) k) in
+      let v = expr_labelled setting ds seen env (only_type os (stored_types os)) e g h (only_well_formed ctx.bases os (stored_types os) k) in
       let fl = flows_labelled ctx.bases (mark_of e v.marks) (stored_types os) ck.smaller v.well_formed k in
       record {
         target = record { codes = store_codes os; object = q.marks };
@@ -128,7 +121,7 @@ module _ (setting : Setting) where
       let os = index_offers m ctx ds (type_of x q.marks) in
       let k : AreWellFormed ctx.bases (stored_types os) = items_stored ctx.bases (type_of x q.marks) q.well_formed in
       let kf = flows_labelled ctx.bases (mark_of i j.marks) (store_index_types os) ck.smaller j.well_formed (keys_stored ctx.bases (type_of x q.marks) q.well_formed) in
-      let v = expr_labelled setting ds seen env (only_type os (stored_types os)) e g h (only_well_formed os (stored_types os) k) in
+      let v = expr_labelled setting ds seen env (only_type os (stored_types os)) e g h (only_well_formed ctx.bases os (stored_types os) k) in
       let fl = flows_labelled ctx.bases (mark_of e v.marks) (stored_types os) ck.smaller v.well_formed k in
       record {
         target = record { codes = store_codes os; object = q.marks; key = j.marks; key_flows = kf.flows };

@@ -1,6 +1,12 @@
 pub mod Agreement
+pub mod Bound
 pub mod BoundNames
+pub mod CheckedModules
+pub mod Entered
+pub mod FoundStores
 pub mod Functions
+pub mod Held
+pub mod Iterating
 pub mod LabelledBindings
 pub mod LabelledEntry
 pub mod LabelledExpressions
@@ -11,6 +17,8 @@ pub mod LabelledSuites
 pub mod LabelledTargets
 pub mod LocalNames
 pub mod Marked
+pub mod ModuleSettings
+pub mod Numbers
 pub mod OneModule
 pub mod OneStatement
 pub mod SaidByStatements
@@ -18,11 +26,15 @@ pub mod SaidInStatements
 pub mod Scopes
 pub mod StoredTypes
 pub mod Tables
+pub mod Walked
 pub mod WalkedBindings
 pub mod WalkedEnvironments
 pub mod WalkedExpressions
 pub mod WalkedFindings
 pub mod WalkedFunctions
+pub mod WalkedItems
+pub mod WalkedMembers
+pub mod WalkedModule
 pub mod WalkedStatements
 pub mod WalkedStores
 pub mod WalkedTables

@@ -24,14 +24,14 @@ use Rattle.pc_flow.specs.Environment.{Env, declared_type}
 use Rattle.pc_flow.specs.Narrowing.{narrow}
 use Rattle.pc_expr.specs.Operations.{Mark, clean}
 use Rattle.pc_expr.specs.Context.{Context, FlowsInto}
-use Rattle.pc_expr.specs.Calls.{Given, given, is_suited}
+use Rattle.pc_expr.specs.Calls.{Given, given, is_suited, is_range, range_signature, range_offers, range_item}
 use Rattle.pc_expr.specs.Labels.{Flowing, Marks, mark_of, type_of, is_of_scopes, Finds, IsFoundAt, IsFlowAt, IsCodeAt}
 use Rattle.pc_expr.specs.Lawful.{Lawful}
 use Rattle.pc_expr.proofs.Silent.{Silent, items_silent, stored_items_silent, stored_fields_silent, called_silent, calls_silent}
 use Rattle.pc_expr.proofs.Saying.{not_of_scopes, no_flow_of_scopes, none_among, IsPart, part_left, part_right, Said, said_left, said_right, said_behind}
 use Rattle.pc_expr.proofs.SaidByLabels.{said, arguments_said, keywords_said}
 use Rattle.pc_check.specs.StatementLabels.{OptionMarks, TargetMarks, StmtMarks, SuiteMarks, BranchesMarks, Behind, BehindRule}
-use Rattle.pc_check.specs.Statements.{Seen, is_first, range_signature, range_offers, range_item, is_range, RangeOrValues, Undeclared, LawfulRange, LawfulValues, LawfulIterable, LawfulBinding, LawfulTarget, LawfulStore, LawfulAssignment, LawfulAnnotated, LawfulReturn, LawfulOption, LawfulStmt, LawfulSuite, LawfulBranches, OptionFinds, option_place, TargetFinds, AnnotationFinds, StmtFinds, SuiteFinds, BranchesFind}
+use Rattle.pc_check.specs.Statements.{Seen, is_first, RangeOrValues, Undeclared, LawfulRange, LawfulValues, LawfulIterable, LawfulBinding, LawfulTarget, LawfulStore, LawfulAssignment, LawfulAnnotated, LawfulReturn, LawfulOption, LawfulStmt, LawfulSuite, LawfulBranches, OptionFinds, option_place, TargetFinds, AnnotationFinds, StmtFinds, SuiteFinds, BranchesFind}
 
 both : {b : Test} → b ≡ true → b ≡ false → ⊥
 both e e' = absurd (grind (arith, e, e'))

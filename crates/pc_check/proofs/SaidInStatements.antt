@@ -15,13 +15,13 @@ use Rattle.pc_flow.specs.Environment.{Env}
 use Rattle.pc_flow.specs.Narrowing.{narrow}
 use Rattle.pc_expr.specs.Operations.{Mark}
 use Rattle.pc_expr.specs.Context.{Context}
-use Rattle.pc_expr.specs.Calls.{given}
+use Rattle.pc_expr.specs.Calls.{given, is_range, range_item}
 use Rattle.pc_expr.specs.Labels.{Flowing, Marks, Finds}
 use Rattle.pc_expr.specs.Lawful.{Lawful}
 use Rattle.pc_expr.proofs.Saying.{IsPart, part_either, IsEarlyHere, NameSays, PartSays}
 use Rattle.pc_expr.proofs.SaidInLabels.{arguments_found, first_found, items_found, keywords_found, said_found}
 use Rattle.pc_check.specs.StatementLabels.{OptionMarks, TargetMarks, StmtMarks, SuiteMarks, BranchesMarks, Behind, BehindRule}
-use Rattle.pc_check.specs.Statements.{Seen, is_range, range_item, RangeOrValues, LawfulRange, LawfulValues, LawfulIterable, LawfulBinding, LawfulStore, LawfulAssignment, LawfulAnnotated, LawfulReturn, LawfulOption, Undeclared, LawfulStmt, LawfulSuite, LawfulBranches, OptionFinds, TargetFinds, StmtFinds, SuiteFinds, BranchesFind}
+use Rattle.pc_check.specs.Statements.{Seen, RangeOrValues, LawfulRange, LawfulValues, LawfulIterable, LawfulBinding, LawfulStore, LawfulAssignment, LawfulAnnotated, LawfulReturn, LawfulOption, Undeclared, LawfulStmt, LawfulSuite, LawfulBranches, OptionFinds, TargetFinds, StmtFinds, SuiteFinds, BranchesFind}
 
 module _ (m : Module) (ctx : Context) (declared : List Tree) (part : Expr) (f : Finding) (says : PartSays ctx part f) (expr : Expr) (judged : IsPart part (parts_in true expr)) where
   is_found : (env : Env) (want : Option Tree) (e : Expr) (marks : Marks e) → Lawful ctx declared env want e marks → e ≡ expr → Finds e marks f

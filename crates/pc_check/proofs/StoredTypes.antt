@@ -9,8 +9,8 @@ use Rattle.pc_class.specs.Facts as facts
 use Rattle.pc_class.specs.Facts.{Parameter, Method, field_of, method_of, class_at}
 use Rattle.pc_class.specs.WellFormed.{ClassesWellFormed}
 use Rattle.pc_class.proofs.WellFormed.{class_at_well_formed}
-use Rattle.pc_flow.specs.WellFormed.{AreWellFormed}
-use Rattle.pc_expr.specs.Operations.{StoreOffer, store_codes, store_index_types, stored_types, store_found, store_attribute_member, store_index_member, has_error, offers_mark, iterate_member}
+use Rattle.pc_flow.specs.WellFormed.{AreWellFormed, IsWellFormedIfAny}
+use Rattle.pc_expr.specs.Operations.{StoreOffer, store_codes, store_index_types, stored_types, only_type, store_found, store_attribute_member, store_index_member, has_error, offers_mark, iterate_member}
 use Rattle.pc_expr.proofs.WellFormed.{int_well_formed, item_well_formed, key_well_formed, value_well_formed, parts_well_formed, members_well_formed, append_well_formed, if_none, all_well_formed}
 use Rattle.pc_expr.proofs.OfferedTypes.{OfferWellFormed, ParameterWellFormed, plain, field_well_formed, each_well_formed, offers_well_formed}
 
@@ -75,6 +75,14 @@ module _ (bases : Bases) where
 
   pub keys_stored : (t : Tree) → IsWellFormed bases t → AreWellFormed bases (store_index_types (map store_index_member (members t)))
   keys_stored t k = index_types_well_formed _ (each_store store_index_member store_index_well_formed (members t) (members_well_formed bases t k))
+
+  -- what is expected of a stored value is well-formed
+  pub only_well_formed : (os : List StoreOffer) (ts : List Tree) → AreWellFormed bases ts → IsWellFormedIfAny bases (only_type os ts)
+  only_well_formed (o ∷ []) (t ∷ []) k = k.0
+  only_well_formed [] ts k = tt
+  only_well_formed (o ∷ []) [] k = tt
+  only_well_formed (o ∷ []) (t ∷ u ∷ ts) k = tt
+  only_well_formed (o ∷ p ∷ os) ts k = tt
 
   pub turns_well_formed : AreSmaller bases → (t : Tree) → IsWellFormed bases t → IsWellFormed bases (offers_mark bases (map (iterate_member bases) (members t))).type
   turns_well_formed o t k = offers_well_formed bases o _ (each_well_formed bases (iterate_member bases) (iterate_well_formed o) t k)

@@ -12,7 +12,7 @@ use Rattle.pc_types.specs.Computed.{static_test, assignable_test}
 use Rattle.pc_flow.specs.Environment.{Env}
 use Rattle.pc_flow.specs.WellFormed.{AreWellFormed, IsWellFormedEnv, IsWellFormedIfAny}
 use Rattle.pc_expr.specs.Operations.{Mark, clean, iterate_member, offers_mark}
-use Rattle.pc_expr.specs.Calls.{CallOffer, given, is_suited, call_mark, positional_seat, named_seat}
+use Rattle.pc_expr.specs.Calls.{CallOffer, given, is_suited, call_mark, positional_seat, named_seat, is_range, range_item, range_offers, range_signature}
 use Rattle.pc_expr.specs.Context.{FlowsInto}
 use Rattle.pc_expr.specs.Labels.{Flowing, Marks, mark_of, type_of, Finds, IsFlowAt}
 use Rattle.pc_expr.specs.Lawful.{Lawful}
@@ -24,9 +24,10 @@ use Rattle.pc_expr.proofs.WellFormed.{int_well_formed, object_well_formed}
 use Rattle.pc_expr.proofs.Called.{CallsWellFormed, builtin_well_formed, called_well_formed, named_well_formed, positional_well_formed}
 use Rattle.pc_expr.proofs.ComputedFlows.{are_tests, flows_are_lawful}
 use Rattle.pc_expr.proofs.ComputedLawful.{labels_are_lawful, items_lawful, keywords_lawful}
-use Rattle.pc_check.specs.Statements.{is_range, range_item, range_offers, range_signature, RangeOrValues, LawfulRange, LawfulValues, LawfulIterable}
+use Rattle.pc_check.specs.Statements.{RangeOrValues, LawfulRange, LawfulValues, LawfulIterable}
 use Rattle.pc_check.specs.Labelled.{Setting}
-use Rattle.pc_check.specs.ComputedStatements.{Table, type_table, Frame, range_finds, values_item, item_of, iterable_finds}
+use Rattle.pc_expr.specs.Typing.{range_finds}
+use Rattle.pc_check.specs.ComputedStatements.{Table, type_table, Frame, values_item, item_of, iterable_finds}
 use Rattle.pc_check.specs.WalkLaw.{EnvFits, frame_in}
 use Rattle.pc_check.proofs.LabelledExpressions.{range_item_well_formed}
 use Rattle.pc_check.proofs.StoredTypes.{turns_well_formed}
@@ -111,7 +112,7 @@ module _ (setting : Setting) where
         moved : (a k c : List Finding) → (a ++ (k ++ [])) ++ c ≡ a ++ (k ++ c)
         moved a k c = append_assoc a (k ++ []) c ∙ ap (λ x. a ++ (x ++ c)) (append-nil k)
 
-        range_listed : found_in (call p (name n) args kws) range_labels ≡ range_finds frame here p n args kws
+        range_listed : found_in (call p (name n) args kws) range_labels ≡ range_finds here p (name n) args kws
         unfolding arguments_find keywords_find
         range_listed = moved (arguments_find here (is_instance_test (name n) args kws) (positional_seat offers) args) (keywords_find here (named_seat offers) [] kws) (codes_at p (call_mark ctx.bases offers).codes)
 
@@ -127,10 +128,10 @@ module _ (setting : Setting) where
 
         call_told : (b : Test) (marks : Marks (call p (name n) args kws)) (item : Mark)
             → RangeOrValues m ctx declared b (LawfulRange m ctx declared env (name n) args kws p marks × (item ≡ range_item (given args kws))) (LawfulValues m ctx declared env (call p (name n) args kws) marks item)
-            → IterableTold (call p (name n) args kws) marks item (if b then range_item (given args kws) else values_item frame here (call p (name n) args kws)) (if b then range_finds frame here p n args kws else finds_in here None (call p (name n) args kws))
+            → IterableTold (call p (name n) args kws) marks item (if b then range_item (given args kws) else values_item frame here (call p (name n) args kws)) (if b then range_finds here p (name n) args kws else finds_in here None (call p (name n) args kws))
         call_told true marks item l = record {
           item_is = sym l.1;
-          found_is = subst (λ x. Lists (range_finds frame here p n args kws) (Finds (call p (name n) args kws) x)) (range_lawful marks l.0) (subst (λ xs. Lists xs (Finds (call p (name n) args kws) range_labels)) range_listed (lists_expression (call p (name n) args kws) range_labels));
+          found_is = subst (λ x. Lists (range_finds here p (name n) args kws) (Finds (call p (name n) args kws) x)) (range_lawful marks l.0) (subst (λ xs. Lists xs (Finds (call p (name n) args kws) range_labels)) range_listed (lists_expression (call p (name n) args kws) range_labels));
           well_formed = subst (λ x. IsWellFormed ctx.bases x.type) (sym l.1) (range_item_well_formed setting (is_suited (given args kws) range_signature));
         }
         call_told false marks item l = values_told (call p (name n) args kws) marks item l

@@ -21,8 +21,7 @@ use Rattle.pc_check.specs.Statements.{attribute_offers, index_offers, LawfulStor
 use Rattle.pc_check.specs.Labelled.{Setting}
 use Rattle.pc_check.specs.ComputedStatements.{Table, Frame, attribute_stores, index_stores, stored_finds, store_finds, option_finds, return_finds}
 use Rattle.pc_check.specs.WalkLaw.{EnvFits, frame_in}
-use Rattle.pc_check.proofs.LabelledTargets.{only_well_formed}
-use Rattle.pc_check.proofs.StoredTypes.{fields_stored, items_stored, keys_stored}
+use Rattle.pc_check.proofs.StoredTypes.{fields_stored, items_stored, keys_stored, only_well_formed}
 use Rattle.pc_check.proofs.WalkedFindings.{Lists, lists_nothing, lists_same, lists_both, lists_codes}
 use Rattle.pc_check.proofs.WalkedExpressions.{here, ExpressionTold, told, flows_told, flows_found}
 
@@ -55,7 +54,7 @@ module _ (setting : Setting) (returned : Tree) (kr : IsWellFormed setting.contex
       → Lists (stored_finds frame at_env os p e) (λ f. IsFoundAt p (store_codes os) f ⊎ (Finds e marks f ⊎ IsFlowAt (place_of e) flows f))
   stored_says os k p e marks flows l fl =
       let want = only_type os (stored_types os) in
-      let v = read want (only_well_formed setting os (stored_types os) k) e marks l in
+      let v = read want (only_well_formed setting.context.bases os (stored_types os) k) e marks l in
       let xs = finds_in at_env want e in
       let ys = flows_at (place_of e) (flows_of ctx.bases (mark_in at_env want e) (stored_types os)) in
       lists_both (codes_at p (store_codes os)) (xs ++ ys) (lists_codes p (store_codes os)) (lists_both xs ys v.found (flowing want e marks (stored_types os) flows v k fl))

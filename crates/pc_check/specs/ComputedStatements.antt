@@ -13,7 +13,6 @@ use Rattle.pc_tree.specs.Depth.{place_of}
 use Rattle.pc_scope.specs.declared.resolution.Owner.{Owner}
 use Rattle.pc_scope.specs.declared.resolution.Res.{Res}
 use Rattle.pc_scope.specs.declared.resolution.Res.TheVariants as res
-use Rattle.pc_scope.specs.Expressions.{is_instance_test}
 use Rattle.pc_scope.specs.Resolution.{locals}
 use Rattle.pc_types.specs.Tree.{Tree, Any, NoneType}
 use Rattle.pc_types.specs.Below.{Bases}
@@ -27,12 +26,13 @@ use Rattle.pc_flow.specs.Environment.{Env, assign, assigned_type, join_env, loop
 use Rattle.pc_flow.specs.Narrowing.{narrow}
 use Rattle.pc_expr.specs.Operations.{Mark, clean, offers_mark, iterate_member, StoreOffer, store_attribute_member, store_index_member, store_codes, store_index_types, stored_types, only_type}
 use Rattle.pc_expr.specs.Context.{Context}
-use Rattle.pc_expr.specs.Calls.{given, call_mark, positional_seat, named_seat}
+use Rattle.pc_expr.specs.Calls.{given, is_range, range_item}
 use Rattle.pc_expr.specs.Computed.{flows_of}
 use Rattle.pc_expr.specs.Found.{codes_at, flows_at}
-use Rattle.pc_expr.specs.Standing.{Standing, mark_in, finds_in, arguments_find, keywords_find}
+use Rattle.pc_expr.specs.Standing.{Standing, mark_in, finds_in}
+use Rattle.pc_expr.specs.Typing.{range_finds}
 use Rattle.pc_expr.specs.Signatures.{body_context}
-use Rattle.pc_check.specs.Statements.{only_code, binds_number, is_range, range_offers, range_item}
+use Rattle.pc_check.specs.Statements.{only_code, binds_number}
 use Rattle.pc_check.specs.Modules.{entries_of}
 
 -- ---- declared types so far
@@ -198,13 +198,6 @@ module _ (frame : Frame) where
 
   -- ---- what a `for` goes over
 
-  -- what is found in a call of `range` as what a `for` goes over: in its arguments, which flow into int, and at the call
-  abbrev pub range_finds : Standing → Place → Name → Exprs → Keywords → List Finding
-  range_finds k p n arguments keywords =
-      let offers = range_offers (given arguments keywords) in
-      arguments_find k (is_instance_test (name n) arguments keywords) (positional_seat offers) arguments
-      ++ (keywords_find k (named_seat offers) [] keywords ++ codes_at p (call_mark frame.context.bases offers).codes)
-
   -- the label of a turn's item, of any iterable but a call of `range`
   abbrev pub values_item : Standing → Expr → Mark
   values_item k e = offers_mark frame.context.bases (map (iterate_member frame.context.bases) (members (mark_in k None e).type))
@@ -218,7 +211,7 @@ module _ (frame : Frame) where
   -- what is found in an iterable
   abbrev pub iterable_finds : Standing → Expr → List Finding
   iterable_finds k (call p (name n) arguments keywords) =
-      if is_range (frame.context.resolve n.text) then range_finds k p n arguments keywords else finds_in k None (call p (name n) arguments keywords)
+      if is_range (frame.context.resolve n.text) then range_finds k p (name n) arguments keywords else finds_in k None (call p (name n) arguments keywords)
   iterable_finds k e = finds_in k None e
 
   -- the target of a `for` bound to an item of this type, in the environment at the head

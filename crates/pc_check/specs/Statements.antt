@@ -4,11 +4,10 @@ use Rattle.std.specs.Prelude.{◌≡◌, ◌⊎◌, ℕ, List, [], ◌∷◌, �
 use Rattle.std.specs.List.{list_any}
 use Rattle.pc_source.specs.declared.place.Place.{Place}
 use Rattle.pc_tree.specs.declared.code.Code.{Code}
-use Rattle.pc_tree.specs.declared.code.Code.TheVariants.{A5, E24}
+use Rattle.pc_tree.specs.declared.code.Code.TheVariants.{E24}
 use Rattle.pc_tree.specs.declared.code.Finding.{Finding}
 use Rattle.pc_tree.specs.Code.{finding}
 use Rattle.pc_tree.specs.Tree.{Name, Expr, name, call, Exprs, Keywords, Ann, Target, to_name, to_attribute, to_index, Stmt, Stmts, Branches, pass, breaks, continues, returns, asserts, annotated, assigns, evaluates, while_loop, for_loop, conditional, no_stmts, more_stmts, no_branches, more_branches, Module}
-use Rattle.pc_scope.specs.declared.resolution.Builtin.TheVariants as builtin
 use Rattle.pc_scope.specs.declared.resolution.Res.{Res}
 use Rattle.pc_scope.specs.declared.resolution.Res.TheVariants as res
 use Rattle.pc_tree.specs.Stopping.{bound_by_stmt, bound_by, bound_by_branches}
@@ -16,14 +15,14 @@ use Rattle.pc_tree.specs.Depth.{place_of}
 use Rattle.pc_scope.specs.Bindings.{texts}
 use Rattle.pc_scope.specs.Resolution.{is_among}
 use Rattle.pc_scope.specs.Reach.{completes}
-use Rattle.pc_types.specs.Tree.{Tree, Any, Object, Int, NoneType}
+use Rattle.pc_types.specs.Tree.{Tree, Any, NoneType}
 use Rattle.pc_types.specs.Shape.{members}
 use Rattle.pc_types.specs.Annotations.{read_ann, AnnFinds}
 use Rattle.pc_flow.specs.Environment.{Env, declared_type, assign, assigned_type, join_envs_onto, join_ways, loop_head}
 use Rattle.pc_flow.specs.Narrowing.{narrow}
 use Rattle.pc_expr.specs.Operations.{Mark, clean, offers_mark, StoreOffer, store_codes, store_index_types, stored_types, only_type, store_attribute_member, store_index_member, iterate_member}
-use Rattle.pc_expr.specs.Context.{Context, Signature, FlowsInto}
-use Rattle.pc_expr.specs.Calls.{Given, given, is_suited, CallOffer, called, builtin_signature, call_mark, positional_seat, named_seat}
+use Rattle.pc_expr.specs.Context.{Context, FlowsInto}
+use Rattle.pc_expr.specs.Calls.{given, call_mark, positional_seat, named_seat, is_range, range_offers, range_item}
 use Rattle.pc_expr.specs.Labels.{Flowing, Marks, mark_of, type_of, with_mark, Finds, IsFoundAt, IsFlowAt}
 use Rattle.pc_expr.specs.Lawful.{Lawful, LawfulItems, LawfulKeywords}
 use Rattle.pc_check.specs.StatementLabels.{OptionMarks, TargetMarks, StmtMarks, SuiteMarks, BranchesMarks, BehindRule, breaks_in_suite, ways_in}
@@ -51,24 +50,6 @@ abbrev pub binds_number : (List ℕ → Res) → List Name → ℕ → Test
 binds_number resolve names x = list_any (λ n. is_number x (resolve n.text)) names
 
 -- ---- what a `for` goes over
-
--- `range` takes one int. Its result stands as what a `for` goes over and nowhere else, so no rule reads its type: there is no type of
--- ranges, and the label has object, the type of every value
-abbrev pub range_signature : Signature
-range_signature = builtin_signature (Int ∷ []) Object
-
--- what a call of `range` comes to as what a `for` goes over
-abbrev pub range_offers : Given → List CallOffer
-range_offers g = called g range_signature ∷ []
-
--- what a turn gives: int, or where the call does not suit Any
-abbrev pub range_item : Given → Mark
-range_item g = if is_suited g range_signature then clean Int else record { type = Any; codes = A5 ∷ [] }
-
--- the name means the built-in `range`
-abbrev pub is_range : Res → Test
-is_range (res.Builtin builtin.Range) = true
-is_range _ = false
 
 module _ (m : Module) (ctx : Context) (declared : List Tree) where
   -- an environment joined with others, from the left

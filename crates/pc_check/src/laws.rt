@@ -4,6 +4,7 @@ ghost use Rattle.pc_scope.specs.Findings.{ScopeFinds};
 ghost use Rattle.pc_check.specs.Agreement.{AgreesWithScopes};
 ghost use Rattle.pc_check.specs.Labelled.{StatementsAreLabelled, SuitesAreLabelled, FunctionsAreLabelled, ClassesAreLabelled};
 ghost use Rattle.pc_check.specs.WalkLaw.{WalksOfStatementsSayWhatLabelsSay, WalksOfSuitesSayWhatLabelsSay, BodiesFindWhatLabelsSay};
+ghost use Rattle.pc_check.specs.ModuleLaw.{ConstantsHaveTheTypesOfLabels, ModulesFindWhatLabelsSay, ModulesFindWhatLabelsFind, FindingsOfModulesAreComputed};
 ghost use Rattle.pc_check.specs.Modules.{Labelling, IsLawful, IsFinding, HasLabelling, HasOneLabelling, HasExactlyOneLabelling};
 
 /// The law that a module has at most one lawful labelling.
@@ -54,4 +55,14 @@ pub fn walks_say_what_labels_say()
     ensures statement { WalksOfStatementsSayWhatLabelsSay }
     ensures suite { WalksOfSuitesSayWhatLabelsSay }
     ensures body { BodiesFindWhatLabelsSay }
+{}
+
+/// The law that what is computed of a module is what its lawful labelling says: the types of its constants are those of the
+/// labels; and the walks over its signatures, its constants and its bodies find just what stands under the labels, but for
+/// what is found of scopes. So the findings of a module are those of scopes, those of classes, and what these walks find.
+pub fn modules_find_what_labels_say()
+    ensures constants { ConstantsHaveTheTypesOfLabels }
+    ensures adds { ModulesFindWhatLabelsSay }
+    ensures found { ModulesFindWhatLabelsFind }
+    ensures all { FindingsOfModulesAreComputed }
 {}

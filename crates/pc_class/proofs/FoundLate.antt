@@ -22,12 +22,12 @@ use Rattle.pc_class.proofs.EntryWalk.{same_binds}
 use Rattle.pc_class.proofs.OwnMembers.{fields_are, defaults_are}
 
 -- the names behind some names and members
-abbrev names_after : List (List ℕ) → List Member → List (List ℕ)
+abbrev pub names_after : List (List ℕ) → List Member → List (List ℕ)
 names_after before [] = before
 names_after before (x ∷ xs) = names_after ((name_of_member x).text ∷ before) xs
 
 -- they are those of the members and those before, in some order
-after_same : (t : List ℕ) (before : List (List ℕ)) (xs : List Member) → is_among t (names_after before xs) ≡ (is_among t (member_texts xs) || is_among t before)
+pub after_same : (t : List ℕ) (before : List (List ℕ)) (xs : List Member) → is_among t (names_after before xs) ≡ (is_among t (member_texts xs) || is_among t before)
 after_same t before [] = refl
 after_same t before (x ∷ xs) = after_same t ((name_of_member x).text ∷ before) xs ∙ turned (is_among t (member_texts xs)) (bytes_eq t (name_of_member x).text) (is_among t before)
   where
@@ -37,7 +37,7 @@ after_same t before (x ∷ xs) = after_same t ((name_of_member x).text ∷ befor
     turned false true c = refl
     turned false false c = refl
 
-or_none : (b : Bool) → (b || false) ≡ b
+pub or_none : (b : Bool) → (b || false) ≡ b
 or_none true = refl
 or_none false = refl
 

@@ -17,10 +17,10 @@ use Rattle.pc_types.proofs.Earlier.{smaller}
 use Rattle.pc_class.specs.WellFormed.{ParametersWellFormed, MethodWellFormed, MethodsWellFormed}
 use Rattle.pc_class.proofs.WellFormed.{filter_well_formed, made_well_formed, base_well_formed}
 
-all_first : {A : Type 0} (P : A → Type 0) (x : A) (xs : List A) → All P (x ∷ xs) → P x
+pub all_first : {A : Type 0} (P : A → Type 0) (x : A) (xs : List A) → All P (x ∷ xs) → P x
 all_first P x xs h = h 0 x (omega arith)
 
-all_rest : {A : Type 0} (P : A → Type 0) (x : A) (xs : List A) → All P (x ∷ xs) → All P xs
+pub all_rest : {A : Type 0} (P : A → Type 0) (x : A) (xs : List A) → All P (x ∷ xs) → All P xs
 all_rest P x xs h = λ k d l. h (suc k) d (omega arith)
 
 all_or_not : {A : Type 0} (P : A → Type 0) (x : A) (xs : List A) → Decision (P x) → Decision (All P xs) → Decision (All P (x ∷ xs))
@@ -31,7 +31,7 @@ all_or_not P x xs (inl a) (inr n) = inr (λ h. n (all_rest P x xs h))
 -- ---- one override
 
 -- the flows of an override are of types in normal form
-abbrev AreNormalFlows : List Flow → Type 0
+abbrev pub AreNormalFlows : List Flow → Type 0
 AreNormalFlows [] = Unit {0}
 AreNormalFlows (f ∷ fs) = (IsNormal f.from × IsNormal f.into) × AreNormalFlows fs
 
@@ -40,7 +40,7 @@ parameters_flow_normal bases (p ∷ ps) (q ∷ qs) h k = ((h.0.0, k.0.0), parame
 parameters_flow_normal bases [] qs h k = tt
 parameters_flow_normal bases (p ∷ ps) [] h k = tt
 
-flows_normal : (bases : Bases) (old new : Method) → MethodWellFormed bases old → MethodWellFormed bases new → AreNormalFlows (override_flows old new)
+pub flows_normal : (bases : Bases) (old new : Method) → MethodWellFormed bases old → MethodWellFormed bases new → AreNormalFlows (override_flows old new)
 flows_normal bases old new h k = ((k.returns.0, h.returns.0), parameters_flow_normal bases old.parameters new.parameters h.parameters k.parameters)
 
 module _ (bases : Bases) (o : AreSmaller bases) where
@@ -92,7 +92,7 @@ module _ (bases : Bases) (o : AreSmaller bases) where
 statics_good : (bases : Bases) (new : Method) (olds : List Method) → All (IsStatic bases new) olds → All (IsGood bases new) olds
 statics_good bases new olds h = λ k d b. let x = h k d b in record { shape = x.shape; flows = λ j e l. static_assignable bases _ _ (x.flows j e l) }
 
-judges_one : {bases : Bases} {olds : List Method} {new : Method} {c d : Option Code} → Judges bases olds new c → Judges bases olds new d → c ≡ d
+pub judges_one : {bases : Bases} {olds : List Method} {new : Method} {c d : Option Code} → Judges bases olds new c → Judges bases olds new d → c ≡ d
 judges_one (static a) (static b) = refl
 judges_one (static a) (dynamic g n) = absurd (n a)
 judges_one {bases} {olds} {new} (static a) (wrong n) = absurd (n (statics_good bases new olds a))

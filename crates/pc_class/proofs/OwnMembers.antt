@@ -77,7 +77,7 @@ neither_left true b e = absurd (false≢true e)
 neither_left false b e = refl
 
 -- what binds a name finds it new
-field_new : (h : Inherited) (before : List (List ℕ)) (n : ℕ) (x : Member) → member_binds h before x ≡ true → (is_among (name_of_member x).text before ≡ false) × (h.has_field (name_of_member x).text ≡ false)
+pub field_new : (h : Inherited) (before : List (List ℕ)) (n : ℕ) (x : Member) → member_binds h before x ≡ true → (is_among (name_of_member x).text before ≡ false) × (h.has_field (name_of_member x).text ≡ false)
 field_new h before n (field_member f) e =
     let r = and_right (not (is_reserved f.name.text || bytes_eq f.name.text (codes "mro"))) _ e in
     (not_true (is_among f.name.text before) (and_left (not (is_among f.name.text before)) _ r), neither_left (h.has_field f.name.text) (h.has_method f.name.text) (and_right (not (is_among f.name.text before)) _ r))

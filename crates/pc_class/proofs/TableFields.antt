@@ -59,6 +59,13 @@ module _ {Ty : Type 0} where
       → (inherited_entry es (Some c)).fields ≡ (inherited_entry es n.base).fields ++ part F n.fields
   fields_over d F M ns es are c n is = ap (λ (e : Entry Ty). e.fields) (index_is es c _ empty_entry (are.each c n is).is)
 
+  -- so are its methods those that it binds itself and then its base's
+  pub methods_over : (d : Named) (F : List (RustParameter Ty)) (M : List (RustMethod Ty)) (ns : List ClassNode) (es : List (Entry Ty)) → AreNodes d F M ns es → (c : ℕ) (n : ClassNode) → slice_get ns c ≡ Some n → (own : List (RustMethod Ty)) → own ≡ part M n.methods
+      → (slice_index_or es c empty_entry).methods ≡ own ++ (inherited_entry es (slice_index_or es c empty_entry).base).methods
+  methods_over d F M ns es are c n is own same =
+      let here = index_is es c _ empty_entry (are.each c n is).is in
+      ap (λ (e : Entry Ty). e.methods) here ∙ ap (λ (xs : List (RustMethod Ty)). xs ++ (inherited_entry es n.base).methods) (sym same) ∙ ap (λ (e : Entry Ty). own ++ (inherited_entry es e.base).methods) (sym here)
+
   -- one class more on the way up
   pub up_next : (total base own : List (RustParameter Ty)) (all new : List (RustParameter Ty)) → total ≡ (base ++ own) ++ reverse all → new ≡ all ++ reverse own → total ≡ base ++ reverse new
   up_next total base own all new e f =

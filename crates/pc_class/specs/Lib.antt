@@ -1,12 +1,15 @@
 pub use Rattle.pc_types.specs.Bases
 pub mod Built
+pub mod ClassFindingsLaw
 pub mod Entries
 pub mod Facts
 pub mod Findings
+pub mod Judging
 pub mod Named
 pub mod NamesFound
 pub mod Outlines
 pub mod Overrides
+pub mod Overriding
 pub mod Parts
 pub mod Shared
 pub mod Tables

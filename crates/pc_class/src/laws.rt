@@ -1,9 +1,11 @@
 ghost use Rattle.std.specs.Prelude.{ℕ};
 ghost use Rattle.pc_tree.specs.Tree.{ClassDef, FuncDef, Module};
 ghost use Rattle.pc_class.specs.Bases.{bases_of};
+ghost use Rattle.pc_class.specs.ClassFindingsLaw.{ClashesStop, ClassesFindJustTheirLists};
 ghost use Rattle.pc_class.specs.Facts.{method_made};
 ghost use Rattle.pc_class.specs.NamesFound.{BasesAreFound, LateFieldsAreFound, ClassFindingsAreListed};
 ghost use Rattle.pc_class.specs.Overrides.{IsJudgedOnce, overridden};
+ghost use Rattle.pc_class.specs.Overriding.{OverridesAreFound};
 ghost use Rattle.pc_class.specs.Findings.{base_class};
 ghost use Rattle.pc_class.specs.WellFormed.{ClassesAreWellFormed};
 
@@ -25,4 +27,18 @@ pub fn names_are_found()
     ensures bases { BasesAreFound }
     ensures late_fields { LateFieldsAreFound }
     ensures all { ClassFindingsAreListed }
+{}
+
+/// The law that the list of what overriding finds holds just the methods that are not good against those that they override
+/// (E11), and those that are good and not static (A8), as the rule says it.
+pub fn overrides_are_found()
+    ensures { OverridesAreFound }
+{}
+
+/// The law that the lists of what is found of classes, by names (E06, E07, E08) and by overriding (E11, A8), together hold just the
+/// findings of classes. The members that clash (E06), found by the numbers of the bases, are in the same order those that stop a
+/// run, which go by the names of the bases among the items before.
+pub fn class_findings_are_exact()
+    ensures clashes { ClashesStop }
+    ensures all { ClassesFindJustTheirLists }
 {}

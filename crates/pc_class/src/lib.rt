@@ -8,12 +8,17 @@ mod entries;
 mod found;
 mod laws;
 mod named;
+mod overriding;
 mod parts;
 mod reading;
 mod shared;
 mod table;
 
 pub use building::class_table;
-pub use laws::{classes_are_well_formed, methods_are_judged_once, names_are_found};
+pub use laws::{
+    class_findings_are_exact, classes_are_well_formed, methods_are_judged_once, names_are_found,
+    overrides_are_found,
+};
+pub use overriding::override_findings;
 pub use pc_types::bases_stand_before;
 pub use table::{ClassTable, Field, Method, Parameter};

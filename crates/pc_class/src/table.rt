@@ -1,10 +1,10 @@
-ghost use Rattle.std.specs.Prelude.{◌≡◌, ◌↔◌, ◌<◌, ◌++◌, List, length, map, reverse, Some, All, IsTrue, IfOk, OnOk};
+ghost use Rattle.std.specs.Prelude.{◌≡◌, ◌↔◌, ◌<◌, ◌≤◌, ◌-◌, ◌++◌, List, take, drop, length, map, reverse, slice_index_or, Some, All, IsTrue, IfOk, OnOk};
 ghost use Rattle.std.specs.Option.{option_map};
 ghost use Rattle.pc_types.specs.Below.{Below};
 ghost use Rattle.pc_types.specs.Tree.{Tree, Class};
 ghost use Rattle.pc_class.specs.Facts.{field_of, method_of, class_at};
 ghost use Rattle.pc_class.specs.Parts.{part, lent, IsSpan, bases_in, entries_in, IsTable};
-ghost use Rattle.pc_class.specs.Tables.{Entry, inherited_entry, classes_with, parameter_lent, method_lent, IsLent, IsFieldIfAny, IsMethodIfAny};
+ghost use Rattle.pc_class.specs.Tables.{Entry, empty_entry, inherited_entry, classes_with, parameter_lent, method_lent, IsLent, IsFieldIfAny, IsMethodIfAny};
 
 use crate::parts::{Span, TableParts};
 use pc_source::{OutOfMemory, Place};
@@ -70,6 +70,15 @@ fn fields_of<Ty: Drop>(
     }
     all.reverse();
     Ok(all)
+}
+
+/// The items of these places.
+fn items_within<X>(items: &[X], start: usize, end: usize) -> &[X]
+    requires order { start ≤ end }
+    requires within { end ≤ length items.now }
+    ensures { result.now ≡ take (end - start) (drop start items.now) }
+{
+    &items[start..end]
 }
 
 /// The classes of a module, each with its fields and methods and those of its ancestors. Contracts see it as the list of these.
@@ -141,6 +150,22 @@ impl<Ty: Drop> ClassTable<Ty> {
             None => None,
             Some(number) => Some(&parts.methods[number]),
         }
+    }
+
+    /// How many classes there are.
+    pub(crate) fn count(&self) -> usize
+        ensures { result ≡ length self.now }
+    {
+        self.parts.classes.len()
+    }
+
+    /// The methods that a class binds itself, in text order.
+    pub(crate) fn own_methods(&self, class: usize) -> &[Method<Ty>]
+        requires { class < length self.now }
+        ensures over { (slice_index_or self.now class empty_entry).methods ≡ result.now ++ (inherited_entry self.now (slice_index_or self.now class empty_entry).base).methods }
+    {
+        let node = self.parts.classes[class];
+        items_within(&self.parts.methods, node.methods.start, node.methods.end)
     }
 
     /// The fields of a class, those of its ancestors first: the parameters of a call of it.

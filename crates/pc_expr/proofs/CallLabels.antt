@@ -1,5 +1,5 @@
 -- The label of a call by the members of what is called, by its type and its codes.
-use Rattle.std.proofs.Common.{◌≡◌, ◌<◌, ◌≤◌, ◌+◌, ℕ, List, [], ◌∷◌, ◌++◌, map, drop, length, get_or, Bool as Test, true, false, refl, sym, ap, ◌∙◌}
+use Rattle.std.proofs.Common.{◌≡◌, ◌<◌, ◌≤◌, ◌+◌, ℕ, List, [], map, drop, length, get_or, Bool as Test, true, false, refl, sym, ap, ◌∙◌}
 use Rattle.std.specs.Prelude.{◌||◌, if◌then◌else◌, flat_map}
 use Rattle.std.specs.List.{list_any}
 use Rattle.std.proofs.lemmas.List.{drop_all}
@@ -36,19 +36,19 @@ module _ {Ty : Type 0} (tree : Ty → Tree) where
   pub join_done : (bases : Bases) (joined total : Tree) (os : List (RustCallOffer Ty)) (i : ℕ) → length os ≤ i → join_onto bases joined (given_types (drop i os)) ≡ total → joined ≡ total
   join_done bases joined total os i h inv = ap (λ (l : List (RustCallOffer Ty)). join_onto bases joined (given_types l)) (sym (drop_all i os h)) ∙ inv
 
-  codes_meant : (os : List (RustCallOffer Ty)) → (if has_none (found_at_callee os) then found_at_call os else []) ≡ call_codes (map (offer_called tree) os)
+  pub codes_meant : (os : List (RustCallOffer Ty)) → (if has_none (found_at_callee os) then found_at_call os else []) ≡ call_codes (map (offer_called tree) os)
   codes_meant os =
       ap (λ (cs : List Code). if has_none cs then found_at_call os else []) (sym (callee_meant tree os))
       ∙ ap (λ (cs : List Code). if has_none (flat_map (λ (o : CallOffer). o.at_callee) (map (offer_called tree) os)) then cs else []) (sym (call_meant tree os))
 
   -- the label of a call in error, and of one that gives a join
-  pub call_failed : (bases : Bases) (l : Label Ty) (os : List (RustCallOffer Ty)) → true ≡ has_error (all_codes (map (offer_called tree) os)) → tree l.ty ≡ Any → l.codes.items ≡ once (if has_none (found_at_callee os) then found_at_call os else [])
+  pub call_failed : (bases : Bases) (l : Label Ty) (os : List (RustCallOffer Ty)) → true ≡ has_error (all_codes (map (offer_called tree) os)) → tree l.ty ≡ Any → l.codes.items ≡ once (call_codes (map (offer_called tree) os))
       → mark_with tree l ≡ brief (call_mark bases (map (offer_called tree) os))
-  call_failed bases l os e t f = mark_is l (call_mark bases (map (offer_called tree) os)) (t ∙ ap (λ (b : Test). if b then Any else join_all bases (given_types os)) e) (f ∙ ap once (codes_meant os))
+  call_failed bases l os e t f = mark_is l (call_mark bases (map (offer_called tree) os)) (t ∙ ap (λ (b : Test). if b then Any else join_all bases (given_types os)) e) f
 
-  pub call_given : (bases : Bases) (l : Label Ty) (os : List (RustCallOffer Ty)) → false ≡ has_error (all_codes (map (offer_called tree) os)) → tree l.ty ≡ join_all bases (given_types os) → l.codes.items ≡ once (if has_none (found_at_callee os) then found_at_call os else [])
+  pub call_given : (bases : Bases) (l : Label Ty) (os : List (RustCallOffer Ty)) → false ≡ has_error (all_codes (map (offer_called tree) os)) → tree l.ty ≡ join_all bases (given_types os) → l.codes.items ≡ once (call_codes (map (offer_called tree) os))
       → mark_with tree l ≡ brief (call_mark bases (map (offer_called tree) os))
-  call_given bases l os e t f = mark_is l (call_mark bases (map (offer_called tree) os)) (t ∙ ap (λ (b : Test). if b then Any else join_all bases (given_types os)) e) (f ∙ ap once (codes_meant os))
+  call_given bases l os e t f = mark_is l (call_mark bases (map (offer_called tree) os)) (t ∙ ap (λ (b : Test). if b then Any else join_all bases (given_types os)) e) f
 
 -- whether a member is Any or object is told by its head
 head_told : (t : Tree) → is_head_of_any (head_of t) ≡ is_object_or_any t

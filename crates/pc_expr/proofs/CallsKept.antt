@@ -1,20 +1,18 @@
 -- What a call comes to stays of the store's types over calls that may add types, and is added member by member.
 use Rattle.std.proofs.Common.{◌≡◌, ◌<◌, ◌≤◌, ◌+◌, drop, ℕ, List, [], ◌∷◌, ◌++◌, Option, Some, None, refl, sym, ap, ◌∙◌, length, get_or, subst, append_assoc, append-nil}
 use Rattle.std.specs.Prelude.{All, map, flat_map}
-use Rattle.std.specs.Borrow.{Bor}
 use Rattle.std.proofs.lemmas.List.{map_push, drop_all}
 use Rattle.pc_tree.proofs.Stops.{cons_at}
 use Rattle.std.proofs.lemmas.List.Elements.{All-push, All-weaker, All-get_or}
 use Rattle.pc_types.specs.Tree.{Tree}
 use Rattle.pc_types.specs.Store.{Keeps}
-use Rattle.pc_class.specs.declared.table.Parameter.{Parameter as RustParameter}
 use Rattle.pc_expr.specs.declared.call_offers.Called.{Called}
 use Rattle.pc_expr.specs.declared.call_offers.Called.TheVariants as called
 use Rattle.pc_expr.specs.declared.call_offers.CallOffer.{CallOffer as RustCallOffer}
 use Rattle.pc_types.specs.Shape.{members}
 use Rattle.pc_flow.proofs.Rest.{mapped_rest, mapped_end}
 use Rattle.pc_expr.specs.Calls.{CallOffer, value_offer, value_offers}
-use Rattle.pc_expr.specs.Calling.{offer_called, HasLent, HasParams, HasCalled, HasCalledIfAny, HasCallOffer, IsCallOffer, IsOnlyOffer, AreCallOffers}
+use Rattle.pc_expr.specs.Calling.{offer_called, HasParam, HasCalled, HasCalledIfAny, HasCallOffer, IsCallOffer, IsOnlyOffer, AreCallOffers}
 
 module _ {Store Ty : Type 0} (has : Store → Ty → Type 0) where
   pub item_held : (old new : Store) (xs : List Ty) (i : ℕ) (x : Ty) → Keeps has old new → All (has old) xs → i < length xs → x ≡ get_or xs i x → has new x
@@ -22,7 +20,7 @@ module _ {Store Ty : Type 0} (has : Store → Ty → Type 0) where
 
   module _ (old new : Store) (k : Keeps has old new) where
     called_kept : (c : Called Ty) → HasCalled (has old) c → HasCalled (has new) c
-    called_kept (called.Named ps) h = record { all = All-weaker (HasLent (has old)) (HasLent (has new)) (λ p. k p.now.ty) ps.all.items h.all; numbers = h.numbers }
+    called_kept (called.Named ps) h = record { all = All-weaker (HasParam (has old)) (HasParam (has new)) (λ p. k p.ty) ps.all.items h.all; numbers = h.numbers }
     called_kept (called.Builtin types) h = All-weaker (has old) (has new) k types.items h
 
     called_kept_if_any : (c : Option (Called Ty)) → HasCalledIfAny (has old) c → HasCalledIfAny (has new) c

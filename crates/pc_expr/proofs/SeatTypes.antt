@@ -1,17 +1,15 @@
 -- The types that an argument flows into, by the number of the parameter that it is for.
 use Rattle.std.proofs.Common.{◌≡◌, ◌<◌, ◌≤◌, ◌+◌, ℕ, zero, suc, List, [], ◌∷◌, ◌++◌, map, drop, length, get_or, Bool as Test, true, false, Option, Some, None, refl, sym, ap, ◌∙◌, append_assoc, append-nil}
-use Rattle.std.specs.Prelude.{All, if◌then◌else◌, cond, flat_map, bytes_eq, string_bytes, slice_get, option_to_list}
+use Rattle.std.specs.Prelude.{All, if◌then◌else◌, cond, flat_map, bytes_eq, slice_get, option_to_list}
 use Rattle.std.specs.Option.{option_map}
-use Rattle.std.specs.Borrow.{Bor}
 use Rattle.std.proofs.lemmas.Option.{slice_get_past, slice_get_read}
 use Rattle.std.proofs.lemmas.List.{drop_all}
 use Rattle.std.proofs.lemmas.List.Elements.{All-nil, All-append, All-push}
 use Rattle.pc_tree.proofs.Stops.{cons_at}
 use Rattle.pc_types.specs.Tree.{Tree}
 use Rattle.pc_scope.specs.Resolution.{index_of}
-use Rattle.pc_class.specs.declared.table.Parameter.{Parameter as RustParameter}
+use Rattle.pc_expr.specs.declared.params.Param.{Param}
 use Rattle.pc_class.specs.Facts.{Parameter, field_of}
-use Rattle.pc_class.specs.Tables.{parameter_lent}
 use Rattle.pc_expr.specs.declared.seats.Argument.{Argument}
 use Rattle.pc_expr.specs.declared.seats.Argument.TheVariants as argument
 use Rattle.pc_expr.specs.Calls.{CallOffer, all_codes, type_at, unnamed, parameter_names, builtin_signature}
@@ -19,7 +17,7 @@ use Rattle.pc_expr.specs.Context.{Signature}
 use Rattle.pc_expr.specs.Operations.{has_error}
 use Rattle.pc_expr.specs.Standing.{HasIfAny}
 use Rattle.pc_expr.specs.declared.call_offers.CallOffer.{CallOffer as RustCallOffer}
-use Rattle.pc_expr.specs.Calling.{names_lent, number_for, builtin_number, types_at, params_called, offer_called, seat_of}
+use Rattle.pc_expr.specs.Calling.{param_called, names_called, number_for, builtin_number, types_at, params_called, offer_called, seat_of}
 use Rattle.pc_expr.proofs.FirstNames.{lent_names}
 
 -- the type of the parameter of a number
@@ -37,34 +35,34 @@ field_number (p ∷ ps) word = go (bytes_eq word p.name) (index_of word (paramet
     go false (Some k) e = e
 
 module _ {Ty : Type 0} (tree : Ty → Tree) where
-  types_number : (a : Argument) (returns : Tree) (ps : List (Bor (RustParameter Ty))) → types_at a (params_called tree returns ps) ≡ type_of_number (map (parameter_lent tree) ps) (number_for a (names_lent ps))
+  types_number : (a : Argument) (returns : Tree) (ps : List (Param Ty)) → types_at a (params_called tree returns ps) ≡ type_of_number (map (param_called tree) ps) (number_for a (names_called ps))
   types_number (argument.Position k) returns ps = refl
-  types_number (argument.Name word) returns ps = field_number (map (parameter_lent tree) ps) word.now ∙ ap (λ l. type_of_number (map (parameter_lent tree) ps) (index_of word.now l)) (lent_names tree ps)
+  types_number (argument.Name word) returns ps = field_number (map (param_called tree) ps) word.now ∙ ap (λ l. type_of_number (map (param_called tree) ps) (index_of word.now l)) (lent_names tree ps)
 
-  lent_past : (ps : List (Bor (RustParameter Ty))) (k : ℕ) → length ps ≤ k → type_at (slice_get (map (parameter_lent tree) ps) k) ≡ []
-  lent_past ps k h = ap type_at (map_get ps k ∙ ap (option_map (parameter_lent tree)) (slice_get_past ps k h))
+  lent_past : (ps : List (Param Ty)) (k : ℕ) → length ps ≤ k → type_at (slice_get (map (param_called tree) ps) k) ≡ []
+  lent_past ps k h = ap type_at (map_get ps k ∙ ap (option_map (param_called tree)) (slice_get_past ps k h))
     where
-      map_get : (qs : List (Bor (RustParameter Ty))) (j : ℕ) → slice_get (map (parameter_lent tree) qs) j ≡ option_map (parameter_lent tree) (slice_get qs j)
+      map_get : (qs : List (Param Ty)) (j : ℕ) → slice_get (map (param_called tree) qs) j ≡ option_map (param_called tree) (slice_get qs j)
       map_get [] j = refl
       map_get (q ∷ qs) zero = refl
       map_get (q ∷ qs) (suc j) = map_get qs j
 
-  lent_there : (ps : List (Bor (RustParameter Ty))) (k : ℕ) (p : Bor (RustParameter Ty)) → k < length ps → p ≡ get_or ps k p → type_at (slice_get (map (parameter_lent tree) ps) k) ≡ tree p.now.ty ∷ []
-  lent_there ps k p less is = ap type_at (map_get ps k ∙ ap (option_map (parameter_lent tree)) (slice_get_read ps (length ps) k p refl less is))
+  lent_there : (ps : List (Param Ty)) (k : ℕ) (p : Param Ty) → k < length ps → p ≡ get_or ps k p → type_at (slice_get (map (param_called tree) ps) k) ≡ tree p.ty ∷ []
+  lent_there ps k p less is = ap type_at (map_get ps k ∙ ap (option_map (param_called tree)) (slice_get_read ps (length ps) k p refl less is))
     where
-      map_get : (qs : List (Bor (RustParameter Ty))) (j : ℕ) → slice_get (map (parameter_lent tree) qs) j ≡ option_map (parameter_lent tree) (slice_get qs j)
+      map_get : (qs : List (Param Ty)) (j : ℕ) → slice_get (map (param_called tree) qs) j ≡ option_map (param_called tree) (slice_get qs j)
       map_get [] j = refl
       map_get (q ∷ qs) zero = refl
       map_get (q ∷ qs) (suc j) = map_get qs j
 
-  pub param_none : (a : Argument) (ps : List (Bor (RustParameter Ty))) → number_for a (names_lent ps) ≡ None → (returns : Tree) → [] ≡ types_at a (params_called tree returns ps)
-  param_none a ps e returns = sym (types_number a returns ps ∙ ap (type_of_number (map (parameter_lent tree) ps)) e)
+  pub param_none : (a : Argument) (ps : List (Param Ty)) → number_for a (names_called ps) ≡ None → (returns : Tree) → [] ≡ types_at a (params_called tree returns ps)
+  param_none a ps e returns = sym (types_number a returns ps ∙ ap (type_of_number (map (param_called tree) ps)) e)
 
-  pub param_past : (a : Argument) (ps : List (Bor (RustParameter Ty))) (k : ℕ) → number_for a (names_lent ps) ≡ Some k → length ps ≤ k → (returns : Tree) → [] ≡ types_at a (params_called tree returns ps)
-  param_past a ps k e h returns = sym (types_number a returns ps ∙ ap (type_of_number (map (parameter_lent tree) ps)) e ∙ lent_past ps k h)
+  pub param_past : (a : Argument) (ps : List (Param Ty)) (k : ℕ) → number_for a (names_called ps) ≡ Some k → length ps ≤ k → (returns : Tree) → [] ≡ types_at a (params_called tree returns ps)
+  param_past a ps k e h returns = sym (types_number a returns ps ∙ ap (type_of_number (map (param_called tree) ps)) e ∙ lent_past ps k h)
 
-  pub param_there : (a : Argument) (ps : List (Bor (RustParameter Ty))) (k : ℕ) (p : Bor (RustParameter Ty)) (t : Tree) → number_for a (names_lent ps) ≡ Some k → k < length ps → p ≡ get_or ps k p → t ≡ tree p.now.ty → (returns : Tree) → t ∷ [] ≡ types_at a (params_called tree returns ps)
-  param_there a ps k p t e less is same returns = ap (λ (u : Tree). u ∷ []) same ∙ sym (types_number a returns ps ∙ ap (type_of_number (map (parameter_lent tree) ps)) e ∙ lent_there ps k p less is)
+  pub param_there : (a : Argument) (ps : List (Param Ty)) (k : ℕ) (p : Param Ty) (t : Tree) → number_for a (names_called ps) ≡ Some k → k < length ps → p ≡ get_or ps k p → t ≡ tree p.ty → (returns : Tree) → t ∷ [] ≡ types_at a (params_called tree returns ps)
+  param_there a ps k p t e less is same returns = ap (λ (u : Tree). u ∷ []) same ∙ sym (types_number a returns ps ∙ ap (type_of_number (map (param_called tree) ps)) e ∙ lent_there ps k p less is)
 
 -- of a built-in
 unnamed_first : (ts : List Tree) (word : List ℕ) → type_at (field_of (map unnamed ts) word) ≡ type_of_number (map unnamed ts) (if bytes_eq word [] then Some 0 else None)

@@ -1,6 +1,6 @@
 -- What the programs that judge calls hold and answer, in terms of the definitions.
 -- Own rule of the profile.
-use Rattle.std.specs.Prelude.{◌≡◌, ◌||◌, ◌&&◌, not, ℕ, List, [], ◌∷◌, if◌then◌else◌, map, flat_map, Bool as Test, true, false, nat_eq, Option, Some, None, All, option_to_list, slice_get, string_bytes, bytes_eq}
+use Rattle.std.specs.Prelude.{◌≡◌, ◌||◌, ◌&&◌, not, ℕ, List, [], ◌∷◌, if◌then◌else◌, map, flat_map, Bool as Test, true, false, nat_eq, Option, Some, None, All, option_to_list, slice_get, bytes_eq}
 use Rattle.std.specs.Option.{option_map}
 use Rattle.std.specs.Borrow.{Bor}
 use Rattle.indexmap.specs.IndexMap.{IndexMap, get_by}
@@ -14,20 +14,23 @@ use Rattle.pc_types.specs.Tree.{Tree, Any, ListOf, DictOf}
 use Rattle.pc_types.specs.Below.{Bases}
 use Rattle.pc_types.specs.declared.head.Head.{Head}
 use Rattle.pc_types.specs.declared.head.Head.TheVariants as heads
-use Rattle.pc_class.specs.Facts.{field_of}
+use Rattle.pc_class.specs.Facts.{Parameter, field_of}
 use Rattle.pc_class.specs.declared.table.Parameter.{Parameter as RustParameter}
-use Rattle.pc_class.specs.Tables.{parameter_lent, HasParameter}
+use Rattle.pc_class.specs.Tables.{HasParameter}
 use Rattle.pc_flow.specs.Narrowing.{second_argument, test_of_argument}
 use Rattle.pc_expr.specs.Context.{Signature}
-use Rattle.pc_expr.specs.Calls.{Given, CallOffer, CallRule, member_rule, length_rule, test_rule, Seat, positional_seat, named_seat, builtin_signature, type_at, list_offers, dict_offers, fails_at_callee, second_code}
-use Rattle.pc_expr.specs.Standing.{HasIfAny}
+use Rattle.pc_expr.specs.Calls.{Given, CallOffer, CallRule, member_rule, length_rule, test_rule, Callee, Seat, positional_seat, named_seat, builtin_signature, type_at, list_offers, dict_offers, fails_at_callee, second_code}
+use Rattle.pc_expr.specs.Found.{brief}
+use Rattle.pc_expr.specs.Standing.{mark_with, HasIfAny}
 use Rattle.pc_expr.specs.declared.arguments.Given.{Given as RustGiven}
+use Rattle.pc_expr.specs.declared.params.Param.{Param}
 use Rattle.pc_expr.specs.declared.params.Params.{Params}
 use Rattle.pc_expr.specs.declared.call_offers.Called.{Called}
 use Rattle.pc_expr.specs.declared.call_offers.Called.TheVariants as called
 use Rattle.pc_expr.specs.declared.call_offers.CallOffer.{CallOffer as RustCallOffer}
 use Rattle.pc_expr.specs.declared.call_offers.CallRule.{CallRule as RustCallRule}
 use Rattle.pc_expr.specs.declared.call_offers.CallRule.TheVariants as rule
+use Rattle.pc_expr.specs.declared.callee.Callee.{Callee as RustCallee}
 use Rattle.pc_expr.specs.declared.seats.Argument.{Argument}
 use Rattle.pc_expr.specs.declared.seats.Argument.TheVariants as argument
 use Rattle.pc_expr.specs.declared.seats.Seat.{Seat as RustSeat}
@@ -42,14 +45,14 @@ names_in s = map (λ k. k.now) s.keys
 abbrev pub given_with : RustGiven → Given
 given_with g = record { positional = g.positional; named = names_in g.named }
 
--- the names of parameters that are lent
-abbrev pub names_lent : {Ty : Type 0} → List (Bor (RustParameter Ty)) → List (List ℕ)
-names_lent ps = map (λ p. string_bytes p.now.name) ps
+-- the names of parameters of what is called
+abbrev pub names_called : {Ty : Type 0} → List (Param Ty) → List (List ℕ)
+names_called ps = map (λ p. p.name.now) ps
 
--- each parameter that is lent has a default, or an argument by name, which the first of a name takes
-abbrev pub filled_lent : {Ty : Type 0} → List (List ℕ) → List (List ℕ) → List (Bor (RustParameter Ty)) → Test
-filled_lent named before [] = true
-filled_lent named before (p ∷ ps) = (p.now.has_default || (is_among (string_bytes p.now.name) named && not (is_among (string_bytes p.now.name) before))) && filled_lent named (string_bytes p.now.name ∷ before) ps
+-- each parameter of what is called has a default, or an argument by name, which the first of a name takes
+abbrev pub filled_called : {Ty : Type 0} → List (List ℕ) → List (List ℕ) → List (Param Ty) → Test
+filled_called named before [] = true
+filled_called named before (p ∷ ps) = (p.has_default || (is_among p.name.now named && not (is_among p.name.now before))) && filled_called named (p.name.now ∷ before) ps
 
 -- a place that was found is this one
 abbrev pub is_place : Option ℕ → ℕ → Test
@@ -71,14 +74,18 @@ AreNumbersIfAny (Some m) names = AreNumbers m names
 
 -- the map of parameters, if there is one, has the number of the first of each name
 abbrev pub AreNumbered : {Ty : Type 0} → Params Ty → Type 0
-AreNumbered ps = AreNumbersIfAny ps.numbers (names_lent ps.all.items)
+AreNumbered ps = AreNumbersIfAny ps.numbers (names_called ps.all.items)
 
 -- ---- what a call comes to
 
 module _ {Ty : Type 0} (tree : Ty → Tree) where
+  -- a parameter of what is called, with the type that it means
+  abbrev pub param_called : Param Ty → Parameter
+  param_called p = record { name = p.name.now; type = tree p.ty; has_default = p.has_default }
+
   -- parameters as what is called, which returns this type
-  abbrev pub params_called : (returns : Tree) → List (Bor (RustParameter Ty)) → Signature
-  params_called returns ps = record { parameters = map (parameter_lent tree) ps; returns = returns; takes_names = true }
+  abbrev pub params_called : (returns : Tree) → List (Param Ty) → Signature
+  params_called returns ps = record { parameters = map param_called ps; returns = returns; takes_names = true }
 
   -- what is called, which returns this type
   abbrev pub signature_called : (returns : Tree) → Called Ty → Signature
@@ -112,9 +119,13 @@ module _ {Ty : Type 0} (has : Ty → Type 0) where
   abbrev pub HasLent : Bor (RustParameter Ty) → Type 0
   HasLent p = HasParameter has p.now
 
+  -- the store gave the type of a parameter of what is called
+  abbrev pub HasParam : Param Ty → Type 0
+  HasParam p = has p.ty
+
   -- the store gave the types of parameters, and their map is right
   pub record HasParams (ps : Params Ty) : Type 0 where
-    pub all : All HasLent ps.all.items
+    pub all : All HasParam ps.all.items
     pub numbers : AreNumbered ps
 
   -- the store gave the types of what is called
@@ -132,7 +143,7 @@ module _ {Ty : Type 0} (has : Ty → Type 0) where
     pub gives : has o.gives
     pub calls : HasCalledIfAny o.calls
 
--- ---- offers and seats
+-- ---- callees and seats
 
 module _ {Store Ty : Type 0} (has : Store → Ty → Type 0) (tree : Ty → Tree) (store : Store) where
   -- a call offer with types of the store, which means this one
@@ -149,6 +160,14 @@ module _ {Store Ty : Type 0} (has : Store → Ty → Type 0) (tree : Ty → Tree
   pub record AreCallOffers (os : List (RustCallOffer Ty)) (meant : List CallOffer) : Type 0 where
     pub given : All (HasCallOffer (has store)) os
     pub is : map (offer_called tree) os ≡ meant
+
+  -- a callee with types of the store, which means this one, but with each code at it once
+  pub record IsCallee (c : RustCallee Ty) (callee : Callee) : Type 0 where
+    pub given : has store c.label.ty
+    pub held : All (HasCallOffer (has store)) c.offers.items
+    pub mark : mark_with tree c.label ≡ brief callee.mark
+    pub rule : rule_of c.rule ≡ callee.rule
+    pub offers : map (offer_called tree) c.offers.items ≡ callee.offers
 
   -- a seat with types of the store, which means this one
   pub record IsSeat (seat : RustSeat Ty) (s : Seat) : Type 0 where

@@ -4,7 +4,7 @@ use Rattle.std.specs.Prelude.{ℕ, zero, suc, List, [], ◌∷◌, ◌++◌, map
 use Rattle.std.specs.List.{list_any, list_all}
 use Rattle.std.specs.Option.{option_map}
 use Rattle.pc_tree.specs.declared.code.Code.{Code}
-use Rattle.pc_tree.specs.declared.code.Code.TheVariants.{A4, A6, A7, E03, E14, E15, E20, E25, E27}
+use Rattle.pc_tree.specs.declared.code.Code.TheVariants.{A4, A5, A6, A7, E03, E14, E15, E20, E25, E27}
 use Rattle.pc_tree.specs.Tree.{Name, Exprs, Keywords, no_exprs, more_exprs}
 use Rattle.pc_tree.specs.Stopping.{has_none}
 use Rattle.pc_scope.specs.declared.resolution.Builtin.{Builtin}
@@ -13,7 +13,7 @@ use Rattle.pc_scope.specs.declared.resolution.Res.{Res}
 use Rattle.pc_scope.specs.declared.resolution.Res.TheVariants as res
 use Rattle.pc_scope.specs.Resolution.{is_among}
 use Rattle.pc_scope.specs.Expressions.{keyword_names}
-use Rattle.pc_types.specs.Tree.{Tree, Any, Object, Never, Bool, Str, NoneType, Class, ListOf, DictOf}
+use Rattle.pc_types.specs.Tree.{Tree, Any, Object, Never, Int, Bool, Str, NoneType, Class, ListOf, DictOf}
 use Rattle.pc_types.specs.Below.{Bases}
 use Rattle.pc_types.specs.Shape.{members}
 use Rattle.pc_class.specs.Facts as facts
@@ -309,3 +309,23 @@ abbrev pub second_code : Option Tested → (early : Test) → Option Code
 second_code (Some test) early = None
 second_code None true = None
 second_code None false = Some E25
+
+-- ---- `range` as what a `for` goes over
+
+-- the name means the built-in `range`
+abbrev pub is_range : Res → Test
+is_range (res.Builtin builtin.Range) = true
+is_range _ = false
+
+-- `range` takes one int. Its result stands as what a `for` goes over and nowhere else, so no rule reads its type: there is no type of
+-- ranges, and the label has object, the type of every value
+abbrev pub range_signature : Signature
+range_signature = builtin_signature (Int ∷ []) Object
+
+-- what a call of `range` comes to as what a `for` goes over
+abbrev pub range_offers : Given → List CallOffer
+range_offers g = called g range_signature ∷ []
+
+-- what a turn gives: int, or where the call does not suit Any
+abbrev pub range_item : Given → Mark
+range_item g = if is_suited g range_signature then clean Int else record { type = Any; codes = A5 ∷ [] }

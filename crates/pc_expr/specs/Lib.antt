@@ -9,9 +9,12 @@ pub mod Lawful
 pub mod Operating
 pub mod Operations
 pub mod Pairing
+pub mod Seated
 pub mod Signatures
 pub mod SignaturesFound
 pub mod SignaturesHeld
+pub mod SignaturesRead
 pub mod Standing
 pub mod Storing
+pub mod Typing
 pub mod WellFormed

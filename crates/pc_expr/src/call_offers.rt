@@ -4,11 +4,10 @@ ghost use Rattle.std.specs.Prelude.{◌≡◌, ◌++◌, ◌∷◌, [], None, ma
 ghost use Rattle.pc_types.specs.Tree.{Tree};
 ghost use Rattle.pc_types.specs.Store.{Keeps};
 ghost use Rattle.pc_expr.specs.Calls.{called, plain_call, fails_at_call, fails_at_callee, value_offer, value_offers, builtin_signature};
-ghost use Rattle.pc_expr.specs.Calling.{given_with, params_called, offer_called, HasLent, HasCallOffer, IsCallOffer, AreCallOffers};
+ghost use Rattle.pc_expr.specs.Calling.{given_with, params_called, offer_called, HasParam, HasCallOffer, IsCallOffer, AreCallOffers};
 
 use crate::arguments::Given;
-use crate::params::{Params, is_suited, is_suited_by};
-use pc_class::Parameter;
+use crate::params::{Param, Params, is_suited, is_suited_by};
 use pc_source::OutOfMemory;
 use pc_tree::Code;
 use pc_types::{Head, TypeStore};
@@ -94,10 +93,10 @@ pub fn call_of<'t, S: TypeStore>(
     store: &mut S,
     alloc: Global,
     given: &Given,
-    params: Vec<&'t Parameter<S::Ty>>,
+    params: Vec<Param<'t, S::Ty>>,
     returns: S::Ty,
 ) -> Result<CallOffer<'t, S::Ty>, OutOfMemory>
-    requires params { All (HasLent (S.has store.old)) params.items }
+    requires params { All (HasParam (S.has store.old)) params.items }
     requires returns { S.has store.old returns }
     ensures offer { IfOk result (λ o. IsCallOffer S.has S.tree store.new o (called (given_with given.now) (params_called S.tree (S.tree returns) params.entry.items))) }
     ensures kept { Keeps S.has store.old store.new }

@@ -1,13 +1,14 @@
 // The label of a call by the members of what is called, and whether a type has a member `Any` or `object`.
 
-ghost use Rattle.std.specs.Prelude.{◌≡◌, [], map, All, IfOk, if◌then◌else◌};
+ghost use Rattle.std.specs.Prelude.{◌≡◌, map, All, IfOk};
 ghost use Rattle.std.specs.List.{list_any};
 ghost use Rattle.pc_tree.specs.Stopping.{has_none};
+ghost use Rattle.pc_types.specs.Tree.{Tree};
 ghost use Rattle.pc_types.specs.Shape.{members};
 ghost use Rattle.pc_types.specs.Store.{Keeps, Means};
 ghost use Rattle.pc_flow.specs.Environment.{join_all};
 ghost use Rattle.pc_expr.specs.Found.{once};
-ghost use Rattle.pc_expr.specs.Calls.{call_mark, is_object_or_any};
+ghost use Rattle.pc_expr.specs.Calls.{call_codes, call_mark, is_object_or_any};
 ghost use Rattle.pc_expr.specs.Standing.{IsMark};
 ghost use Rattle.pc_expr.specs.Calling.{is_head_of_any, offer_called, found_at_callee, found_at_call, HasCallOffer};
 
@@ -59,11 +60,11 @@ fn are_none(codes: &[Code]) -> bool
 }
 
 /// What is found at a call, each code once; where something is found at its callee, nothing further.
-fn call_codes<Ty: Drop>(
+pub fn call_codes<Ty: Drop>(
     alloc: Global,
     offers: &[CallOffer<'_, Ty>],
 ) -> Result<Vec<Code>, OutOfMemory>
-    ensures { IfOk result (λ codes. codes.items ≡ once (if has_none (found_at_callee offers.now) then found_at_call offers.now else [])) }
+    ensures { (tree : Ty → Tree) → IfOk result (λ codes. codes.items ≡ once (call_codes (map (offer_called tree) offers.now))) }
 {
     let at_callee = codes_at_callee(alloc, offers)?;
     if !are_none(&at_callee) {

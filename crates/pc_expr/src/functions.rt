@@ -9,7 +9,7 @@ ghost use Rattle.pc_expr.specs.Calling.{given_with, IsCallOffer};
 
 use crate::arguments::Given;
 use crate::call_offers::{CallOffer, call_of, fails_at_call};
-use crate::params::lent;
+use crate::params::{copies, copies_of_lent};
 use crate::setting::Signature;
 use pc_class::ClassTable;
 use pc_source::OutOfMemory;
@@ -33,7 +33,7 @@ pub fn function_offer<'t, S: TypeStore>(
         return fails_at_call(store, alloc, Code::A6);
     }
     let signature = &functions[function];
-    let params = lent(alloc, &signature.params)?;
+    let params = copies(store, alloc, &signature.params)?;
     let returns = store.copy(alloc, &signature.ret)?;
     let offer = call_of(store, alloc, given, params, returns)?;
     Ok(offer)
@@ -51,7 +51,8 @@ pub fn class_offer<'t, S: TypeStore>(
     ensures offer { IfOk result (λ o. IsCallOffer S.has S.tree store.new o (called (given_with given.now) (class_signature (classes_with S.tree classes.now) class))) }
     ensures kept { Keeps S.has store.old store.new }
 {
-    let params = classes.fields(alloc, class)?;
+    let fields = classes.fields(alloc, class)?;
+    let params = copies_of_lent(store, alloc, &fields)?;
     let returns = store.class(alloc, class)?;
     call_of(store, alloc, given, params, returns)
 }

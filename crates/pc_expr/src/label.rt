@@ -71,11 +71,7 @@ fn is_of_scopes(code: Code) -> bool
 }
 
 /// Adds the findings of codes at a place, but for those of codes that are found of scopes.
-pub(crate) fn find_codes(
-    place: Place,
-    codes: &[Code],
-    found: &mut Findings,
-) -> Result<(), OutOfMemory>
+pub fn find_codes(place: Place, codes: &[Code], found: &mut Findings) -> Result<(), OutOfMemory>
     ensures { OnOk result (found.new.items ≡ found.old.items ++ flat_map (own_at place) codes.now) }
 {
     for code in codes {

@@ -2,22 +2,26 @@
 
 ghost use Rattle.std.specs.Prelude.{◌≡◌, ◌++◌, None, map, All, IfOk, OnOk};
 ghost use Rattle.pc_types.specs.Store.{Keeps};
+ghost use Rattle.pc_tree.specs.Tree.{name_of};
 ghost use Rattle.pc_class.specs.Facts.{field_of, method_of, class_at};
 ghost use Rattle.pc_class.specs.Tables.{HasEntries, HasMethod, classes_with, method_with};
-ghost use Rattle.pc_expr.specs.Calls.{Given as GivenOf, called, method_signature, class_offers, list_offers, dict_offers, method_offers};
+ghost use Rattle.pc_expr.specs.Calls.{Given as GivenOf, called, method_signature, class_offers, list_offers, dict_offers, method_offers, method_callee};
 ghost use Rattle.pc_expr.specs.Standing.{context_with};
-ghost use Rattle.pc_expr.specs.Calling.{given_with, class_in_head, offer_called, HasCallOffer, IsCallOffer, IsOnlyOffer, AreCallOffers, other_offers};
+ghost use Rattle.pc_expr.specs.Calling.{given_with, class_in_head, offer_called, HasCallOffer, IsCallOffer, IsOnlyOffer, AreCallOffers, IsCallee, other_offers};
 
 use crate::arguments::Given;
 use crate::call_offers::{
-    CallOffer, call_of, call_of_builtin, fails_at_callee, push_offer, push_value_offers,
+    CallOffer, CallRule, call_of, call_of_builtin, fails_at_callee, push_offer, push_value_offers,
 };
-use crate::params::lent;
+use crate::callee::Callee;
+use crate::calling::codes_at_callee;
+use crate::label::Label;
+use crate::params::copies;
 use crate::setting::Setting;
 use pc_class::{ClassTable, Method};
 use pc_flow::{Resolver, join_or_object};
 use pc_source::OutOfMemory;
-use pc_tree::Code;
+use pc_tree::{Code, Name};
 use pc_types::{Head, Parents, TypeStore};
 use std::alloc::Global;
 
@@ -32,7 +36,7 @@ fn method_offer<'t, S: TypeStore>(
     ensures offer { IfOk result (λ o. IsCallOffer S.has S.tree store.new o (called (given_with given.now) (method_signature (method_with S.tree method.now)))) }
     ensures kept { Keeps S.has store.old store.new }
 {
-    let params = lent(alloc, &method.params)?;
+    let params = copies(store, alloc, &method.params)?;
     let returns = store.copy(alloc, &method.ret)?;
     let offer = call_of(store, alloc, given, params, returns)?;
     Ok(offer)
@@ -207,4 +211,33 @@ pub fn push_method_offers<'t, S: TypeStore, R: Resolver>(
             Ok(())
         }
     }
+}
+
+/// What is called by `e.m`, where `e` has this type. Language Reference 6.3.4 "Calls".
+pub fn callee_of_method<'t, S: TypeStore, R: Resolver>(
+    store: &mut S,
+    alloc: Global,
+    setting: &Setting<'t, S::Ty, R>,
+    given: &Given,
+    field: &Name,
+    object: &S::Ty,
+) -> Result<Callee<'t, S::Ty>, OutOfMemory>
+    requires classes { HasEntries (S.has store.old) setting.now.classes.now }
+    requires object { S.has store.old object.now }
+    ensures callee { IfOk result (λ c. IsCallee S.has S.tree store.new c (method_callee (context_with S.tree R.meaning setting.now) (given_with given.now) (name_of field.now).text (S.tree object.now))) }
+    ensures kept { Keeps S.has store.old store.new }
+{
+    let members = store.members(alloc, object)?;
+    let word = field.text.as_str();
+    let mut offers = Vec::new(alloc);
+    for i in 0..members.len() {
+        push_method_offers(store, alloc, setting, given, word, &members[i], &mut offers)?;
+    }
+    let ty = store.any(alloc)?;
+    let codes = codes_at_callee(alloc, &offers)?;
+    Ok(Callee {
+        label: Label { ty, codes },
+        rule: CallRule::Member,
+        offers,
+    })
 }

@@ -1,17 +1,27 @@
 // The parameters of what is called, and which calls suit them.
 
-ghost use Rattle.std.specs.Prelude.{◌≡◌, ◌&&◌, List, map, take, drop, length, IfOk};
+ghost use Rattle.std.specs.Prelude.{◌≡◌, ◌&&◌, All, List, map, take, drop, length, IfOk};
 ghost use Rattle.std.specs.List.{list_all};
 ghost use Rattle.pc_scope.specs.Resolution.{is_among, index_of};
 ghost use Rattle.pc_types.specs.Tree.{Tree};
+ghost use Rattle.pc_class.specs.Tables.{HasParameter, parameter_with, parameter_lent, parameters_with};
 ghost use Rattle.pc_expr.specs.Calls.{is_suited, is_free, builtin_signature};
-ghost use Rattle.pc_expr.specs.Calling.{names_in, given_with, names_lent, filled_lent, is_place, AreNumbers, AreNumbered, params_called};
+ghost use Rattle.pc_expr.specs.Calling.{HasLent, HasParam, names_in, given_with, param_called, names_called, filled_called, is_place, AreNumbers, AreNumbered, params_called};
 
 use crate::arguments::{Given, is_among};
 use indexmap::IndexMap;
 use pc_class::Parameter;
 use pc_source::OutOfMemory;
+use pc_types::TypeStore;
 use std::alloc::Global;
+
+/// A parameter of what is called: its name, its type, and whether it has a default.
+#[derive(Drop)]
+pub struct Param<'t, Ty: Drop> {
+    pub name: &'t str,
+    pub ty: Ty,
+    pub has_default: bool,
+}
 
 /// The number of the first parameter of each name.
 pub type Numbers<'t> = IndexMap<&'t str, usize>;
@@ -19,20 +29,60 @@ pub type Numbers<'t> = IndexMap<&'t str, usize>;
 /// The parameters of what is called, with a map to the number of the first of each name where the call gives names.
 #[derive(Drop)]
 pub struct Params<'t, Ty: Drop> {
-    pub all: Vec<&'t Parameter<Ty>>,
+    pub all: Vec<Param<'t, Ty>>,
     pub numbers: Option<Numbers<'t>>,
 }
 
-/// Parameters one by one.
-pub fn lent<'t, Ty: Drop>(
+/// A parameter with a copy of its type.
+fn copied<'t, S: TypeStore>(
+    store: &S,
     alloc: Global,
-    params: &'t [Parameter<Ty>],
-) -> Result<Vec<&'t Parameter<Ty>>, OutOfMemory>
-    ensures { IfOk result (λ ps. map (λ p. p.now) ps.items ≡ params.now) }
+    param: &'t Parameter<S::Ty>,
+) -> Result<Param<'t, S::Ty>, OutOfMemory>
+    requires { S.has store.now param.now.ty }
+    ensures held { IfOk result (λ p. S.has store.now p.ty) }
+    ensures value { IfOk result (λ p. param_called S.tree p ≡ parameter_with S.tree param.now) }
+{
+    let ty = store.copy(alloc, &param.ty)?;
+    Ok(Param {
+        name: param.name.as_str(),
+        ty,
+        has_default: param.has_default,
+    })
+}
+
+/// Parameters one by one, with copies of their types.
+pub fn copies<'t, S: TypeStore>(
+    store: &S,
+    alloc: Global,
+    params: &'t [Parameter<S::Ty>],
+) -> Result<Vec<Param<'t, S::Ty>>, OutOfMemory>
+    requires { All (HasParameter (S.has store.now)) params.now }
+    ensures held { IfOk result (λ ps. All (HasParam (S.has store.now)) ps.items) }
+    ensures value { IfOk result (λ ps. map (param_called S.tree) ps.items ≡ parameters_with S.tree params.now) }
 {
     let mut all = Vec::new(alloc);
     for param in params {
-        all.push(param)?;
+        let copy = copied(store, alloc, param)?;
+        all.push(copy)?;
+    }
+    Ok(all)
+}
+
+/// Parameters that are lent one by one, with copies of their types.
+pub fn copies_of_lent<'t, S: TypeStore>(
+    store: &S,
+    alloc: Global,
+    params: &[&'t Parameter<S::Ty>],
+) -> Result<Vec<Param<'t, S::Ty>>, OutOfMemory>
+    requires { All (HasLent (S.has store.now)) params.now }
+    ensures held { IfOk result (λ ps. All (HasParam (S.has store.now)) ps.items) }
+    ensures value { IfOk result (λ ps. map (param_called S.tree) ps.items ≡ map (parameter_lent S.tree) params.now) }
+{
+    let mut all = Vec::new(alloc);
+    for param in params {
+        let copy = copied(store, alloc, param)?;
+        all.push(copy)?;
     }
     Ok(all)
 }
@@ -40,13 +90,13 @@ pub fn lent<'t, Ty: Drop>(
 /// The number of the first parameter of each name.
 fn numbers<'t, Ty: Drop>(
     alloc: Global,
-    params: &[&'t Parameter<Ty>],
+    params: &[Param<'t, Ty>],
 ) -> Result<Numbers<'t>, OutOfMemory>
-    ensures { IfOk result (λ m. AreNumbers m (names_lent params.now)) }
+    ensures { IfOk result (λ m. AreNumbers m (names_called params.now)) }
 {
     let mut numbers = IndexMap::new(alloc);
     for i in 0..params.len() {
-        let name = params[i].name.as_str();
+        let name = params[i].name;
         if !numbers.contains_key(name) {
             numbers.insert(name, i)?;
         }
@@ -55,11 +105,11 @@ fn numbers<'t, Ty: Drop>(
 }
 
 /// The number of the first parameter of a name, by a walk.
-fn position<Ty: Drop>(params: &[&Parameter<Ty>], name: &str) -> Option<usize>
-    ensures { result ≡ index_of name.now (names_lent params.now) }
+fn position<Ty: Drop>(params: &[Param<'_, Ty>], name: &str) -> Option<usize>
+    ensures { result ≡ index_of name.now (names_called params.now) }
 {
     for i in 0..params.len() {
-        if name == params[i].name.as_str() {
+        if name == params[i].name {
             return Some(i);
         }
     }
@@ -71,7 +121,7 @@ impl<'t, Ty: Drop> Params<'t, Ty> {
     pub fn new(
         alloc: Global,
         given: &Given,
-        all: Vec<&'t Parameter<Ty>>,
+        all: Vec<Param<'t, Ty>>,
     ) -> Result<Params<'t, Ty>, OutOfMemory>
         ensures all { IfOk result (λ ps. ps.all ≡ all.entry) }
         ensures numbers { IfOk result (λ ps. AreNumbered ps) }
@@ -87,7 +137,7 @@ impl<'t, Ty: Drop> Params<'t, Ty> {
     /// The number of the first parameter of a name.
     pub fn number(&self, name: &str) -> Option<usize>
         requires { AreNumbered self.now }
-        ensures { result ≡ index_of name.now (names_lent self.now.all.items) }
+        ensures { result ≡ index_of name.now (names_called self.now.all.items) }
     {
         match &self.numbers {
             Some(numbers) => numbers.get(name).copied(),
@@ -99,7 +149,7 @@ impl<'t, Ty: Drop> Params<'t, Ty> {
 /// Whether an argument by name is for the parameter of this number, the first of its name.
 fn takes_name<Ty: Drop>(given: &Given, params: &Params<'_, Ty>, i: usize, name: &str) -> bool
     requires { AreNumbered params.now }
-    ensures { result ≡ (is_among name.now (names_in given.now.named) && is_place (index_of name.now (names_lent params.now.all.items)) i) }
+    ensures { result ≡ (is_among name.now (names_in given.now.named) && is_place (index_of name.now (names_called params.now.all.items)) i) }
 {
     if !is_among(&given.named, name) {
         return false;
@@ -113,11 +163,11 @@ fn takes_name<Ty: Drop>(given: &Given, params: &Params<'_, Ty>, i: usize, name: 
 /// Whether each parameter that no argument by position fills has a default, or an argument by name.
 fn are_filled<Ty: Drop>(given: &Given, params: &Params<'_, Ty>) -> bool
     requires { AreNumbered params.now }
-    ensures { result ≡ filled_lent (names_in given.now.named) (names_lent (take given.now.positional params.now.all.items)) (drop given.now.positional params.now.all.items) }
+    ensures { result ≡ filled_called (names_in given.now.named) (names_called (take given.now.positional params.now.all.items)) (drop given.now.positional params.now.all.items) }
 {
     for i in given.positional..params.all.len() {
-        let param = params.all[i];
-        if !param.has_default && !takes_name(given, params, i, param.name.as_str()) {
+        let param = &params.all[i];
+        if !param.has_default && !takes_name(given, params, i, param.name) {
             return false;
         }
     }
@@ -137,7 +187,7 @@ fn is_free(positional: usize, number: Option<usize>) -> bool
 /// Whether each argument by name is for a parameter that no argument by position fills.
 fn are_free<Ty: Drop>(given: &Given, params: &Params<'_, Ty>) -> bool
     requires { AreNumbered params.now }
-    ensures { result ≡ list_all (λ word. is_free given.now.positional (index_of word (names_lent params.now.all.items))) (names_in given.now.named) }
+    ensures { result ≡ list_all (λ word. is_free given.now.positional (index_of word (names_called params.now.all.items))) (names_in given.now.named) }
 {
     let names = given.named.as_slice();
     for i in 0..names.len() {

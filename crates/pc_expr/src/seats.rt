@@ -8,7 +8,7 @@ ghost use Rattle.pc_expr.specs.Operations.{has_error};
 ghost use Rattle.pc_expr.specs.Calls.{all_codes, wanted, positional_seat, named_seat, builtin_signature};
 ghost use Rattle.pc_expr.specs.Lawful.{keyword_seat};
 ghost use Rattle.pc_expr.specs.Standing.{HasIfAny};
-ghost use Rattle.pc_expr.specs.Calling.{names_in, names_lent, number_for, builtin_number, offer_called, params_called, signature_called, AreNumbered, HasParams, HasCalled, HasCallOffer, types_at, seat_of, IsSeat};
+ghost use Rattle.pc_expr.specs.Calling.{names_in, names_called, number_for, builtin_number, offer_called, params_called, signature_called, AreNumbered, HasParams, HasCalled, HasCallOffer, types_at, seat_of, IsSeat};
 
 use crate::arguments::{Names, is_among};
 use crate::call_offers::{CallOffer, Called};
@@ -35,7 +35,7 @@ pub enum Argument<'n> {
 /// The number of the parameter that an argument is for: the one at its position, or the first of its name.
 fn param_number<Ty: Drop>(params: &Params<'_, Ty>, argument: Argument) -> Option<usize>
     requires { AreNumbered params.now }
-    ensures { result ≡ number_for argument.entry (names_lent params.now.all.items) }
+    ensures { result ≡ number_for argument.entry (names_called params.now.all.items) }
 {
     match argument {
         Argument::Position(position) => Some(position),

@@ -1,4 +1,4 @@
--- What the program tests for, and how a member of a type stands to it (private to this crate; its proofs tie it to narrowing).
+-- What the program tests for, and how a member of a type stands to it (its proofs tie it to narrowing).
 use Rattle.std.specs.Prelude.{ℕ, Option, Some, None, if◌then◌else◌}
 use Rattle.pc_types.specs.Tree.{Tree, Any, Never, Int, Bool, Str, NoneType, Class, ListOf, Union}
 use Rattle.pc_types.specs.Below.{Bases}

@@ -23,5 +23,6 @@ pub use laws::{
     environments_stay_well_formed, joins_keep_locals, loops_begin_with_declared_types,
     tests_keep_types_well_formed,
 };
-pub use naming::{OwnerNames, Resolver};
+pub use naming::{OwnerNames, Resolver, local_named, test_of};
 pub use narrowing::{BothWays, narrow, narrow_false, narrow_true};
+pub use testing::Test;

@@ -46,8 +46,8 @@ fn as_local(meaning: Res) -> Option<usize>
     }
 }
 
-/// The local that an expression names, if it is a name of one.
-pub(crate) fn local_named<R: Resolver>(names: &R, e: &Expr) -> Option<usize>
+/// The local that an expression names, if it is a name of one. Language Reference 4.2.2 "Resolution of names".
+pub fn local_named<R: Resolver>(names: &R, e: &Expr) -> Option<usize>
     ensures { result ≡ local_named (R.meaning names.now) (expr_of e.now) }
 {
     match e {
@@ -70,8 +70,8 @@ fn test_named(meaning: Res) -> Option<Test>
     }
 }
 
-/// What an expression that stands second in `isinstance` tests for, if it tests for anything.
-pub(crate) fn test_of<R: Resolver>(names: &R, e: &Expr) -> Option<Test>
+/// What an expression that stands second in `isinstance` tests for, if it tests for anything. Own rule of the profile.
+pub fn test_of<R: Resolver>(names: &R, e: &Expr) -> Option<Test>
     ensures { option_tested result ≡ test_of (R.meaning names.now) (expr_of e.now) }
 {
     match e {

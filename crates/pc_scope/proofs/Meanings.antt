@@ -29,7 +29,7 @@ of_class : (c i : ℕ) (o : Option ClassDef) → method_locals (option_map metho
 of_class c i None = refl
 of_class c i (Some d) = ap locals_at (get_mapped (locals_by true) (methods_in d.members) i) ∙ of_method c i (slice_get (methods_in d.members) i)
 
-same_locals : (m : Module) (t : Tables) → AreTables m t → (owner : Owner) → locals_for t owner ≡ locals_of m owner
+pub same_locals : (m : Module) (t : Tables) → AreTables m t → (owner : Owner) → locals_for t owner ≡ locals_of m owner
 same_locals m t are owners.Module = refl
 same_locals m t are (owners.Func i) = ap (λ fs. locals_at (slice_get fs i)) are.functions ∙ ap locals_at (get_mapped (locals_by false) (functions_in m.items) i) ∙ of_function i (slice_get (functions_in m.items) i)
 same_locals m t are (owners.Method c i) = ap (λ cs. method_locals (slice_get cs c) i) are.methods ∙ ap (λ o. method_locals o i) (get_mapped methods_locals (classes_in m.items) c) ∙ of_class c i (slice_get (classes_in m.items) c)

@@ -1,7 +1,7 @@
-ghost use Rattle.std.specs.Prelude.{◌≡◌, ◌↔◌, Contains};
+ghost use Rattle.std.specs.Prelude.{◌≡◌, ◌↔◌, length, Contains};
 ghost use Rattle.pc_tree.specs.Tree.{Module as Tree};
 ghost use Rattle.pc_tree.specs.declared.code.Finding.{Finding as FindingOf};
-ghost use Rattle.pc_scope.specs.Resolution.{resolve};
+ghost use Rattle.pc_scope.specs.Resolution.{resolve, locals_of};
 ghost use Rattle.pc_scope.specs.Findings.{ScopeFinds};
 ghost use Rattle.pc_scope.specs.Tables.{meaning};
 ghost use Rattle.pc_scope.specs.Scoped.{Scoped, AreScopes};
@@ -32,6 +32,14 @@ impl Scopes {
         ensures resolved { (m : Tree) → AreScopes m self.now → result ≡ resolve m owner name.now }
     {
         self.names.mean(owner, name)
+    }
+
+    /// How many locals an owner has, the module or a function or method of it: they are numbered from 0.
+    /// Language Reference 4.2.1 "Binding of names".
+    pub fn count_locals(&self, owner: Owner) -> usize
+        ensures { (m : Tree) → AreScopes m self.now → result ≡ length (locals_of m owner) }
+    {
+        self.names.count_locals(owner)
     }
 
     /// What is found of the module's names and of the places of its statements, in any order: E01, E02, E03, E05, E28,

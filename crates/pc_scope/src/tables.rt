@@ -1,4 +1,4 @@
-ghost use Rattle.std.specs.Prelude.{◌≡◌, map};
+ghost use Rattle.std.specs.Prelude.{◌≡◌, length, map};
 ghost use Rattle.pc_scope.specs.Resolution.{index_of};
 ghost use Rattle.pc_scope.specs.Reserved.{beside};
 ghost use Rattle.pc_scope.specs.Tables.{Tables, meaning, locals_for};
@@ -46,6 +46,16 @@ impl Names {
         match self.locals(owner) {
             Some(locals) => locals.get_index_of(name),
             None => None,
+        }
+    }
+
+    /// How many locals an owner has.
+    pub fn count_locals(&self, owner: Owner) -> usize
+        ensures { result ≡ length (locals_for self.now owner) }
+    {
+        match self.locals(owner) {
+            Some(locals) => locals.len(),
+            None => 0,
         }
     }
 

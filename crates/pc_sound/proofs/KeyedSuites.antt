@@ -24,11 +24,11 @@ use Rattle.pc_flow.specs.Narrowing.{narrow}
 use Rattle.pc_expr.specs.Context.{Context}
 use Rattle.pc_class.specs.Facts.{Parameter, Method, field_of, method_of, class_at}
 use Rattle.pc_expr.specs.Operations.{Mark, clean, StoreOffer, has_error, store_codes, iterate_member, store_found, store_attribute_member, store_index_member, stored_types, only_type}
-use Rattle.pc_expr.specs.Calls.{given, is_suited, builtin_signature, positional_seat, named_seat}
+use Rattle.pc_expr.specs.Calls.{given, is_suited, builtin_signature, positional_seat, named_seat, is_range, range_offers, range_item}
 use Rattle.pc_expr.specs.Labels.{Flowing, Marks, type_of}
 use Rattle.pc_expr.specs.Lawful.{Lawful}
 use Rattle.pc_check.specs.StatementLabels.{OptionMarks, TargetMarks, StmtMarks, SuiteMarks, BranchesMarks, Behind, BehindRule, breaks_in, breaks_in_suite, breaks_in_branches, behind_list, ways_in}
-use Rattle.pc_check.specs.Statements.{Seen, is_first, only_code, range_offers, range_item, is_range, LawfulRange, LawfulValues, RangeOrValues, LawfulIterable, LawfulTarget, LawfulDeclaration, annotation_at, LawfulAnnotated, LawfulAssignment, LawfulReturn, LawfulOption, LawfulStmt, LawfulSuite, LawfulBranches, binds_number, DeclaredAt, known_type, bound_env, LawfulBinding, LawfulStore, UndeclaredName, Undeclared}
+use Rattle.pc_check.specs.Statements.{Seen, is_first, only_code, LawfulRange, LawfulValues, RangeOrValues, LawfulIterable, LawfulTarget, LawfulDeclaration, annotation_at, LawfulAnnotated, LawfulAssignment, LawfulReturn, LawfulOption, LawfulStmt, LawfulSuite, LawfulBranches, binds_number, DeclaredAt, known_type, bound_env, LawfulBinding, LawfulStore, UndeclaredName, Undeclared}
 use Rattle.pc_sound.proofs.TruthValues.{not_both}
 use Rattle.pc_sound.proofs.Keys.{IsKeyed, Keyed, keyed_type}
 use Rattle.pc_sound.proofs.KeyedTypes.{OptionKeyed, EnvKeyed, assign_keyed, narrow_keyed, join_env_keyed, all_keyed}

@@ -1,6 +1,7 @@
 pub mod Answers
 pub mod Coding
 pub mod Control
+pub mod Devices
 pub mod Laws
 pub mod Lines
 pub mod Refusals

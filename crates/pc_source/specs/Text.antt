@@ -6,7 +6,7 @@ use Rattle.pc_source.specs.Control.{IsControl}
 use Rattle.pc_source.specs.Coding.{IsCoding}
 use Rattle.pc_source.specs.declared.fault.Refusal.{Refusal}
 use Rattle.pc_source.specs.declared.fault.RefusalCode.{RefusalCode}
-use Rattle.pc_source.specs.declared.fault.RefusalCode.TheVariants.{S1, S2, S3, S4, S5, L1, L2, L3, L4, L5, L6, L7, L8, I1, I2, I3, N1, N2, N3, N4, N5, G1, G2, F1}
+use Rattle.pc_source.specs.declared.fault.RefusalCode.TheVariants.{S1, S2, S3, S4, S5, L1, L2, L3, L4, L5, L6, L7, L8, I1, I2, I3, N1, N2, N3, N4, N5, G1, G2}
 
 -- the greatest length of a source, in bytes
 abbrev pub limit : ℕ

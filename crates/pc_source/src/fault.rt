@@ -56,8 +56,6 @@ pub enum RefusalCode {
     G1,
     /// An expression or annotation of depth over 64.
     G2,
-    /// The source is no module of the part of the language that is read so far.
-    F1,
 }
 
 impl RefusalCode {
@@ -89,7 +87,6 @@ impl RefusalCode {
             RefusalCode::N5 => "N5",
             RefusalCode::G1 => "G1",
             RefusalCode::G2 => "G2",
-            RefusalCode::F1 => "F1",
         }
     }
 }

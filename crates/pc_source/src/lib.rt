@@ -3,6 +3,7 @@
 
 mod coding;
 mod control;
+mod counted;
 mod fault;
 pub mod laws;
 mod place;
@@ -10,6 +11,7 @@ mod source;
 #[cfg(test)]
 mod tests;
 
+pub use counted::Counted;
 pub use fault::{Fault, OutOfMemory, Refusal, RefusalCode};
 pub use place::Place;
 pub use source::{Source, read_source};

@@ -1,10 +1,4 @@
-pub mod CodeOrder
-pub mod Judging
 pub mod Main
-pub mod Members
-pub mod Order
-pub mod Parts
-pub mod Whole
-pub mod WholeFindings
-pub mod WholeLabels
+pub mod ModuleFindings
+pub mod StreamBytes
 pub mod WithinBytes

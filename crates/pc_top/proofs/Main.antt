@@ -1,6 +1,5 @@
 -- The main theorem, of what the parts ensure.
-use Rattle.std.proofs.Common.{◌≡◌, ℕ, List, sym, subst, inl, inr, Contains, ◌↔◌}
-use Rattle.std.specs.Prelude.{Some}
+use Rattle.std.proofs.Common.{◌≡◌, ℕ, List, Contains, ◌↔◌}
 use Rattle.pc_source.specs.declared.place.Place.{Place}
 use Rattle.pc_source.specs.declared.fault.Fault.{Fault}
 use Rattle.pc_source.specs.declared.fault.Fault.TheVariants as fault
@@ -11,37 +10,28 @@ use Rattle.pc_check.specs.Modules.{IsFinding}
 use Rattle.pc_check.proofs.LabelledModule.{every_module_has_a_labelling}
 use Rattle.pc_machine.specs.Runs.{Run, End, IsFault}
 use Rattle.pc_sound.proofs.Sounding.{sound}
-use Rattle.pc_top.specs.Fragment as part
-use Rattle.pc_top.specs.Part.{part_of, GoesBeyond}
 use Rattle.pc_front.specs.Bytes.{IsModuleOf, IsRefusalOf}
-use Rattle.pc_top.specs.declared.report.Row.{Row}
-use Rattle.pc_top.specs.Checking.{findings_in}
-use Rattle.pc_top.specs.Report.{Lists, findings_of}
-use Rattle.pc_top.specs.Headline.{HasNoError, HasEvaluated, Headline, IsRefused, OnCheckFault, checked}
+use Rattle.pc_report.specs.declared.report.Row.{Row}
+use Rattle.pc_report.specs.Report.{Lists, findings_of}
+use Rattle.pc_top.specs.Headline.{HasNoError, HasEvaluated, Headline, OnCheckFault, checked}
 use Rattle.pc_front.proofs.BytesLaws.{one_module}
-use Rattle.pc_top.proofs.WholeFindings.{exactly}
 
-module _ (bytes : List ℕ) (whole : Module) (program : part.Module) (typed : part_of whole ≡ Some program) where
+module _ (bytes : List ℕ) (whole : Module) where
   sound_here : (rows : List Row) → Lists bytes (IsFinding whole) rows → HasNoError rows → (events : List Place) (end : End) → Run whole events end → IsFault end → HasEvaluated rows events
   sound_here rows lists clean events end run fault =
       let e = sound whole (λ f found. clean f ((lists.exact f).1 found)) events end run fault in
       record { place = e.place; listed = (lists.exact e.place).1 e.found; dynamic = e.dynamic; event = e.event }
 
-  pub headline_from : IsModuleOf bytes whole → (found : List Finding) (rows : List Row) → found ≡ findings_in program.body → Lists bytes (Contains found) rows → Headline bytes rows
-  headline_from spelled found rows is lists =
+  pub headline_from : IsModuleOf bytes whole → (found : List Finding) (rows : List Row) → ((f : Finding) → Contains found f ↔ IsFinding whole f) → Lists bytes (Contains found) rows → Headline bytes rows
+  headline_from spelled found rows exactly lists =
       let exact : (f : Finding) → Contains (findings_of rows) f ↔ IsFinding whole f = λ f. (
-        (λ h. (exactly whole program typed f).1 (subst (λ l. Contains l f) is ((lists.exact f).0 h))),
-        (λ h. (lists.exact f).1 (subst (λ l. Contains l f) (sym is) ((exactly whole program typed f).0 h))),
+        (λ h. (exactly f).0 ((lists.exact f).0 h)),
+        (λ h. (lists.exact f).1 ((exactly f).1 h)),
       ) in
       let listed : Lists bytes (IsFinding whole) rows = record { sorted = lists.sorted; exact = exact; placed = lists.placed } in
       record { whole = whole; spelled = spelled; only = λ other h. one_module bytes other whole h spelled; labelled = every_module_has_a_labelling whole; listed = listed; sound = sound_here rows listed }
 
 -- a refusal of the bytes
-pub refused_bytes : (bytes : List ℕ) (f : Fault) → OnRefusal (IsRefusalOf bytes) f → OnCheckFault (IsRefused bytes) (checked f)
-refused_bytes bytes (fault.Refused r) h = inl h
+pub refused_bytes : (bytes : List ℕ) (f : Fault) → OnRefusal (IsRefusalOf bytes) f → OnCheckFault (IsRefusalOf bytes) (checked f)
+refused_bytes bytes (fault.Refused r) h = h
 refused_bytes bytes fault.OutOfMemory h = tt
-
--- a module that goes beyond the part
-pub beyond : (bytes : List ℕ) (whole : Module) (f : Fault) → IsModuleOf bytes whole → OnRefusal (GoesBeyond whole) f → OnCheckFault (IsRefused bytes) (checked f)
-beyond bytes whole (fault.Refused r) spelled h = inr (record { whole = whole; spelled = spelled; beyond = h })
-beyond bytes whole fault.OutOfMemory spelled h = tt

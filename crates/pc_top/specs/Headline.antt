@@ -1,5 +1,5 @@
 -- The main theorem's statement: what a report says of the bytes, and what a refusal does.
-use Rattle.std.specs.Prelude.{◌≡◌, ◌⊎◌, ℕ, List, Contains}
+use Rattle.std.specs.Prelude.{◌≡◌, ℕ, List, Contains}
 use Rattle.pc_source.specs.declared.place.Place.{Place}
 use Rattle.pc_source.specs.declared.fault.Fault.{Fault}
 use Rattle.pc_source.specs.declared.fault.Fault.TheVariants as fault
@@ -9,12 +9,11 @@ use Rattle.pc_tree.specs.Code.{IsError}
 use Rattle.pc_tree.specs.Tree.{Module}
 use Rattle.pc_check.specs.Modules.{HasLabelling, IsFinding}
 use Rattle.pc_machine.specs.Runs.{Run, End, IsFault}
-use Rattle.pc_front.specs.Bytes.{IsModuleOf, IsRefusalOf}
-use Rattle.pc_top.specs.Part.{GoesBeyond}
-use Rattle.pc_top.specs.declared.report.Row.{Row}
+use Rattle.pc_front.specs.Bytes.{IsModuleOf}
+use Rattle.pc_report.specs.declared.report.Row.{Row}
 use Rattle.pc_top.specs.declared.fault.CheckFault.{CheckFault}
 use Rattle.pc_top.specs.declared.fault.CheckFault.TheVariants as check_fault
-use Rattle.pc_top.specs.Report.{Lists, findings_of}
+use Rattle.pc_report.specs.Report.{Lists, findings_of}
 
 -- no row has the code of an error
 abbrev pub HasNoError : List Row → Type 0
@@ -37,16 +36,6 @@ pub record Headline (bytes : List ℕ) (rows : List Row) : Type 0 where
   pub labelled : HasLabelling whole
   pub listed : Lists bytes (IsFinding whole) rows
   pub sound : HasNoError rows → (events : List Place) (end : End) → Run whole events end → IsFault end → HasEvaluated rows events
-
--- the bytes spell a module that goes beyond the part that is typed so far, first at the byte
-pub record IsBeyond (bytes : List ℕ) (refusal : Refusal) : Type 0 where
-  pub whole : Module
-  pub spelled : IsModuleOf bytes whole
-  pub beyond : GoesBeyond whole refusal
-
--- what a refusal says: the bytes spell no module, or one that goes beyond the part
-abbrev pub IsRefused : List ℕ → Refusal → Type 0
-IsRefused bytes refusal = IsRefusalOf bytes refusal ⊎ IsBeyond bytes refusal
 
 -- of a fault: where it is a refusal, P holds of it; want of memory may come at any time, and no device is used
 abbrev pub OnCheckFault : (Refusal → Type 0) → CheckFault → Type 0

@@ -1,5 +1,2 @@
-pub mod Checking
-pub mod Fragment
 pub mod Headline
-pub mod Part
-pub mod Report
+pub mod Streaming

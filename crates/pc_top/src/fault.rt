@@ -1,7 +1,9 @@
 ghost use Rattle.std.specs.Prelude.{◌≡◌};
 ghost use Rattle.pc_top.specs.Headline.{checked};
+ghost use Rattle.pc_top.specs.Streaming.{read_checked, write_checked};
 ghost use Rattle.pc_top.specs.declared.fault.CheckFault.TheVariants as check_fault;
 
+use pc_report::{ReadFault, WriteFault};
 use pc_source::{Fault, OutOfMemory, Refusal};
 use thiserror::Error;
 
@@ -38,5 +40,27 @@ impl From<OutOfMemory> for CheckFault {
 
     fn from(_fault: OutOfMemory) -> CheckFault {
         CheckFault::OutOfMemory
+    }
+}
+
+impl From<ReadFault> for CheckFault {
+    ghost from_gives = { λ f e. e ≡ read_checked f };
+
+    fn from(fault: ReadFault) -> CheckFault {
+        match fault {
+            ReadFault::OutOfMemory => CheckFault::OutOfMemory,
+            ReadFault::Read => CheckFault::Read,
+        }
+    }
+}
+
+impl From<WriteFault> for CheckFault {
+    ghost from_gives = { λ f e. e ≡ write_checked f };
+
+    fn from(fault: WriteFault) -> CheckFault {
+        match fault {
+            WriteFault::OutOfMemory => CheckFault::OutOfMemory,
+            WriteFault::Write => CheckFault::Write,
+        }
     }
 }

@@ -1,4 +1,4 @@
-use crate::{CheckFault, Report, check};
+use crate::{CheckFault, Format, Report, check};
 use pc_source::{Refusal, RefusalCode};
 use std::test::Fail;
 
@@ -59,33 +59,22 @@ fn reports(rt: HostRuntime) -> Result<(), Fail> {
         ),
     ] {
         let report = report_of(&rt, body)?;
-        let text = report.to_text(rt.alloc())?;
+        let text = report.to_text(rt.alloc(), Format::One)?;
         assert_eq!(rt; text.as_str(), want, "at {body}");
     }
     Ok(())
 }
 
 #[test]
-fn refuses_where_nothing_continues_or_the_part_ends(rt: HostRuntime) -> Result<(), Fail> {
-    use RefusalCode::{F1, G1, L2, L3};
+fn refuses_where_nothing_continues(rt: HostRuntime) -> Result<(), Fail> {
+    use RefusalCode::{G1, L2, L3};
     for (body, code, byte) in [
         ("main()", G1, 47),
         ("    pass\n", G1, 56),
         ("    pass\nmain() 1", G1, 63),
         ("    pass\n    main()", G1, 66),
-        ("    pas\nmain()", F1, 51),
         ("    01\nmain()", L3, 51),
-        ("    1 * 2\nmain()", F1, 51),
-        ("    1 + (2 // 3)\nmain()", F1, 56),
-        ("    (1 + 2) + x\nmain()", F1, 61),
-        ("    -1\nmain()", F1, 51),
-        ("    x = 1\nmain()", F1, 51),
-        ("    return [1]\nmain()", F1, 58),
-        ("    return 1 + True\nmain()", F1, 62),
-        ("    pass\n    if 1:\n        pass\nmain()", F1, 60),
         ("    \"a\nmain()", L2, 51),
-        ("    pass\ndef f():\n    pass\nmain()", F1, 56),
-        ("    pass\nx = 1\nmain()", F1, 56),
     ] {
         let input = format!(in rt.alloc(); "{HEADER}{body}")?;
         assert_eq!(rt;
@@ -98,22 +87,6 @@ fn refuses_where_nothing_continues_or_the_part_ends(rt: HostRuntime) -> Result<(
         ("", G1, 0),
         ("from __future__ import annotations", G1, 34),
         ("x = 1\n", G1, 0),
-        ("from __future__ import annotations\nmain()\n", F1, 35),
-        (
-            "from __future__ import annotations\ndef f():\n    pass\nmain()\n",
-            F1,
-            35,
-        ),
-        (
-            "from __future__ import annotations\ndef main(x):\n    pass\nmain()\n",
-            F1,
-            44,
-        ),
-        (
-            "from __future__ import annotations\ndef main() -> int:\n    pass\nmain()\n",
-            F1,
-            49,
-        ),
     ] {
         assert_eq!(rt;
             refusal_of(&rt, input.as_bytes()),
@@ -204,7 +177,7 @@ fn checks_the_largest_modules(rt: HostRuntime) -> Result<(), Fail> {
     assert_eq!(rt; wrong.len(), 1_048_574);
     let report = check(rt.alloc(), wrong.as_bytes())?;
     assert_eq!(rt; (report.errors(), report.dynamic()), (95_320, 0));
-    let text = report.to_text(rt.alloc())?;
+    let text = report.to_text(rt.alloc(), Format::One)?;
     assert!(rt;
         text.as_str()
             .ends_with("\n95322:5 E13 operator\nerrors 95320, dynamic 0\n")

@@ -1,11 +1,11 @@
 ghost use Rattle.std.specs.Prelude.{◌≤◌, length, IfOk, IfErr};
-ghost use Rattle.pc_top.specs.Headline.{Headline, IsRefused, OnCheckFault};
+ghost use Rattle.pc_front.specs.Bytes.{IsRefusalOf};
+ghost use Rattle.pc_top.specs.Headline.{Headline, OnCheckFault};
 
 use crate::checking::findings;
 use crate::fault::CheckFault;
-use crate::part::main_of;
-use crate::report::Report;
 use pc_front::module_in;
+use pc_report::Report;
 use pc_source::read_source;
 use std::alloc::Global;
 
@@ -18,17 +18,15 @@ use std::alloc::Global;
 ///
 /// # Errors
 ///
-/// `Refused` exactly where the bytes spell no module, or with `F1` one that goes beyond the part whose typing
-/// stands so far; `OutOfMemory` where a growth was refused.
+/// `Refused` exactly where the bytes spell no module, with their refusal; `OutOfMemory` only when an allocation failed.
 pub fn check(alloc: Global, bytes: &[u8]) -> Result<Report, CheckFault>
     ensures headline { IfOk result (Headline bytes.now) }
-    ensures refused { IfErr result (OnCheckFault (IsRefused bytes.now)) }
+    ensures refused { IfErr result (OnCheckFault (IsRefusalOf bytes.now)) }
     ensures within { IfErr result (OnCheckFault (λ refusal. refusal.byte ≤ length bytes.now)) }
 {
     let source = read_source(alloc, bytes)?;
     let module = module_in(alloc, &source)?;
-    let body = main_of(&module)?;
-    let found = findings(alloc, body)?;
-    let report = Report::of(alloc, &source, &found)?;
+    let found = findings(alloc, &module)?;
+    let report = Report::of(alloc, &source, &found, &[])?;
     Ok(report)
 }

@@ -1,13 +1,22 @@
-//! Checks a module: `pycheck FILE`.
+//! Checks a module: `pycheck [--json] FILE`.
 #![tactic(auto)]
+
+mod command_line;
+mod words;
+#[cfg(test)]
+mod words_tests;
 
 ghost use Rattle.std.specs.Prelude.{◌≡◌};
 ghost use Rattle.pycheck.specs.Status.{status};
 
-use pc_top::{CheckFault, check};
+use crate::words::{OptionFault, Options};
+use pc_source::Counted;
+use pc_top::{CheckFault, check_stream};
+use std::fs::File;
+use std::io::Write;
 use std::process::ExitCode;
 use std::rt::{Env, Files};
-use std::{env, fs};
+use std::{env, io};
 
 /// The exit status of an outcome, the numbers of errors and of dynamic places: 0 with no error, 1 with
 /// errors, 2 after a refusal, and 3 where memory or a device failed. Own rule of the profile.
@@ -22,31 +31,48 @@ pub fn status_of(outcome: &Result<(u64, u64), CheckFault>) -> u8
     }
 }
 
-/// Checks a file and prints the report.
-fn checked<R: Print + Files + AllocGlobal>(rt: &R, file: &str) -> Result<(u64, u64), CheckFault> {
-    let bytes = fs::read(rt, file).map_err(|_| CheckFault::Read)?;
-    let report = check(rt.alloc(), bytes.as_slice())?;
-    let text = report.to_text(rt.alloc())?;
-    print!(rt; "{text}").map_err(|_| CheckFault::Write)?;
-    Ok((report.errors(), report.dynamic()))
+/// What the words of the command line ask for.
+fn asked_for<R: Env + AllocGlobal>(rt: &R) -> Result<Options, OptionFault> {
+    let Ok(words) = env::args(rt) else {
+        let text = String::from_str(rt.alloc(), "error: the words could not be read\n")?;
+        return Err(OptionFault::Usage(text));
+    };
+    let given: Vec<String> = words.skip(1).collect(rt.alloc())?;
+    let words: Vec<&str> = given.iter().map(|word| word.as_str()).collect(rt.alloc())?;
+    command_line::options(rt.alloc(), words.as_slice())
 }
 
-/// The file that the words name, where they are one word.
-fn file_of<R: Env + AllocGlobal>(rt: &R) -> Option<String> {
-    let mut words = env::args(rt).ok()?.skip(1);
-    match (words.next(), words.next()) {
-        (Some(file), None) => Some(file),
-        _ => None,
+/// Tells why the words ask for no check, and gives the exit status.
+fn tell<R: Print + Eprint>(rt: &R, fault: &OptionFault) -> u8 {
+    if let OptionFault::Help(text) = fault
+        && print!(rt; "{text}").is_ok()
+    {
+        return 0;
     }
+    let _ = eprint!(rt; "{fault}");
+    3
+}
+
+/// Checks a file, and writes its report to standard output.
+fn checked<R: Print + Files + AllocGlobal>(
+    rt: &R,
+    options: &Options,
+) -> Result<(u64, u64), CheckFault> {
+    let file = File::open(rt, options.file.as_str()).map_err(|_| CheckFault::Read)?;
+    let mut input = Counted::new(file);
+    let mut output = Counted::new(io::writer(rt));
+    let counts = check_stream(rt.alloc(), &mut input, &mut output, options.json)?;
+    output.flush().map_err(|_| CheckFault::Write)?;
+    Ok(counts)
 }
 
 /// Does what the words ask for, and gives the exit status.
 fn run<R: Print + Eprint + Env + Files + AllocGlobal>(rt: &R) -> u8 {
-    let Some(file) = file_of(rt) else {
-        let _ = eprintln!(rt; "usage: pycheck FILE");
-        return 3;
+    let options = match asked_for(rt) {
+        Ok(options) => options,
+        Err(fault) => return tell(rt, &fault),
     };
-    let outcome = checked(rt, file.as_str());
+    let outcome = checked(rt, &options);
     if let Err(fault) = &outcome {
         let _ = eprintln!(rt; "{fault}");
     }

@@ -1,1 +1,3 @@
 mod Fuel
+pub mod Reading
+pub mod Plain

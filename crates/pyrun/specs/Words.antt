@@ -1,34 +1,109 @@
--- The words of the command line. Own rule of the profile.
-use Rattle.std.specs.Prelude.{ℕ, ◌^◌, Bool, ◌&&◌, List, [], ◌∷◌, length, nat_lt, if◌then◌else◌, Option, Some, None, bytes_eq, codes}
-use Rattle.std.specs.Str.{all_ascii_digits}
+-- The words of the command line, as `clap` reads them. Own rule of the profile.
+use Rattle.std.specs.Prelude.{◌==◌, ℕ, ◌^◌, Bool, true, false, not, ◌&&◌, List, [], ◌∷◌, length, nat_lt, if◌then◌else◌, Option, Some, None, is_some, option_and_then, codes}
+use Rattle.std.specs.List.{list_any}
+use Rattle.std.specs.Str.{all_ascii_digits, bytes_eq}
 use Rattle.std.specs.Str.Parse.{digits_value}
+use Rattle.clap.specs.Words.{App, Kinds, Rule, Text, fault_of, first_of, matches_of, new_rule}
+use Rattle.clap.specs.Simple.{new_shape}
+use Rattle.clap.specs.declared.builder.action.ArgAction.TheVariants.{Set}
+use Rattle.clap.specs.declared.error.kind.ErrorKind.{ErrorKind}
+use Rattle.clap.specs.declared.error.kind.ErrorKind.TheVariants as kind
 use Rattle.pyrun.specs.declared.words.OptionFault.{OptionFault}
-use Rattle.pyrun.specs.declared.words.OptionFault.TheVariants.{Usage, OutOfMemory}
+use Rattle.pyrun.specs.declared.words.OptionFault.TheVariants.{Usage, Help, OutOfMemory}
 
 -- a run of a file, with so much fuel
 pub record Asked : Type 0 where
   pub fuel : ℕ
-  pub file : List ℕ
+  pub file : Text
+
+-- an argument that takes one value and has to be there
+abbrev pub required_rule : Text → Option Text → Rule
+required_rule id long = record (new_rule id) { long = long; action = Some Set; value_names = 1; required = true }
+
+-- the program's arguments: `--fuel` with a value, and a file; and it has a version
+abbrev pub command_line : App
+command_line = record {
+  top = record (new_shape (codes "pyrun")) {
+    rules = required_rule (codes "fuel") (Some (codes "fuel")) ∷ required_rule (codes "file") None ∷ [];
+    no_binary_name = true;
+    has_version = true;
+  };
+  subs = [];
+}
+
+-- the kinds of fault that `clap` finds in the words, with none where it takes them
+abbrev pub faults : List Text → Kinds
+faults = fault_of command_line
+
+-- the value of an argument in the words
+abbrev pub value_of : Text → List Text → Option Text
+value_of id words = first_of id (matches_of command_line words)
 
 -- a word is a number: one digit or more, that fits 64 bits
-abbrev pub is_number : List ℕ → Bool
+abbrev pub is_number : Text → Bool
 is_number word = all_ascii_digits word && (nat_lt 0 (length word) && nat_lt (digits_value 10 word) (2 ^ 64))
 
 -- the fuel that a word gives, if it is a number
-abbrev pub fuel_in : List ℕ → Option ℕ
+abbrev pub fuel_in : Text → Option ℕ
 fuel_in word = if is_number word then Some (digits_value 10 word) else None
 
--- a file, behind its fuel
-abbrev pub with_file : List ℕ → Option ℕ → Option Asked
-with_file file None = None
-with_file file (Some fuel) = Some (record { fuel = fuel; file = file })
+-- a run, where there are a fuel and a file
+abbrev pub with_file : Option ℕ → Option Text → Option Asked
+with_file (Some fuel) (Some file) = Some (record { fuel = fuel; file = file })
+with_file fuel file = None
 
--- what the words ask for: they are `--fuel`, a number and a file
-abbrev pub asked : List (List ℕ) → Option Asked
-asked (flag ∷ number ∷ file ∷ []) = if bytes_eq flag (codes "--fuel") then with_file file (fuel_in number) else None
-asked words = None
+-- what is found is asked, where there is no fault
+abbrev pub without_faults : Kinds → Option Asked → Option Asked
+without_faults [] found = found
+without_faults (fault ∷ more) found = None
 
--- where the words are at fault, P holds; of want of memory nothing is said
-abbrev pub OnUsage : Type 0 → OptionFault → Type 0
-OnUsage P Usage = P
-OnUsage P OutOfMemory = Unit {0}
+-- what the words ask for: `clap` finds no fault in them, and the value of `--fuel` is a number
+abbrev pub asked : List Text → Option Asked
+asked words = without_faults (faults words) (with_file (option_and_then fuel_in (value_of (codes "fuel") words)) (value_of (codes "file") words))
+
+-- a word begins with a dash (45)
+abbrev pub begins_with_dash : Text → Bool
+begins_with_dash [] = false
+begins_with_dash (byte ∷ rest) = byte == 45
+
+-- the words are plain: `--fuel` and two more, of which neither begins with a dash
+abbrev pub are_plain : List Text → Bool
+are_plain (flag ∷ number ∷ file ∷ []) = bytes_eq flag (codes "--fuel") && (not (begins_with_dash number) && not (begins_with_dash file))
+are_plain words = false
+
+-- what plain words ask for, said without `clap`
+abbrev pub plainly_asked : List Text → Option Asked
+plainly_asked (flag ∷ number ∷ file ∷ []) = with_file (fuel_in number) (Some file)
+plainly_asked words = None
+
+-- a kind of error that is a request: help or the version is shown
+abbrev pub is_request : ErrorKind → Bool
+is_request kind.DisplayHelp = true
+is_request kind.DisplayVersion = true
+is_request _ = false
+
+-- a kind of error that is a mistake in the words
+abbrev pub is_mistake : ErrorKind → Bool
+is_mistake kind.DisplayHelp = false
+is_mistake kind.DisplayVersion = false
+is_mistake kind.OutOfMemory = false
+is_mistake _ = true
+
+-- the words ask for help or for the version
+abbrev pub asks_for_help : List Text → Bool
+asks_for_help words = list_any is_request (faults words)
+
+-- a mistake is among the faults, or there is none and nothing is asked
+abbrev pub mistaken_by : Kinds → Option Asked → Bool
+mistaken_by [] found = not (is_some found)
+mistaken_by (fault ∷ more) found = list_any is_mistake (fault ∷ more)
+
+-- the words are mistaken: `clap` finds a mistake in them, or nothing but that the value of `--fuel` is no number
+abbrev pub is_mistaken : List Text → Bool
+is_mistaken words = mistaken_by (faults words) (asked words)
+
+-- where the words are at fault, P holds, and where they ask for help, Q; of want of memory nothing is said
+abbrev pub OnFault : Type 0 → Type 0 → OptionFault → Type 0
+OnFault P Q (Usage text) = P
+OnFault P Q (Help text) = Q
+OnFault P Q OutOfMemory = Unit {0}

@@ -2,7 +2,7 @@
 use crate::traces::{CLASSES, other_ends};
 use std::test::Fail;
 
-const READS: &str = r#"
+const ATTRIBUTES: &str = r#"
 assert A(1).a == 1  # Done
 x = B(1)
 assert x.a == 1
@@ -28,16 +28,6 @@ True.a  # Outside
 f.a  # Outside
 A.a  # Outside
 print.a  # Outside
-"#;
-
-/// Fields of instances.
-#[test]
-fn reads(rt: HostRuntime) -> Result<(), Fail> {
-    assert_eq!(rt; other_ends(rt.alloc(), CLASSES, READS)?.as_str(), "");
-    Ok(())
-}
-
-const STORES: &str = r#"
 x = A(1)
 x.a = 5
 assert x.a == 5  # Done
@@ -80,16 +70,6 @@ assert x.a.a.a is not None  # Done
 A(1).a = 1 // 0  # Other
 f().a = 1  # AttributeError
 f.a = 1  # Outside
-"#;
-
-/// Fields of instances; another name leaves the profile.
-#[test]
-fn stores(rt: HostRuntime) -> Result<(), Fail> {
-    assert_eq!(rt; other_ends(rt.alloc(), CLASSES, STORES)?.as_str(), "");
-    Ok(())
-}
-
-const METHODS: &str = r#"
 assert A(1).m() == 1  # Done
 assert B(1).m() == 11  # Done
 assert A(1).twice(0) == 2  # Done
@@ -109,16 +89,6 @@ A(1).a(1 // 0)  # Other
 A(1).m(1 // 0)  # Other
 A(1).append(1)  # AttributeError
 B("s").m()  # TypeError
-"#;
-
-/// Of the class of the instance, or of its nearest ancestor that has one.
-#[test]
-fn methods(rt: HostRuntime) -> Result<(), Fail> {
-    assert_eq!(rt; other_ends(rt.alloc(), CLASSES, METHODS)?.as_str(), "");
-    Ok(())
-}
-
-const METHODS_OF_LISTS_AND_DICTS: &str = r#"
 x = [1]
 x.append(2)
 assert len(x) == 2
@@ -149,19 +119,6 @@ x = None
 x.append(1)  # AttributeError
 x = None
 x.m(1 // 0)  # AttributeError
-"#;
-
-/// `append` and `pop` of lists, `get` of dicts.
-#[test]
-fn methods_of_lists_and_dicts(rt: HostRuntime) -> Result<(), Fail> {
-    assert_eq!(rt;
-        other_ends(rt.alloc(), CLASSES, METHODS_OF_LISTS_AND_DICTS)?.as_str(),
-        ""
-    );
-    Ok(())
-}
-
-const GET_OF_DICTS: &str = r#"
 assert {1: 2}.get(1) == 2  # Done
 assert {1: 2}.get(2) is None  # Done
 assert {1: 2}.get(True) == 2  # Done
@@ -181,9 +138,14 @@ assert {1: 2}.get(None) is None  # Done
 {1: 2}.keys()  # Outside
 "#;
 
-/// Keys as of items; None for a key that is absent.
+/// In the order of the table:
+/// - reads: Fields of instances.
+/// - stores: Fields of instances; another name leaves the profile.
+/// - methods: Of the class of the instance, or of its nearest ancestor that has one.
+/// - methods of lists and dicts: `append` and `pop` of lists, `get` of dicts.
+/// - get of dicts: Keys as of items; None for a key that is absent.
 #[test]
-fn get_of_dicts(rt: HostRuntime) -> Result<(), Fail> {
-    assert_eq!(rt; other_ends(rt.alloc(), CLASSES, GET_OF_DICTS)?.as_str(), "");
+fn attributes(rt: HostRuntime) -> Result<(), Fail> {
+    assert_eq!(rt; other_ends(rt.alloc(), CLASSES, ATTRIBUTES)?.as_str(), "");
     Ok(())
 }

@@ -2,7 +2,7 @@
 use crate::traces::{KINDS, POINT, other_ends};
 use std::test::Fail;
 
-const LENGTHS: &str = r#"
+const LENGTHS_TEXTS_AND_PRINTS: &str = r#"
 assert len("abc") == 3  # Done
 assert len("") == 0  # Done
 assert len("é€😀") == 3  # Done
@@ -22,16 +22,6 @@ len(1 // 0)  # Other
 len("a", 1 // 0)  # Other
 len(y)  # NameError
 assert len("\n\t") == 2  # Done
-"#;
-
-/// Of texts, by characters, lists, dicts and tuples.
-#[test]
-fn lengths(rt: HostRuntime) -> Result<(), Fail> {
-    assert_eq!(rt; other_ends(rt.alloc(), POINT, LENGTHS)?.as_str(), "");
-    Ok(())
-}
-
-const TEXTS: &str = r#"
 assert str(5) == "5"  # Done
 assert str(-5) == "-5"  # Done
 assert str(0) == "0"  # Done
@@ -51,16 +41,6 @@ str([1]) + "a"  # Done
 str(P(1)) + "a"  # Done
 str((1,)) + "a"  # Done
 str({}) + "a"  # Done
-"#;
-
-/// Exact on numbers, truth values, texts and None.
-#[test]
-fn texts(rt: HostRuntime) -> Result<(), Fail> {
-    assert_eq!(rt; other_ends(rt.alloc(), POINT, TEXTS)?.as_str(), "");
-    Ok(())
-}
-
-const PRINTS: &str = r#"
 print()  # Done
 print(1, "a", None, [1])  # Done
 assert print(1) is None  # Done
@@ -75,14 +55,20 @@ print(P(1))  # Done
 print(1)(2)  # TypeError
 "#;
 
-/// Any number of arguments by position.
+/// In the order of the table:
+/// - lengths: Of texts, by characters, lists, dicts and tuples.
+/// - texts: Exact on numbers, truth values, texts and None.
+/// - prints: Any number of arguments by position.
 #[test]
-fn prints(rt: HostRuntime) -> Result<(), Fail> {
-    assert_eq!(rt; other_ends(rt.alloc(), POINT, PRINTS)?.as_str(), "");
+fn lengths_texts_and_prints(rt: HostRuntime) -> Result<(), Fail> {
+    assert_eq!(rt;
+        other_ends(rt.alloc(), POINT, LENGTHS_TEXTS_AND_PRINTS)?.as_str(),
+        ""
+    );
     Ok(())
 }
 
-const TESTS_OF_KINDS: &str = r#"
+const INSTANCE_TESTS: &str = r#"
 assert isinstance(1, int)  # Done
 assert isinstance(True, int)  # Done
 assert isinstance(True, bool)  # Done
@@ -101,16 +87,6 @@ assert not isinstance(A(), B)  # Done
 assert not isinstance(C(), A)  # Done
 assert not isinstance(A(), int)  # Done
 assert not isinstance("a", A)  # Done
-"#;
-
-/// `int`, `str`, `bool`, `list`, and classes.
-#[test]
-fn tests_of_kinds(rt: HostRuntime) -> Result<(), Fail> {
-    assert_eq!(rt; other_ends(rt.alloc(), KINDS, TESTS_OF_KINDS)?.as_str(), "");
-    Ok(())
-}
-
-const TESTS_OF_OTHER_THINGS: &str = r#"
 isinstance(1, dict)  # Outside
 isinstance(1, tuple)  # Outside
 isinstance(1, object)  # Outside
@@ -131,19 +107,6 @@ isinstance(1 // 0, 5)  # Other
 isinstance(y, 5)  # NameError
 f(1)  # Outside
 isinstance(int, int)  # Outside
-"#;
-
-/// All else as the second argument leaves the profile.
-#[test]
-fn tests_of_other_things(rt: HostRuntime) -> Result<(), Fail> {
-    assert_eq!(rt;
-        other_ends(rt.alloc(), KINDS, TESTS_OF_OTHER_THINGS)?.as_str(),
-        ""
-    );
-    Ok(())
-}
-
-const ISINSTANCE_WITH_OTHER_ARGUMENTS: &str = r#"
 isinstance(1)  # TypeError
 isinstance()  # TypeError
 isinstance(1, 2, 3)  # TypeError
@@ -156,12 +119,12 @@ isinstance(1, x=1 // 0)  # Other
 isinstance(1, x=int)  # Outside
 "#;
 
-/// Other than two by position: an ordinary call.
+/// In the order of the table:
+/// - tests of kinds: `int`, `str`, `bool`, `list`, and classes.
+/// - tests of other things: All else as the second argument leaves the profile.
+/// - isinstance with other arguments: Other than two by position: an ordinary call.
 #[test]
-fn isinstance_with_other_arguments(rt: HostRuntime) -> Result<(), Fail> {
-    assert_eq!(rt;
-        other_ends(rt.alloc(), KINDS, ISINSTANCE_WITH_OTHER_ARGUMENTS)?.as_str(),
-        ""
-    );
+fn instance_tests(rt: HostRuntime) -> Result<(), Fail> {
+    assert_eq!(rt; other_ends(rt.alloc(), KINDS, INSTANCE_TESTS)?.as_str(), "");
     Ok(())
 }

@@ -2,7 +2,7 @@
 use crate::traces::{CALLS, other_ends};
 use std::test::Fail;
 
-const FUNCTIONS: &str = r#"
+const CALLEES_AND_ARGUMENTS: &str = r#"
 assert f(1) == 12  # Done
 assert f(1, 3) == 13  # Done
 assert f(1, b=3) == 13  # Done
@@ -22,16 +22,6 @@ f(c=1 // 0)  # Other
 g(1 // 0)  # Other
 f(1,)  # Done
 f("a")  # Outside
-"#;
-
-/// Each parameter takes one argument, or its default.
-#[test]
-fn functions(rt: HostRuntime) -> Result<(), Fail> {
-    assert_eq!(rt; other_ends(rt.alloc(), CALLS, FUNCTIONS)?.as_str(), "");
-    Ok(())
-}
-
-const DEFAULTS: &str = r#"
 x = k()
 assert x[0] == -1
 assert x[1] == "s"
@@ -48,16 +38,6 @@ assert x[1] == "t"
 assert x[3] == 7  # Done
 k(1, 2, 3, 4, 5, 6)  # TypeError
 k(z=1)  # TypeError
-"#;
-
-/// Numbers, with a `-` too, texts, truth values and None.
-#[test]
-fn defaults(rt: HostRuntime) -> Result<(), Fail> {
-    assert_eq!(rt; other_ends(rt.alloc(), CALLS, DEFAULTS)?.as_str(), "");
-    Ok(())
-}
-
-const CALLS_OF_CLASSES: &str = r#"
 x = A(1)
 assert x.a == 1
 assert x.b == 2  # Done
@@ -76,19 +56,6 @@ A(b=1)  # TypeError
 A(1 // 0, 2, 3)  # Other
 A("x")  # Done
 A(self=1, a=2)  # TypeError
-"#;
-
-/// Each field takes one argument, or its default.
-#[test]
-fn classes(rt: HostRuntime) -> Result<(), Fail> {
-    assert_eq!(rt;
-        other_ends(rt.alloc(), CALLS, CALLS_OF_CLASSES)?.as_str(),
-        ""
-    );
-    Ok(())
-}
-
-const VALUES: &str = r#"
 x = 1
 x()  # TypeError
 x = None
@@ -112,16 +79,6 @@ f(1)  # TypeError
 [f(1)][0]()  # TypeError
 x = 1
 x(a=1)  # TypeError
-"#;
-
-/// No value can be called.
-#[test]
-fn values(rt: HostRuntime) -> Result<(), Fail> {
-    assert_eq!(rt; other_ends(rt.alloc(), CALLS, VALUES)?.as_str(), "");
-    Ok(())
-}
-
-const NAMES_THAT_MEAN_NOTHING: &str = r#"
 y()  # NameError
 y(1 // 0)  # NameError
 z(y())  # NameError
@@ -135,19 +92,6 @@ y.a()  # NameError
 y[0]()  # NameError
 abs(1)  # NameError
 sorted([1])  # NameError
-"#;
-
-/// The name is looked up before the arguments.
-#[test]
-fn names_that_mean_nothing(rt: HostRuntime) -> Result<(), Fail> {
-    assert_eq!(rt;
-        other_ends(rt.alloc(), CALLS, NAMES_THAT_MEAN_NOTHING)?.as_str(),
-        ""
-    );
-    Ok(())
-}
-
-const RESERVED_NAMES: &str = r#"
 int("1")  # Outside
 int()  # Outside
 bool(1)  # Outside
@@ -168,9 +112,18 @@ int(x=1 // 0)  # Other
 print(range(1))  # Outside
 "#;
 
-/// Those that cannot be called leave the profile after their arguments.
+/// In the order of the table:
+/// - functions: Each parameter takes one argument, or its default.
+/// - defaults: Numbers, with a `-` too, texts, truth values and None.
+/// - classes: Each field takes one argument, or its default.
+/// - values: No value can be called.
+/// - names that mean nothing: The name is looked up before the arguments.
+/// - reserved names: Those that cannot be called leave the profile after their arguments.
 #[test]
-fn reserved_names(rt: HostRuntime) -> Result<(), Fail> {
-    assert_eq!(rt; other_ends(rt.alloc(), CALLS, RESERVED_NAMES)?.as_str(), "");
+fn callees_and_arguments(rt: HostRuntime) -> Result<(), Fail> {
+    assert_eq!(rt;
+        other_ends(rt.alloc(), CALLS, CALLEES_AND_ARGUMENTS)?.as_str(),
+        ""
+    );
     Ok(())
 }

@@ -35,7 +35,7 @@ fn orders_of_numbers_and_texts(rt: HostRuntime) -> Result<(), Fail> {
     Ok(())
 }
 
-const ORDERS_OF_OTHER_KINDS: &str = r#"
+const COMPARISONS_OF_KINDS: &str = r#"
 [1] < [2]  # Outside
 [1] <= [1]  # Outside
 [] > []  # Outside
@@ -54,19 +54,6 @@ P(1) < P(1)  # TypeError
 P(1) <= 1  # TypeError
 "a" < ["a"]  # TypeError
 1 < [1]  # TypeError
-"#;
-
-/// Two lists or two tuples leave the profile; other pairs are TypeError.
-#[test]
-fn orders_of_other_kinds(rt: HostRuntime) -> Result<(), Fail> {
-    assert_eq!(rt;
-        other_ends(rt.alloc(), POINT, ORDERS_OF_OTHER_KINDS)?.as_str(),
-        ""
-    );
-    Ok(())
-}
-
-const EQUALITY_OF_SIMPLE_VALUES: &str = r#"
 assert 1 == 1  # Done
 assert not (1 == 2)  # Done
 assert True == 1  # Done
@@ -85,19 +72,6 @@ assert not (1 != True)  # Done
 assert "a" != 1  # Done
 assert not (None != None)  # Done
 assert 1 == 2  # Other
-"#;
-
-/// Exact on numbers, texts and None, and between different kinds.
-#[test]
-fn equality_of_simple_values(rt: HostRuntime) -> Result<(), Fail> {
-    assert_eq!(rt;
-        other_ends(rt.alloc(), POINT, EQUALITY_OF_SIMPLE_VALUES)?.as_str(),
-        ""
-    );
-    Ok(())
-}
-
-const EQUALITY_OF_DIFFERENT_KINDS: &str = r#"
 assert not ([1] == (1,))  # Done
 assert not ([] == {})  # Done
 assert not (() == [])  # Done
@@ -110,19 +84,6 @@ assert [1] != (1,)  # Done
 assert {} != []  # Done
 assert P(1) != None  # Done
 assert [1] == (1,)  # Other
-"#;
-
-/// Two values of different kinds differ.
-#[test]
-fn equality_of_different_kinds(rt: HostRuntime) -> Result<(), Fail> {
-    assert_eq!(rt;
-        other_ends(rt.alloc(), POINT, EQUALITY_OF_DIFFERENT_KINDS)?.as_str(),
-        ""
-    );
-    Ok(())
-}
-
-const CONTAINMENT_IN_TEXTS_AND_DICTS: &str = r#"
 assert "a" in "abc"  # Done
 assert "bc" in "abc"  # Done
 assert "" in ""  # Done
@@ -139,19 +100,6 @@ assert not (None in {1: 2})  # Done
 assert None not in {}  # Done
 assert not (1 not in {1: 2})  # Done
 assert "b" in "ac"  # Other
-"#;
-
-/// A text in a text; a number, a text or None in a dict.
-#[test]
-fn containment_in_texts_and_dicts(rt: HostRuntime) -> Result<(), Fail> {
-    assert_eq!(rt;
-        other_ends(rt.alloc(), POINT, CONTAINMENT_IN_TEXTS_AND_DICTS)?.as_str(),
-        ""
-    );
-    Ok(())
-}
-
-const CONTAINMENT_OF_OTHER_KINDS: &str = r#"
 (1,) in {1: 2}  # Outside
 (1,) not in {1: 2}  # Outside
 [1] in {1: 2}  # TypeError
@@ -167,19 +115,6 @@ None in "a"  # TypeError
 1 in P(1)  # TypeError
 1 not in 1  # TypeError
 () in {}  # Outside
-"#;
-
-/// A tuple in a dict leaves the profile; other pairs are TypeError.
-#[test]
-fn containment_of_other_kinds(rt: HostRuntime) -> Result<(), Fail> {
-    assert_eq!(rt;
-        other_ends(rt.alloc(), POINT, CONTAINMENT_OF_OTHER_KINDS)?.as_str(),
-        ""
-    );
-    Ok(())
-}
-
-const TESTS_FOR_NONE: &str = r#"
 assert None is None  # Done
 assert not (0 is None)  # Done
 assert "" is not None  # Done
@@ -191,9 +126,18 @@ assert 1 is None  # Other
 y is None  # NameError
 "#;
 
-/// Any value may be tested.
+/// In the order of the table:
+/// - orders of other kinds: Two lists or two tuples leave the profile; other pairs are TypeError.
+/// - equality of simple values: Exact on numbers, texts and None, and between different kinds.
+/// - equality of different kinds: Two values of different kinds differ.
+/// - containment in texts and dicts: A text in a text; a number, a text or None in a dict.
+/// - containment of other kinds: A tuple in a dict leaves the profile; other pairs are TypeError.
+/// - tests for none: Any value may be tested.
 #[test]
-fn tests_for_none(rt: HostRuntime) -> Result<(), Fail> {
-    assert_eq!(rt; other_ends(rt.alloc(), POINT, TESTS_FOR_NONE)?.as_str(), "");
+fn comparisons_of_kinds(rt: HostRuntime) -> Result<(), Fail> {
+    assert_eq!(rt;
+        other_ends(rt.alloc(), POINT, COMPARISONS_OF_KINDS)?.as_str(),
+        ""
+    );
     Ok(())
 }

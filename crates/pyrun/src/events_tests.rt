@@ -2,7 +2,7 @@
 use crate::traces::{CLASSES, NOTHING, other_events, other_module_events};
 use std::test::Fail;
 
-const OPERANDS_BEFORE_OPERATORS: &str = r#"
+const EVENTS_OF_STATEMENTS: &str = r#"
 1 + 2 * 3  # 51 52, 55 56, 59 60, 55 60, 51 60, end Done
 (1 + 2) * 3  # 52 53, 56 57, 52 57, 61 62, 51 62, end Done
 -(1)  # 53 54, 51 55, end Done
@@ -22,19 +22,6 @@ None is None  # 51 55, 51 63, end Done
 (1, (2,), ())  # 52 53, 56 57, 55 59, 61 63, 51 64, end Done
 [1, [], True]  # 52 53, 55 57, 59 63, 51 64, end Done
 "é" + "€"  # 51 55, 58 63, 51 63, end Done
-"#;
-
-/// Operands go from left to right, and a node after its parts; parentheses leave nothing behind.
-#[test]
-fn operands_before_operators(rt: HostRuntime) -> Result<(), Fail> {
-    assert_eq!(rt;
-        other_events(rt.alloc(), NOTHING, OPERANDS_BEFORE_OPERATORS)?.as_str(),
-        ""
-    );
-    Ok(())
-}
-
-const DECIDING_OPERANDS: &str = r#"
 0 and y  # 51 52, 51 58, end Done
 1 and 2  # 51 52, 57 58, 51 58, end Done
 1 or y  # 51 52, 51 57, end Done
@@ -43,19 +30,6 @@ const DECIDING_OPERANDS: &str = r#"
 0 and 1 or 2  # 51 52, 51 58, 62 63, 51 63, end Done
 1 and y  # 51 52, 57 58, end NameError
 5 or 6 and 7  # 51 52, 51 63, end Done
-"#;
-
-/// The right side of `and` and `or` only where it is needed.
-#[test]
-fn deciding_operands(rt: HostRuntime) -> Result<(), Fail> {
-    assert_eq!(rt;
-        other_events(rt.alloc(), NOTHING, DECIDING_OPERANDS)?.as_str(),
-        ""
-    );
-    Ok(())
-}
-
-const STATEMENTS: &str = r#"
 x = 1  # 55 56, end Done
 x: int  # end Done
 x: int = 2
@@ -95,16 +69,6 @@ pass  # end Done
 x = 170141183460469231731687303715884105728  # 55 94, end Cut
 x = -170141183460469231731687303715884105728  # 56 95, end Cut
 print(1).a = 2  # 64 65, 51 56, 57 58, 51 59, 51 61, end AttributeError
-"#;
-
-/// Names that are bound emit nothing; items are stored to after their parts.
-#[test]
-fn statements(rt: HostRuntime) -> Result<(), Fail> {
-    assert_eq!(rt; other_events(rt.alloc(), NOTHING, STATEMENTS)?.as_str(), "");
-    Ok(())
-}
-
-const LOOPS_OVER_VALUES: &str = r#"
 for i in range(2):
     i  # 60 65, 66 67, 60 68, 78 79, 78 79, end Done
 for i in range("a"):
@@ -125,17 +89,21 @@ for i in "":
     i  # 60 62, end Done
 "#;
 
-/// The iterable once; the call of `range` and its name as in any call.
+/// In the order of the table:
+/// - operands before operators: Operands go from left to right, and a node after its parts; parentheses leave nothing behind.
+/// - deciding operands: The right side of `and` and `or` only where it is needed.
+/// - statements: Names that are bound emit nothing; items are stored to after their parts.
+/// - loops over values: The iterable once; the call of `range` and its name as in any call.
 #[test]
-fn loops_over_values(rt: HostRuntime) -> Result<(), Fail> {
+fn events_of_statements(rt: HostRuntime) -> Result<(), Fail> {
     assert_eq!(rt;
-        other_events(rt.alloc(), NOTHING, LOOPS_OVER_VALUES)?.as_str(),
+        other_events(rt.alloc(), NOTHING, EVENTS_OF_STATEMENTS)?.as_str(),
         ""
     );
     Ok(())
 }
 
-const INSTANCES: &str = r#"
+const EVENTS_OF_INSTANCES_AND_CALLS: &str = r#"
 A(1)  # 317 318, 319 320, 317 321, end Done
 B(a=1)  # 317 318, 321 322, 317 323, end Done
 A()  # 317 318, 317 320, end TypeError
@@ -152,16 +120,6 @@ x.a = 5  # 321 322, 323 324, 321 325, 336 337, 330 331, 330 333, end Done
 x = A(1)
 x.b = 5  # 321 322, 323 324, 321 325, 336 337, 330 331, 330 333, end Outside
 A.a  # 317 318, end Outside
-"#;
-
-/// A callee before its arguments, a method by the name in its def; a field default emits nothing.
-#[test]
-fn instances(rt: HostRuntime) -> Result<(), Fail> {
-    assert_eq!(rt; other_events(rt.alloc(), CLASSES, INSTANCES)?.as_str(), "");
-    Ok(())
-}
-
-const EVENTS_OF_CALLS: &str = r#"
 f()  # 317 318, 317 320, 299 300, end Done
 (f)()  # 318 319, 317 322, 299 300, end Done
 f()()  # 317 318, 317 320, 299 300, 317 322, end TypeError
@@ -184,11 +142,13 @@ isinstance(3, 4, 5)  # 317 327, 328 329, 331 332, 334 335, 317 336, end TypeErro
 [9][0](8)  # 318 319, 317 320, 321 322, 317 323, 324 325, 317 326, end TypeError
 "#;
 
-/// Arguments as they are written, then the call, then its body.
+/// In the order of the table:
+/// - instances: A callee before its arguments, a method by the name in its def; a field default emits nothing.
+/// - calls: Arguments as they are written, then the call, then its body.
 #[test]
-fn calls(rt: HostRuntime) -> Result<(), Fail> {
+fn events_of_instances_and_calls(rt: HostRuntime) -> Result<(), Fail> {
     assert_eq!(rt;
-        other_events(rt.alloc(), CLASSES, EVENTS_OF_CALLS)?.as_str(),
+        other_events(rt.alloc(), CLASSES, EVENTS_OF_INSTANCES_AND_CALLS)?.as_str(),
         ""
     );
     Ok(())

@@ -2,7 +2,7 @@
 use crate::traces::{POINT, other_ends};
 use std::test::Fail;
 
-const ITEMS_OF_LISTS: &str = r#"
+const ITEMS: &str = r#"
 assert [1, 2][0] == 1  # Done
 assert [1, 2][1] == 2  # Done
 assert [1, 2][-1] == 2  # Done
@@ -19,16 +19,6 @@ assert [1, 2][False] == 1  # Done
 [1][[0]]  # TypeError
 [1][P(0)]  # TypeError
 [][""]  # TypeError
-"#;
-
-/// Numbers as indexes; negative ones count from the end.
-#[test]
-fn items_of_lists(rt: HostRuntime) -> Result<(), Fail> {
-    assert_eq!(rt; other_ends(rt.alloc(), POINT, ITEMS_OF_LISTS)?.as_str(), "");
-    Ok(())
-}
-
-const ITEMS_OF_TEXTS_AND_TUPLES: &str = r#"
 assert "abc"[1] == "b"  # Done
 assert "abc"[-1] == "c"  # Done
 "abc"[3]  # Other
@@ -47,19 +37,6 @@ assert (1, "x")[-2] == 1  # Done
 (1,)["a"]  # TypeError
 (1,)[(0,)]  # TypeError
 "a"[[0]]  # TypeError
-"#;
-
-/// A text is indexed by characters.
-#[test]
-fn items_of_texts_and_tuples(rt: HostRuntime) -> Result<(), Fail> {
-    assert_eq!(rt;
-        other_ends(rt.alloc(), POINT, ITEMS_OF_TEXTS_AND_TUPLES)?.as_str(),
-        ""
-    );
-    Ok(())
-}
-
-const ITEMS_OF_DICTS_AND_OTHERS: &str = r#"
 assert {1: "a"}[1] == "a"  # Done
 assert {1: "a"}[True] == "a"  # Done
 assert {True: "a"}[1] == "a"  # Done
@@ -82,19 +59,6 @@ x = True
 x[0]  # TypeError
 P(1)[0]  # TypeError
 P(1)["a"]  # TypeError
-"#;
-
-/// Keys are numbers and texts.
-#[test]
-fn items_of_dicts_and_others(rt: HostRuntime) -> Result<(), Fail> {
-    assert_eq!(rt;
-        other_ends(rt.alloc(), POINT, ITEMS_OF_DICTS_AND_OTHERS)?.as_str(),
-        ""
-    );
-    Ok(())
-}
-
-const STORES_TO_LISTS: &str = r#"
 x = [1, 2]
 x[0] = 5
 assert x[0] == 5
@@ -137,19 +101,6 @@ x[0] = 1  # TypeError
 P(1)[0] = 1  # TypeError
 x = ()
 x[0] = 1  # TypeError
-"#;
-
-/// Numbers as indexes.
-#[test]
-fn stores_to_lists(rt: HostRuntime) -> Result<(), Fail> {
-    assert_eq!(rt;
-        other_ends(rt.alloc(), POINT, STORES_TO_LISTS)?.as_str(),
-        ""
-    );
-    Ok(())
-}
-
-const STORES_TO_DICTS: &str = r#"
 d = {1: "a"}
 d[2] = "b"
 assert d[2] == "b"
@@ -178,19 +129,6 @@ assert d[1] == 3  # Done
 d = {}
 d[0] = d
 assert len(d[0]) == 1  # Done
-"#;
-
-/// Numbers and texts as keys; a tuple or None leaves the profile.
-#[test]
-fn stores_to_dicts(rt: HostRuntime) -> Result<(), Fail> {
-    assert_eq!(rt;
-        other_ends(rt.alloc(), POINT, STORES_TO_DICTS)?.as_str(),
-        ""
-    );
-    Ok(())
-}
-
-const KEYS_OF_DISPLAYS: &str = r#"
 assert {"a": 1}["a"] == 1  # Done
 assert {True: 1}[1] == 1  # Done
 assert len({1: 2, True: 3}) == 1  # Done
@@ -208,12 +146,15 @@ assert len({}) == 0  # Done
 {"a": 1, []: 2}  # TypeError
 "#;
 
-/// Numbers and texts; None or a tuple leaves the profile.
+/// In the order of the table:
+/// - items of lists: Numbers as indexes; negative ones count from the end.
+/// - items of texts and tuples: A text is indexed by characters.
+/// - items of dicts and others: Keys are numbers and texts.
+/// - stores to lists: Numbers as indexes.
+/// - stores to dicts: Numbers and texts as keys; a tuple or None leaves the profile.
+/// - keys of displays: Numbers and texts; None or a tuple leaves the profile.
 #[test]
-fn keys_of_displays(rt: HostRuntime) -> Result<(), Fail> {
-    assert_eq!(rt;
-        other_ends(rt.alloc(), POINT, KEYS_OF_DISPLAYS)?.as_str(),
-        ""
-    );
+fn items(rt: HostRuntime) -> Result<(), Fail> {
+    assert_eq!(rt; other_ends(rt.alloc(), POINT, ITEMS)?.as_str(), "");
     Ok(())
 }

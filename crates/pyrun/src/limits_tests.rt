@@ -2,7 +2,7 @@
 use crate::traces::{AMPLE, count_of, module_text, other_module_ends, trace_of};
 use std::test::Fail;
 
-const NUMBERS_THAT_DO_NOT_FIT: &str = r#"
+const LIMITS: &str = r#"
 def main():
     x = 170141183460469231731687303715884105727  # Done
 
@@ -54,19 +54,6 @@ def main():
 
 def main():
     assert len(str(-170141183460469231731687303715884105727 - 1)) == 40  # Done
-"#;
-
-/// A whole number that is made fits 128 signed bits, or the run is cut off.
-#[test]
-fn numbers_that_do_not_fit(rt: HostRuntime) -> Result<(), Fail> {
-    assert_eq!(rt;
-        other_module_ends(rt.alloc(), NUMBERS_THAT_DO_NOT_FIT)?.as_str(),
-        ""
-    );
-    Ok(())
-}
-
-const DEFAULTS_THAT_DO_NOT_FIT: &str = r#"
 def f(a=170141183460469231731687303715884105727):
     pass
 def main():
@@ -158,19 +145,6 @@ def f(a=170141183460469231731687303715884105728):
 a = 1 // 0
 def main():
     pass  # Cut
-"#;
-
-/// A default is made with its def or class; a `-` and its number are one number.
-#[test]
-fn defaults_that_do_not_fit(rt: HostRuntime) -> Result<(), Fail> {
-    assert_eq!(rt;
-        other_module_ends(rt.alloc(), DEFAULTS_THAT_DO_NOT_FIT)?.as_str(),
-        ""
-    );
-    Ok(())
-}
-
-const OPEN_CALLS: &str = r#"
 def f(n):
     if n == 0:
         return 0
@@ -272,10 +246,13 @@ def main():
     g(62)  # TypeError
 "#;
 
-/// The 65th open call of a function or method is cut off; `main` counts.
+/// In the order of the table:
+/// - numbers that do not fit: A whole number that is made fits 128 signed bits, or the run is cut off.
+/// - defaults that do not fit: A default is made with its def or class; a `-` and its number are one number.
+/// - open calls: The 65th open call of a function or method is cut off; `main` counts.
 #[test]
-fn open_calls(rt: HostRuntime) -> Result<(), Fail> {
-    assert_eq!(rt; other_module_ends(rt.alloc(), OPEN_CALLS)?.as_str(), "");
+fn limits(rt: HostRuntime) -> Result<(), Fail> {
+    assert_eq!(rt; other_module_ends(rt.alloc(), LIMITS)?.as_str(), "");
     Ok(())
 }
 

@@ -2,7 +2,7 @@
 use crate::traces::{NOTHING, POINT, other_ends};
 use std::test::Fail;
 
-const ITERABLES: &str = r#"
+const LOOPS_OVER_KINDS: &str = r#"
 t = 0
 for x in [1, 2, 3]:
     t = t + x
@@ -57,16 +57,6 @@ assert x == 2  # Done
 for x in []:
     pass
 print(x)  # UnboundLocalError
-"#;
-
-/// Lists, dicts by their keys, texts, tuples and `range(int)`.
-#[test]
-fn iterables(rt: HostRuntime) -> Result<(), Fail> {
-    assert_eq!(rt; other_ends(rt.alloc(), POINT, ITERABLES)?.as_str(), "");
-    Ok(())
-}
-
-const RANGES: &str = r#"
 for x in range("a"):
     pass  # TypeError
 for x in range(None):
@@ -104,14 +94,19 @@ for x in range(n):
 assert t == 2  # Done
 "#;
 
-/// One number by position.
+/// In the order of the table:
+/// - iterables: Lists, dicts by their keys, texts, tuples and `range(int)`.
+/// - ranges: One number by position.
 #[test]
-fn ranges(rt: HostRuntime) -> Result<(), Fail> {
-    assert_eq!(rt; other_ends(rt.alloc(), POINT, RANGES)?.as_str(), "");
+fn loops_over_kinds(rt: HostRuntime) -> Result<(), Fail> {
+    assert_eq!(rt;
+        other_ends(rt.alloc(), POINT, LOOPS_OVER_KINDS)?.as_str(),
+        ""
+    );
     Ok(())
 }
 
-const WHILE_LOOPS: &str = r#"
+const LOOPS: &str = r#"
 x = 3
 while x:
     x = x - 1
@@ -152,16 +147,6 @@ while True:
     else:
         pass
     1 // 0  # Done
-"#;
-
-/// The condition before each turn.
-#[test]
-fn while_loops(rt: HostRuntime) -> Result<(), Fail> {
-    assert_eq!(rt; other_ends(rt.alloc(), NOTHING, WHILE_LOOPS)?.as_str(), "");
-    Ok(())
-}
-
-const FOR_LOOPS: &str = r#"
 t = 0
 for x in [1, 2, 3]:
     if x == 2:
@@ -194,16 +179,6 @@ x = [1, 2]
 for x in x:
     pass
 assert x == 2  # Done
-"#;
-
-/// `break` and `continue` of the innermost loop.
-#[test]
-fn for_loops(rt: HostRuntime) -> Result<(), Fail> {
-    assert_eq!(rt; other_ends(rt.alloc(), NOTHING, FOR_LOOPS)?.as_str(), "");
-    Ok(())
-}
-
-const LISTS_THAT_CHANGE: &str = r#"
 x = [1, 2, 3, 4]
 t = 0
 for y in x:
@@ -226,19 +201,6 @@ x = [1]
 for y in x:
     x = [5, 6]
 assert y == 1  # Done
-"#;
-
-/// A list is gone over against its present length.
-#[test]
-fn lists_that_change(rt: HostRuntime) -> Result<(), Fail> {
-    assert_eq!(rt;
-        other_ends(rt.alloc(), NOTHING, LISTS_THAT_CHANGE)?.as_str(),
-        ""
-    );
-    Ok(())
-}
-
-const DICTS_THAT_CHANGE: &str = r#"
 d = {1: 1, 2: 2}
 for k in d:
     d[k] = 0
@@ -270,12 +232,13 @@ for k in d:
     assert isinstance(k, bool)  # Done
 "#;
 
-/// One whose size changed is another exception at the next turn, the last one too.
+/// In the order of the table:
+/// - while loops: The condition before each turn.
+/// - for loops: `break` and `continue` of the innermost loop.
+/// - lists that change: A list is gone over against its present length.
+/// - dicts that change: One whose size changed is another exception at the next turn, the last one too.
 #[test]
-fn dicts_that_change(rt: HostRuntime) -> Result<(), Fail> {
-    assert_eq!(rt;
-        other_ends(rt.alloc(), NOTHING, DICTS_THAT_CHANGE)?.as_str(),
-        ""
-    );
+fn loops(rt: HostRuntime) -> Result<(), Fail> {
+    assert_eq!(rt; other_ends(rt.alloc(), NOTHING, LOOPS)?.as_str(), "");
     Ok(())
 }

@@ -56,10 +56,24 @@ use std::{env, fs, io};
 
 /// What the words of the command line ask for.
 fn asked_for<R: Env + AllocGlobal>(rt: &R) -> Result<Options, OptionFault> {
-    let words = env::args(rt).map_err(|_| OptionFault::Usage)?;
+    let Ok(words) = env::args(rt) else {
+        let text = String::from_str(rt.alloc(), "error: the words could not be read\n")?;
+        return Err(OptionFault::Usage(text));
+    };
     let given: Vec<String> = words.skip(1).collect(rt.alloc())?;
     let words: Vec<&str> = given.iter().map(|word| word.as_str()).collect(rt.alloc())?;
     command_line::options(rt.alloc(), words.as_slice())
+}
+
+/// Tells why the words ask for no run, and gives the exit status.
+fn tell<R: Print + Eprint>(rt: &R, fault: &OptionFault) -> u8 {
+    if let OptionFault::Help(text) = fault
+        && print!(rt; "{text}").is_ok()
+    {
+        return 0;
+    }
+    let _ = eprint!(rt; "{fault}");
+    3
 }
 
 /// Prints a trace.
@@ -88,10 +102,7 @@ fn report<R: Print + Eprint + AllocGlobal>(rt: &R, outcome: &Result<Trace, Fault
 fn run<R: Print + Eprint + Env + Files + AllocGlobal>(rt: &R) -> u8 {
     let options = match asked_for(rt) {
         Ok(options) => options,
-        Err(fault) => {
-            let _ = eprintln!(rt; "{fault}");
-            return 3;
-        }
+        Err(fault) => return tell(rt, &fault),
     };
     let Ok(bytes) = fs::read(rt, options.file.as_str()) else {
         let _ = eprintln!(rt; "the input could not be read");

@@ -2,7 +2,7 @@
 use crate::traces::{other_module_ends, other_module_events};
 use std::test::Fail;
 
-const ITEMS_IN_ORDER: &str = r#"
+const MODULES: &str = r#"
 a = b
 b = 1
 def main():
@@ -95,16 +95,6 @@ def main():
 a = 1 and 0
 def main():
     assert a == 0  # Done
-"#;
-
-/// Constants, classes and functions are bound in the order of the text.
-#[test]
-fn items_in_order(rt: HostRuntime) -> Result<(), Fail> {
-    assert_eq!(rt; other_module_ends(rt.alloc(), ITEMS_IN_ORDER)?.as_str(), "");
-    Ok(())
-}
-
-const CLASSES_AND_BASES: &str = r#"
 @dataclass
 class A:
     a: int
@@ -204,19 +194,6 @@ class B(main):
     pass
 def main():
     pass  # NameError
-"#;
-
-/// A base is a class that was made.
-#[test]
-fn classes_and_bases(rt: HostRuntime) -> Result<(), Fail> {
-    assert_eq!(rt;
-        other_module_ends(rt.alloc(), CLASSES_AND_BASES)?.as_str(),
-        ""
-    );
-    Ok(())
-}
-
-const FIELDS_WITH_DEFAULTS: &str = r#"
 from dataclasses import dataclass
 @dataclass
 class A:
@@ -310,19 +287,6 @@ class A:
     a: int = 2
 def main():
     assert A().m() + A().a == 3  # Done
-"#;
-
-/// A field without default after one with default is TypeError as the class is made.
-#[test]
-fn fields_with_defaults(rt: HostRuntime) -> Result<(), Fail> {
-    assert_eq!(rt;
-        other_module_ends(rt.alloc(), FIELDS_WITH_DEFAULTS)?.as_str(),
-        ""
-    );
-    Ok(())
-}
-
-const NAMES_BOUND_TWICE: &str = r#"
 a = 1
 a = 2
 def main():
@@ -403,19 +367,6 @@ def main():
 
 def main():
     isinstance(1, f(a=1, a=2))  # Outside
-"#;
-
-/// A module in which a name is bound twice, or given twice, leaves the profile without an event.
-#[test]
-fn names_bound_twice(rt: HostRuntime) -> Result<(), Fail> {
-    assert_eq!(rt;
-        other_module_ends(rt.alloc(), NAMES_BOUND_TWICE)?.as_str(),
-        ""
-    );
-    Ok(())
-}
-
-const STATEMENTS_OUTSIDE_LOOPS: &str = r#"
 def main():
     1 + 1
     break  # Outside
@@ -462,19 +413,6 @@ def main():
     while False:
         pass
     break  # Outside
-"#;
-
-/// `break` and `continue` stand in loops.
-#[test]
-fn statements_outside_loops(rt: HostRuntime) -> Result<(), Fail> {
-    assert_eq!(rt;
-        other_module_ends(rt.alloc(), STATEMENTS_OUTSIDE_LOOPS)?.as_str(),
-        ""
-    );
-    Ok(())
-}
-
-const MEMBERS_THAT_CLASH: &str = r#"
 from dataclasses import dataclass
 @dataclass
 class A:
@@ -568,19 +506,6 @@ class B:
     a: int
 def main():
     assert B(1).a == 1  # Done
-"#;
-
-/// A member twice, or one that an ancestor has, leaves the profile without an event.
-#[test]
-fn members_that_clash(rt: HostRuntime) -> Result<(), Fail> {
-    assert_eq!(rt;
-        other_module_ends(rt.alloc(), MEMBERS_THAT_CLASH)?.as_str(),
-        ""
-    );
-    Ok(())
-}
-
-const RESERVED_NAMES_BOUND: &str = r#"
 print = 1
 def main():
     1 + 1  # Outside
@@ -667,19 +592,6 @@ class A:
         pass
 def main():
     1 + 1  # Outside
-"#;
-
-/// Nothing may bind a reserved name, and no field is named `mro`.
-#[test]
-fn reserved_names_bound(rt: HostRuntime) -> Result<(), Fail> {
-    assert_eq!(rt;
-        other_module_ends(rt.alloc(), RESERVED_NAMES_BOUND)?.as_str(),
-        ""
-    );
-    Ok(())
-}
-
-const DEFAULTS_BEFORE_PARAMETERS_WITHOUT: &str = r#"
 def f(a=1, b):
     pass
 def main():
@@ -702,19 +614,6 @@ def f(a, b=1, c=2):
     return a + b + c
 def main():
     assert f(1) == 4  # Done
-"#;
-
-/// A parameter without default after one with default leaves the profile without an event.
-#[test]
-fn defaults_before_parameters_without(rt: HostRuntime) -> Result<(), Fail> {
-    assert_eq!(rt;
-        other_module_ends(rt.alloc(), DEFAULTS_BEFORE_PARAMETERS_WITHOUT)?.as_str(),
-        ""
-    );
-    Ok(())
-}
-
-const MODULES_WITHOUT_MAIN: &str = r#"
 def f():
     pass  # Outside
 
@@ -737,13 +636,19 @@ def main():
     pass  # Done
 "#;
 
-/// A module without a function `main` that takes nothing leaves the profile without an event.
+/// In the order of the table:
+/// - items in order: Constants, classes and functions are bound in the order of the text.
+/// - classes and bases: A base is a class that was made.
+/// - fields with defaults: A field without default after one with default is TypeError as the class is made.
+/// - names bound twice: A module in which a name is bound twice, or given twice, leaves the profile without an event.
+/// - statements outside loops: `break` and `continue` stand in loops.
+/// - members that clash: A member twice, or one that an ancestor has, leaves the profile without an event.
+/// - reserved names bound: Nothing may bind a reserved name, and no field is named `mro`.
+/// - defaults before parameters without: A parameter without default after one with default leaves the profile without an event.
+/// - modules without main: A module without a function `main` that takes nothing leaves the profile without an event.
 #[test]
-fn modules_without_main(rt: HostRuntime) -> Result<(), Fail> {
-    assert_eq!(rt;
-        other_module_ends(rt.alloc(), MODULES_WITHOUT_MAIN)?.as_str(),
-        ""
-    );
+fn modules(rt: HostRuntime) -> Result<(), Fail> {
+    assert_eq!(rt; other_module_ends(rt.alloc(), MODULES)?.as_str(), "");
     Ok(())
 }
 

@@ -2,7 +2,7 @@
 use crate::traces::{NAMES, other_ends};
 use std::test::Fail;
 
-const NAMES_OF_FUNCTIONS: &str = r#"
+const NAMES_IN_BODIES: &str = r#"
 print(x)
 x = 1  # UnboundLocalError
 print(c)
@@ -41,19 +41,6 @@ c  # UnboundLocalError
 y.a = 1  # NameError
 y[0] = 1  # NameError
 y = z  # NameError
-"#;
-
-/// A name that a function binds anywhere is local in all of it.
-#[test]
-fn names_of_functions(rt: HostRuntime) -> Result<(), Fail> {
-    assert_eq!(rt;
-        other_ends(rt.alloc(), NAMES, NAMES_OF_FUNCTIONS)?.as_str(),
-        ""
-    );
-    Ok(())
-}
-
-const NAMES_THAT_ARE_NO_VALUES: &str = r#"
 x = f  # Outside
 x = P  # Outside
 x = print  # Outside
@@ -75,19 +62,6 @@ if f:
 f[0] = 1  # Outside
 x = [1 // 0, f]  # Other
 object  # Outside
-"#;
-
-/// A function, a class or a reserved name as a value leaves the profile.
-#[test]
-fn names_that_are_no_values(rt: HostRuntime) -> Result<(), Fail> {
-    assert_eq!(rt;
-        other_ends(rt.alloc(), NAMES, NAMES_THAT_ARE_NO_VALUES)?.as_str(),
-        ""
-    );
-    Ok(())
-}
-
-const CALLS_OF_MAIN: &str = r#"
 return 5  # Done
 return 1 // 0  # Other
 main(1)  # TypeError
@@ -97,9 +71,15 @@ if c == 1:
 main()  # Done
 "#;
 
-/// `main` is a function as others are.
+/// In the order of the table:
+/// - names of functions: A name that a function binds anywhere is local in all of it.
+/// - names that are no values: A function, a class or a reserved name as a value leaves the profile.
+/// - calls of main: `main` is a function as others are.
 #[test]
-fn calls_of_main(rt: HostRuntime) -> Result<(), Fail> {
-    assert_eq!(rt; other_ends(rt.alloc(), NAMES, CALLS_OF_MAIN)?.as_str(), "");
+fn names_in_bodies(rt: HostRuntime) -> Result<(), Fail> {
+    assert_eq!(rt;
+        other_ends(rt.alloc(), NAMES, NAMES_IN_BODIES)?.as_str(),
+        ""
+    );
     Ok(())
 }

@@ -2,7 +2,7 @@
 use crate::traces::{POINT, other_ends};
 use std::test::Fail;
 
-const SUMS: &str = r#"
+const OPERATORS: &str = r#"
 assert 1 + 2 == 3  # Done
 assert True + 1 == 2  # Done
 assert True + True == 2  # Done
@@ -22,16 +22,6 @@ None + 1  # TypeError
 P(1) + P(1)  # TypeError
 [1] + 1  # TypeError
 "a" + ["b"]  # TypeError
-"#;
-
-/// Two numbers or two texts; bool counts as int.
-#[test]
-fn sums(rt: HostRuntime) -> Result<(), Fail> {
-    assert_eq!(rt; other_ends(rt.alloc(), POINT, SUMS)?.as_str(), "");
-    Ok(())
-}
-
-const DIFFERENCES: &str = r#"
 assert 7 - 10 == -3  # Done
 assert True - 1 == 0  # Done
 assert 0 - False == 0  # Done
@@ -44,16 +34,6 @@ assert 0 - False == 0  # Done
 1 - None  # TypeError
 None - None  # TypeError
 P(1) - 1  # TypeError
-"#;
-
-/// Two numbers.
-#[test]
-fn differences(rt: HostRuntime) -> Result<(), Fail> {
-    assert_eq!(rt; other_ends(rt.alloc(), POINT, DIFFERENCES)?.as_str(), "");
-    Ok(())
-}
-
-const NEGATIVE_NUMBERS: &str = r#"
 assert -3 + 3 == 0  # Done
 assert --1 == 1  # Done
 assert -True == 0 - 1  # Done
@@ -64,19 +44,6 @@ assert -False == 0  # Done
 -{1: 2}  # TypeError
 -None  # TypeError
 -P(1)  # TypeError
-"#;
-
-/// One number.
-#[test]
-fn negative_numbers(rt: HostRuntime) -> Result<(), Fail> {
-    assert_eq!(rt;
-        other_ends(rt.alloc(), POINT, NEGATIVE_NUMBERS)?.as_str(),
-        ""
-    );
-    Ok(())
-}
-
-const PRODUCTS: &str = r#"
 assert 3 * 4 == 12  # Done
 assert -3 * 2 == -6  # Done
 assert True * 5 == 5  # Done
@@ -96,16 +63,6 @@ None * 2  # TypeError
 {1: 1} * 2  # TypeError
 2 * {1: 1}  # TypeError
 P(1) * 2  # TypeError
-"#;
-
-/// Two numbers; a number with a text, a list or a tuple leaves the profile.
-#[test]
-fn products(rt: HostRuntime) -> Result<(), Fail> {
-    assert_eq!(rt; other_ends(rt.alloc(), POINT, PRODUCTS)?.as_str(), "");
-    Ok(())
-}
-
-const FLOOR_DIVISIONS: &str = r#"
 assert 7 // 2 == 3  # Done
 assert -7 // 2 == -4  # Done
 assert 7 // -2 == -4  # Done
@@ -125,19 +82,6 @@ assert -1 // 1000 == -1  # Done
 None // 0  # TypeError
 (1,) // 1  # TypeError
 P(1) // 1  # TypeError
-"#;
-
-/// Two numbers, toward minus infinity; by zero another exception.
-#[test]
-fn floor_divisions(rt: HostRuntime) -> Result<(), Fail> {
-    assert_eq!(rt;
-        other_ends(rt.alloc(), POINT, FLOOR_DIVISIONS)?.as_str(),
-        ""
-    );
-    Ok(())
-}
-
-const REMAINDERS: &str = r#"
 assert 7 % 2 == 1  # Done
 assert -7 % 2 == 1  # Done
 assert 7 % -2 == -1  # Done
@@ -159,9 +103,15 @@ None % 2  # TypeError
 2 % P(1)  # TypeError
 "#;
 
-/// Two numbers, of the sign of the divisor; a text on the left leaves the profile.
+/// In the order of the table:
+/// - sums: Two numbers or two texts; bool counts as int.
+/// - differences: Two numbers.
+/// - negative numbers: One number.
+/// - products: Two numbers; a number with a text, a list or a tuple leaves the profile.
+/// - floor divisions: Two numbers, toward minus infinity; by zero another exception.
+/// - remainders: Two numbers, of the sign of the divisor; a text on the left leaves the profile.
 #[test]
-fn remainders(rt: HostRuntime) -> Result<(), Fail> {
-    assert_eq!(rt; other_ends(rt.alloc(), POINT, REMAINDERS)?.as_str(), "");
+fn operators(rt: HostRuntime) -> Result<(), Fail> {
+    assert_eq!(rt; other_ends(rt.alloc(), POINT, OPERATORS)?.as_str(), "");
     Ok(())
 }

@@ -11,14 +11,17 @@ pub struct Options {
     pub file: String,
 }
 
-/// Why the words ask for nothing.
-#[derive(Clone, Copy, Debug, PartialEq, Eq, Error)]
+/// Why the words ask for no run.
+#[derive(Debug, PartialEq, Eq, Drop, Error)]
 pub enum OptionFault {
-    /// They are not as the program is called.
-    #[error("usage: pyrun --fuel N FILE")]
-    Usage,
+    /// They are not as the program is called; the text says so on standard error.
+    #[error("{0}")]
+    Usage(String),
+    /// They ask for help or for the version, which the text is, on standard output.
+    #[error("{0}")]
+    Help(String),
     /// A growth of memory was refused.
-    #[error("out of memory")]
+    #[error("out of memory\n")]
     OutOfMemory,
 }
 

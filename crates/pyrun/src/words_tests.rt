@@ -8,7 +8,7 @@ use std::test::Fail;
 
 #[test]
 fn words_for_a_run(rt: HostRuntime) -> Result<(), Fail> {
-    let cases: [(&[&str], u64, &str); 7] = [
+    let cases: [(&[&str], u64, &str); 14] = [
         (&["--fuel", "4", "add.py"], 4, "add.py"),
         (&["--fuel", "0", "add.py"], 0, "add.py"),
         (
@@ -17,39 +17,56 @@ fn words_for_a_run(rt: HostRuntime) -> Result<(), Fail> {
             "a b.py",
         ),
         (&["--fuel", "007", "-"], 7, "-"),
-        (&["--fuel", "1", "--fuel"], 1, "--fuel"),
         (
             &["--fuel", "000000000000000000000000000012", "caf\u{e9}.py"],
             12,
             "caf\u{e9}.py",
         ),
         (&["--fuel", "10", ""], 10, ""),
+        (&["--fuel=4", "add.py"], 4, "add.py"),
+        (&["add.py", "--fuel", "4"], 4, "add.py"),
+        (&["add.py", "--fuel=4"], 4, "add.py"),
+        (&["--fuel", "4", "--", "add.py"], 4, "add.py"),
+        (&["--fuel", "4", "--", "-v.py"], 4, "-v.py"),
+        (&["--fuel", "1", "--", "--fuel"], 1, "--fuel"),
+        (&["--fuel", "1", "--", "--"], 1, "--"),
+        (&["--fuel", "1", "--", "--help"], 1, "--help"),
     ];
     for (words, fuel, file) in cases {
         let asked = options(rt.alloc(), words)?;
-        assert_eq!(rt; asked.fuel, fuel, "at {file}");
+        assert_eq!(rt; asked.fuel, fuel, "at {words:?}");
         assert_eq!(rt; asked.file.as_str(), file);
     }
     Ok(())
 }
 
 #[test]
-fn other_words(rt: HostRuntime) {
-    let cases: [&[&str]; 10] = [
+fn mistaken_words(rt: HostRuntime) {
+    let cases: [&[&str]; 20] = [
         &[],
+        &[""],
+        &["--"],
         &["add.py"],
         &["--fuel"],
         &["--fuel", "4"],
+        &["--fuel", "4", "--"],
+        &["--fuel", "--", "add.py"],
         &["--fuel", "4", "add.py", "more.py"],
+        &["--fuel", "4", "--", "add.py", "more.py"],
+        &["--fuel", "4", "--fuel", "4", "add.py"],
+        &["--fuel", "4", "--fuel"],
         &["4", "--fuel", "add.py"],
-        &["add.py", "--fuel", "4"],
-        &["--fuel=4", "add.py"],
+        &["--fuel=", "add.py"],
         &["-fuel", "4", "add.py"],
         &["--FUEL", "4", "add.py"],
+        &["--fue", "4", "add.py"],
+        &["-f", "4", "add.py"],
+        &["--fuel", "4", "-add.py"],
+        &["--", "--fuel", "4", "add.py"],
     ];
     for words in cases {
         let got = options(rt.alloc(), words);
-        assert!(rt; matches!(got, Err(OptionFault::Usage)), "at {words:?}");
+        assert!(rt; matches!(got, Err(OptionFault::Usage(_))), "at {words:?}");
     }
 }
 
@@ -73,18 +90,69 @@ fn numbers_that_are_none(rt: HostRuntime) {
     ];
     for number in cases {
         let got = options(rt.alloc(), &["--fuel", number, "add.py"]);
-        assert!(rt; matches!(got, Err(OptionFault::Usage)), "at {number}");
+        assert!(rt; matches!(got, Err(OptionFault::Usage(_))), "at {number}");
     }
 }
 
 #[test]
+fn words_for_help(rt: HostRuntime) -> Result<(), Fail> {
+    let cases: [(&[&str], &str); 6] = [
+        (&["--version"], "pyrun 0.1.0\n"),
+        (&["-V"], "pyrun 0.1.0\n"),
+        (&["add.py", "--version", "--fuel"], "pyrun 0.1.0\n"),
+        (&["--help"], HELP),
+        (&["-h"], HELP),
+        (&["--fuel", "four", "--help"], HELP),
+    ];
+    for (words, text) in cases {
+        let got = options(rt.alloc(), words);
+        match &got {
+            Err(OptionFault::Help(shown)) => assert_eq!(rt; shown.as_str(), text, "at {words:?}"),
+            _ => assert!(rt; false, "no help at {words:?}"),
+        }
+    }
+    Ok(())
+}
+
+const HELP: &str =
+    "Runs a module of the profile in the model, and prints its trace\n\nUsage: pyrun --fuel <N> <FILE>\n\nArguments:\n  <FILE>  The module to run\n\nOptions:\n      --fuel <N>  How many steps the run may take, from 0 to 18446744073709551615\n  -h, --help      Print help\n  -V, --version   Print version\n";
+
+#[test]
 fn texts_of_faults(rt: HostRuntime) -> Result<(), Fail> {
-    let usage = OptionFault::Usage;
-    let text = format!(in rt.alloc(); "{usage}")?;
-    assert_eq!(rt; text.as_str(), "usage: pyrun --fuel N FILE");
+    let cases: [(&[&str], &str); 5] = [
+        (
+            &[],
+            "error: the following required arguments were not provided:\n  --fuel <N>\n  <FILE>\n\nUsage: pyrun --fuel <N> <FILE>\n\nFor more information, try '--help'.\n",
+        ),
+        (
+            &["--fuel", "4"],
+            "error: the following required arguments were not provided:\n  <FILE>\n\nUsage: pyrun --fuel <N> <FILE>\n\nFor more information, try '--help'.\n",
+        ),
+        (
+            &["--fuel", "4", "add.py", "more.py"],
+            "error: unexpected argument 'more.py' found\n\nUsage: pyrun --fuel <N> <FILE>\n\nFor more information, try '--help'.\n",
+        ),
+        (
+            &["--speed", "4", "add.py"],
+            "error: unexpected argument '--speed' found\n\n  tip: to pass '--speed' as a value, use '-- --speed'\n\nUsage: pyrun --fuel <N> <FILE>\n\nFor more information, try '--help'.\n",
+        ),
+        (
+            &["--fuel", "four", "add.py"],
+            "error: invalid value for '--fuel <N>': not a whole number from 0 to 18446744073709551615\n\nFor more information, try '--help'.\n",
+        ),
+    ];
+    for (words, text) in cases {
+        match options(rt.alloc(), words) {
+            Err(fault) => {
+                let shown = format!(in rt.alloc(); "{fault}")?;
+                assert_eq!(rt; shown.as_str(), text, "at {words:?}");
+            }
+            Ok(_) => assert!(rt; false, "no fault at {words:?}"),
+        }
+    }
     let memory = OptionFault::OutOfMemory;
     let text = format!(in rt.alloc(); "{memory}")?;
-    assert_eq!(rt; text.as_str(), "out of memory");
+    assert_eq!(rt; text.as_str(), "out of memory\n");
     Ok(())
 }
 

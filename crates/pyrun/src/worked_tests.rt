@@ -2,7 +2,7 @@
 use crate::traces::other_module_events;
 use std::test::Fail;
 
-const PLAIN_MODULES: &str = r#"
+const WORKED_MODULES: &str = r#"
 def main():
     pass  # end Done
 
@@ -61,18 +61,6 @@ def f(a: A) -> int:
     return a.m("s")
 def main():
     f(C())  # 365 366, 367 368, 367 370, 365 371, 340 341, 340 343, 344 347, 340 348, 264 265, 303 304, 307 308, 303 308, end TypeError
-"#;
-
-#[test]
-fn plain_modules(rt: HostRuntime) -> Result<(), Fail> {
-    assert_eq!(rt;
-        other_module_events(rt.alloc(), PLAIN_MODULES)?.as_str(),
-        ""
-    );
-    Ok(())
-}
-
-const FUNCTIONS_AND_LOOPS: &str = r#"
 from typing import Any
 def f(x: Any, y: list[int] | None):
     if isinstance(x, list):
@@ -128,18 +116,6 @@ def main():
 
 def main():
     return 1 + "a" + 2  # 58 59, 62 65, 58 65, end TypeError
-"#;
-
-#[test]
-fn functions_and_loops(rt: HostRuntime) -> Result<(), Fail> {
-    assert_eq!(rt;
-        other_module_events(rt.alloc(), FUNCTIONS_AND_LOOPS)?.as_str(),
-        ""
-    );
-    Ok(())
-}
-
-const NAMES_AND_CONTAINERS: &str = r#"
 def main():
     return 7 - 2 - 1  # 58 59, 62 63, 58 63, 66 67, 58 67, end Done
 
@@ -185,18 +161,6 @@ class B(A):
 def main():
     x = B(1)
     print(x.b + x.a)  # 160 161, 162 163, 160 164, 169 174, 175 176, 175 178, 181 182, 181 184, 175 184, end TypeError
-"#;
-
-#[test]
-fn names_and_containers(rt: HostRuntime) -> Result<(), Fail> {
-    assert_eq!(rt;
-        other_module_events(rt.alloc(), NAMES_AND_CONTAINERS)?.as_str(),
-        ""
-    );
-    Ok(())
-}
-
-const CLASSES_AND_NARROWING: &str = r#"
 from dataclasses import dataclass
 @dataclass
 class A:
@@ -253,10 +217,15 @@ def main():
     f(None)  # 128 129, 130 134, 128 135, 75 76, 75 88, 90 94, end Other
 "#;
 
+/// In the order of the table:
+/// - plain modules
+/// - functions and loops
+/// - names and containers
+/// - classes and narrowing
 #[test]
-fn classes_and_narrowing(rt: HostRuntime) -> Result<(), Fail> {
+fn worked_modules(rt: HostRuntime) -> Result<(), Fail> {
     assert_eq!(rt;
-        other_module_events(rt.alloc(), CLASSES_AND_NARROWING)?.as_str(),
+        other_module_events(rt.alloc(), WORKED_MODULES)?.as_str(),
         ""
     );
     Ok(())

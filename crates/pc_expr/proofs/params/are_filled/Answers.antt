@@ -1,7 +1,5 @@
-use Rattle.std.proofs.Common.{◌∙◌, ◌<◌, ◌≡◌, sym, ap, arith, length}
-use Rattle.std.specs.Prelude.{◌&&◌, string_bytes}
-use Rattle.pc_scope.specs.Resolution.{is_among, index_of}
-use Rattle.pc_expr.specs.Calling.{names_in, names_lent, is_place}
+use Rattle.std.proofs.Common.{◌∙◌, ◌<◌, sym, arith, length}
+use Rattle.pc_expr.specs.Calling.{names_in}
 use Rattle.pc_expr.proofs.Filling.{filled_no, filled_default, filled_name}
 use Rattle.pc_expr.proofs.params.are_filled.Goals.{else-not-param-via-then-not-param+else-not-takes_name, else-not-param-via-else-not-param}
 use Rattle.pc_expr.proofs.params.are_filled.Goals as goal
@@ -12,7 +10,7 @@ returns-then-not-takes_name g c =
     let ps = c.args.params.now.all.items in
     let e = c.len-i-end.ensures in
     sym (filled_no named ps c.loop-i.i c.index-param.result.now (omega (arith, e, c.loop-i-test.true)) c.index-param.ensures _ c.loop-i.invariant c.if-not-param.true
-    (ap (λ t. is_among t named && is_place (index_of t (names_lent ps)) c.loop-i.i) (sym c.as_str.ensures.value) ∙ sym c.takes_name.ensures ∙ c.if-not-takes_name.true))
+    (sym c.takes_name.ensures ∙ c.if-not-takes_name.true))
 
 pub loop-i-preserved : goal.loop-i-preserved
 loop-i-preserved g c =
@@ -22,6 +20,6 @@ loop-i-preserved g c =
     let less : c.loop-i.i < length ps = omega (arith, e, c.loop-i-test.true) in
     elim c.else-not-param.branch [
       | else-not-param-via-then-not-param+else-not-takes_name w ↦ filled_name named ps c.loop-i.i c.index-param.result.now less c.index-param.ensures _ c.loop-i.invariant w.if-not-param.true
-          (ap (λ t. is_among t named && is_place (index_of t (names_lent ps)) c.loop-i.i) (sym w.as_str.ensures.value) ∙ sym w.takes_name.ensures ∙ w.if-not-takes_name.false)
+          (sym w.takes_name.ensures ∙ w.if-not-takes_name.false)
       | else-not-param-via-else-not-param w ↦ filled_default named ps c.loop-i.i c.index-param.result.now less c.index-param.ensures _ c.loop-i.invariant w.if-not-param.false
     ]

@@ -1,24 +1,17 @@
-use Rattle.std.proofs.Common.{◌≡◌, sym, subst, ◌∙◌}
-use Rattle.std.specs.Prelude.{Some}
-use Rattle.pc_tree.specs.Tree as tree
-use Rattle.pc_top.specs.Part.{part_stmt, part_body}
-use Rattle.pc_top.proofs.Parts.{before_is}
-use Rattle.pc_top.proofs.Judging.{goes_on, ends_here}
+use Rattle.std.proofs.Common.{◌≡◌, ◌++◌, ◌∙◌, ap, subst, sym, List, Contains, ◌↔◌}
+use Rattle.pc_tree.specs.declared.code.Finding.{Finding}
+use Rattle.pc_tree.specs.Tree.{module_of}
+use Rattle.pc_class.specs.Built.{class_findings}
+use Rattle.pc_class.specs.Overriding.{override_findings}
+use Rattle.pc_check.specs.ComputedModules.{module_finds}
+use Rattle.pc_check.specs.Modules.{IsFinding}
+use Rattle.pc_top.proofs.ModuleFindings.{exactly}
 use Rattle.pc_top.proofs.checking.findings.Goals as goal
 
-pub returns-then-branch : goal.returns-then-branch
-returns-then-branch c = λ ss h.
-    let i = c.loop-stmt.invariant ss h in
-    let b = before_is (part_stmt (tree.stmt_of c.in-Some.stmt.now)) (part_body (tree.stmts_of_list c.in-Some.rest.now)) i.0 (subst (λ l. part_body (tree.stmts_of_list l) ≡ Some i.0) c.in-Some.ensures.cases.0 i.1) in
-    ends_here c.loop-stmt.found.items c.statement.new.found.items b.first b.rest i.0 ss b.is i.2 (c.in_ok-statement.ensures.found b.first b.first_is)
-    c.in_ok-statement.field-0 c.if-branch.true (c.in_ok-statement.ensures.returns b.first b.first_is) c.unreached.new.found.items (c.in_ok-unreached.ensures b.rest b.rest_is)
-
-pub loop-stmt-preserved : goal.loop-stmt-preserved
-loop-stmt-preserved c = λ ss h.
-    let i = c.loop-stmt.invariant ss h in
-    let b = before_is (part_stmt (tree.stmt_of c.in-Some.stmt.now)) (part_body (tree.stmts_of_list c.in-Some.rest.now)) i.0 (subst (λ l. part_body (tree.stmts_of_list l) ≡ Some i.0) c.in-Some.ensures.cases.0 i.1) in (
-      b.rest,
-      b.rest_is,
-      goes_on c.loop-stmt.found.items c.statement.new.found.items b.first b.rest i.0 ss b.is i.2 (c.in_ok-statement.ensures.found b.first b.first_is)
-          c.in_ok-statement.field-0 c.if-branch.false (c.in_ok-statement.ensures.returns b.first b.first_is),
-    )
+pub returns : goal.returns
+returns c =
+    let m = module_of c.args.module.now in
+    let first : c.extend_from_slice.new.self.items ≡ c.findings.result.now.items = c.in_ok-extend_from_slice.ensures.items ∙ ap (λ (l : List Finding). l ++ c.deref.result.now) c.new-found.ensures.items ∙ c.deref.ensures.value in
+    let all : c.check_module.new.found.items ≡ module_finds m ((c.findings.result.now.items ++ class_findings m) ++ override_findings m) =
+    c.in_ok-check_module.ensures.found ∙ ap (λ (l : List Finding). module_finds m l) (c.in_ok-override_findings.ensures.found ∙ ap (λ (l : List Finding). l ++ override_findings m) (c.in_ok-classes.ensures.found ∙ ap (λ (l : List Finding). l ++ class_findings m) first)) in
+    λ f. subst (λ (l : List Finding). Contains l f ↔ IsFinding m f) (sym all) (exactly m c.findings.result.now.items (c.findings.ensures.found m c.in_ok-scopes.ensures.scopes) f)

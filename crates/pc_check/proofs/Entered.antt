@@ -1,0 +1,104 @@
+-- What a function is entered with: its receiver and its parameters, declared and assigned; and what is found in its body from there.
+use Rattle.std.proofs.Common.{◌≡◌, ◌∙◌, ◌++◌, ℕ, zero, suc, List, [], ◌∷◌, Option, Some, None, length, refl, sym, ap, subst, arith}
+use Rattle.std.specs.Prelude.{All, false, is_some, replicate, slice_set, slice_index_or}
+use Rattle.std.specs.Borrow.{Bor}
+use Rattle.std.specs.Option.{option_map, option_copied}
+use Rattle.std.proofs.lemmas.List.Elements.{All-nil, All-head, All-tail, All-cons, All-replicate}
+use Rattle.pc_tree.specs.declared.code.Finding.{Finding}
+use Rattle.pc_tree.specs.Tree.{FuncDef, Module}
+use Rattle.pc_scope.specs.declared.resolution.Owner.{Owner}
+use Rattle.pc_scope.specs.declared.resolution.Res.{Res}
+use Rattle.pc_scope.specs.declared.resolution.Res.TheVariants as res
+use Rattle.pc_scope.specs.Resolution.{locals}
+use Rattle.pc_types.specs.Tree.{Tree}
+use Rattle.pc_types.specs.Below.{Bases}
+use Rattle.pc_types.specs.Store.{Means}
+use Rattle.pc_types.specs.WellFormed.{IsWellFormed}
+use Rattle.pc_class.specs.declared.table.Parameter.{Parameter as RustParameter}
+use Rattle.pc_class.specs.Facts.{Parameter, parameters_of}
+use Rattle.pc_class.specs.Tables.{HasParameter, parameters_with}
+use Rattle.pc_class.specs.WellFormed.{ParametersWellFormed}
+use Rattle.pc_flow.specs.Environment.{Env, none_assigned}
+use Rattle.pc_flow.specs.WellFormed.{IsWellFormedEnv}
+use Rattle.pc_flow.specs.Stored.{HasOne, env_of}
+use Rattle.pc_check.specs.ComputedStatements.{Frame, Table, Walk, enter, enter_local, enter_name, end_finds, frame_of, function_finds, walk_suite}
+use Rattle.pc_check.specs.Modules.{entries_of, receiver_parameter}
+use Rattle.pc_check.specs.Walking.{HoldsType, HoldsTypes}
+use Rattle.pc_check.specs.Entering.{HoldsParameter, GivesEntry}
+use Rattle.pc_check.proofs.Bound.{set_gives, bound_is}
+
+-- what is borrowed is none where there is none
+pub none_copied : {Ty : Type 0} (o : Option (Bor Ty)) → is_some o ≡ false → option_copied o ≡ None
+none_copied None e = refl
+none_copied (Some ty) e = absurd (grind (arith, e))
+
+module _ {Ty : Type 0} (has : Ty → Type 0) (tree : Ty → Tree) (bases : Bases) where
+  none_well_formed : (n : ℕ) → IsWellFormedEnv bases (env_of tree (replicate n None))
+  none_well_formed zero = tt
+  none_well_formed (suc n) = (tt, none_well_formed n)
+
+  -- locals of which none has a type
+  pub none_holds : (n : ℕ) → HoldsTypes has tree bases (replicate n None)
+  none_holds n = record { given = All-replicate (HasOne has) n None tt; well_formed = none_well_formed n }
+
+  -- parameters of the store whose types are well-formed
+  pub parameters_hold : (ps : List (RustParameter Ty)) → All (HasParameter has) ps → ParametersWellFormed bases (parameters_with tree ps) → All (HoldsParameter has tree bases) ps
+  parameters_hold [] h k = All-nil (HoldsParameter has tree bases)
+  parameters_hold (p ∷ ps) h k = All-cons (HoldsParameter has tree bases) p ps (record { given = All-head (HasParameter has) p ps h; well_formed = k.0 }) (parameters_hold ps (All-tail (HasParameter has) p ps h) k.1)
+
+-- and they mean that none is assigned
+pub none_is : {Ty : Type 0} (tree : Ty → Tree) (n : ℕ) → env_of tree (replicate n None) ≡ none_assigned n
+none_is tree zero = refl
+none_is tree (suc n) = ap (λ l. None ∷ l) (none_is tree n)
+
+module _ {Store Ty : Type 0} (has : Store → Ty → Type 0) (tree : Ty → Tree) (bases : Bases) (store : Store) where
+  -- a local that has no declared type so far, declared and assigned
+  pub local_entered : (declared env : List (Option Ty)) (x : ℕ) (ty first current : Ty) →
+      HoldsTypes (has store) tree bases declared →
+      HoldsTypes (has store) tree bases env →
+      HoldsType (has store) tree bases ty →
+      Means has tree store first (tree ty) →
+      Means has tree store current (tree ty) →
+      slice_index_or declared x None ≡ None →
+      GivesEntry (has store) tree bases (slice_set declared x (Some first)) (slice_set env x (Some current)) (enter_name (env_of tree declared) (env_of tree env) (res.Local x) (tree ty))
+  local_entered declared env x ty first current hd he ht mf mc e =
+      let d = set_gives has tree bases store declared x first (record { given = mf.0; well_formed = subst (IsWellFormed bases) (sym mf.1) ht.well_formed }) hd in
+      let c = set_gives has tree bases store env x current (record { given = mc.0; well_formed = subst (IsWellFormed bases) (sym mc.1) ht.well_formed }) he in
+      let table = d.is ∙ ap (λ t. slice_set (env_of tree declared) x (Some t)) mf.1 in
+      let assigned = c.is ∙ ap (λ t. slice_set (env_of tree env) x (Some t)) mc.1 in
+      let both : (env_of tree (slice_set declared x (Some first)), env_of tree (slice_set env x (Some current))) ≡ enter_local None (env_of tree declared) (env_of tree env) x (tree ty) = λ i. (table i, assigned i) in
+      record {
+        declared_holds = d.holds;
+        env_holds = c.holds;
+        is = both ∙ sym (ap (λ o. enter_local o (env_of tree declared) (env_of tree env) x (tree ty)) (bound_is has tree bases store declared x ∙ ap (option_map tree) e));
+      }
+
+-- parameters one after another
+enter_both : (resolve : List ℕ → Res) (table : Table) (env : Env) (ps qs : List Parameter) → enter resolve table env (ps ++ qs) ≡ enter resolve (enter resolve table env ps).0 (enter resolve table env ps).1 qs
+enter_both resolve table env [] qs = refl
+enter_both resolve table env (p ∷ ps) qs = let r = enter_name table env (resolve p.name) p.type in enter_both resolve r.0 r.1 ps qs
+
+-- a walk from this entry
+abbrev walk_from : Frame → FuncDef → List Finding → Table × Env → Walk
+walk_from frame f found start = walk_suite frame (record { table = start.0; env = Some start.1; broken = None; found = found }) f.body
+
+-- what is found in a function of so many locals that is entered with these parameters
+abbrev found_from : Frame → FuncDef → List Finding → ℕ → List Parameter → List Finding
+found_from frame f found n ps =
+    let body = walk_from frame f found (enter frame.context.resolve (none_assigned n) (none_assigned n) ps) in
+    body.found ++ end_finds frame.context.bases frame.returned f.name.place body.env
+
+-- what is found in a function, by what its receiver, its parameters and its body come to
+pub function_found : (m : Module) (constants : List Tree) (owner : Owner) (f : FuncDef) (frame : Frame) (found : List Finding) (n : ℕ) (middle start : Table × Env) (body : Walk) →
+    frame ≡ frame_of m constants owner f →
+    n ≡ length (locals owner f) →
+    middle ≡ enter frame.context.resolve (none_assigned n) (none_assigned n) (receiver_parameter owner) →
+    start ≡ enter frame.context.resolve middle.0 middle.1 (parameters_of m f.params) →
+    body ≡ walk_from frame f found start →
+    body.found ++ end_finds frame.context.bases frame.returned f.name.place body.env ≡ function_finds m constants owner f found
+function_found m constants owner f frame found n middle start body ef en em es eb =
+    let resolve = frame.context.resolve in
+    let entered = es ∙ ap (λ (r : Table × Env). enter resolve r.0 r.1 (parameters_of m f.params)) em ∙ sym (enter_both resolve (none_assigned n) (none_assigned n) (receiver_parameter owner) (parameters_of m f.params)) in
+    ap (λ (w : Walk). w.found ++ end_finds frame.context.bases frame.returned f.name.place w.env) (eb ∙ ap (walk_from frame f found) entered)
+    ∙ ap (λ k. found_from frame f found k (entries_of m owner f)) en
+    ∙ ap (λ k. found_from k f found (length (locals owner f)) (entries_of m owner f)) ef

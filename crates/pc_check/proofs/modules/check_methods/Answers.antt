@@ -1,0 +1,57 @@
+use Rattle.std.proofs.Common.{◌≡◌, ◌≤◌, ◌+◌, ◌∷◌, map, drop, sym, ap, ◌∙◌, subst, arith}
+use Rattle.pc_tree.specs.Tree.{class_of, func_of, field_of, member_of}
+use Rattle.pc_scope.specs.Bindings.{methods_in}
+use Rattle.pc_scope.specs.Resolution.{method_at}
+use Rattle.pc_expr.specs.SignaturesFound.{constants_of}
+use Rattle.pc_check.specs.Checking.{module_in, IsModuleSetting}
+use Rattle.pc_check.specs.ComputedModules.{methods_find}
+use Rattle.pc_check.proofs.CheckedModules.{MembersAt, members_next, method_here, field_passed, method_passed}
+use Rattle.pc_check.proofs.ModuleSettings.{setting_kept}
+use Rattle.pc_check.proofs.modules.check_methods.Goals as goal
+use Rattle.pc_check.proofs.modules.check_methods.Goals.{in-Field, in-Method+in_ok-check_owned-in-Method}
+
+pub check_owned-requires-clause-owner : goal.check_owned-requires-clause-owner
+check_owned-requires-clause-owner g c =
+    let ms = c.as_slice-members.result.now in
+    let i = c.loop-member.member-index in
+    let rest = map member_of (drop (i + 1) ms) in
+    let next = members_next ms i c.member-item.result c.loop-member-test.true c.member-item.is ∙ ap (λ y. member_of y ∷ rest) c.in-Method.is in
+    ap (λ o. method_at o c.loop-member.methods) c.requires.class
+    ∙ method_here (methods_in (class_of c.args.def.now).members) (map member_of (drop i ms)) rest c.loop-member.methods (func_of c.in-Method.method) c.loop-member.invariant.stand next
+
+pub loop-member-preserved : goal.loop-member-preserved
+loop-member-preserved g c =
+    let has = g.S.TypeStore.has in
+    let tree = g.S.TypeStore.tree in
+    let m = module_in c.args.setting.now in
+    let ms = c.as_slice-members.result.now in
+    let i = c.loop-member.member-index in
+    let n = c.loop-member.methods in
+    let v = c.loop-member.invariant in
+    let all = methods_in (class_of c.args.def.now).members in
+    let before = map member_of (drop i ms) in
+    let rest = map member_of (drop (i + 1) ms) in
+    let step = members_next ms i c.member-item.result c.loop-member-test.true c.member-item.is in
+    let total = methods_find m (constants_of m) c.args.class 0 (map member_of ms) c.args.found.now.items in
+    let here : MembersAt m (constants_of m) c.args.class all total before rest n c.match-member.methods c.loop-member.found.items c.match-member.found.items = elim c.match-member.branch [
+      | in-Field w ↦ field_passed m (constants_of m) c.args.class all total before rest n c.match-member.methods c.loop-member.found.items c.match-member.found.items v.stand v.found
+          (field_of w.in-Field.field-0) (step ∙ ap (λ y. member_of y ∷ rest) w.in-Field.is) w.methods-is (λ j. (w.found-is j).items)
+      | in-Method+in_ok-check_owned-in-Method w ↦ method_passed m (constants_of m) c.args.class all total before rest n c.match-member.methods c.loop-member.found.items c.match-member.found.items v.stand v.found
+          (func_of w.in-Method.method) (step ∙ ap (λ y. member_of y ∷ rest) w.in-Method.is) w.methods-is ((λ j. (w.found-is j).items) ∙ w.in_ok-check_owned-in-Method.ensures.pushed)
+    ] in
+    record {
+      setting = elim c.match-member.branch [
+        | in-Field w ↦ subst (λ s. IsModuleSetting (has s) tree c.args.setting.now) (sym w.store-is) v.setting
+        | in-Method+in_ok-check_owned-in-Method w ↦ subst (λ s. IsModuleSetting (has s) tree c.args.setting.now) (sym w.store-is) (setting_kept has tree c.loop-member.store w.check_owned.new.store w.check_owned.ensures.kept c.args.setting.now v.setting)
+      ];
+      counted = let h = v.counted in elim c.match-member.branch [
+        | in-Field w ↦ let e = w.methods-is in omega arith
+        | in-Method+in_ok-check_owned-in-Method w ↦ let e = w.methods-is in omega arith
+      ];
+      stand = here.stand;
+      found = here.found;
+      kept = elim c.match-member.branch [
+        | in-Field w ↦ λ ty h. subst (λ s. has s ty) (sym w.store-is) (v.kept ty h)
+        | in-Method+in_ok-check_owned-in-Method w ↦ λ ty h. subst (λ s. has s ty) (sym w.store-is) (w.check_owned.ensures.kept ty (v.kept ty h))
+      ];
+    }

@@ -1,0 +1,111 @@
+ghost use Rattle.std.specs.Prelude.{◌≡◌, OnOk, Some};
+ghost use Rattle.std.specs.Option.{option_copied};
+ghost use Rattle.pc_tree.specs.Tree.{func_of};
+ghost use Rattle.pc_scope.specs.Resolution.{function_of};
+ghost use Rattle.pc_types.specs.Store.{Keeps};
+ghost use Rattle.pc_expr.specs.Signatures.{signature_of};
+ghost use Rattle.pc_expr.specs.SignaturesFound.{constants_of};
+ghost use Rattle.pc_expr.specs.Standing.{HasSignature, signature_with};
+ghost use Rattle.pc_check.specs.ComputedStatements.{function_finds};
+ghost use Rattle.pc_check.specs.Checking.{module_in, signature_for, IsModuleSetting};
+
+use crate::entering::check_function;
+use crate::frame::Frame;
+use pc_class::ClassTable;
+use pc_expr::{Signature, Sigs};
+use pc_flow::OwnerNames;
+use pc_scope::{Owner, Scopes};
+use pc_source::OutOfMemory;
+use pc_tree::{Findings, FuncDef, Module};
+use pc_types::{Parents, TypeStore};
+use std::alloc::Global;
+
+/// What the bodies of a module stand in: the module with its scopes, the bases of its classes, its classes and how many they
+/// are, the types of its constants, and what its functions and methods take and return.
+#[derive(Drop)]
+pub struct ModuleSetting<'m, Ty: Drop> {
+    pub tree: &'m Module,
+    pub scopes: &'m Scopes,
+    pub parents: &'m Parents,
+    pub classes: &'m ClassTable<Ty>,
+    pub signatures: &'m Sigs<Ty>,
+    pub known: usize,
+}
+
+/// What the function or method that an owner is takes and returns, if there is one.
+fn signature_for<Ty: Drop>(signatures: &Sigs<Ty>, owner: Owner) -> Option<&Signature<Ty>>
+    ensures { option_copied result ≡ signature_for signatures.now owner }
+{
+    match owner {
+        Owner::Module => None,
+        Owner::Func(number) => signatures.function(number),
+        Owner::Method(class, number) => signatures.method(class, number),
+    }
+}
+
+/// Finds what stands in the body of a function or method of this signature, and at its name.
+/// Language Reference 3.12, 8.7 "Function definitions".
+fn check_body<S: TypeStore>(
+    store: &mut S,
+    alloc: Global,
+    setting: &ModuleSetting<'_, S::Ty>,
+    owner: Owner,
+    signature: &Signature<S::Ty>,
+    def: &FuncDef,
+    found: &mut Findings,
+) -> Result<(), OutOfMemory>
+    requires setting { IsModuleSetting (S.has store.old) S.tree setting.now }
+    requires owner { function_of (module_in setting.now) owner ≡ Some (func_of def.now) }
+    requires given { HasSignature (S.has store.old) signature.now }
+    requires signature { signature_with S.tree signature.now ≡ signature_of (module_in setting.now) (func_of def.now) }
+    ensures pushed { OnOk result (found.new.items ≡ function_finds (module_in setting.now) (constants_of (module_in setting.now)) owner (func_of def.now) found.old.items) }
+    ensures kept { Keeps S.has store.old store.new }
+{
+    let names = OwnerNames {
+        scopes: setting.scopes,
+        owner,
+    };
+    let frame = Frame {
+        parents: setting.parents,
+        classes: setting.classes,
+        functions: setting.signatures.functions(),
+        constants: setting.signatures.constants(),
+        known: setting.known,
+        names: &names,
+        tree: setting.tree,
+        scopes: setting.scopes,
+        returned: &signature.ret,
+    };
+    let count = setting.scopes.count_locals(owner);
+    check_function(
+        store,
+        alloc,
+        &frame,
+        owner,
+        count,
+        &signature.params,
+        def,
+        found,
+    )
+}
+
+/// Finds what stands in the body of a function or method of the module, and at its name.
+/// Language Reference 3.12, 8.7 "Function definitions".
+pub(crate) fn check_owned<S: TypeStore>(
+    store: &mut S,
+    alloc: Global,
+    setting: &ModuleSetting<'_, S::Ty>,
+    owner: Owner,
+    def: &FuncDef,
+    found: &mut Findings,
+) -> Result<(), OutOfMemory>
+    requires setting { IsModuleSetting (S.has store.old) S.tree setting.now }
+    requires owner { function_of (module_in setting.now) owner ≡ Some (func_of def.now) }
+    ensures pushed { OnOk result (found.new.items ≡ function_finds (module_in setting.now) (constants_of (module_in setting.now)) owner (func_of def.now) found.old.items) }
+    ensures kept { Keeps S.has store.old store.new }
+{
+    match signature_for(setting.signatures, owner) {
+        None => Ok(()),
+        Some(signature) => check_body(store, alloc, setting, owner, signature, def, found),
+    }
+}

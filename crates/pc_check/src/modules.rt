@@ -1,0 +1,129 @@
+ghost use Rattle.std.specs.Prelude.{◌≡◌, ◌++◌, length, map, slice_get, OnOk, Some};
+ghost use Rattle.pc_tree.specs.Tree.{class_of, item_of, module_of};
+ghost use Rattle.pc_scope.specs.Bindings.{classes_in};
+ghost use Rattle.pc_scope.specs.Scoped.{AreScopes};
+ghost use Rattle.pc_types.specs.Store.{Keeps};
+ghost use Rattle.pc_class.specs.Bases.{bases_of};
+ghost use Rattle.pc_class.specs.Facts.{classes_of};
+ghost use Rattle.pc_class.specs.Tables.{HasEntries, classes_with};
+ghost use Rattle.pc_expr.specs.SignaturesFound.{constants_of};
+ghost use Rattle.pc_check.specs.ComputedModules.{methods_find, bodies_find, module_finds};
+ghost use Rattle.pc_check.specs.Checking.{module_in, IsModuleSetting};
+
+use crate::bodies::{ModuleSetting, check_owned};
+use pc_class::ClassTable;
+use pc_expr::read_signatures;
+use pc_scope::{Owner, Scopes};
+use pc_source::OutOfMemory;
+use pc_tree::{ClassDef, Findings, Item, ItemKind, Member, Module};
+use pc_types::{Parents, TypeStore};
+use std::alloc::Global;
+
+/// How many of these items are classes.
+fn count_classes(items: &[Item]) -> usize
+    ensures { result ≡ length (classes_in (map item_of items.now)) }
+{
+    let mut classes = 0;
+    for item in items {
+        match &item.kind {
+            ItemKind::Constant(_) => {}
+            ItemKind::Class(_) => classes += 1,
+            ItemKind::Def(_) => {}
+        }
+    }
+    classes
+}
+
+/// Finds what stands in the bodies of the methods of the class of this number.
+/// Language Reference 3.12, 8.8 "Class definitions".
+fn check_methods<S: TypeStore>(
+    store: &mut S,
+    alloc: Global,
+    setting: &ModuleSetting<'_, S::Ty>,
+    class: usize,
+    def: &ClassDef,
+    found: &mut Findings,
+) -> Result<(), OutOfMemory>
+    requires setting { IsModuleSetting (S.has store.old) S.tree setting.now }
+    requires class { slice_get (classes_in (module_in setting.now).items) class ≡ Some (class_of def.now) }
+    ensures pushed { OnOk result (found.new.items ≡ methods_find (module_in setting.now) (constants_of (module_in setting.now)) class 0 (class_of def.now).members found.old.items) }
+    ensures kept { Keeps S.has store.old store.new }
+{
+    let mut methods = 0;
+    let members = def.members.as_slice();
+    for member in members {
+        match member {
+            Member::Field(_) => {}
+            Member::Method(method) => {
+                let owner = Owner::Method(class, methods);
+                check_owned(store, alloc, setting, owner, method, found)?;
+                methods += 1;
+            }
+        }
+    }
+    Ok(())
+}
+
+/// Finds what stands in the bodies of the functions and methods of a module, in text order.
+fn check_bodies<S: TypeStore>(
+    store: &mut S,
+    alloc: Global,
+    setting: &ModuleSetting<'_, S::Ty>,
+    found: &mut Findings,
+) -> Result<(), OutOfMemory>
+    requires { IsModuleSetting (S.has store.old) S.tree setting.now }
+    ensures pushed { OnOk result (found.new.items ≡ bodies_find (module_in setting.now) (constants_of (module_in setting.now)) 0 0 (module_in setting.now).items found.old.items) }
+    ensures kept { Keeps S.has store.old store.new }
+{
+    let mut classes = 0;
+    let mut functions = 0;
+    let items = setting.tree.items.as_slice();
+    for item in items {
+        match &item.kind {
+            ItemKind::Constant(_) => {}
+            ItemKind::Class(class) => {
+                check_methods(store, alloc, setting, classes, class, found)?;
+                classes += 1;
+            }
+            ItemKind::Def(def) => {
+                check_owned(store, alloc, setting, Owner::Func(functions), def, found)?;
+                functions += 1;
+            }
+        }
+    }
+    Ok(())
+}
+
+/// Finds what stands under the labels of a module, put behind `found`: first what is found of its signatures and its constants,
+/// then in the bodies of its functions and methods, in text order.
+///
+/// Language Reference 3.12, 7 "Simple statements" and 8 "Compound statements"; the codes are own rules of the profile.
+#[tactic(auto, unfolding(crate::specs::ComputedModules::module_finds))]
+pub fn check_module<S: TypeStore>(
+    store: &mut S,
+    alloc: Global,
+    parents: &Parents,
+    tree: &Module,
+    scopes: &Scopes,
+    classes: &ClassTable<S::Ty>,
+    found: &mut Findings,
+) -> Result<(), OutOfMemory>
+    requires scopes { AreScopes (module_of tree.now) scopes.now }
+    requires parents { parents.now ≡ bases_of (module_of tree.now) }
+    requires classes { classes_with S.tree classes.now ≡ classes_of (module_of tree.now) }
+    requires entries { HasEntries (S.has store.old) classes.now }
+    ensures found { OnOk result (found.new.items ≡ module_finds (module_of tree.now) found.old.items) }
+    ensures kept { Keeps S.has store.old store.new }
+{
+    let signatures = read_signatures(store, alloc, parents, tree, scopes, classes, found)?;
+    let known = count_classes(tree.items.as_slice());
+    let setting = ModuleSetting {
+        tree,
+        scopes,
+        parents,
+        classes,
+        signatures: &signatures,
+        known,
+    };
+    check_bodies(store, alloc, &setting, found)
+}

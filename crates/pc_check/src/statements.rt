@@ -1,0 +1,369 @@
+// The walk over statements.
+
+ghost use Rattle.std.specs.Prelude.{IfOk, List, Option, None, Some};
+ghost use Rattle.std.specs.Option.{option_map};
+ghost use Rattle.pc_source.specs.declared.place.Place.{Place as PlaceOf};
+ghost use Rattle.pc_tree.specs.Tree.{expr_of, name_of, stmt_of, stmt_of_kind, stmts_of_list, while_loop, for_loop, no_branches};
+ghost use Rattle.pc_tree.specs.Lists.{branches_of_list, with_branch};
+ghost use Rattle.pc_types.specs.Store.{Keeps};
+ghost use Rattle.pc_flow.specs.Stored.{env_of};
+ghost use Rattle.pc_check.specs.ComputedStatements.{step, walk_suite, walk_branches, behind_branches};
+ghost use Rattle.pc_check.specs.Walking.{frame_with, walk_with, forked_with, HoldsFrame, HoldsTypes, HoldsTypesIfAny, GivesWalk, GivesForked};
+
+use crate::binding::bind_annotated;
+use crate::frame::Frame;
+use crate::iterables::item_type;
+use crate::leaving::{break_out, check_assert, find_return, meet};
+use crate::loops::{bind_item, for_start, while_start};
+use crate::targets::assign_target;
+use crate::typing::{narrow_in, type_in};
+use crate::unreached::declare_unreached;
+use pc_flow::{BothWays, DeclaredTypes, Env, Resolver, copy_env};
+use pc_source::{OutOfMemory, Place};
+use pc_tree::{Branch, Expr, Findings, Name, Stmt, StmtKind};
+use pc_types::TypeStore;
+use std::alloc::Global;
+
+/// Where a walk over the branches of an `if` stands: the environment where all conditions so far are false, and the ways out of
+/// their suites joined, if a run comes out of one.
+#[derive(Drop)]
+struct Fork<Ty: Drop> {
+    last: Env<Ty>,
+    ways: Option<Env<Ty>>,
+}
+
+/// Walks over statements, one after another, and answers the environment behind them, if a run comes there.
+#[cycle(statements)]
+pub(crate) fn check_suite<S: TypeStore, R: Resolver>(
+    store: &mut S,
+    alloc: Global,
+    frame: &Frame<'_, S::Ty, R>,
+    declared: &mut DeclaredTypes<S::Ty>,
+    env: Option<Env<S::Ty>>,
+    broken: &mut Option<Env<S::Ty>>,
+    body: &[Stmt],
+    found: &mut Findings,
+) -> Result<Option<Env<S::Ty>>, OutOfMemory>
+    requires frame { HoldsFrame (S.has store.old) S.tree R.meaning frame.now }
+    requires declared { HoldsTypes (S.has store.old) S.tree frame.now.parents.now declared.old }
+    requires env { HoldsTypesIfAny (S.has store.old) S.tree frame.now.parents.now env }
+    requires broken { HoldsTypesIfAny (S.has store.old) S.tree frame.now.parents.now broken.old }
+    ensures walked { IfOk result (λ out. GivesWalk S.has S.tree frame.now.parents.now store.new declared.new out broken.new found.new.items (walk_suite (frame_with S.tree R.meaning frame.now) (walk_with S.tree declared.old env broken.old found.old.items) (stmts_of_list body.now))) }
+    ensures kept { Keeps S.has store.old store.new }
+{
+    let mut env = env;
+    for statement in body {
+        env = check_next(store, alloc, frame, declared, env, broken, statement, found)?;
+    }
+    Ok(env)
+}
+
+/// Walks over a statement, to which a run may come or not.
+#[cycle(statements)]
+fn check_next<S: TypeStore, R: Resolver>(
+    store: &mut S,
+    alloc: Global,
+    frame: &Frame<'_, S::Ty, R>,
+    declared: &mut DeclaredTypes<S::Ty>,
+    env: Option<Env<S::Ty>>,
+    broken: &mut Option<Env<S::Ty>>,
+    statement: &Stmt,
+    found: &mut Findings,
+) -> Result<Option<Env<S::Ty>>, OutOfMemory>
+    requires frame { HoldsFrame (S.has store.old) S.tree R.meaning frame.now }
+    requires declared { HoldsTypes (S.has store.old) S.tree frame.now.parents.now declared.old }
+    requires env { HoldsTypesIfAny (S.has store.old) S.tree frame.now.parents.now env }
+    requires broken { HoldsTypesIfAny (S.has store.old) S.tree frame.now.parents.now broken.old }
+    ensures walked { IfOk result (λ out. GivesWalk S.has S.tree frame.now.parents.now store.new declared.new out broken.new found.new.items (step (frame_with S.tree R.meaning frame.now) (env_of S.tree declared.old) (option_map (env_of S.tree) env) (option_map (env_of S.tree) broken.old) found.old.items (stmt_of statement.now))) }
+    ensures kept { Keeps S.has store.old store.new }
+{
+    match env {
+        None => {
+            declare_unreached(store, alloc, frame, declared, &statement.kind)?;
+            Ok(None)
+        }
+        Some(env) => check_stmt(
+            store,
+            alloc,
+            frame,
+            declared,
+            env,
+            broken,
+            statement.first,
+            &statement.kind,
+            found,
+        ),
+    }
+}
+
+/// Walks over a statement to which a run comes, in this environment.
+#[cycle(statements)]
+fn check_stmt<S: TypeStore, R: Resolver>(
+    store: &mut S,
+    alloc: Global,
+    frame: &Frame<'_, S::Ty, R>,
+    declared: &mut DeclaredTypes<S::Ty>,
+    env: Env<S::Ty>,
+    broken: &mut Option<Env<S::Ty>>,
+    first: Place,
+    kind: &StmtKind,
+    found: &mut Findings,
+) -> Result<Option<Env<S::Ty>>, OutOfMemory>
+    requires frame { HoldsFrame (S.has store.old) S.tree R.meaning frame.now }
+    requires declared { HoldsTypes (S.has store.old) S.tree frame.now.parents.now declared.old }
+    requires env { HoldsTypes (S.has store.old) S.tree frame.now.parents.now env }
+    requires broken { HoldsTypesIfAny (S.has store.old) S.tree frame.now.parents.now broken.old }
+    ensures walked { IfOk result (λ out. GivesWalk S.has S.tree frame.now.parents.now store.new declared.new out broken.new found.new.items (step (frame_with S.tree R.meaning frame.now) (env_of S.tree declared.old) (Some (env_of S.tree env)) (option_map (env_of S.tree) broken.old) found.old.items (stmt_of_kind first kind.now))) }
+    ensures kept { Keeps S.has store.old store.new }
+{
+    match kind {
+        StmtKind::Pass => Ok(Some(env)),
+        StmtKind::Break => {
+            break_out(store, alloc, frame, declared, &env, broken)?;
+            Ok(None)
+        }
+        StmtKind::Continue => Ok(None),
+        StmtKind::Return(value) => {
+            find_return(store, alloc, frame, declared, &env, first, value, found)?;
+            Ok(None)
+        }
+        StmtKind::Assert(condition, message) => {
+            let env = check_assert(
+                store, alloc, frame, declared, env, condition, message, found,
+            )?;
+            Ok(Some(env))
+        }
+        StmtKind::Annotated(name, annotation, value) => {
+            let env = bind_annotated(
+                store, alloc, frame, declared, env, name, annotation, value, found,
+            )?;
+            Ok(Some(env))
+        }
+        StmtKind::Assign(target, value) => {
+            let env = assign_target(store, alloc, frame, declared, env, target, value, found)?;
+            Ok(Some(env))
+        }
+        StmtKind::Expr(value) => {
+            type_in(store, alloc, frame, declared, &env, &None, value, found)?;
+            Ok(Some(env))
+        }
+        StmtKind::While(condition, body) => {
+            check_while(store, alloc, frame, declared, &env, body, condition, found)
+        }
+        StmtKind::For(name, iterable, body) => {
+            check_for(
+                store, alloc, frame, declared, &env, body, name, iterable, found,
+            )
+        }
+        StmtKind::If(branches, otherwise) => {
+            let fork = check_branches(store, alloc, frame, declared, env, broken, branches, found)?;
+            check_otherwise(
+                store, alloc, frame, declared, fork, broken, otherwise, found,
+            )
+        }
+    }
+}
+
+/// Walks over a `while`: the condition is checked at the head, and the body where it is true.
+/// Language Reference 8.2 "The while statement".
+#[cycle(statements)]
+fn check_while<S: TypeStore, R: Resolver>(
+    store: &mut S,
+    alloc: Global,
+    frame: &Frame<'_, S::Ty, R>,
+    declared: &mut DeclaredTypes<S::Ty>,
+    env: &Env<S::Ty>,
+    body: &[Stmt],
+    condition: &Expr,
+    found: &mut Findings,
+) -> Result<Option<Env<S::Ty>>, OutOfMemory>
+    requires frame { HoldsFrame (S.has store.old) S.tree R.meaning frame.now }
+    requires declared { HoldsTypes (S.has store.old) S.tree frame.now.parents.now declared.old }
+    requires env { HoldsTypes (S.has store.old) S.tree frame.now.parents.now env.now }
+    ensures walked { (p : PlaceOf) (broken : Option (List (Option S.Ty))) → HoldsTypesIfAny (S.has store.new) S.tree frame.now.parents.now broken → IfOk result (λ out. GivesWalk S.has S.tree frame.now.parents.now store.new declared.new out broken found.new.items (step (frame_with S.tree R.meaning frame.now) (env_of S.tree declared.old) (Some (env_of S.tree env.now)) (option_map (env_of S.tree) broken) found.old.items (while_loop p (expr_of condition.now) (stmts_of_list body.now)))) }
+    ensures kept { Keeps S.has store.old store.new }
+{
+    let head = while_start(store, alloc, frame, declared, env, body)?;
+    type_in(
+        store, alloc, frame, declared, &head, &None, condition, found,
+    )?;
+    let BothWays {
+        where_true,
+        where_false,
+    } = narrow_in(store, alloc, frame, declared, condition, head)?;
+    let mut way = Some(where_false);
+    check_suite(
+        store,
+        alloc,
+        frame,
+        declared,
+        Some(where_true),
+        &mut way,
+        body,
+        found,
+    )?;
+    Ok(way)
+}
+
+/// Walks over a `for`: its iterable is checked before the loop, and its target is bound at the head.
+/// Language Reference 8.3 "The for statement".
+#[cycle(statements)]
+fn check_for<S: TypeStore, R: Resolver>(
+    store: &mut S,
+    alloc: Global,
+    frame: &Frame<'_, S::Ty, R>,
+    declared: &mut DeclaredTypes<S::Ty>,
+    env: &Env<S::Ty>,
+    body: &[Stmt],
+    name: &Name,
+    iterable: &Expr,
+    found: &mut Findings,
+) -> Result<Option<Env<S::Ty>>, OutOfMemory>
+    requires frame { HoldsFrame (S.has store.old) S.tree R.meaning frame.now }
+    requires declared { HoldsTypes (S.has store.old) S.tree frame.now.parents.now declared.old }
+    requires env { HoldsTypes (S.has store.old) S.tree frame.now.parents.now env.now }
+    ensures walked { (p : PlaceOf) (broken : Option (List (Option S.Ty))) → HoldsTypesIfAny (S.has store.new) S.tree frame.now.parents.now broken → IfOk result (λ out. GivesWalk S.has S.tree frame.now.parents.now store.new declared.new out broken found.new.items (step (frame_with S.tree R.meaning frame.now) (env_of S.tree declared.old) (Some (env_of S.tree env.now)) (option_map (env_of S.tree) broken) found.old.items (for_loop p (name_of name.now) (expr_of iterable.now) (stmts_of_list body.now)))) }
+    ensures kept { Keeps S.has store.old store.new }
+{
+    let item = item_type(store, alloc, frame, declared, env, iterable, found)?;
+    let head = for_start(store, alloc, frame, declared, env, name, body)?;
+    let mut way = Some(copy_env(store, alloc, &head)?);
+    let inside = bind_item(
+        store,
+        alloc,
+        frame,
+        declared,
+        head,
+        name,
+        iterable.place(),
+        item,
+        found,
+    )?;
+    check_suite(
+        store,
+        alloc,
+        frame,
+        declared,
+        Some(inside),
+        &mut way,
+        body,
+        found,
+    )?;
+    Ok(way)
+}
+
+/// Walks over the suite of `else`, where all conditions are false, and answers where the ways out of the `if` meet.
+/// Language Reference 8.1 "The if statement".
+#[cycle(statements)]
+fn check_otherwise<S: TypeStore, R: Resolver>(
+    store: &mut S,
+    alloc: Global,
+    frame: &Frame<'_, S::Ty, R>,
+    declared: &mut DeclaredTypes<S::Ty>,
+    fork: Fork<S::Ty>,
+    broken: &mut Option<Env<S::Ty>>,
+    otherwise: &[Stmt],
+    found: &mut Findings,
+) -> Result<Option<Env<S::Ty>>, OutOfMemory>
+    requires frame { HoldsFrame (S.has store.old) S.tree R.meaning frame.now }
+    requires declared { HoldsTypes (S.has store.old) S.tree frame.now.parents.now declared.old }
+    requires last { HoldsTypes (S.has store.old) S.tree frame.now.parents.now fork.last }
+    requires ways { HoldsTypesIfAny (S.has store.old) S.tree frame.now.parents.now fork.ways }
+    requires broken { HoldsTypesIfAny (S.has store.old) S.tree frame.now.parents.now broken.old }
+    ensures walked { IfOk result (λ out. GivesWalk S.has S.tree frame.now.parents.now store.new declared.new out broken.new found.new.items (behind_branches (frame_with S.tree R.meaning frame.now) (option_map (env_of S.tree) fork.ways) (walk_suite (frame_with S.tree R.meaning frame.now) (walk_with S.tree declared.old (Some fork.last) broken.old found.old.items) (stmts_of_list otherwise.now)))) }
+    ensures kept { Keeps S.has store.old store.new }
+{
+    let Fork { last, ways } = fork;
+    let out = check_suite(
+        store,
+        alloc,
+        frame,
+        declared,
+        Some(last),
+        broken,
+        otherwise,
+        found,
+    )?;
+    meet(store, alloc, frame, declared, ways, out)
+}
+
+/// Walks over the branches of an `if`, from the environment where no condition was checked yet.
+#[cycle(statements)]
+fn check_branches<S: TypeStore, R: Resolver>(
+    store: &mut S,
+    alloc: Global,
+    frame: &Frame<'_, S::Ty, R>,
+    declared: &mut DeclaredTypes<S::Ty>,
+    env: Env<S::Ty>,
+    broken: &mut Option<Env<S::Ty>>,
+    branches: &[Branch],
+    found: &mut Findings,
+) -> Result<Fork<S::Ty>, OutOfMemory>
+    requires frame { HoldsFrame (S.has store.old) S.tree R.meaning frame.now }
+    requires declared { HoldsTypes (S.has store.old) S.tree frame.now.parents.now declared.old }
+    requires env { HoldsTypes (S.has store.old) S.tree frame.now.parents.now env }
+    requires broken { HoldsTypesIfAny (S.has store.old) S.tree frame.now.parents.now broken.old }
+    ensures walked { IfOk result (λ f. GivesForked S.has S.tree frame.now.parents.now store.new declared.new f.last f.ways broken.new found.new.items (walk_branches (frame_with S.tree R.meaning frame.now) (forked_with S.tree declared.old env None broken.old found.old.items) (branches_of_list branches.now))) }
+    ensures kept { Keeps S.has store.old store.new }
+{
+    let mut fork = Fork {
+        last: env,
+        ways: None,
+    };
+    for branch in branches {
+        fork = check_branch(store, alloc, frame, declared, fork, broken, branch, found)?;
+    }
+    Ok(fork)
+}
+
+/// Walks over one branch: its condition, where those before it are false, and its suite.
+#[cycle(statements)]
+fn check_branch<S: TypeStore, R: Resolver>(
+    store: &mut S,
+    alloc: Global,
+    frame: &Frame<'_, S::Ty, R>,
+    declared: &mut DeclaredTypes<S::Ty>,
+    fork: Fork<S::Ty>,
+    broken: &mut Option<Env<S::Ty>>,
+    branch: &Branch,
+    found: &mut Findings,
+) -> Result<Fork<S::Ty>, OutOfMemory>
+    requires frame { HoldsFrame (S.has store.old) S.tree R.meaning frame.now }
+    requires declared { HoldsTypes (S.has store.old) S.tree frame.now.parents.now declared.old }
+    requires last { HoldsTypes (S.has store.old) S.tree frame.now.parents.now fork.last }
+    requires ways { HoldsTypesIfAny (S.has store.old) S.tree frame.now.parents.now fork.ways }
+    requires broken { HoldsTypesIfAny (S.has store.old) S.tree frame.now.parents.now broken.old }
+    ensures walked { IfOk result (λ f. GivesForked S.has S.tree frame.now.parents.now store.new declared.new f.last f.ways broken.new found.new.items (walk_branches (frame_with S.tree R.meaning frame.now) (forked_with S.tree declared.old fork.last fork.ways broken.old found.old.items) (with_branch branch.now no_branches))) }
+    ensures kept { Keeps S.has store.old store.new }
+{
+    let Fork { last, ways } = fork;
+    type_in(
+        store,
+        alloc,
+        frame,
+        declared,
+        &last,
+        &None,
+        &branch.condition,
+        found,
+    )?;
+    let BothWays {
+        where_true,
+        where_false,
+    } = narrow_in(store, alloc, frame, declared, &branch.condition, last)?;
+    let out = check_suite(
+        store,
+        alloc,
+        frame,
+        declared,
+        Some(where_true),
+        broken,
+        &branch.body,
+        found,
+    )?;
+    let ways = meet(store, alloc, frame, declared, ways, out)?;
+    Ok(Fork {
+        last: where_false,
+        ways,
+    })
+}

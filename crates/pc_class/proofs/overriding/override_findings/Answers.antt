@@ -1,0 +1,42 @@
+use Rattle.std.proofs.Common.{◌∙◌, ◌++◌, ◌+◌, ◌≤◌, ◌<◌, List, drop, length, sym, ap, arith, append-nil}
+use Rattle.std.proofs.Math.ListN.{drop_of_length-le}
+use Rattle.pc_tree.specs.declared.code.Finding.{Finding}
+use Rattle.pc_tree.specs.Tree.{ClassDef, module_of}
+use Rattle.pc_scope.specs.Bindings.{classes_in}
+use Rattle.pc_class.specs.Overriding.{overrides_from}
+use Rattle.pc_class.proofs.ClassOverrides.{entries_keep, as_many, one_more, classes_next, findings_are}
+use Rattle.pc_class.proofs.overriding.override_findings.Goals as goal
+
+pub find_class_overrides-requires-clause-table : goal.find_class_overrides-requires-clause-table
+find_class_overrides-requires-clause-table g c =
+    let has = g.S.TypeStore.has in
+    entries_keep (has c.args.store.now) (has c.loop-class.store) c.args.classes.now c.loop-class.invariant.store c.requires.given
+
+pub loop-class-preserved : goal.loop-class-preserved
+loop-class-preserved g c =
+    let m = module_of c.args.tree.now in
+    let cs = classes_in m.items in
+    let i = c.loop-class.class in
+    let many = as_many g.S.TypeStore.tree c.args.classes.now m c.requires.classes in
+    let test = c.loop-class-test.true in
+    let count = c.count-class-end.ensures in
+    let less : i < length cs = omega arith in
+    let more = one_more m cs i less in record {
+      store = λ t h. c.find_class_overrides.ensures.kept t (c.loop-class.invariant.store t h);
+      found = classes_next m i more.class c.loop-class.found.items c.find_class_overrides.new.found.items _ (overrides_from m i (drop i cs)) (overrides_from m (i + 1) (drop (i + 1) cs))
+          c.loop-class.invariant.found more.next (c.in_ok-find_class_overrides.ensures.found more.class more.is);
+    }
+
+pub returns-clause-found : goal.returns-clause-found
+returns-clause-found g c =
+    let m = module_of c.args.tree.now in
+    let cs = classes_in m.items in
+    let i = c.loop-class.class in
+    let many = as_many g.S.TypeStore.tree c.args.classes.now m c.requires.classes in
+    let test = c.loop-class-test.false in
+    let count = c.count-class-end.ensures in
+    let past : length cs ≤ i = omega arith in
+    sym (append-nil c.loop-class.found.items)
+    ∙ ap (λ (xs : List ClassDef). c.loop-class.found.items ++ overrides_from m i xs) (sym (drop_of_length-le cs past))
+    ∙ c.loop-class.invariant.found
+    ∙ ap (λ (fs : List Finding). c.args.found.now.items ++ fs) (sym (findings_are m))

@@ -1,0 +1,25 @@
+-- What is found of classes, as lists: by names, E06, E07 and E08, and by overriding, E11 and A8.
+-- Own rules of the profile.
+use Rattle.std.specs.Prelude.{◌≡◌, ◌↔◌, ◌⊎◌, ℕ, suc, List, [], ◌∷◌, ◌++◌, Contains}
+use Rattle.pc_source.specs.declared.place.Place.{Place}
+use Rattle.pc_tree.specs.declared.code.Finding.{Finding}
+use Rattle.pc_tree.specs.Stopping.{clashing_members}
+use Rattle.pc_tree.specs.Tree.{ClassDef, Module}
+use Rattle.pc_scope.specs.Bindings.{classes_in}
+use Rattle.pc_class.specs.Entries.{inherited_by, class_entries, clash_places}
+use Rattle.pc_class.specs.Findings.{ClassFinds, base_class}
+use Rattle.pc_class.specs.Built.{class_findings}
+use Rattle.pc_class.specs.Overriding.{override_findings}
+
+-- the names of members that clash in classes from this number on, by what the class of each base's number has
+abbrev pub clashes_from : Module → ℕ → List ClassDef → List Place
+clashes_from m c [] = []
+clashes_from m c (class ∷ rest) = clash_places (class_entries (inherited_by (base_class m c class)) class) ++ clashes_from m (suc c) rest
+
+-- the law that those are, in the same order, the clashing members that stop a run, which go by the names of bases among the items before
+abbrev pub ClashesStop : Type 0
+ClashesStop = (m : Module) → clashing_members m ≡ clashes_from m 0 (classes_in m.items)
+
+-- the law that the two lists together hold just the findings of classes
+abbrev pub ClassesFindJustTheirLists : Type 0
+ClassesFindJustTheirLists = (m : Module) (f : Finding) → (Contains (class_findings m) f ⊎ Contains (override_findings m) f) ↔ ClassFinds m f

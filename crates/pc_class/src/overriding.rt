@@ -1,0 +1,233 @@
+// Overrides: each method that a class binds against those of its name that the class's ancestors have.
+
+ghost use Rattle.std.specs.Prelude.{◌≡◌, ◌++◌, ◌&&◌, ◌||◌, ◌<◌, not, length, slice_get, All, Some, IsTrue, OnOk, bytes_eq};
+ghost use Rattle.std.specs.List.{list_all};
+ghost use Rattle.pc_tree.specs.Tree.{ClassDef as ClassTree, module_of};
+ghost use Rattle.pc_scope.specs.Bindings.{classes_in};
+ghost use Rattle.pc_types.specs.Tree.{Tree};
+ghost use Rattle.pc_types.specs.Bases.{bases_of};
+ghost use Rattle.pc_types.specs.Store.{Keeps};
+ghost use Rattle.pc_class.specs.Facts.{classes_of};
+ghost use Rattle.pc_class.specs.Overrides.{has_shape_of, Flow, parameter_flows, overridden};
+ghost use Rattle.pc_class.specs.Overriding.{override_code, found_at_method, class_overrides, override_findings};
+ghost use Rattle.pc_class.specs.Judging.{flow_fits, overrides_by, IsJudging, module_judged, methods_above};
+ghost use Rattle.pc_class.specs.Tables.{HasParameter, HasMethod, HasEntries, parameters_with, method_with, classes_with};
+ghost use Rattle.pc_class.specs.Parts.{parameter_name};
+
+use crate::table::{ClassTable, Method, Parameter};
+use pc_source::OutOfMemory;
+use pc_tree::{Code, Finding, Findings, Module};
+use pc_types::{Parents, TypeStore};
+
+/// How a type is to flow into another. Typing specification, "Type system concepts".
+#[derive(Clone, Copy)]
+pub enum Relation {
+    /// Each `Any` counts as `object`.
+    Static,
+    /// Some reading of each `Any` serves.
+    Assignable,
+}
+
+/// What overrides are judged in: a module, the parents of its classes, and their table.
+#[derive(Drop)]
+pub struct Judging<'a, Ty: Drop> {
+    pub tree: &'a Module,
+    pub parents: &'a Parents,
+    pub classes: &'a ClassTable<Ty>,
+}
+
+/// A parameter has the name of the ancestor's and, where that one has a default, a default too.
+fn suits<Ty: Drop>(old: &Parameter<Ty>, new: &Parameter<Ty>) -> bool
+    ensures { result ≡ (bytes_eq (parameter_name old.now) (parameter_name new.now) && (not old.now.has_default || new.now.has_default)) }
+{
+    old.name.as_str() == new.name.as_str() && (!old.has_default || new.has_default)
+}
+
+/// The numbers of parameters agree, the names at each position, and there is a default wherever the ancestor's has one.
+fn has_shape<Ty: Drop>(old: &[Parameter<Ty>], new: &[Parameter<Ty>]) -> bool
+    ensures shape { (tree : Ty → Tree) → result ≡ has_shape_of (parameters_with tree old.now) (parameters_with tree new.now) }
+    ensures many { IsTrue result → length old.now ≡ length new.now }
+{
+    if old.len() != new.len() {
+        return false;
+    }
+    for number in 0..old.len() {
+        if !suits(&old[number], &new[number]) {
+            return false;
+        }
+    }
+    true
+}
+
+/// The first type flows into the second.
+fn fits<S: TypeStore>(
+    store: &mut S,
+    parents: &Parents,
+    relation: Relation,
+    from: &S::Ty,
+    into: &S::Ty,
+) -> bool
+    requires from { S.has store.old from.now }
+    requires into { S.has store.old into.now }
+    ensures value { result ≡ flow_fits relation parents.now (let flow : Flow = record { from = S.tree from.now; into = S.tree into.now } in flow) }
+    ensures kept { Keeps S.has store.old store.new }
+{
+    match relation {
+        Relation::Static => store.is_static(parents, from, into),
+        Relation::Assignable => store.is_assignable(parents, from, into),
+    }
+}
+
+/// The type of each parameter of the ancestor's flows into the method's.
+fn parameters_fit<S: TypeStore>(
+    store: &mut S,
+    parents: &Parents,
+    relation: Relation,
+    old: &[Parameter<S::Ty>],
+    new: &[Parameter<S::Ty>],
+) -> bool
+    requires old { All (HasParameter (S.has store.old)) old.now }
+    requires new { All (HasParameter (S.has store.old)) new.now }
+    requires many { length old.now ≡ length new.now }
+    ensures value { result ≡ list_all (flow_fits relation parents.now) (parameter_flows (parameters_with S.tree old.now) (parameters_with S.tree new.now)) }
+    ensures kept { Keeps S.has store.old store.new }
+{
+    for number in 0..old.len() {
+        if !fits(store, parents, relation, &old[number].ty, &new[number].ty) {
+            return false;
+        }
+    }
+    true
+}
+
+/// A method is in the relation to the one that it overrides: in shape, in what it returns and in what it takes. Typing
+/// specification, "Type system concepts", assignability of callables.
+fn overrides<S: TypeStore>(
+    store: &mut S,
+    parents: &Parents,
+    relation: Relation,
+    new: &Method<S::Ty>,
+    old: &Method<S::Ty>,
+) -> bool
+    requires new { HasMethod (S.has store.old) new.now }
+    requires old { HasMethod (S.has store.old) old.now }
+    ensures value { result ≡ overrides_by relation parents.now (method_with S.tree new.now) (method_with S.tree old.now) }
+    ensures kept { Keeps S.has store.old store.new }
+{
+    if !has_shape(&old.params, &new.params) {
+        return false;
+    }
+    if !fits(store, parents, relation, &new.ret, &old.ret) {
+        return false;
+    }
+    parameters_fit(store, parents, relation, &old.params, &new.params)
+}
+
+/// The code of a method of a class of this base, against every ancestor's of its name: `E11` where it is not good against one, else
+/// `A8` where it is not static to one. Own rule of the profile.
+fn code_of<S: TypeStore>(
+    judging: &Judging<S::Ty>,
+    store: &mut S,
+    base: Option<usize>,
+    method: &Method<S::Ty>,
+) -> Option<Code>
+    requires judging { IsJudging S.tree judging.now }
+    requires table { HasEntries (S.has store.old) judging.now.classes.now }
+    requires method { HasMethod (S.has store.old) method.now }
+    ensures value { result ≡ override_code judging.now.parents.now (overridden (methods_above judging.now base) (method_with S.tree method.now).name) (method_with S.tree method.now) }
+    ensures kept { Keeps S.has store.old store.new }
+{
+    let mut is_static = true;
+    let mut at = base;
+    while let Some(class) = at {
+        match judging.classes.method(class, method.name.as_str()) {
+            None => {
+                at = None;
+            }
+            Some(old) => {
+                if !overrides(store, judging.parents, Relation::Assignable, method, old) {
+                    return Some(Code::E11);
+                }
+                is_static = overrides(store, judging.parents, Relation::Static, method, old)
+                    && is_static;
+                at = judging.parents.base(old.owner);
+            }
+        }
+    }
+    if is_static { None } else { Some(Code::A8) }
+}
+
+/// Finds how a method of a class of this base overrides: E11, A8 or nothing.
+fn find_override<S: TypeStore>(
+    judging: &Judging<S::Ty>,
+    store: &mut S,
+    found: &mut Findings,
+    base: Option<usize>,
+    method: &Method<S::Ty>,
+) -> Result<(), OutOfMemory>
+    requires judging { IsJudging S.tree judging.now }
+    requires table { HasEntries (S.has store.old) judging.now.classes.now }
+    requires method { HasMethod (S.has store.old) method.now }
+    ensures found { OnOk result (found.new.items ≡ found.old.items ++ found_at_method judging.now.parents.now (methods_above judging.now base) (method_with S.tree method.now)) }
+    ensures kept { Keeps S.has store.old store.new }
+{
+    match code_of(judging, store, base, method) {
+        None => Ok(()),
+        Some(code) => {
+            found.push(Finding {
+                place: method.place,
+                code,
+            })?;
+            Ok(())
+        }
+    }
+}
+
+/// So of each method that a class binds, one after another.
+fn find_class_overrides<S: TypeStore>(
+    judging: &Judging<S::Ty>,
+    store: &mut S,
+    found: &mut Findings,
+    class: usize,
+) -> Result<(), OutOfMemory>
+    requires judging { IsJudging S.tree judging.now }
+    requires table { HasEntries (S.has store.old) judging.now.classes.now }
+    requires class { class < length judging.now.classes.now }
+    ensures found { (definition : ClassTree) → slice_get (classes_in (module_judged judging.now).items) class ≡ Some definition → OnOk result (found.new.items ≡ found.old.items ++ class_overrides (module_judged judging.now) class definition) }
+    ensures kept { Keeps S.has store.old store.new }
+{
+    let base = judging.parents.base(class);
+    let methods = judging.classes.own_methods(class);
+    for method in methods {
+        find_override(judging, store, found, base, method)?;
+    }
+    Ok(())
+}
+
+/// Puts what overriding finds in a module behind `found`: `E11` at a method that is not good against each of its name that its class
+/// inherits, `A8` at one that is, but is not static to each.
+///
+/// Typing specification, "Type system concepts", assignability of callables; the codes are own rules of the profile.
+pub fn override_findings<S: TypeStore>(
+    store: &mut S,
+    parents: &Parents,
+    tree: &Module,
+    classes: &ClassTable<S::Ty>,
+    found: &mut Findings,
+) -> Result<(), OutOfMemory>
+    requires parents { parents.now ≡ bases_of (module_of tree.now) }
+    requires classes { classes_with S.tree classes.now ≡ classes_of (module_of tree.now) }
+    requires given { HasEntries (S.has store.old) classes.now }
+    ensures found { OnOk result (found.new.items ≡ found.old.items ++ override_findings (module_of tree.now)) }
+    ensures kept { Keeps S.has store.old store.new }
+{
+    let judging = Judging {
+        tree,
+        parents,
+        classes,
+    };
+    for class in 0..classes.count() {
+        find_class_overrides(&judging, store, found, class)?;
+    }
+    Ok(())
+}

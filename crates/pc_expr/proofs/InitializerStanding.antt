@@ -1,0 +1,31 @@
+-- What an initializer stands in, by a setting of the program.
+use Rattle.std.proofs.Common.{◌≡◌, ℕ, List, [], ap}
+use Rattle.std.specs.Prelude.{false}
+use Rattle.pc_tree.specs.Tree.{Module}
+use Rattle.pc_scope.specs.declared.resolution.Owner.TheVariants as owners
+use Rattle.pc_scope.specs.declared.resolution.Res.{Res}
+use Rattle.pc_scope.specs.declared.resolution.Res.TheVariants as res
+use Rattle.pc_scope.specs.Reserved.{builtin_of}
+use Rattle.pc_scope.specs.Resolution.{or_else, builtin_res, resolve_in_module}
+use Rattle.pc_scope.specs.Tables.{Tables, AreTables, meaning}
+use Rattle.pc_types.specs.Tree.{Tree}
+use Rattle.pc_types.specs.Below.{Bases}
+use Rattle.pc_class.specs.Bases.{bases_of}
+use Rattle.pc_class.specs.Facts.{Class, classes_of}
+use Rattle.pc_flow.specs.Environment.{Env}
+use Rattle.pc_expr.specs.Context.{Signature}
+use Rattle.pc_expr.specs.Signatures.{signatures_of}
+use Rattle.pc_expr.specs.SignaturesFound.{initial}
+use Rattle.pc_expr.specs.Standing.{Standing}
+
+module _ (m : Module) where
+  -- names mean to the module what its tables say
+  pub module_names : (t : Tables) → AreTables m t → meaning t owners.Module ≡ resolve_in_module m
+  module_names t are = λ j text. (ap (λ r. or_else (builtin_res (builtin_of text)) (or_else r res.None)) (are.globals text)) j
+
+  -- what an initializer stands in, part by part
+  pub standing_is : (bases : Bases) (classes : List Class) (functions : List Signature) (constants types : List Tree) (known number : ℕ) (resolve : List ℕ → Res) (declared : List Tree) (env : Env)
+      → bases ≡ bases_of m → classes ≡ classes_of m → functions ≡ signatures_of m → constants ≡ types → known ≡ number → resolve ≡ resolve_in_module m → declared ≡ [] → env ≡ []
+      → (let k : Standing = record { context = record { bases = bases; classes = classes; functions = functions; constants = constants; known = known; in_body = false; resolve = resolve }; declared = declared; env = env } in k) ≡ initial m types number
+  standing_is bases classes functions constants types known number resolve declared env b c f t k r d e =
+      λ i. record { context = record { bases = b i; classes = c i; functions = f i; constants = t i; known = k i; in_body = false; resolve = r i }; declared = d i; env = e i }

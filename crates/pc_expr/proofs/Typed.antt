@@ -1,0 +1,201 @@
+-- The label of an expression of each form, and what is found in it, by the labels of its parts as the program holds them.
+use Rattle.std.specs.Prelude.{Vec, length, suc}
+use Rattle.std.specs.Global.{Global}
+use Rattle.std.proofs.Common.{◌≡◌, ℕ, List, [], ◌∷◌, ◌++◌, refl, sym, ap, ◌∙◌, subst, map, append_assoc, Option, Some, None}
+use Rattle.std.specs.Prelude.{Bool as Test, true, false, Result, Ok, Err, IfOk, OnOk, flat_map}
+use Rattle.std.specs.Option.{option_map}
+use Rattle.std.proofs.lemmas.List.{append-nil}
+use Rattle.pc_source.specs.declared.place.Place.{Place}
+use Rattle.pc_tree.specs.declared.code.Code.{Code}
+use Rattle.pc_tree.specs.declared.code.Finding.{Finding}
+use Rattle.pc_tree.specs.declared.tree.BinaryOperator.{BinaryOperator}
+use Rattle.pc_tree.specs.declared.tree.ComparisonOperator.{ComparisonOperator}
+use Rattle.pc_tree.specs.Tree.{Name, Expr, Exprs, negative, negation, binary, compare, is_none, is_not_none, conjunction, disjunction, attribute, index}
+use Rattle.pc_tree.specs.Tree.{expr_of}
+use Rattle.pc_tree.specs.declared.tree.Expr.{Expr as RustExpr}
+use Rattle.pc_tree.specs.declared.tree.Expr.TheViews as View
+use Rattle.pc_tree.specs.declared.tree.Entry.{Entry as RustEntry}
+use Rattle.pc_tree.specs.Lists.{exprs_of_list, entries_of_list, keywords_of_list}
+use Rattle.pc_tree.proofs.Trees.{tuple_tree, list_tree, dict_tree, call_tree}
+use Rattle.pc_types.specs.Tree.{TupleOf}
+use Rattle.pc_types.specs.Shape.{trees}
+use Rattle.pc_types.specs.Computed.{static_test, assignable_test}
+use Rattle.pc_expr.specs.Calls.{Seat, count_exprs}
+use Rattle.pc_tree.specs.Depth.{place_of}
+use Rattle.pc_types.specs.Tree.{Tree}
+use Rattle.pc_types.specs.Shape.{members}
+use Rattle.pc_flow.specs.Environment.{Env, join_or_object}
+use Rattle.pc_flow.specs.Narrowing.{narrow}
+use Rattle.pc_expr.specs.Operations.{Mark, clean, offers_mark, operand_types, negative_member, attribute_member, index_member, binary_mark, display_mark}
+use Rattle.pc_expr.specs.Lawful.{list_item, dict_parts, tuple_parts, members_of, item_seat, part_seat, list_mark, key_seat, value_seat, int_literal, compare_mark, compare_types}
+use Rattle.pc_expr.specs.Computed.{flows_of, dict_mark}
+use Rattle.pc_expr.specs.Found.{own_at, once, brief, codes_at, flows_at}
+use Rattle.pc_expr.specs.Standing.{Standing, narrowed, mark_in, finds_in, parts_find, types_in, items_find, keys_in, values_in, entries_find, mark_with, IsMark}
+use Rattle.pc_expr.specs.declared.label.Label.{Label}
+use Rattle.pc_expr.proofs.Forms.{finds_whole, mark_negative, mark_attribute, mark_binary, mark_compare, parts_compare, mark_conjunction, mark_disjunction, parts_conjunction, parts_disjunction, parts_binary, mark_index, parts_index, mark_tuple, parts_tuple, mark_list, parts_list, mark_dict, parts_dict}
+
+-- ---- labels and findings along equations
+
+pub marked_by : {Store Ty E : Type 0} (has : Store → Ty → Type 0) (tree : Ty → Tree) (store : Store) (r : Result (Label Ty) E) (m n : Mark) → m ≡ n → IfOk r (λ l. IsMark has tree store l m) → IfOk r (λ l. IsMark has tree store l n)
+marked_by has tree store r m n e h = subst (λ (x : Mark). IfOk r (λ l. IsMark has tree store l x)) e h
+
+pub pushed_by : {T E : Type 0} (r : Result T E) (new old more : List Finding) → old ≡ more → OnOk r (new ≡ old) → OnOk r (new ≡ more)
+pushed_by r new old more e h = subst (λ (x : List Finding). OnOk r (new ≡ x)) e h
+
+module _ {T : Type 0} (tree : T → Tree) (l : Label T) (m : Mark) (is : mark_with tree l ≡ brief m) where
+  pub type_is : tree l.ty ≡ m.type
+  type_is = ap (λ (x : Mark). x.type) is
+
+  pub codes_are : l.codes.items ≡ once m.codes
+  codes_are = ap (λ (x : Mark). x.codes) is
+
+-- ---- findings in turn
+
+pub two_found : (old new last a b : List Finding) → new ≡ old ++ a → last ≡ new ++ b → last ≡ old ++ (a ++ b)
+two_found old new last a b h k = k ∙ ap (λ x. x ++ b) h ∙ append_assoc old a b
+
+pub three_found : (old new next last a b c : List Finding) → new ≡ old ++ a → next ≡ new ++ b → last ≡ next ++ c → last ≡ old ++ (a ++ (b ++ c))
+three_found old new next last a b c h k i = two_found old new last a (b ++ c) h (two_found new next last b c k i)
+
+module _ {T : Type 0} (tree : T → Tree) (k : Standing) (want : Option Tree) where
+  -- what is found in an expression, by what is found in its parts and the codes of its label
+  pub whole_found : (e : Expr) (l : Label T) (old new last : List Finding) → mark_with tree l ≡ brief (mark_in k want e) → new ≡ old ++ parts_find k want e → last ≡ new ++ flat_map (own_at (place_of e)) l.codes.items → last ≡ old ++ finds_in k want e
+  whole_found e l old new last is h j =
+      two_found old new last (parts_find k want e) (codes_at (place_of e) (mark_in k want e).codes) h (j ∙ ap (λ cs. new ++ flat_map (own_at (place_of e)) cs) (codes_are tree l (mark_in k want e) is))
+      ∙ ap (λ fs. old ++ fs) (sym (finds_whole k want e))
+
+  pub negative_is : (p : Place) (e : Expr) (l : Label T) → mark_with tree l ≡ brief (mark_in k None e) → offers_mark k.context.bases (map negative_member (members (tree l.ty))) ≡ mark_in k want (negative p e)
+  negative_is p e l is = ap (λ t. offers_mark k.context.bases (map negative_member (members t))) (type_is tree l (mark_in k None e) is) ∙ sym (mark_negative k want p e)
+
+  pub attribute_is : (p : Place) (e : Expr) (field : Name) (l : Label T) → mark_with tree l ≡ brief (mark_in k None e) → offers_mark k.context.bases (map (attribute_member k.context.classes field.text) (members (tree l.ty))) ≡ mark_in k want (attribute p e field)
+  attribute_is p e field l is = ap (λ t. offers_mark k.context.bases (map (attribute_member k.context.classes field.text) (members t))) (type_is tree l (mark_in k None e) is) ∙ sym (mark_attribute k want p e field)
+
+  module _ (p : Place) (a b : Expr) (l r : Label T) (left_is : mark_with tree l ≡ brief (mark_in k None a)) where
+    pub binary_is : (o : BinaryOperator) → mark_with tree r ≡ brief (mark_in k None b) → binary_mark k.context.bases o (tree l.ty) (tree r.ty) ≡ mark_in k want (binary p o a b)
+    binary_is o right_is =
+        ap (λ t. binary_mark k.context.bases o t (tree r.ty)) (type_is tree l (mark_in k None a) left_is)
+        ∙ ap (λ t. binary_mark k.context.bases o (mark_in k None a).type t) (type_is tree r (mark_in k None b) right_is)
+        ∙ sym (mark_binary k want p o a b)
+
+    pub compare_is : (o : ComparisonOperator) → mark_with tree r ≡ brief (mark_in k None b) → compare_mark k.context.bases o (tree l.ty) (tree r.ty) ≡ mark_in k want (compare p o a b)
+    compare_is o right_is =
+        ap (λ t. compare_mark k.context.bases o t (tree r.ty)) (type_is tree l (mark_in k None a) left_is)
+        ∙ ap (λ t. compare_mark k.context.bases o (mark_in k None a).type t) (type_is tree r (mark_in k None b) right_is)
+        ∙ sym (mark_compare k want p o a b)
+
+    pub compare_found : (o : ComparisonOperator) (old new next last : List Finding) → mark_with tree r ≡ brief (mark_in k None b) → new ≡ old ++ finds_in k None a → next ≡ new ++ finds_in k None b → last ≡ next ++ flows_at (place_of a) (flows_of k.context.bases (mark_in k None a) (compare_types o (tree r.ty))) → last ≡ old ++ parts_find k want (compare p o a b)
+    compare_found o old new next last right_is h j i =
+        three_found old new next last (finds_in k None a) (finds_in k None b) (flows_at (place_of a) (flows_of k.context.bases (mark_in k None a) (compare_types o (mark_in k None b).type))) h j (i ∙ ap (λ t. next ++ flows_at (place_of a) (flows_of k.context.bases (mark_in k None a) (compare_types o t))) (type_is tree r (mark_in k None b) right_is))
+        ∙ ap (λ fs. old ++ fs) (sym (parts_compare k want p o a b))
+
+    pub index_is : offers_mark k.context.bases (map (index_member k.context.bases (int_literal b)) (members (tree l.ty))) ≡ mark_in k want (index p a b)
+    index_is = ap (λ t. offers_mark k.context.bases (map (index_member k.context.bases (int_literal b)) (members t))) (type_is tree l (mark_in k None a) left_is) ∙ sym (mark_index k want p a b)
+
+    pub index_found : (old new next last : List Finding) → new ≡ old ++ finds_in k None a → next ≡ new ++ finds_in k None b → last ≡ next ++ flows_at (place_of b) (flows_of k.context.bases (mark_in k None b) (operand_types (map (index_member k.context.bases (int_literal b)) (members (tree l.ty))))) → last ≡ old ++ parts_find k want (index p a b)
+    index_found old new next last h j i =
+        three_found old new next last (finds_in k None a) (finds_in k None b) (flows_at (place_of b) (flows_of k.context.bases (mark_in k None b) (operand_types (map (index_member k.context.bases (int_literal b)) (members (mark_in k None a).type))))) h j
+        (i ∙ ap (λ t. next ++ flows_at (place_of b) (flows_of k.context.bases (mark_in k None b) (operand_types (map (index_member k.context.bases (int_literal b)) (members t))))) (type_is tree l (mark_in k None a) left_is))
+        ∙ ap (λ fs. old ++ fs) (sym (parts_index k want p a b))
+
+    -- the right side of `and` and of `or`, in the environment that the left one leaves
+    module _ (after : Standing) (right_is : mark_with tree r ≡ brief (mark_in after None b)) where
+      pub and_is : after ≡ narrowed k true a → clean (join_or_object k.context.bases (tree l.ty) (tree r.ty)) ≡ mark_in k want (conjunction p a b)
+      and_is e =
+          ap (λ t. clean (join_or_object k.context.bases t (tree r.ty))) (type_is tree l (mark_in k None a) left_is)
+          ∙ ap (λ t. clean (join_or_object k.context.bases (mark_in k None a).type t)) (type_is tree r (mark_in after None b) right_is)
+          ∙ ap (λ (s : Standing). clean (join_or_object k.context.bases (mark_in k None a).type (mark_in s None b).type)) e
+          ∙ sym (mark_conjunction k want p a b)
+
+      pub or_is : after ≡ narrowed k false a → clean (join_or_object k.context.bases (tree l.ty) (tree r.ty)) ≡ mark_in k want (disjunction p a b)
+      or_is e =
+          ap (λ t. clean (join_or_object k.context.bases t (tree r.ty))) (type_is tree l (mark_in k None a) left_is)
+          ∙ ap (λ t. clean (join_or_object k.context.bases (mark_in k None a).type t)) (type_is tree r (mark_in after None b) right_is)
+          ∙ ap (λ (s : Standing). clean (join_or_object k.context.bases (mark_in k None a).type (mark_in s None b).type)) e
+          ∙ sym (mark_disjunction k want p a b)
+
+  pub and_found : (p : Place) (a b : Expr) (after : Standing) (old new last : List Finding) → after ≡ narrowed k true a → new ≡ old ++ finds_in k None a → last ≡ new ++ finds_in after None b → last ≡ old ++ parts_find k want (conjunction p a b)
+  and_found p a b after old new last e h j =
+      two_found old new last (finds_in k None a) (finds_in after None b) h j
+      ∙ ap (λ (s : Standing). old ++ (finds_in k None a ++ finds_in s None b)) e
+      ∙ ap (λ fs. old ++ fs) (sym (parts_conjunction k want p a b))
+
+  pub or_found : (p : Place) (a b : Expr) (after : Standing) (old new last : List Finding) → after ≡ narrowed k false a → new ≡ old ++ finds_in k None a → last ≡ new ++ finds_in after None b → last ≡ old ++ parts_find k want (disjunction p a b)
+  or_found p a b after old new last e h j =
+      two_found old new last (finds_in k None a) (finds_in after None b) h j
+      ∙ ap (λ (s : Standing). old ++ (finds_in k None a ++ finds_in s None b)) e
+      ∙ ap (λ fs. old ++ fs) (sym (parts_disjunction k want p a b))
+
+  pub binary_found : (p : Place) (o : BinaryOperator) (a b : Expr) (old new last : List Finding) → new ≡ old ++ finds_in k None a → last ≡ new ++ finds_in k None b → last ≡ old ++ parts_find k want (binary p o a b)
+  binary_found p o a b old new last h j = two_found old new last (finds_in k None a) (finds_in k None b) h j ∙ ap (λ fs. old ++ fs) (sym (parts_binary k want p o a b))
+
+-- the standing behind a condition, by the environment that it leaves
+pub standing_after : (k : Standing) (env : Env) (holds : Test) (e : Expr) → env ≡ narrow k.context.bases k.declared k.context.resolve holds e k.env → (let s : Standing = record { context = k.context; declared = k.declared; env = env } in s) ≡ narrowed k holds e
+standing_after k env holds e h = ap (λ (x : Env). let s : Standing = record { context = k.context; declared = k.declared; env = x } in s) h
+
+-- what holds anyway holds where there is a value
+pub on_ok : {T E : Type 0} {P : Type 0} (r : Result T E) → P → OnOk r P
+on_ok (Ok x) p = p
+on_ok (Err x) p = tt
+
+-- from what holds where there is a value, what follows holds there
+pub if_ok : {T E : Type 0} {P Q : Type 0} (r : Result T E) → (P → Q) → OnOk r P → OnOk r Q
+if_ok (Ok x) f p = f p
+if_ok (Err x) f p = tt
+
+-- ---- displays
+
+module _ (k : Standing) (want : Option Tree) (p : Place) where
+  module _ (v : Vec RustExpr Global) (seat : ℕ → Seat) where
+    pub list_is : (types : List Tree) → seat ≡ (λ i. item_seat (list_item (members_of want))) → types ≡ types_in k seat (exprs_of_list v.items) → list_mark k.context.bases (list_item (members_of want)) types ≡ mark_in k want (expr_of (View.List p v))
+    list_is types s t =
+        ap (λ ts. list_mark k.context.bases (list_item (members_of want)) ts) (t ∙ ap (λ (f : ℕ → Seat). types_in k f (exprs_of_list v.items)) s)
+        ∙ sym (mark_list k want p (exprs_of_list v.items))
+        ∙ ap (mark_in k want) (sym (list_tree p v))
+
+    pub list_found : (old new : List Finding) → seat ≡ (λ i. item_seat (list_item (members_of want))) → new ≡ old ++ items_find k seat (exprs_of_list v.items) → new ≡ old ++ parts_find k want (expr_of (View.List p v))
+    list_found old new s h =
+        h
+        ∙ ap (λ (f : ℕ → Seat). old ++ items_find k f (exprs_of_list v.items)) s
+        ∙ ap (λ fs. old ++ fs) (sym (parts_list k want p (exprs_of_list v.items)))
+        ∙ ap (λ x. old ++ parts_find k want x) (sym (list_tree p v))
+
+    module _ (n : ℕ) (length_is : n ≡ count_exprs (exprs_of_list v.items)) (s : seat ≡ part_seat (tuple_parts n (members_of want))) where
+      seats_are : seat ≡ part_seat (tuple_parts (count_exprs (exprs_of_list v.items)) (members_of want))
+      seats_are = s ∙ ap (λ m. part_seat (tuple_parts m (members_of want))) length_is
+
+      pub tuple_is : (types : List Tree) → types ≡ types_in k seat (exprs_of_list v.items) → display_mark (TupleOf (trees types)) ≡ mark_in k want (expr_of (View.Tuple p v))
+      tuple_is types t =
+          ap (λ ts. display_mark (TupleOf (trees ts))) (t ∙ ap (λ (f : ℕ → Seat). types_in k f (exprs_of_list v.items)) seats_are)
+          ∙ sym (mark_tuple k want p (exprs_of_list v.items))
+          ∙ ap (mark_in k want) (sym (tuple_tree p v))
+
+      pub tuple_found : (old new : List Finding) → new ≡ old ++ items_find k seat (exprs_of_list v.items) → new ≡ old ++ parts_find k want (expr_of (View.Tuple p v))
+      tuple_found old new h =
+          h
+          ∙ ap (λ (f : ℕ → Seat). old ++ items_find k f (exprs_of_list v.items)) seats_are
+          ∙ ap (λ fs. old ++ fs) (sym (parts_tuple k want p (exprs_of_list v.items)))
+          ∙ ap (λ x. old ++ parts_find k want x) (sym (tuple_tree p v))
+
+  module _ (v : Vec RustEntry Global) (key value : Seat) (at_key : key ≡ key_seat (dict_parts (members_of want))) (at_value : value ≡ value_seat (dict_parts (members_of want))) where
+    pub dict_is : (keys values : List Tree) → keys ≡ keys_in k key value (entries_of_list v.items) → values ≡ values_in k key value (entries_of_list v.items) →
+        dict_mark k.context k.declared (static_test k.context.bases) (assignable_test k.context.bases) (dict_parts (members_of want)) keys values ≡ mark_in k want (expr_of (View.Dict p v))
+    dict_is keys values e f =
+        ap (λ ts. dict_mark k.context k.declared (static_test k.context.bases) (assignable_test k.context.bases) (dict_parts (members_of want)) ts values) e
+        ∙ ap (λ ts. dict_mark k.context k.declared (static_test k.context.bases) (assignable_test k.context.bases) (dict_parts (members_of want)) (keys_in k key value (entries_of_list v.items)) ts) f
+        ∙ ap (λ (x : Seat). dict_mark k.context k.declared (static_test k.context.bases) (assignable_test k.context.bases) (dict_parts (members_of want)) (keys_in k x value (entries_of_list v.items)) (values_in k x value (entries_of_list v.items))) at_key
+        ∙ ap (λ (x : Seat). dict_mark k.context k.declared (static_test k.context.bases) (assignable_test k.context.bases) (dict_parts (members_of want)) (keys_in k (key_seat (dict_parts (members_of want))) x (entries_of_list v.items)) (values_in k (key_seat (dict_parts (members_of want))) x (entries_of_list v.items))) at_value
+        ∙ sym (mark_dict k want p (entries_of_list v.items))
+        ∙ ap (mark_in k want) (sym (dict_tree p v))
+
+    pub dict_found : (old new : List Finding) → new ≡ old ++ entries_find k key value (entries_of_list v.items) → new ≡ old ++ parts_find k want (expr_of (View.Dict p v))
+    dict_found old new h =
+        h
+        ∙ ap (λ (x : Seat). old ++ entries_find k x value (entries_of_list v.items)) at_key
+        ∙ ap (λ (x : Seat). old ++ entries_find k (key_seat (dict_parts (members_of want))) x (entries_of_list v.items)) at_value
+        ∙ ap (λ fs. old ++ fs) (sym (parts_dict k want p (entries_of_list v.items)))
+        ∙ ap (λ x. old ++ parts_find k want x) (sym (dict_tree p v))
+
+-- how many expressions a list of them has
+pub counted : (es : List RustExpr) → length es ≡ count_exprs (exprs_of_list es)
+counted [] = refl
+counted (e ∷ es) = ap suc (counted es)

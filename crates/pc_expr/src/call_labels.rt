@@ -1,0 +1,116 @@
+// The label of a call, and what a callee is that is no function, class or method.
+
+ghost use Rattle.std.specs.Prelude.{◌≡◌, ◌++◌, true, length, map, All, IfOk, OnOk};
+ghost use Rattle.pc_source.specs.declared.place.Place.{Place};
+ghost use Rattle.pc_tree.specs.Tree.{expr_of};
+ghost use Rattle.pc_tree.specs.Lists.{exprs_of_list, keywords_of_list};
+ghost use Rattle.pc_scope.specs.Expressions.{is_instance_test};
+ghost use Rattle.pc_types.specs.Store.{Keeps};
+ghost use Rattle.pc_class.specs.Tables.{HasEntries};
+ghost use Rattle.pc_flow.specs.Stored.{env_of, HasEach};
+ghost use Rattle.pc_expr.specs.Operations.{Mark};
+ghost use Rattle.pc_expr.specs.Calls.{value_callee};
+ghost use Rattle.pc_expr.specs.Labels.{second_place};
+ghost use Rattle.pc_expr.specs.Lawful.{whole_call_mark};
+ghost use Rattle.pc_expr.specs.Found.{brief, code_at};
+ghost use Rattle.pc_expr.specs.Standing.{mark_with, context_with, Stands, IsMark};
+ghost use Rattle.pc_expr.specs.Calling.{offer_called, rule_of, second_code_of, HasCallOffer, IsCallee};
+ghost use Rattle.pc_expr.specs.Typing.{other_callee};
+
+use crate::call_offers::CallOffer;
+use crate::callee::{Callee, callee_in_error, callee_of_value};
+use crate::instances::second_code;
+use crate::items::Typed;
+use crate::label::{Label, find_codes};
+use crate::setting::Setting;
+use crate::whole::call_label;
+use pc_flow::{Env, Resolver};
+use pc_scope::is_instance_test;
+use pc_source::{OutOfMemory, Place};
+use pc_tree::{Code, Expr, Findings, KeywordArgument};
+use pc_types::TypeStore;
+use std::alloc::Global;
+
+/// A callee that is neither a name nor, in a body, an attribute: a value with this label, and in an initializer in error.
+pub(crate) fn callee_of_other<'t, S: TypeStore, R: Resolver>(
+    store: &mut S,
+    alloc: Global,
+    setting: &Setting<'t, S::Ty, R>,
+    label: Label<S::Ty>,
+) -> Result<Callee<'t, S::Ty>, OutOfMemory>
+    requires { S.has store.old label.ty }
+    ensures callee { (m : Mark) → mark_with S.tree label ≡ brief m → IfOk result (λ c. IsCallee S.has S.tree store.new c (other_callee setting.now.in_body m)) }
+    ensures kept { Keeps S.has store.old store.new }
+{
+    if setting.in_body {
+        return callee_of_value(store, alloc, label);
+    }
+    callee_in_error(store, alloc, Code::E03)
+}
+
+/// The place of the second argument of a call, that of the call where there is none.
+fn second_place(arguments: &[Expr], place: Place) -> Place
+    ensures { result ≡ second_place (exprs_of_list arguments.now) place }
+{
+    match arguments {
+        [_, second, ..] => second.place(),
+        _ => place,
+    }
+}
+
+/// Adds the finding of a code that there may be.
+fn find_code(place: Place, code: Option<Code>, found: &mut Findings) -> Result<(), OutOfMemory>
+    ensures { OnOk result (found.new.items ≡ found.old.items ++ code_at place code) }
+{
+    match code {
+        None => Ok(()),
+        Some(code) => find_codes(place, &[code], found),
+    }
+}
+
+/// The label of a call over the types of its arguments, with what is found at its second argument.
+/// Language Reference 6.3.4 "Calls".
+pub(crate) fn label_call<S: TypeStore, R: Resolver>(
+    store: &mut S,
+    alloc: Global,
+    setting: &Setting<'_, S::Ty, R>,
+    env: &Env<S::Ty>,
+    place: Place,
+    callee: &Callee<'_, S::Ty>,
+    arguments: &[Expr],
+    typed: &Typed<S::Ty>,
+    found: &mut Findings,
+) -> Result<Label<S::Ty>, OutOfMemory>
+    requires classes { HasEntries (S.has store.old) setting.now.classes.now }
+    requires env { HasEach (S.has store.old) env.now }
+    requires offers { All (HasCallOffer (S.has store.old)) callee.now.offers.items }
+    requires types { All (S.has store.old) typed.now.types.items }
+    ensures value { IfOk result (λ l. IsMark S.has S.tree store.new l (whole_call_mark (context_with S.tree R.meaning setting.now) (env_of S.tree env.now) (rule_of callee.now.rule) (map (offer_called S.tree) callee.now.offers.items) (exprs_of_list arguments.now) (map S.tree typed.now.types.items))) }
+    ensures pushed { OnOk result (found.new.items ≡ found.old.items ++ code_at (second_place (exprs_of_list arguments.now) place) (second_code_of (R.meaning setting.now.names.now) (rule_of callee.now.rule) (exprs_of_list arguments.now) typed.now.early)) }
+    ensures kept { Keeps S.has store.old store.new }
+{
+    let code = second_code(setting.names, callee.rule, arguments, typed.early);
+    find_code(second_place(arguments, place), code, found)?;
+    call_label(store, alloc, setting, env, callee, arguments, &typed.types)
+}
+
+/// Whether a call is a test of an instance; then it has two arguments by position.
+pub(crate) fn is_test(callee: &Expr, arguments: &[Expr], by_name: &[KeywordArgument]) -> bool
+    ensures value { result ≡ is_instance_test (expr_of callee.now) (exprs_of_list arguments.now) (keywords_of_list by_name.now) }
+    ensures two { result ≡ true → length arguments.now ≡ 2 }
+{
+    is_instance_test(callee, arguments, by_name)
+}
+
+/// Does nothing: it says again that a setting, an environment and offers hold types of the store, for a call that needs it next.
+pub(crate) fn still_called<S: TypeStore, R: Resolver>(
+    _store: &S,
+    _setting: &Setting<'_, S::Ty, R>,
+    _env: &Env<S::Ty>,
+    _offers: &[CallOffer<'_, S::Ty>],
+)
+    requires given { Stands (S.has _store.now) S.tree _setting.now _env.now }
+    requires offers { All (HasCallOffer (S.has _store.now)) _offers.now }
+    ensures given { Stands (S.has _store.now) S.tree _setting.now _env.now }
+    ensures offers { All (HasCallOffer (S.has _store.now)) _offers.now }
+{}

@@ -1,0 +1,163 @@
+// What is expected of the items of a display, and what each of them flows into.
+
+ghost use Rattle.std.specs.Prelude.{◌≡◌, ◌||◌, ◌&&◌, nat_eq, Some, None, [], map, All, IfOk};
+ghost use Rattle.std.specs.Option.{option_map};
+ghost use Rattle.pc_types.specs.Store.{Keeps};
+ghost use Rattle.pc_expr.specs.Context.{is_early};
+ghost use Rattle.pc_expr.specs.Lawful.{item_seat, part_seat, list_item, tuple_parts, members_of, list_mark};
+ghost use Rattle.pc_expr.specs.Standing.{HasIfAny, IsMark};
+ghost use Rattle.pc_expr.specs.Calling.{IsSeat};
+ghost use Rattle.pc_expr.specs.Seated.{seats_of, HasSeats};
+
+use crate::display::{list_item, list_label, tuple_parts};
+use crate::label::{Label, is_early};
+use crate::seats::Seat;
+use pc_source::OutOfMemory;
+use pc_tree::Code;
+use pc_types::{Parents, TypeStore};
+use std::alloc::Global;
+
+/// The seats of the items of a display: one for all, of a list; or the parts of an expected tuple.
+#[derive(Drop)]
+pub(crate) enum Seats<Ty: Drop> {
+    Same(Option<Ty>),
+    Parts(Vec<Ty>),
+}
+
+/// The types of the arguments of a call, and whether an initializer names the second of them too early.
+#[derive(Drop)]
+pub(crate) struct Typed<Ty: Drop> {
+    pub types: Vec<Ty>,
+    pub early: bool,
+}
+
+/// Whether the second of several expressions is named too early, where the one at a position has these codes.
+pub(crate) fn early_at(position: usize, codes: &[Code], early: bool) -> bool
+    ensures { result ≡ (early || (nat_eq position 1 && is_early codes.now)) }
+{
+    let is_second = position == 1;
+    let is_early = is_early(codes);
+    early || is_second && is_early
+}
+
+/// A seat where nothing is expected, and which flows nowhere.
+pub(crate) fn nowhere<Ty: Drop>(alloc: Global) -> Seat<Ty>
+    ensures want { result.want ≡ None }
+    ensures into { result.into.items ≡ [] }
+{
+    let into = Vec::new(alloc);
+    Seat { want: None, into }
+}
+
+/// An item that is expected of a type and flows into it.
+pub(crate) fn seat_of_type<S: TypeStore>(
+    store: &S,
+    alloc: Global,
+    ty: S::Ty,
+) -> Result<Seat<S::Ty>, OutOfMemory>
+    requires { S.has store.now ty }
+    ensures { IfOk result (λ s. IsSeat S.has S.tree store.now s (item_seat (Some (S.tree ty)))) }
+{
+    let mut into = Vec::new(alloc);
+    into.push(store.copy(alloc, &ty)?)?;
+    let want = Some(ty);
+    Ok(Seat { want, into })
+}
+
+/// An item that is expected of a type and flows into it, if there is one.
+fn item_seat<S: TypeStore>(
+    store: &S,
+    alloc: Global,
+    ty: &Option<S::Ty>,
+) -> Result<Seat<S::Ty>, OutOfMemory>
+    requires { HasIfAny (S.has store.now) ty.now }
+    ensures { IfOk result (λ s. IsSeat S.has S.tree store.now s (item_seat (option_map S.tree ty.now))) }
+{
+    match ty {
+        None => Ok(nowhere(alloc)),
+        Some(ty) => {
+            let copy = store.copy(alloc, ty)?;
+            seat_of_type(store, alloc, copy)
+        }
+    }
+}
+
+/// A part of a tuple: it is expected of the type there, and flows nowhere.
+fn part_seat<S: TypeStore>(
+    store: &S,
+    alloc: Global,
+    parts: &[S::Ty],
+    position: usize,
+) -> Result<Seat<S::Ty>, OutOfMemory>
+    requires { All (S.has store.now) parts.now }
+    ensures { IfOk result (λ s. IsSeat S.has S.tree store.now s (part_seat (map S.tree parts.now) position)) }
+{
+    let into = Vec::new(alloc);
+    if position >= parts.len() {
+        return Ok(Seat { want: None, into });
+    }
+    let want = Some(store.copy(alloc, &parts[position])?);
+    Ok(Seat { want, into })
+}
+
+/// The seat of the item at a position.
+pub(crate) fn seat_at<S: TypeStore>(
+    store: &S,
+    alloc: Global,
+    seats: &Seats<S::Ty>,
+    position: usize,
+) -> Result<Seat<S::Ty>, OutOfMemory>
+    requires { HasSeats (S.has store.now) seats.now }
+    ensures { IfOk result (λ s. IsSeat S.has S.tree store.now s (seats_of S.tree seats.now position)) }
+{
+    match seats {
+        Seats::Same(ty) => item_seat(store, alloc, ty),
+        Seats::Parts(parts) => part_seat(store, alloc, parts, position),
+    }
+}
+
+/// The seats of the items of a list of which a type is expected.
+pub(crate) fn list_seats<S: TypeStore>(
+    store: &S,
+    alloc: Global,
+    want: &Option<S::Ty>,
+) -> Result<Seats<S::Ty>, OutOfMemory>
+    requires { HasIfAny (S.has store.now) want.now }
+    ensures held { IfOk result (λ s. HasSeats (S.has store.now) s) }
+    ensures value { IfOk result (λ s. seats_of S.tree s ≡ (λ i. item_seat (list_item (members_of (option_map S.tree want.now))))) }
+{
+    let item = list_item(store, alloc, want)?;
+    Ok(Seats::Same(item))
+}
+
+/// The seats of the items of a tuple of this length of which a type is expected.
+pub(crate) fn tuple_seats<S: TypeStore>(
+    store: &S,
+    alloc: Global,
+    want: &Option<S::Ty>,
+    count: usize,
+) -> Result<Seats<S::Ty>, OutOfMemory>
+    requires { HasIfAny (S.has store.now) want.now }
+    ensures held { IfOk result (λ s. HasSeats (S.has store.now) s) }
+    ensures value { IfOk result (λ s. seats_of S.tree s ≡ part_seat (tuple_parts count (members_of (option_map S.tree want.now)))) }
+{
+    let parts = tuple_parts(store, alloc, count, want)?;
+    Ok(Seats::Parts(parts))
+}
+
+/// The label of a list display of which a type is expected, over the types of its items.
+pub(crate) fn label_list<S: TypeStore>(
+    store: &mut S,
+    alloc: Global,
+    parents: &Parents,
+    want: &Option<S::Ty>,
+    types: &[S::Ty],
+) -> Result<Label<S::Ty>, OutOfMemory>
+    requires want { HasIfAny (S.has store.old) want.now }
+    requires types { All (S.has store.old) types.now }
+    ensures value { IfOk result (λ l. IsMark S.has S.tree store.new l (list_mark parents.now (list_item (members_of (option_map S.tree want.now))) (map S.tree types.now))) }
+    ensures kept { Keeps S.has store.old store.new }
+{
+    let item = list_item(store, alloc, want)?;
+    list_label(store, alloc, parents, &item, types)
+}

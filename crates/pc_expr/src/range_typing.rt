@@ -1,0 +1,74 @@
+// What is found in a call of `range` as what a `for` goes over.
+
+ghost use Rattle.std.specs.Prelude.{◌≡◌, ◌++◌, IfOk, OnOk};
+ghost use Rattle.pc_tree.specs.Tree.{expr_of};
+ghost use Rattle.pc_tree.specs.Lists.{exprs_of_list, keywords_of_list};
+ghost use Rattle.pc_types.specs.Store.{Keeps};
+ghost use Rattle.pc_expr.specs.Calls.{given, range_item};
+ghost use Rattle.pc_expr.specs.Standing.{standing, Stands, IsMark};
+ghost use Rattle.pc_expr.specs.Typing.{range_finds};
+
+use crate::calling::call_codes;
+use crate::given::given;
+use crate::label::{Label, find_codes};
+use crate::ranging::{range_item, range_offers};
+use crate::setting::Setting;
+use crate::typing::{type_arguments, type_keywords};
+use pc_flow::{Env, Resolver};
+use pc_scope::is_instance_test;
+use pc_source::{OutOfMemory, Place};
+use pc_tree::{Expr, Findings, KeywordArgument};
+use pc_types::TypeStore;
+use std::alloc::Global;
+
+/// Adds what is found in a call of `range` at this place as what a `for` goes over: in its arguments, which flow into `int`, and
+/// at the call.
+fn find_range<S: TypeStore, R: Resolver>(
+    store: &mut S,
+    alloc: Global,
+    setting: &Setting<'_, S::Ty, R>,
+    env: &Env<S::Ty>,
+    place: Place,
+    callee: &Expr,
+    arguments: &[Expr],
+    by_name: &[KeywordArgument],
+    found: &mut Findings,
+) -> Result<(), OutOfMemory>
+    requires { Stands (S.has store.old) S.tree setting.now env.now }
+    ensures pushed { OnOk result (found.new.items ≡ found.old.items ++ range_finds (standing S.tree R.meaning setting.now env.now) place (expr_of callee.now) (exprs_of_list arguments.now) (keywords_of_list by_name.now)) }
+    ensures kept { Keeps S.has store.old store.new }
+{
+    let given = given(alloc, arguments, by_name)?;
+    let offers = range_offers(store, alloc, &given)?;
+    let is_test = is_instance_test(callee, arguments, by_name);
+    type_arguments(
+        store, alloc, setting, env, is_test, &offers, arguments, found,
+    )?;
+    type_keywords(store, alloc, setting, env, &offers, by_name, found)?;
+    let codes = call_codes(alloc, &offers)?;
+    find_codes(place, &codes, found)
+}
+
+/// The label of a turn's item where a `for` goes over a call of `range` at this place, with what is found in the call: in its
+/// arguments, which flow into `int`, and at the call. Library reference, "Built-in Functions"; own rule of the profile.
+pub fn type_range<S: TypeStore, R: Resolver>(
+    store: &mut S,
+    alloc: Global,
+    setting: &Setting<'_, S::Ty, R>,
+    env: &Env<S::Ty>,
+    place: Place,
+    callee: &Expr,
+    arguments: &[Expr],
+    by_name: &[KeywordArgument],
+    found: &mut Findings,
+) -> Result<Label<S::Ty>, OutOfMemory>
+    requires { Stands (S.has store.old) S.tree setting.now env.now }
+    ensures label { IfOk result (λ l. IsMark S.has S.tree store.new l (range_item (given (exprs_of_list arguments.now) (keywords_of_list by_name.now)))) }
+    ensures pushed { OnOk result (found.new.items ≡ found.old.items ++ range_finds (standing S.tree R.meaning setting.now env.now) place (expr_of callee.now) (exprs_of_list arguments.now) (keywords_of_list by_name.now)) }
+    ensures kept { Keeps S.has store.old store.new }
+{
+    find_range(
+        store, alloc, setting, env, place, callee, arguments, by_name, found,
+    )?;
+    range_item(store, alloc, arguments, by_name)
+}

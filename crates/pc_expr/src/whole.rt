@@ -1,0 +1,88 @@
+// The label of a call, by the rule of its callee.
+
+ghost use Rattle.std.specs.Prelude.{map, All, IfOk};
+ghost use Rattle.pc_tree.specs.Lists.{exprs_of_list};
+ghost use Rattle.pc_types.specs.Store.{Keeps, Means};
+ghost use Rattle.pc_class.specs.Tables.{HasEntries};
+ghost use Rattle.pc_flow.specs.Stored.{HasEach, env_of};
+ghost use Rattle.pc_expr.specs.Calls.{first_type, length_mark};
+ghost use Rattle.pc_expr.specs.Lawful.{whole_call_mark};
+ghost use Rattle.pc_expr.specs.Standing.{context_with, IsMark};
+ghost use Rattle.pc_expr.specs.Calling.{offer_called, rule_of, HasCallOffer};
+
+use crate::call_offers::CallRule;
+use crate::callee::Callee;
+use crate::calling::members_label;
+use crate::instances::test_label;
+use crate::label::Label;
+use crate::offers::{Operation, member_offers, offers_label};
+use crate::setting::Setting;
+use pc_flow::{Env, Resolver};
+use pc_source::OutOfMemory;
+use pc_tree::Expr;
+use pc_types::TypeStore;
+use std::alloc::Global;
+
+/// The type of the first argument, `Never` where there is none.
+fn first_type<S: TypeStore>(
+    store: &mut S,
+    alloc: Global,
+    types: &[S::Ty],
+) -> Result<S::Ty, OutOfMemory>
+    requires { All (S.has store.old) types.now }
+    ensures value { IfOk result (λ t. Means S.has S.tree store.new t (first_type (map S.tree types.now))) }
+    ensures kept { Keeps S.has store.old store.new }
+{
+    if types.len() == 0 {
+        return store.never(alloc);
+    }
+    store.copy(alloc, &types[0])
+}
+
+/// The label of a call of `len`, by the type of its one argument. Library reference, "Built-in Functions".
+fn length_label<S: TypeStore, R: Resolver>(
+    store: &mut S,
+    alloc: Global,
+    setting: &Setting<'_, S::Ty, R>,
+    types: &[S::Ty],
+) -> Result<Label<S::Ty>, OutOfMemory>
+    requires classes { HasEntries (S.has store.old) setting.now.classes.now }
+    requires types { All (S.has store.old) types.now }
+    ensures label { IfOk result (λ l. IsMark S.has S.tree store.new l (length_mark setting.now.parents.now (map S.tree types.now))) }
+    ensures kept { Keeps S.has store.old store.new }
+{
+    let ty = first_type(store, alloc, types)?;
+    let offers = member_offers(
+        store,
+        alloc,
+        setting.parents,
+        setting.classes,
+        Operation::Length,
+        &ty,
+    )?;
+    offers_label(store, alloc, setting.parents, &offers)
+}
+
+/// The label of a call, by the rule of its callee. Language Reference 6.3.4 "Calls".
+pub fn call_label<S: TypeStore, R: Resolver>(
+    store: &mut S,
+    alloc: Global,
+    setting: &Setting<'_, S::Ty, R>,
+    env: &Env<S::Ty>,
+    callee: &Callee<'_, S::Ty>,
+    arguments: &[Expr],
+    types: &[S::Ty],
+) -> Result<Label<S::Ty>, OutOfMemory>
+    requires classes { HasEntries (S.has store.old) setting.now.classes.now }
+    requires env { HasEach (S.has store.old) env.now }
+    requires offers { All (HasCallOffer (S.has store.old)) callee.now.offers.items }
+    requires types { All (S.has store.old) types.now }
+    ensures label { IfOk result (λ l. IsMark S.has S.tree store.new l (whole_call_mark (context_with S.tree R.meaning setting.now) (env_of S.tree env.now) (rule_of callee.now.rule) (map (offer_called S.tree) callee.now.offers.items) (exprs_of_list arguments.now) (map S.tree types.now))) }
+    ensures kept { Keeps S.has store.old store.new }
+{
+    match callee.rule {
+        CallRule::Member => members_label(store, alloc, setting.parents, &callee.offers),
+        CallRule::Length => length_label(store, alloc, setting, types),
+        CallRule::Test => test_label(store, alloc, setting, env, arguments),
+    }
+}

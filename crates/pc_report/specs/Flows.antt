@@ -1,0 +1,35 @@
+-- The texts of explained flows, and which of them a row has. Own rule of the profile.
+use denote.Bor.{Bor}
+use Rattle.std.specs.Prelude.{◌≡◌, List, Contains, Option, MatchOption, String, string_bytes}
+use Rattle.std.specs.declared.alloc.Global.{Global}
+use Rattle.std.specs.declared.cmp.Ordering.{Ordering}
+use Rattle.std.specs.Ordering.{ordering_then, nat_cmp}
+use Rattle.std.specs.BTreeMap.{BTreeMap, get}
+use Rattle.pc_source.specs.declared.place.Place.{Place}
+use Rattle.pc_tree.specs.declared.code.Code.TheVariants.{A1}
+use Rattle.pc_tree.specs.declared.code.Finding.{Finding}
+use Rattle.pc_report.specs.declared.flow.FlowTexts.{FlowTexts}
+
+-- a place, with the texts of the type that a value has there and of the type of where it goes
+abbrev pub Flow : Type 0
+Flow = Place × String Global × String Global
+
+-- a flow of the list is at the place
+abbrev pub IsListed : List Flow → Place → Type 0
+IsListed flows place = (f : Flow) × Contains flows f × (f.0 ≡ place)
+
+-- a flow of the list is at the place, with these texts
+abbrev pub ListsAt : List Flow → Place → FlowTexts → Type 0
+ListsAt flows place texts = (f : Flow) × Contains flows f × (f.0 ≡ place) × (string_bytes texts.from ≡ string_bytes f.1) × (string_bytes texts.to ≡ string_bytes f.2)
+
+-- a finding of a flow through `Any` has the texts that the list has at its place, where it has some; other findings have none
+abbrev pub IsExplained : List Flow → Finding → Option FlowTexts → Type 0
+IsExplained flows finding texts = MatchOption texts (finding.code ≡ A1 → ¬ (IsListed flows finding.place)) (λ t. (finding.code ≡ A1) × ListsAt flows finding.place t)
+
+-- the order of places
+abbrev pub place_cmp : Place → Place → Ordering
+place_cmp p q = ordering_then (nat_cmp p.start q.start) (nat_cmp p.end q.end)
+
+-- a map has, at each place of the list, a flow of the list
+abbrev pub HasFlows : List Flow → BTreeMap Place (Bor Flow) → Type 0
+HasFlows flows m = (p : Place) → MatchOption (get place_cmp m p) (¬ (IsListed flows p)) (λ f. Contains flows f.now × (f.now.0 ≡ p))

@@ -1,0 +1,7 @@
+pub mod Flows
+pub mod Format
+pub mod Json
+pub mod ReadBack
+pub mod Report
+pub mod Writing
+pub mod Reading

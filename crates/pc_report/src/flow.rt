@@ -1,0 +1,47 @@
+ghost use Rattle.std.specs.Prelude.{IfOk};
+ghost use Rattle.pc_report.specs.Flows.{IsExplained, HasFlows};
+
+use pc_source::{OutOfMemory, Place};
+use pc_tree::{Code, Finding};
+use std::alloc::Global;
+use std::collections::BTreeMap;
+
+/// The texts of the two types of a flow: the type of the value, and the type of where it goes.
+#[derive(Debug, Drop, PartialEq, Eq)]
+pub struct FlowTexts {
+    pub from: String,
+    pub to: String,
+}
+
+/// The flows of a list, each by its place.
+pub(crate) fn by_place<'a>(
+    alloc: Global,
+    flows: &'a [(Place, String, String)],
+) -> Result<BTreeMap<Place, &'a (Place, String, String)>, OutOfMemory>
+    ensures { IfOk result (λ m. HasFlows flows.now m) }
+{
+    let mut map = BTreeMap::new(alloc);
+    for flow in flows {
+        map.insert(flow.0, flow)?;
+    }
+    Ok(map)
+}
+
+/// The texts of the flow that a finding tells of.
+pub(crate) fn texts_of(
+    finding: Finding,
+    flows: &BTreeMap<Place, &(Place, String, String)>,
+) -> Result<Option<FlowTexts>, OutOfMemory>
+    ensures { IfOk result (λ t. (listed : _) → HasFlows listed flows.now → IsExplained listed finding t) }
+{
+    if finding.code != Code::A1 {
+        return Ok(None);
+    }
+    match flows.get(&finding.place) {
+        None => Ok(None),
+        Some((_, from, to)) => Ok(Some(FlowTexts {
+            from: from.clone()?,
+            to: to.clone()?,
+        })),
+    }
+}

@@ -1,0 +1,20 @@
+//! The report of findings: its rows, its text and its JSON, and how it is written to a device; and how
+//! bytes are read from one.
+#![tactic(auto)]
+
+#[cfg(test)]
+mod device_tests;
+mod flow;
+mod format;
+mod object;
+mod reading;
+mod report;
+#[cfg(test)]
+mod tests;
+mod writing;
+
+pub use flow::FlowTexts;
+pub use format::Format;
+pub use reading::{ReadFault, read_at_most};
+pub use report::{Report, Row};
+pub use writing::WriteFault;

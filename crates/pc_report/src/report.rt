@@ -1,0 +1,209 @@
+ghost use Rattle.std.specs.Prelude.{◌≡◌, ◌↔◌, ◌≤◌, ◌++◌, ◌∷◌, [], List, ℕ, IfOk, OnOk, Contains, option_map, string_bytes, length};
+ghost use Rattle.std.specs.List.{AllByRecursion};
+ghost use Rattle.pc_source.specs.Lines.{line_of, column_of};
+ghost use Rattle.pc_tree.specs.declared.code.Finding.{Finding};
+ghost use Rattle.pc_report.specs.Flows.{HasFlows};
+ghost use Rattle.pc_report.specs.Report.{IsPlaced, IsInOrder, findings_of, Lists, Explains, errors_of, dynamic_of, shown_flow, row_text, report_text};
+ghost use Rattle.pc_report.specs.declared.report.Row.{Row};
+
+use crate::flow::{FlowTexts, by_place, texts_of};
+use crate::format::Format;
+use pc_source::{OutOfMemory, Place, Source};
+use pc_tree::Finding;
+use std::alloc::Global;
+use std::collections::{BTreeMap, BTreeSet};
+use std::marker::Model;
+
+/// A finding, with the line and the column of its start, both from 1, and the two types of the
+/// flow that it tells of, where they were given.
+#[derive(Debug, Drop, PartialEq, Eq)]
+pub struct Row {
+    pub finding: Finding,
+    pub line: u64,
+    pub column: u64,
+    pub flow: Option<FlowTexts>,
+}
+
+impl Row {
+    /// What a format shows of the flow.
+    pub(crate) fn shown_flow(&self, format: Format) -> Option<&FlowTexts>
+        ensures { option_map (λ f. f.now) result ≡ shown_flow format self.now }
+    {
+        match format {
+            Format::One => None,
+            Format::Two => self.flow.as_ref(),
+        }
+    }
+}
+
+/// Findings, sorted by start, end and code, without repeats. Contracts see it as the list of its rows.
+#[derive(Drop)]
+pub struct Report {
+    rows: Vec<Row>,
+}
+
+impl Model for Report {
+    ghost Value = { List Row };
+
+    ghost view = { λ r. r.rows.items };
+}
+
+/// The findings in order, without repeats.
+fn set_of(alloc: Global, findings: &[Finding]) -> Result<BTreeSet<Finding>, OutOfMemory>
+    ensures { IfOk result (λ s. (f : Finding) → Contains s.keys f ↔ Contains findings.now f) }
+{
+    let mut set = BTreeSet::new(alloc);
+    for finding in findings {
+        set.insert(*finding)?;
+    }
+    Ok(set)
+}
+
+/// A byte of the source, with its line and its column.
+#[derive(Clone, Copy)]
+struct Position {
+    byte: usize,
+    line: u64,
+    column: u64,
+}
+
+/// The first byte.
+const START: Position = Position {
+    byte: 0,
+    line: 1,
+    column: 1,
+};
+
+/// The position of a byte, found from a known one: a walk over what stands between them. Where the
+/// byte stands before the known one, the walk begins at the first byte.
+fn position_of(source: &[u8], known: Position, byte: usize) -> Position
+    requires line { known.line ≡ line_of source.now known.byte }
+    requires column { known.column ≡ column_of source.now known.byte }
+    ensures byte { result.byte ≡ byte }
+    ensures line { result.line ≡ line_of source.now byte }
+    ensures column { result.column ≡ column_of source.now byte }
+{
+    let mut position = if byte < known.byte { START } else { known };
+    for at in position.byte..byte.min(source.len()) {
+        let b = source[at];
+        if b == b'\n' {
+            position.line += 1;
+            position.column = 1;
+        } else if b < 128 || b >= 192 {
+            position.column += 1;
+        }
+    }
+    Position { byte, ..position }
+}
+
+/// The rows of findings that are in order: one walk over the source.
+fn rows(
+    alloc: Global,
+    source: &Source,
+    set: &BTreeSet<Finding>,
+    flows: &BTreeMap<Place, &(Place, String, String)>,
+) -> Result<Vec<Row>, OutOfMemory>
+    ensures findings { IfOk result (λ v. findings_of v.items ≡ set.now.keys) }
+    ensures placed { IfOk result (λ v. AllByRecursion (IsPlaced source.now) v.items) }
+    ensures sorted { IfOk result (λ v. IsInOrder (findings_of v.items)) }
+    ensures explained { IfOk result (λ v. (listed : _) → HasFlows listed flows.now → Explains listed v.items) }
+{
+    let text = source.text().as_bytes();
+    let mut rows = Vec::new(alloc);
+    let mut position = START;
+    for finding in set.iter() {
+        position = position_of(text, position, finding.place.start);
+        rows.push(Row {
+            finding: *finding,
+            line: position.line,
+            column: position.column,
+            flow: texts_of(*finding, flows)?,
+        })?;
+    }
+    Ok(rows)
+}
+
+impl Report {
+    /// The report of findings of a source. The flows give, at the place of each finding of a flow
+    /// through `Any`, the texts of the two types that it goes between; where they give none, the
+    /// row has none.
+    ///
+    /// # Errors
+    ///
+    /// `OutOfMemory` where the rows have no room.
+    pub fn of(
+        alloc: Global,
+        source: &Source,
+        findings: &[Finding],
+        flows: &[(Place, String, String)],
+    ) -> Result<Report, OutOfMemory>
+        ensures lists { IfOk result (Lists source.now (Contains findings.now)) }
+        ensures explains { IfOk result (Explains flows.now) }
+    {
+        let set = set_of(alloc, findings)?;
+        let flows = by_place(alloc, flows)?;
+        let rows = rows(alloc, source, &set, &flows)?;
+        Ok(Report { rows })
+    }
+
+    /// The rows.
+    pub(crate) fn rows(&self) -> &[Row]
+        ensures { result.now ≡ self.now }
+    {
+        &self.rows
+    }
+
+    /// How many rows are errors.
+    pub fn errors(&self) -> u64
+        ensures { result ≡ errors_of self.now }
+    {
+        self.rows
+            .iter()
+            .filter(|row| row.finding.code.is_error())
+            .count() as u64
+    }
+
+    /// How many rows are dynamic places.
+    pub fn dynamic(&self) -> u64
+        ensures { result ≡ dynamic_of self.now }
+    {
+        self.rows
+            .iter()
+            .filter(|row| !row.finding.code.is_error())
+            .count() as u64
+    }
+
+    /// A line for each row, `LINE:COLUMN CODE LABEL`, and a last line with the numbers of errors
+    /// and of dynamic places. In format two a line of a flow ends with the two types, ` FROM -> TO`.
+    /// Own rule of the profile.
+    ///
+    /// # Errors
+    ///
+    /// `OutOfMemory` where the text has no room.
+    pub fn to_text(&self, alloc: Global, format: Format) -> Result<String, OutOfMemory>
+        ensures { IfOk result (λ t. string_bytes t ≡ report_text format self.now) }
+    {
+        let mut text = String::new(alloc);
+        for row in &self.rows {
+            write_row(&mut text, format, row)?;
+        }
+        let errors = self.errors();
+        let dynamic = self.dynamic();
+        writeln!(text, "errors {errors}, dynamic {dynamic}")?;
+        Ok(text)
+    }
+}
+
+/// Writes the line of a row.
+fn write_row(text: &mut String, format: Format, row: &Row) -> Result<(), OutOfMemory>
+    ensures { OnOk result (string_bytes text.new ≡ string_bytes text.old ++ (row_text format row.now ++ 10 ∷ [])) }
+{
+    let code = row.finding.code.text();
+    let label = row.finding.code.label();
+    write!(text, "{}:{} {code} {label}", row.line, row.column)?;
+    if let Some(flow) = row.shown_flow(format) {
+        write!(text, " {} -> {}", flow.from, flow.to)?;
+    }
+    text.push('\n')?;
+    Ok(())
+}

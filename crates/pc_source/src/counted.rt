@@ -1,0 +1,90 @@
+ghost use Rattle.std.specs.Prelude.{◌≡◌, length};
+ghost use Rattle.std.specs.Result.{is_err};
+ghost use Rattle.std.specs.Io.{ReadsAtMost, WritesAtMost};
+ghost use Rattle.std.specs.Io.KnownBytes.{Keeps, ReadConsumes, WriteAppends};
+ghost use Rattle.pc_source.specs.Devices.{write_fails, failures_after};
+
+use std::io;
+use std::io::{Read, Write};
+
+/// A device, and how many of its calls failed. A write that takes no byte of some is a failed call.
+/// Own rule of the profile.
+#[derive(Drop)]
+pub struct Counted<D: Drop> {
+    device: D,
+    failures: u64,
+}
+
+impl<D: Drop> Counted<D> {
+    /// The device, of whose calls none has failed.
+    pub fn new(device: D) -> Counted<D>
+        ensures device { result.device ≡ device }
+        ensures failures { result.failures ≡ 0 }
+    {
+        Counted {
+            device,
+            failures: 0,
+        }
+    }
+
+    /// The device.
+    pub fn inner(&self) -> &D
+        ensures { result.now ≡ self.now.device }
+    {
+        &self.device
+    }
+
+    /// How many calls failed; it stops at its maximum.
+    pub fn failures(&self) -> u64
+        ensures { result ≡ self.now.failures }
+    {
+        self.failures
+    }
+}
+
+impl<R: Read + Drop> Read for Counted<R> {
+    ghost remaining = { λ c. R.remaining c.device };
+
+    fn read(&mut self, buf: &mut [u8]) -> io::Result<usize>
+        ensures bound { ReadsAtMost result buf.new }
+        ensures bytes { ReadConsumes (R.remaining self.old.device) (R.remaining self.new.device) result buf.new }
+        ensures failures { self.new.failures ≡ failures_after (is_err result) self.old.failures }
+    {
+        let result = self.device.read(buf);
+        if result.is_err() {
+            self.failures = self.failures.saturating_add(1);
+        }
+        result
+    }
+}
+
+impl<W: Write + Drop> Write for Counted<W> {
+    ghost contents = { λ c. W.contents c.device };
+
+    fn write(&mut self, buf: &[u8]) -> io::Result<usize>
+        ensures bound { WritesAtMost result buf.now }
+        ensures bytes { WriteAppends (W.contents self.old.device) (W.contents self.new.device) result buf.now }
+        ensures failures { self.new.failures ≡ failures_after (write_fails (length buf.now) result) self.old.failures }
+    {
+        let result = self.device.write(buf);
+        let failed = match &result {
+            Ok(count) => *count == 0 && !buf.is_empty(),
+            Err(_) => true,
+        };
+        if failed {
+            self.failures = self.failures.saturating_add(1);
+        }
+        result
+    }
+
+    fn flush(&mut self) -> io::Result<()>
+        ensures bytes { Keeps (W.contents self.old.device) (W.contents self.new.device) }
+        ensures failures { self.new.failures ≡ failures_after (is_err result) self.old.failures }
+    {
+        let result = self.device.flush();
+        if result.is_err() {
+            self.failures = self.failures.saturating_add(1);
+        }
+        result
+    }
+}

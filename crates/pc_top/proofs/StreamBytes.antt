@@ -1,0 +1,94 @@
+-- What is answered of the bytes that were read is answered of the bytes of the reader.
+use Rattle.std.proofs.Common.{◌≡◌, ℕ, ◌+◌, ◌<◌, ◌≤◌, List, ◌++◌, length, Bool, Option, None, Some, refl, sym, ap, ◌∙◌, subst, inl, inr, arith, append-nil, length-append}
+use Rattle.std.specs.Io.KnownBytes.{Consumes, IsAtEnd}
+use Rattle.std.proofs.lemmas.Bool.{cases_lt}
+use Rattle.pc_source.specs.declared.fault.Refusal.{Refusal}
+use Rattle.pc_source.specs.declared.fault.RefusalCode.{RefusalCode}
+use Rattle.pc_source.specs.declared.fault.RefusalCode.TheVariants.{S1, S2, S3}
+use Rattle.pc_source.specs.Text.{limit, IsText, IsSourceFault}
+use Rattle.pc_front.specs.Bytes.{IsRefusalOf, of_source, of_tokens, of_layout, of_grammar}
+use Rattle.pc_source.specs.declared.counted.Counted.{Counted}
+use Rattle.pc_report.specs.declared.report.Row.{Row}
+use Rattle.pc_report.specs.declared.writing.WriteFault.{WriteFault}
+use Rattle.pc_report.specs.declared.writing.WriteFault.TheVariants as write_fault
+use Rattle.pc_report.specs.Report.{errors_of, dynamic_of}
+use Rattle.pc_report.specs.Writing.{OnWriteFault, TakesAll, TakesBeginning}
+use Rattle.pc_top.specs.Headline.{Headline, OnCheckFault}
+use Rattle.pc_top.specs.Streaming.{AreBytesOf, IsRefusedStream, IsReported, IsBegun, WhenRefused, WhenWriteFails, report_bytes, write_checked}
+use Rattle.pc_top.specs.declared.fault.CheckFault.{CheckFault}
+use Rattle.pc_top.specs.declared.fault.CheckFault.TheVariants as check_fault
+
+-- the bytes of a reader that gave some
+abbrev pub all_bytes : Option (List ℕ) → List ℕ → List ℕ
+all_bytes None given = given
+all_bytes (Some told) given = told
+
+pub are_all : (told : Option (List ℕ)) (given : List ℕ) → AreBytesOf told (all_bytes told given)
+are_all None given = tt
+are_all (Some told) given = refl
+
+all_given : (told left : Option (List ℕ)) (given : List ℕ) → Consumes told left given → IsAtEnd left → all_bytes told given ≡ given
+all_given None left given p end = refl
+all_given (Some told) None given p end = absurd p
+all_given (Some told) (Some rest) given p end = p ∙ ap (λ (l : List ℕ). given ++ l) end ∙ append-nil given
+
+given_le : (told left : Option (List ℕ)) (given : List ℕ) → Consumes told left given → length given ≤ length (all_bytes told given)
+given_le None left given p = omega arith
+given_le (Some told) None given p = absurd p
+given_le (Some told) (Some rest) given p = omega (arith, ap length p, length-append given rest)
+
+-- where more was read than a text may have
+module _ (given all : List ℕ) (long : limit < length given) (more : length given ≤ length all) where
+  too_long : (code : RefusalCode) (byte : ℕ) → IsSourceFault given code byte → IsSourceFault all code byte
+  too_long S1 byte h = (omega arith, h.1)
+  too_long S2 byte h = let short = h.0 in absurd (omega arith)
+  too_long S3 byte h = let short = h.0 in absurd (omega arith)
+  too_long _ byte h = let short = h.0.short in absurd (omega arith)
+
+  no_text : ¬ (IsText given)
+  no_text text = let short = text.short in absurd (omega arith)
+
+  refused_long : (r : Refusal) → IsRefusalOf given r → IsRefusalOf all r
+  refused_long r (of_source h) = of_source (too_long r.code r.byte h)
+  refused_long r (of_tokens h) = absurd (no_text h.text)
+  refused_long r (of_layout h) = absurd (no_text h.lined.text)
+  refused_long r (of_grammar h) = absurd (no_text h.laid_out.lined.text)
+
+module _ (told left : Option (List ℕ)) (given : List ℕ) (consumed : Consumes told left given) (whole : length given < limit + 1 → IsAtEnd left) where
+  same : length given ≤ limit → all_bytes told given ≡ given
+  same short = all_given told left given consumed (whole (omega arith))
+
+  -- a refusal of what was read is that of the reader's bytes
+  refused_all : (r : Refusal) → IsRefusalOf given r → IsRefusalOf (all_bytes told given) r
+  refused_all r h = elim (cases_lt limit (length given)) [
+    | inl long ↦ refused_long given (all_bytes told given) long (given_le told left given consumed) r h
+    | inr short ↦ subst (λ (l : List ℕ). IsRefusalOf l r) (sym (same short)) h
+  ]
+
+  pub refused_stream : (e : CheckFault) → OnCheckFault (IsRefusalOf given) e → WhenRefused (IsRefusedStream told) e
+  refused_stream (check_fault.Refused r) h = record { bytes = all_bytes told given; given = are_all told given; refused = refused_all r h }
+  refused_stream check_fault.OutOfMemory h = tt
+  refused_stream check_fault.Read h = tt
+  refused_stream check_fault.Write h = tt
+
+  -- and so is a report
+  reported_all : (rows : List Row) → Headline given rows → Headline (all_bytes told given) rows
+  reported_all rows h = subst (λ (l : List ℕ). Headline l rows) (sym (same h.spelled.laid_out.lined.text.short)) h
+
+  module _ {W : Type 0} (contents : W → Option (List ℕ)) (json : Bool) (old new : Counted W) (rows : List Row) (h : Headline given rows) where
+    pub reported_stream : (errors dynamic : ℕ) → errors ≡ errors_of rows → dynamic ≡ dynamic_of rows → TakesAll contents (report_bytes json rows) old new
+        → IsReported contents told json old new errors dynamic
+    reported_stream errors dynamic e d written = record {
+      bytes = all_bytes told given;
+      given = are_all told given;
+      rows = rows;
+      headline = reported_all rows h;
+      errors_are = e;
+      dynamic_are = d;
+      written = written;
+    }
+
+    pub begun_stream : (e : WriteFault) → OnWriteFault e (new ≡ old) (TakesBeginning contents (report_bytes json rows) old new)
+        → WhenWriteFails (IsBegun contents told json old new) (write_checked e)
+    begun_stream write_fault.OutOfMemory written = tt
+    begun_stream write_fault.Write written = record { bytes = all_bytes told given; given = are_all told given; rows = rows; headline = reported_all rows h; written = written }

@@ -1,0 +1,87 @@
+-- What a check of a stream reads and writes. Own rule of the profile.
+use Rattle.std.specs.Prelude.{◌≡◌, ℕ, Bool, true, false, List, Option, None, Some, ⊤, Result, Err}
+use Rattle.pc_source.specs.declared.counted.Counted.{Counted}
+use Rattle.pc_source.specs.declared.fault.Refusal.{Refusal}
+use Rattle.pc_front.specs.Bytes.{IsRefusalOf}
+use Rattle.pc_report.specs.declared.format.Format.TheVariants.{One}
+use Rattle.pc_report.specs.declared.reading.ReadFault.{ReadFault}
+use Rattle.pc_report.specs.declared.reading.ReadFault.TheVariants as read_fault
+use Rattle.pc_report.specs.declared.writing.WriteFault.{WriteFault}
+use Rattle.pc_report.specs.declared.writing.WriteFault.TheVariants as write_fault
+use Rattle.pc_report.specs.declared.report.Row.{Row}
+use Rattle.pc_report.specs.Report.{report_text, errors_of, dynamic_of}
+use Rattle.pc_report.specs.Json.{report_json}
+use Rattle.pc_report.specs.Writing.{TakesAll, TakesBeginning}
+use Rattle.pc_top.specs.Headline.{Headline}
+use Rattle.pc_top.specs.declared.fault.CheckFault.{CheckFault}
+use Rattle.pc_top.specs.declared.fault.CheckFault.TheVariants as check_fault
+
+-- the fault of a check that a fault of reading is
+abbrev pub read_checked : ReadFault → CheckFault
+read_checked read_fault.OutOfMemory = check_fault.OutOfMemory
+read_checked read_fault.Read = check_fault.Read
+
+-- the fault of a check that a fault of writing is
+abbrev pub write_checked : WriteFault → CheckFault
+write_checked write_fault.OutOfMemory = check_fault.OutOfMemory
+write_checked write_fault.Write = check_fault.Write
+
+-- whether the answer is that the reader failed
+abbrev pub reader_fails : {T : Type 0} → Result T CheckFault → Bool
+reader_fails (Err check_fault.Read) = true
+reader_fails _ = false
+
+-- whether the answer is that the writer failed
+abbrev pub writer_fails : {T : Type 0} → Result T CheckFault → Bool
+writer_fails (Err check_fault.Write) = true
+writer_fails _ = false
+
+-- of a fault: P holds of it where it is a refusal
+abbrev pub WhenRefused : (Refusal → Type 0) → CheckFault → Type 0
+WhenRefused P (check_fault.Refused refusal) = P refusal
+WhenRefused P _ = Unit {0}
+
+-- of a fault: P holds where the writer failed
+abbrev pub WhenWriteFails : Type 0 → CheckFault → Type 0
+WhenWriteFails P check_fault.Write = P
+WhenWriteFails P _ = Unit {0}
+
+-- of a fault: P holds unless the writer failed
+abbrev pub UnlessWriteFails : Type 0 → CheckFault → Type 0
+UnlessWriteFails P check_fault.Write = Unit {0}
+UnlessWriteFails P _ = P
+
+-- the bytes of a reader: those that it tells, where it tells them
+abbrev pub AreBytesOf : Option (List ℕ) → List ℕ → Type 0
+AreBytesOf None bytes = ⊤
+AreBytesOf (Some told) bytes = bytes ≡ told
+
+-- a report in format one, as text or as JSON
+abbrev pub report_bytes : Bool → List Row → List ℕ
+report_bytes false rows = report_text One rows
+report_bytes true rows = report_json One rows
+
+-- the refusal is that of the bytes of the reader
+pub record IsRefusedStream (told : Option (List ℕ)) (refusal : Refusal) : Type 0 where
+  pub bytes : List ℕ
+  pub given : AreBytesOf told bytes
+  pub refused : IsRefusalOf bytes refusal
+
+module _ {W : Type 0} (contents : W → Option (List ℕ)) where
+  -- the report of the bytes of the reader was written whole, and these are its numbers of errors and of dynamic places
+  pub record IsReported (told : Option (List ℕ)) (json : Bool) (old new : Counted W) (errors dynamic : ℕ) : Type 0 where
+    pub bytes : List ℕ
+    pub given : AreBytesOf told bytes
+    pub rows : List Row
+    pub headline : Headline bytes rows
+    pub errors_are : errors ≡ errors_of rows
+    pub dynamic_are : dynamic ≡ dynamic_of rows
+    pub written : TakesAll contents (report_bytes json rows) old new
+
+  -- a beginning of the report of the bytes of the reader was written, and then the writer failed
+  pub record IsBegun (told : Option (List ℕ)) (json : Bool) (old new : Counted W) : Type 0 where
+    pub bytes : List ℕ
+    pub given : AreBytesOf told bytes
+    pub rows : List Row
+    pub headline : Headline bytes rows
+    pub written : TakesBeginning contents (report_bytes json rows) old new

@@ -1,0 +1,59 @@
+ghost use Rattle.std.specs.Prelude.{◌≡◌, IfOk, IfErr};
+ghost use Rattle.pc_source.specs.Devices.{failures_after};
+ghost use Rattle.pc_report.specs.Writing.{IsWritten};
+ghost use Rattle.pc_top.specs.Streaming.{IsReported, IsRefusedStream, IsBegun, WhenRefused, WhenWriteFails, UnlessWriteFails, reader_fails, writer_fails, report_bytes};
+
+use crate::fault::CheckFault;
+use crate::top::check;
+use pc_report::{Format, Report, WriteFault, read_at_most};
+use pc_source::Counted;
+use std::alloc::Global;
+use std::io::{Read, Write};
+
+/// How many bytes are read at most: one more than a source text may have.
+const MOST: usize = 1_048_577;
+
+/// Writes a report in format one.
+fn write_report<W: Write + Drop>(
+    alloc: Global,
+    report: &Report,
+    writer: &mut Counted<W>,
+    json: bool,
+) -> Result<(), WriteFault>
+    ensures { IsWritten W.contents (report_bytes json report.now) writer.old writer.new result }
+{
+    if json {
+        report.write_json(alloc, Format::One, writer)
+    } else {
+        report.write_text(alloc, Format::One, writer)
+    }
+}
+
+/// Reads bytes to their end, checks them as `check` does, writes the report in format one, as JSON
+/// or as text, and gives its numbers of errors and of dynamic places. The writer is not flushed.
+/// Own rule of the profile.
+///
+/// # Errors
+///
+/// `Refused` as of `check`; more than 1,048,576 bytes are refused once one more is read. `Read`
+/// and `Write` where a call of that device failed, an interruption included: no call follows it.
+/// `OutOfMemory` only when an allocation failed. Nothing was written after any of these but
+/// `Write`, after which a beginning of the report was.
+pub fn check_stream<R: Read + Drop, W: Write + Drop>(
+    alloc: Global,
+    reader: &mut Counted<R>,
+    writer: &mut Counted<W>,
+    json: bool,
+) -> Result<(u64, u64), CheckFault>
+    ensures reported { IfOk result (λ counts. IsReported W.contents (R.remaining reader.old.device) json writer.old writer.new counts.0 counts.1) }
+    ensures refused { IfErr result (WhenRefused (IsRefusedStream (R.remaining reader.old.device))) }
+    ensures begun { IfErr result (WhenWriteFails (IsBegun W.contents (R.remaining reader.old.device) json writer.old writer.new)) }
+    ensures untouched { IfErr result (UnlessWriteFails (writer.new ≡ writer.old)) }
+    ensures read_failures { reader.new.failures ≡ failures_after (reader_fails result) reader.old.failures }
+    ensures write_failures { writer.new.failures ≡ failures_after (writer_fails result) writer.old.failures }
+{
+    let bytes = read_at_most(alloc, reader, MOST)?;
+    let report = check(alloc, bytes.as_slice())?;
+    write_report(alloc, &report, writer, json)?;
+    Ok((report.errors(), report.dynamic()))
+}

@@ -1,0 +1,4 @@
+from __future__ import annotations
+def main():
+    return 1 < 2 < 3
+main()

@@ -1,0 +1,2 @@
+# -*- coding: latin-1 -*-
+from __future__ import annotations

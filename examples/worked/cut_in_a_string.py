@@ -1,0 +1,3 @@
+from __future__ import annotations
+def main():
+    return 1 + "a

@@ -1,0 +1,4 @@
+from __future__ import annotations
+def main():
+    xs: list[int | str] = [1]
+main()

@@ -1,0 +1,5 @@
+from __future__ import annotations
+def main():
+    xs: list[int] = []
+    print(xs[0])
+main()

@@ -1,0 +1,7 @@
+from __future__ import annotations
+def main():
+    xs: list[int] = []
+    for x in xs:
+        pass
+    print(x)
+main()
