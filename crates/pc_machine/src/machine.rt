@@ -99,6 +99,7 @@ impl<'m> Machine<'m> {
     }
 
     /// A name as an expression: its place, then its value. Language Reference 6.2.1 "Identifiers (Names)".
+    #[inline(never)]
     pub fn read_name(&mut self, alloc: Allocator, place: Place, name: &str) -> Result<Value, Halt>
         ensures plain { Tells value_of result self.new (comes (value_of_meaning (meaning name.now (state_of self.old))) (emitted place (progress_of self.old))) }
         ensures fuel { self.new.fuel ≤ self.old.fuel }
@@ -108,6 +109,7 @@ impl<'m> Machine<'m> {
     }
 
     /// A local is bound to a value. Language Reference 4.2.1 "Binding of names".
+    #[inline(never)]
     pub fn bind_local(&mut self, name: &str, value: Value)
         ensures plain { progress_of self.new ≡ changed (binds_local name.now (value_of value)) (progress_of self.old) }
         ensures fuel { self.new.fuel ≡ self.old.fuel }
@@ -129,6 +131,7 @@ impl<'m> Machine<'m> {
     }
 
     /// A place is evaluated. Own rule of the profile.
+    #[inline(never)]
     pub fn emit(&mut self, place: Place) -> Result<(), OutOfMemory>
         ensures ok { OnOk result (progress_of self.new ≡ emitted place (progress_of self.old)) }
         ensures fuel { self.new.fuel ≡ self.old.fuel }
@@ -140,6 +143,7 @@ impl<'m> Machine<'m> {
     }
 
     /// A value, at its place. Own rule of the profile.
+    #[inline(never)]
     pub fn give(&mut self, place: Place, value: Value) -> Result<Value, Halt>
         ensures plain { Tells value_of result self.new (Came (value_of value) (emitted place (progress_of self.old))) }
         ensures fuel { self.new.fuel ≤ self.old.fuel }
@@ -198,6 +202,7 @@ impl<'m> Machine<'m> {
     }
 
     /// An action that comes to what a `for` goes over. Language Reference 8.3 "The for statement".
+    #[inline(never)]
     pub fn act_iteration(&mut self, alloc: Allocator, action: Action) -> Result<Iteration, Halt>
         ensures plain { Tells iteration_of result self.new (act iteration_out (action_of action) (progress_of self.old)) }
         ensures fuel { self.new.fuel ≤ self.old.fuel }
@@ -214,6 +219,7 @@ impl<'m> Machine<'m> {
     }
 
     /// A turn of a `for`: the item, or none at the end. Language Reference 8.3 "The for statement".
+    #[inline(never)]
     pub fn act_item(&mut self, alloc: Allocator, action: &Action) -> Result<Option<Value>, Halt>
         ensures plain { Tells item_of result self.new (act item_out (action_of action.now) (progress_of self.old)) }
         ensures fuel { self.new.fuel ≤ self.old.fuel }
@@ -230,6 +236,7 @@ impl<'m> Machine<'m> {
     }
 
     /// An action that comes to a value, at its place. Own rule of the profile.
+    #[inline(never)]
     pub fn perform(&mut self, alloc: Allocator, place: Place, action: Action) -> Result<Value, Halt>
         ensures plain { Tells value_of result self.new (act value_out (action_of action) (emitted place (progress_of self.old))) }
         ensures fuel { self.new.fuel ≤ self.old.fuel }

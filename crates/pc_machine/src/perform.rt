@@ -103,6 +103,7 @@ fn frame_of<'m>(
 
 impl<'m> Machine<'m> {
     /// A whole number as it is written. Language Reference 2.4.5 "Integer literals".
+    #[inline(never)]
     pub fn number(&mut self, alloc: Allocator, place: Place, digits: &str) -> Result<Value, Halt>
         ensures plain { Tells value_of result self.new (act value_out (action.number (number_of_digits digits.now)) (emitted place (progress_of self.old))) }
         ensures fuel { self.new.fuel ≤ self.old.fuel }
@@ -112,6 +113,7 @@ impl<'m> Machine<'m> {
     }
 
     /// A text. Language Reference 2.4.1 "String and Bytes literals".
+    #[inline(never)]
     pub fn text(&mut self, alloc: Allocator, place: Place, text: &str) -> Result<Value, Halt>
         ensures plain { Tells value_of result self.new (Came (string (chars text.now)) (emitted place (progress_of self.old))) }
         ensures fuel { self.new.fuel ≤ self.old.fuel }
@@ -121,6 +123,7 @@ impl<'m> Machine<'m> {
     }
 
     /// An attribute that is read. Language Reference 6.3.1 "Attribute references".
+    #[inline(never)]
     pub fn read_attribute(
         &mut self,
         alloc: Allocator,
@@ -137,6 +140,7 @@ impl<'m> Machine<'m> {
     }
 
     /// A name as a callee: it is charged, then its place, then what it is. Language Reference 6.3.4 "Calls".
+    #[inline(never)]
     pub fn callee_of_name(&mut self, alloc: Allocator, name: &'m Name) -> Result<Callee<'m>, Halt>
         ensures plain { (n : ℕ) → Tells callee_seen result self.new (callee_in n (name_node (name_of name.now)) (progress_of self.old)) }
         ensures fuel { self.new.fuel ≤ self.old.fuel }
@@ -148,6 +152,7 @@ impl<'m> Machine<'m> {
 
     /// An attribute as a callee: a method, a built-in method, or what reading it gives.
     /// Language Reference 6.3.1 "Attribute references", 6.3.4 "Calls".
+    #[inline(never)]
     pub fn callee_of_attribute(
         &mut self,
         alloc: Allocator,
@@ -171,6 +176,7 @@ impl<'m> Machine<'m> {
     }
 
     /// The test of `isinstance`. Library Reference, "Built-in Functions".
+    #[inline(never)]
     pub fn test_instance(
         &mut self,
         place: Place,
@@ -186,6 +192,7 @@ impl<'m> Machine<'m> {
     }
 
     /// A call of a class: an instance, its fields from the arguments. Language Reference 6.3.4 "Calls".
+    #[inline(never)]
     pub fn make_instance(
         &mut self,
         alloc: Allocator,
@@ -210,6 +217,7 @@ impl<'m> Machine<'m> {
     }
 
     /// A call of a reserved name, after its arguments. Library Reference, "Built-in Functions"; own rule of the profile.
+    #[inline(never)]
     pub fn call_reserved(
         &mut self,
         alloc: Allocator,
@@ -246,6 +254,7 @@ impl<'m> Machine<'m> {
 
     /// A call of a built-in method, after its arguments.
     /// Library Reference, "Mutable Sequence Types" and "Mapping Types".
+    #[inline(never)]
     pub fn call_builtin_method(
         &mut self,
         alloc: Allocator,
@@ -263,6 +272,7 @@ impl<'m> Machine<'m> {
 
     /// A function or method is entered, where a further call may be open: what it comes to is the caller's
     /// frame. Language Reference 6.3.4 "Calls"; own rule of the profile.
+    #[inline(never)]
     pub fn open(
         &mut self,
         alloc: Allocator,
@@ -296,6 +306,7 @@ impl<'m> Machine<'m> {
     }
 
     /// A loop's suite that is empty is charged. Own rule of the profile.
+    #[inline(never)]
     pub fn charge_empty(&mut self, body: &[Stmt]) -> Result<(), Halt>
         ensures plain { Tells unit result self.new (empty_charged (stmts_of_list body.now) (progress_of self.old)) }
         ensures fuel { self.new.fuel ≤ self.old.fuel }
@@ -308,6 +319,7 @@ impl<'m> Machine<'m> {
     }
 
     /// An attribute that is stored to. Language Reference 7.2 "Assignment statements".
+    #[inline(never)]
     pub fn store_attribute(
         &mut self,
         alloc: Allocator,
@@ -325,6 +337,7 @@ impl<'m> Machine<'m> {
     }
 
     /// An item that is stored to. Language Reference 7.2 "Assignment statements".
+    #[inline(never)]
     pub fn store_item(
         &mut self,
         alloc: Allocator,
@@ -341,6 +354,7 @@ impl<'m> Machine<'m> {
     }
 
     /// What a `for` over `range(..)` goes over, after its arguments. Language Reference 8.3 "The for statement".
+    #[inline(never)]
     pub fn iterate_range(
         &mut self,
         alloc: Allocator,

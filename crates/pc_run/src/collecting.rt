@@ -7,6 +7,7 @@ use pc_source::OutOfMemory;
 use pc_value::Value;
 
 /// One more value.
+#[inline(never)]
 pub fn keep(values: &mut Vec<Value>, value: Value) -> Result<(), OutOfMemory>
     ensures { OnOk result (values.new.items ≡ values.old.items ++ value ∷ []) }
 {
@@ -17,6 +18,7 @@ pub fn keep(values: &mut Vec<Value>, value: Value) -> Result<(), OutOfMemory>
 }
 
 /// One more entry.
+#[inline(never)]
 pub fn keep_entry(
     entries: &mut Vec<pc_value::Entry>,
     key: Value,
@@ -31,6 +33,7 @@ pub fn keep_entry(
 }
 
 /// One more argument by name.
+#[inline(never)]
 pub fn keep_named<'m>(
     named: &mut Vec<NamedValue<'m>>,
     name: &'m str,

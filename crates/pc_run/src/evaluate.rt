@@ -3,21 +3,21 @@ ghost use Rattle.pc_tree.specs.Tree.{expr_of, stmts_of_list, stmt_of_kind, targe
 ghost use Rattle.pc_value.specs.Meaning.{value_of};
 ghost use Rattle.pc_value.specs.Doing.{iteration_of};
 ghost use Rattle.pc_machine.specs.Runs.{plain_parts};
-ghost use Rattle.pc_run.specs.Traced.{node, all_of, entries_in, keywords_in, call_in, exec_one, assigned, branches_in, iterable_in, entered_body};
+ghost use Rattle.pc_run.specs.Traced.{node, all_of, entries_in, keywords_in, call_in, test_in, exec_one, assigned, branches_in, iterable_in, entered_body};
 ghost use Rattle.pc_machine.specs.Performed.{callee_in, callee_called};
 ghost use Rattle.pc_machine.specs.Machine.{Tells, progress_of, flow_of, named_of, callee_seen, item_of, method_of_def};
 ghost use Rattle.pc_run.specs.Traced.{values_of_vec, entries_of_vec, named_of_vec};
 ghost use Rattle.pc_tree.specs.Lists.{branches_of_list, exprs_of_list, entries_of_list, keywords_of_list};
 ghost use Rattle.pc_source.specs.declared.place.Place.{Place as PlaceOf};
-ghost use Rattle.pc_tree.specs.Tree.{asserts, option_expr_of};
-ghost use Rattle.pc_tree.specs.Tree.{tuple, list, dict, binary, compare, is_none, is_not_none, conjunction, disjunction, index};
+ghost use Rattle.pc_tree.specs.Tree.{asserts, assigns, evaluates, option_expr_of};
+ghost use Rattle.pc_tree.specs.Tree.{tuple, list, dict, negative, negation, binary, compare, is_none, is_not_none, conjunction, disjunction, attribute, index, name_of};
 
 use crate::collecting::{keep, keep_entry, keep_named};
-use crate::forms::{instance_test, is_nothing, next_turn, range_call, value_of_flow};
+use crate::forms::{advance, instance_test, is_nothing, range_call, value_of_flow};
 use pc_machine::{Callee, Flow, Halt, Machine, NamedValue, Stop, raised};
 use pc_source::Place;
 use pc_tree::{
-    BinaryOperator, Branch, ComparisonOperator, Entry, Expr, FuncDef, KeywordArgument, Stmt,
+    BinaryOperator, Branch, ComparisonOperator, Entry, Expr, FuncDef, KeywordArgument, Name, Stmt,
     StmtKind, Target,
 };
 use pc_value::{Action, Exception, Iteration, Value};
@@ -50,14 +50,8 @@ fn eval_node<'m>(machine: &mut Machine<'m>, alloc: Allocator, e: &'m Expr) -> Re
         Expr::Tuple(place, items) => eval_tuple(machine, alloc, *place, items),
         Expr::List(place, items) => eval_list(machine, alloc, *place, items),
         Expr::Dict(place, items) => eval_dict(machine, alloc, *place, items),
-        Expr::Negative(place, operand) => {
-            let v = eval(machine, alloc, operand)?;
-            machine.perform(alloc, *place, Action::Negative(v))
-        }
-        Expr::Not(place, operand) => {
-            let v = eval(machine, alloc, operand)?;
-            machine.perform(alloc, *place, Action::Not(v))
-        }
+        Expr::Negative(place, operand) => eval_negative(machine, alloc, *place, operand),
+        Expr::Not(place, operand) => eval_not(machine, alloc, *place, operand),
         Expr::Binary(place, operator, left, right) => {
             eval_binary(machine, alloc, *place, *operator, left, right)
         }
@@ -69,8 +63,7 @@ fn eval_node<'m>(machine: &mut Machine<'m>, alloc: Allocator, e: &'m Expr) -> Re
         Expr::And(place, left, right) => eval_and(machine, alloc, *place, left, right),
         Expr::Or(place, left, right) => eval_or(machine, alloc, *place, left, right),
         Expr::Attribute(place, object, field) => {
-            let v = eval(machine, alloc, object)?;
-            machine.read_attribute(alloc, *place, v, field.text.as_str())
+            eval_attribute(machine, alloc, *place, object, field)
         }
         Expr::Index(place, object, key) => eval_index(machine, alloc, *place, object, key),
         Expr::Call(place, callee, arguments, by_name) => {
@@ -79,8 +72,58 @@ fn eval_node<'m>(machine: &mut Machine<'m>, alloc: Allocator, e: &'m Expr) -> Re
     }
 }
 
+/// A number with its sign turned. Language Reference 6.6 "Unary arithmetic and bitwise operations".
+#[cycle(evaluate)]
+#[inline(never)]
+fn eval_negative<'m>(
+    machine: &mut Machine<'m>,
+    alloc: Allocator,
+    place: Place,
+    operand: &'m Expr,
+) -> Result<Value, Halt>
+    ensures plain { (n : ℕ) → machine.old.fuel < n → Tells value_of result machine.new (node n (negative place (expr_of operand.now)) (progress_of machine.old)) }
+    ensures fuel { machine.new.fuel ≤ machine.old.fuel }
+{
+    let v = eval(machine, alloc, operand)?;
+    machine.perform(alloc, place, Action::Negative(v))
+}
+
+/// `not`: whether its operand is false. Language Reference 6.11 "Boolean operations".
+#[cycle(evaluate)]
+#[inline(never)]
+fn eval_not<'m>(
+    machine: &mut Machine<'m>,
+    alloc: Allocator,
+    place: Place,
+    operand: &'m Expr,
+) -> Result<Value, Halt>
+    ensures plain { (n : ℕ) → machine.old.fuel < n → Tells value_of result machine.new (node n (negation place (expr_of operand.now)) (progress_of machine.old)) }
+    ensures fuel { machine.new.fuel ≤ machine.old.fuel }
+{
+    let v = eval(machine, alloc, operand)?;
+    machine.perform(alloc, place, Action::Not(v))
+}
+
+/// A field or a method that is read: the object, its event, its action. Language Reference 6.3.1 "Attribute references".
+#[cycle(evaluate)]
+#[inline(never)]
+fn eval_attribute<'m>(
+    machine: &mut Machine<'m>,
+    alloc: Allocator,
+    place: Place,
+    object: &'m Expr,
+    field: &'m Name,
+) -> Result<Value, Halt>
+    ensures plain { (n : ℕ) → machine.old.fuel < n → Tells value_of result machine.new (node n (attribute place (expr_of object.now) (name_of field.now)) (progress_of machine.old)) }
+    ensures fuel { machine.new.fuel ≤ machine.old.fuel }
+{
+    let v = eval(machine, alloc, object)?;
+    machine.read_attribute(alloc, place, v, field.text.as_str())
+}
+
 /// A tuple display: its items, its event, the tuple.
 #[cycle(evaluate)]
+#[inline(never)]
 fn eval_tuple<'m>(
     machine: &mut Machine<'m>,
     alloc: Allocator,
@@ -96,6 +139,7 @@ fn eval_tuple<'m>(
 
 /// A list display: its items, its event, its action. Language Reference 6.2.5 "List displays".
 #[cycle(evaluate)]
+#[inline(never)]
 fn eval_list<'m>(
     machine: &mut Machine<'m>,
     alloc: Allocator,
@@ -111,6 +155,7 @@ fn eval_list<'m>(
 
 /// A dict display: its entries, its event, its action. Language Reference 6.2.7 "Dictionary displays".
 #[cycle(evaluate)]
+#[inline(never)]
 fn eval_dict<'m>(
     machine: &mut Machine<'m>,
     alloc: Allocator,
@@ -126,6 +171,7 @@ fn eval_dict<'m>(
 
 /// An operator with two operands, the left one first. Language Reference 6.7 "Binary arithmetic operations".
 #[cycle(evaluate)]
+#[inline(never)]
 fn eval_binary<'m>(
     machine: &mut Machine<'m>,
     alloc: Allocator,
@@ -144,6 +190,7 @@ fn eval_binary<'m>(
 
 /// A comparison, its left operand first. Language Reference 6.10 "Comparisons".
 #[cycle(evaluate)]
+#[inline(never)]
 fn eval_compare<'m>(
     machine: &mut Machine<'m>,
     alloc: Allocator,
@@ -162,6 +209,7 @@ fn eval_compare<'m>(
 
 /// A test `e is None`, or `e is not None`.
 #[cycle(evaluate)]
+#[inline(never)]
 fn eval_none_test<'m>(
     machine: &mut Machine<'m>,
     alloc: Allocator,
@@ -181,6 +229,7 @@ fn eval_none_test<'m>(
 
 /// `and`: the right operand only where the left one is true. Language Reference 6.11 "Boolean operations".
 #[cycle(evaluate)]
+#[inline(never)]
 fn eval_and<'m>(
     machine: &mut Machine<'m>,
     alloc: Allocator,
@@ -201,6 +250,7 @@ fn eval_and<'m>(
 
 /// `or`: the right operand only where the left one is false. Language Reference 6.11 "Boolean operations".
 #[cycle(evaluate)]
+#[inline(never)]
 fn eval_or<'m>(
     machine: &mut Machine<'m>,
     alloc: Allocator,
@@ -221,6 +271,7 @@ fn eval_or<'m>(
 
 /// An item that is read: the object, the key, its event, its action. Language Reference 6.3.2 "Subscriptions".
 #[cycle(evaluate)]
+#[inline(never)]
 fn eval_index<'m>(
     machine: &mut Machine<'m>,
     alloc: Allocator,
@@ -238,6 +289,7 @@ fn eval_index<'m>(
 
 /// Expressions, from left to right.
 #[cycle(evaluate)]
+#[inline(never)]
 fn eval_all<'m>(
     machine: &mut Machine<'m>,
     alloc: Allocator,
@@ -256,6 +308,7 @@ fn eval_all<'m>(
 
 /// Keys and values: key, value, key, value.
 #[cycle(evaluate)]
+#[inline(never)]
 fn eval_entries<'m>(
     machine: &mut Machine<'m>,
     alloc: Allocator,
@@ -275,6 +328,7 @@ fn eval_entries<'m>(
 
 /// Arguments by name, as they are written.
 #[cycle(evaluate)]
+#[inline(never)]
 fn eval_keywords<'m>(
     machine: &mut Machine<'m>,
     alloc: Allocator,
@@ -293,6 +347,7 @@ fn eval_keywords<'m>(
 
 /// A callee: a name or an attribute is looked up, and its place evaluated, before the arguments.
 #[cycle(evaluate)]
+#[inline(never)]
 fn eval_callee<'m>(
     machine: &mut Machine<'m>,
     alloc: Allocator,
@@ -313,8 +368,29 @@ fn eval_callee<'m>(
     Ok(Callee::Value(v))
 }
 
+/// A test `isinstance(e, T)`: its first argument alone is evaluated.
+#[cycle(evaluate)]
+#[inline(never)]
+fn eval_instance_test<'m>(
+    machine: &mut Machine<'m>,
+    alloc: Allocator,
+    place: Place,
+    name: &'m Name,
+    object: &'m Expr,
+    test: &'m Expr,
+) -> Result<Value, Halt>
+    ensures plain { (n : ℕ) → machine.old.fuel < n → Tells value_of result machine.new (test_in n place (name_of name.now) (expr_of object.now) (expr_of test.now) (progress_of machine.old)) }
+    ensures fuel { machine.new.fuel ≤ machine.old.fuel }
+{
+    machine.charge()?;
+    machine.emit(name.place)?;
+    let v = eval(machine, alloc, object)?;
+    machine.test_instance(place, &v, test)
+}
+
 /// A call: the callee, the arguments, its event, its action. Language Reference 6.3.4 "Calls".
 #[cycle(evaluate)]
+#[inline(never)]
 fn eval_call<'m>(
     machine: &mut Machine<'m>,
     alloc: Allocator,
@@ -327,10 +403,7 @@ fn eval_call<'m>(
     ensures fuel { machine.new.fuel ≤ machine.old.fuel }
 {
     if let Some((name, object, test)) = instance_test(callee, arguments, by_name) {
-        machine.charge()?;
-        machine.emit(name.place)?;
-        let v = eval(machine, alloc, object)?;
-        return machine.test_instance(place, &v, test);
+        return eval_instance_test(machine, alloc, place, name, object, test);
     }
     let called = eval_callee(machine, alloc, callee)?;
     let values = eval_all(machine, alloc, arguments)?;
@@ -341,6 +414,7 @@ fn eval_call<'m>(
 
 /// What a callee does with its arguments.
 #[cycle(evaluate)]
+#[inline(never)]
 pub fn call<'m>(
     machine: &mut Machine<'m>,
     alloc: Allocator,
@@ -365,6 +439,7 @@ pub fn call<'m>(
 
 /// A function, or a method with its object, runs from a frame of its own.
 #[cycle(evaluate)]
+#[inline(never)]
 fn enter<'m>(
     machine: &mut Machine<'m>,
     alloc: Allocator,
@@ -403,6 +478,7 @@ fn exec<'m>(machine: &mut Machine<'m>, alloc: Allocator, body: &'m [Stmt]) -> Re
 
 /// A statement that was charged.
 #[cycle(evaluate)]
+#[inline(never)]
 fn exec_node<'m>(
     machine: &mut Machine<'m>,
     alloc: Allocator,
@@ -427,14 +503,8 @@ fn exec_node<'m>(
             machine.bind_local(name.text.as_str(), v);
             Ok(Flow::Next)
         }
-        StmtKind::Assign(target, e) => {
-            let v = eval(machine, alloc, e)?;
-            assign(machine, alloc, target, v)
-        }
-        StmtKind::Expr(e) => {
-            eval(machine, alloc, e)?;
-            Ok(Flow::Next)
-        }
+        StmtKind::Assign(target, e) => exec_assignment(machine, alloc, target, e),
+        StmtKind::Expr(e) => exec_expression(machine, alloc, e),
         StmtKind::While(condition, body) => run_while(machine, alloc, condition, body),
         StmtKind::For(name, e, body) => {
             let over = eval_iterable(machine, alloc, e)?;
@@ -444,8 +514,40 @@ fn exec_node<'m>(
     }
 }
 
+/// An assignment: its value, then its target. Language Reference 7.2 "Assignment statements".
+#[cycle(evaluate)]
+#[inline(never)]
+fn exec_assignment<'m>(
+    machine: &mut Machine<'m>,
+    alloc: Allocator,
+    target: &'m Target,
+    e: &'m Expr,
+) -> Result<Flow, Halt>
+    ensures plain { (n : ℕ) (p : PlaceOf) → machine.old.fuel < n → Tells flow_of result machine.new (exec_one n (assigns p (target_of target.now) (expr_of e.now)) (progress_of machine.old)) }
+    ensures fuel { machine.new.fuel ≤ machine.old.fuel }
+{
+    let v = eval(machine, alloc, e)?;
+    assign(machine, alloc, target, v)
+}
+
+/// An expression whose value is not kept. Language Reference 7.1 "Expression statements".
+#[cycle(evaluate)]
+#[inline(never)]
+fn exec_expression<'m>(
+    machine: &mut Machine<'m>,
+    alloc: Allocator,
+    e: &'m Expr,
+) -> Result<Flow, Halt>
+    ensures plain { (n : ℕ) (p : PlaceOf) → machine.old.fuel < n → Tells flow_of result machine.new (exec_one n (evaluates p (expr_of e.now)) (progress_of machine.old)) }
+    ensures fuel { machine.new.fuel ≤ machine.old.fuel }
+{
+    eval(machine, alloc, e)?;
+    Ok(Flow::Next)
+}
+
 /// An `assert`: its condition, and where that is false its message, then another exception.
 #[cycle(evaluate)]
+#[inline(never)]
 fn exec_assert<'m>(
     machine: &mut Machine<'m>,
     alloc: Allocator,
@@ -467,6 +569,7 @@ fn exec_assert<'m>(
 
 /// After its value, a target: its parts, its event, the store.
 #[cycle(evaluate)]
+#[inline(never)]
 fn assign<'m>(
     machine: &mut Machine<'m>,
     alloc: Allocator,
@@ -495,6 +598,7 @@ fn assign<'m>(
 
 /// The first branch whose condition is true, else the suite of `else`.
 #[cycle(evaluate)]
+#[inline(never)]
 fn exec_branches<'m>(
     machine: &mut Machine<'m>,
     alloc: Allocator,
@@ -515,6 +619,7 @@ fn exec_branches<'m>(
 
 /// The turns of a `while`. Language Reference 8.2 "The while statement".
 #[cycle(evaluate)]
+#[inline(never)]
 fn run_while<'m>(
     machine: &mut Machine<'m>,
     alloc: Allocator,
@@ -541,6 +646,7 @@ fn run_while<'m>(
 
 /// What a `for` goes over. Language Reference 8.3 "The for statement".
 #[cycle(evaluate)]
+#[inline(never)]
 fn eval_iterable<'m>(
     machine: &mut Machine<'m>,
     alloc: Allocator,
@@ -563,6 +669,7 @@ fn eval_iterable<'m>(
 
 /// The turns of a `for`. Language Reference 8.3 "The for statement".
 #[cycle(evaluate)]
+#[inline(never)]
 fn run_for<'m>(
     machine: &mut Machine<'m>,
     alloc: Allocator,
@@ -588,6 +695,6 @@ fn run_for<'m>(
             Flow::Breaking => return Ok(Flow::Next),
             Flow::Leaves(v) => return Ok(Flow::Leaves(v)),
         }
-        turn = next_turn(turn);
+        advance(&mut turn);
     }
 }

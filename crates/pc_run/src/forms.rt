@@ -80,13 +80,12 @@ pub fn range_call<'m>(e: &'m Expr) -> Option<(Place, &'m Name, &'m [Expr], &'m [
     }
 }
 
-/// The next turn of a `for`.
-pub fn next_turn(turn: Action) -> Action
-    requires { (over : RustIteration) × ((i : ℕ) × ((turn ≡ rust_action.Turn over i) × (i < 2 ^ 64 - 1))) }
-    ensures { (over : RustIteration) (i : ℕ) → turn ≡ rust_action.Turn over i → result ≡ rust_action.Turn over (i + 1) }
+/// On to the next turn of a `for`.
+pub fn advance(turn: &mut Action)
+    requires { (over : RustIteration) × ((i : ℕ) × ((turn.now ≡ rust_action.Turn over i) × (i < 2 ^ 64 - 1))) }
+    ensures { (over : RustIteration) (i : ℕ) → turn.old ≡ rust_action.Turn over i → turn.new ≡ rust_action.Turn over (i + 1) }
 {
-    match turn {
-        Action::Turn(over, index) => Action::Turn(over, index + 1),
-        other => other,
+    if let Action::Turn(_, index) = turn {
+        *index += 1;
     }
 }

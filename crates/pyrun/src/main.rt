@@ -15,6 +15,8 @@ mod command_line;
 #[cfg(test)]
 mod comparisons_tests;
 #[cfg(test)]
+mod depth_tests;
+#[cfg(test)]
 mod events_tests;
 #[cfg(test)]
 mod fuel_tests;

@@ -14,7 +14,8 @@ use Rattle.pc_run.specs.Traced.{node, exec_one, branches_in}
 use Rattle.pc_machine.specs.Performed.{empty_charged}
 use Rattle.pc_machine.specs.Machine.{progress_of, unit, flow_of, item_of}
 use Rattle.pc_run.specs.Traced.{values_of_vec}
-use Rattle.pc_tree.specs.Lists.{branches_of_list}
+use Rattle.pc_tree.specs.Lists.{branches_of_list, exprs_of_list, keywords_of_list}
+use Rattle.pc_run.specs.Forms.{form_seen}
 use Rattle.pc_machine.specs.Steps.{item_out}
 use Rattle.pc_machine.specs.Evaluation as text
 use Rattle.pc_machine.specs.Plain.{Step, plain, emitted}
@@ -65,6 +66,10 @@ pub eval_node-returns-in-Call-clause-plain : goal.eval_node-returns-in-Call-clau
 eval_node-returns-in-Call-clause-plain t c n lt =
     rw c.in-Call.is (tells_as value_of c.eval_call.result c.eval_call.new.machine _ _ (ap (λ x. node n x (progress_of c.args.machine.now)) (call_tree c.in-Call.place c.in-Call.callee c.in-Call.arguments c.in-Call.by_name)) (rw (c.deref-in-Call.ensures, c.deref-in-Call-2.ensures.value, c.deref-in-Call-3.ensures.value) at (c.eval_call.ensures.plain n lt)))
 
+pub eval_call-returns-in-Some-clause-plain : goal.eval_call-returns-in-Some-clause-plain
+eval_call-returns-in-Some-clause-plain t c n lt =
+    tells_as value_of c.eval_instance_test.result c.eval_instance_test.new.machine _ _ (ap (λ f. text.eval_call Step plain (plain_parts n) c.args.place (expr_of c.args.callee.now) (exprs_of_list c.args.arguments.now) (keywords_of_list c.args.by_name.now) f (progress_of c.args.machine.now)) (sym c.instance_test.ensures ∙ ap form_seen c.in-Some.is)) (c.eval_instance_test.ensures.plain n lt)
+
 pub eval_tuple-returns-clause-plain : goal.eval_tuple-returns-clause-plain
 eval_tuple-returns-clause-plain t c n lt =
     went value_of c.give.result c.give.new.self _ _ (values_of_vec c.in_ok-values.values) (progress_of c.eval_all.new.machine) (c.in_ok-values.ensures.plain n lt) (tells_as value_of c.give.result c.give.new.self _ _ (ap (λ v. Came v (emitted c.args.place (progress_of c.eval_all.new.machine))) (sym (tuple_value c.in_ok-values.values))) c.give.ensures.plain)
@@ -108,6 +113,12 @@ exec_node-returns-in_ok-over-in-For-clause-plain t c n p lt =
 pub exec_node-returns-in-If-clause-plain : goal.exec_node-returns-in-If-clause-plain
 exec_node-returns-in-If-clause-plain t c n p lt =
     rw c.in-If.is (tells_as flow_of c.exec_branches.result c.exec_branches.new.machine _ _ (ap (λ s. exec_one n s (progress_of c.args.machine.now)) (if_tree p c.in-If.branches c.in-If.otherwise)) (rw (c.deref-in-If.ensures.value, c.deref-in-If-2.ensures.value) at (c.exec_branches.ensures.plain n lt)))
+
+pub exec_node-returns-in-Assign-clause-plain : goal.exec_node-returns-in-Assign-clause-plain
+exec_node-returns-in-Assign-clause-plain t c n p lt = rw c.in-Assign.is (c.exec_assignment.ensures.plain n p lt)
+
+pub exec_node-returns-in-Expr-clause-plain : goal.exec_node-returns-in-Expr-clause-plain
+exec_node-returns-in-Expr-clause-plain t c n p lt = rw c.in-Expr.is (c.exec_expression.ensures.plain n p lt)
 
 pub exec_node-returns-in-Assert-clause-plain : goal.exec_node-returns-in-Assert-clause-plain
 exec_node-returns-in-Assert-clause-plain t c n p lt = rw c.in-Assert.is (c.exec_assert.ensures.plain n p lt)
@@ -221,23 +232,23 @@ run_for-returns-in-Leaves-clause-plain t c n lt =
     let w = for_turn a.bound (iteration_of c.args.over) (turn_index c.loop-turn.turn) c.args.name.now (stmts_of_list c.args.body.now) (progress_of c.loop-turn.machine) (progress_of c.act_item.new.self) (value_of c.in-Some.v) a.room (ap (λ a. act item_out a (progress_of c.loop-turn.machine)) (sym (ap action_of c.loop-turn.invariant.turn)) ∙ c.in_ok-act_item.ensures.plain ∙ ap (λ o. Came (item_of o) (progress_of c.act_item.new.self)) c.in-Some.is) in
     a.is ∙ turned_leave a.bound (stmts_of_list c.args.body.now) (changed (binds_local c.args.name.now (value_of c.in-Some.v)) (progress_of c.act_item.new.self)) (progress_of c.exec.new.machine) (value_of c.in-Leaves.v) (λ k. (plain_parts k).turns (iteration_of c.args.over) (suc (turn_index c.loop-turn.turn)) c.args.name.now (stmts_of_list c.args.body.now)) ((plain_parts a.bound).turns (iteration_of c.args.over) (turn_index c.loop-turn.turn) c.args.name.now (stmts_of_list c.args.body.now) (progress_of c.loop-turn.machine)) w (suite_to a.bound (stmts_of_list c.args.body.now) (changed (binds_local c.args.name.now (value_of c.in-Some.v)) (progress_of c.act_item.new.self)) (progress_of c.charge_empty.new.self) (progress_of c.exec.new.machine) (leaves (value_of c.in-Leaves.v)) (ap (empty_charged (stmts_of_list c.args.body.now)) (sym c.bind_local.ensures.plain) ∙ c.in_ok-charge_empty.ensures.plain) (c.in_ok-exec.ensures.plain a.bound (omega (arith, a.room, c.in_ok-act_item.ensures.fuel, c.bind_local.ensures.fuel, c.in_ok-charge_empty.ensures.fuel)) ∙ ap (λ g. Came (flow_of g) (progress_of c.exec.new.machine)) c.in-Leaves.is))
 
-pub run_for-next_turn-turn-requires : goal.run_for-next_turn-turn-requires
-run_for-next_turn-turn-requires t c =
+pub run_for-advance-requires : goal.run_for-advance-requires
+run_for-advance-requires t c =
     let less : c.exec.new.machine.fuel < c.bind_local.new.self.fuel = spent_turn c.args.body.now c.bind_local.new.self.fuel c.charge_empty.new.self.fuel c.exec.new.machine.fuel c.in_ok-charge_empty.ensures.fuel c.in_ok-exec.ensures.fuel c.in_ok-charge_empty.ensures.spent c.in_ok-exec.ensures.spent in
     (c.args.over, (turn_index c.loop-turn.turn, (c.loop-turn.invariant.turn, omega (arith, less, c.loop-turn.invariant.fuel, c.in_ok-act_item.ensures.fuel, c.bind_local.ensures.fuel))))
 
 pub run_for-loop-turn-preserved : goal.run_for-loop-turn-preserved
 run_for-loop-turn-preserved t c =
     let less : c.exec.new.machine.fuel < c.bind_local.new.self.fuel = spent_turn c.args.body.now c.bind_local.new.self.fuel c.charge_empty.new.self.fuel c.exec.new.machine.fuel c.in_ok-charge_empty.ensures.fuel c.in_ok-exec.ensures.fuel c.in_ok-charge_empty.ensures.spent c.in_ok-exec.ensures.spent in
-    let r = c.next_turn-turn.ensures c.args.over (turn_index c.loop-turn.turn) c.loop-turn.invariant.turn in
-    let idx : turn_index c.next_turn-turn.result ≡ turn_index c.loop-turn.turn + 1 = ap turn_index r in
+    let r = c.advance.ensures c.args.over (turn_index c.loop-turn.turn) c.loop-turn.invariant.turn in
+    let idx : turn_index c.advance.new.turn ≡ turn_index c.loop-turn.turn + 1 = ap turn_index r in
     record {
       fuel = omega (arith, less, idx, c.loop-turn.invariant.fuel, c.in_ok-act_item.ensures.fuel, c.bind_local.ensures.fuel);
       turn = r ∙ ap (λ k. rust_action.Turn c.args.over k) (sym idx);
       run = λ n lt.
           let a = c.loop-turn.invariant.run n lt in
           let go : (flow_of c.in_ok-exec.field-0 ≡ next) ⊎ (flow_of c.in_ok-exec.field-0 ≡ continuing) = elim c.match-branch-5.branch [ run_for-in-Next w ↦ inl (ap flow_of w.in-Next.is) | run_for-in-Continuing w ↦ inr (ap flow_of w.in-Continuing.is) ] in
-          for_more a.bound (iteration_of c.args.over) (turn_index c.loop-turn.turn) (turn_index c.next_turn-turn.result) c.args.name.now (stmts_of_list c.args.body.now) (progress_of c.loop-turn.machine) (progress_of c.act_item.new.self) (progress_of c.bind_local.new.self) (progress_of c.charge_empty.new.self) (progress_of c.exec.new.machine) (value_of c.in-Some.v) (flow_of c.in_ok-exec.field-0) _ a.room (omega (arith, less, c.in_ok-act_item.ensures.fuel, c.bind_local.ensures.fuel)) idx a.is (ap (λ a. act item_out a (progress_of c.loop-turn.machine)) (sym (ap action_of c.loop-turn.invariant.turn)) ∙ c.in_ok-act_item.ensures.plain ∙ ap (λ o. Came (item_of o) (progress_of c.act_item.new.self)) c.in-Some.is) c.bind_local.ensures.plain c.in_ok-charge_empty.ensures.plain (c.in_ok-exec.ensures.plain a.bound (omega (arith, a.room, c.in_ok-act_item.ensures.fuel, c.bind_local.ensures.fuel, c.in_ok-charge_empty.ensures.fuel))) go;
+          for_more a.bound (iteration_of c.args.over) (turn_index c.loop-turn.turn) (turn_index c.advance.new.turn) c.args.name.now (stmts_of_list c.args.body.now) (progress_of c.loop-turn.machine) (progress_of c.act_item.new.self) (progress_of c.bind_local.new.self) (progress_of c.charge_empty.new.self) (progress_of c.exec.new.machine) (value_of c.in-Some.v) (flow_of c.in_ok-exec.field-0) _ a.room (omega (arith, less, c.in_ok-act_item.ensures.fuel, c.bind_local.ensures.fuel)) idx a.is (ap (λ a. act item_out a (progress_of c.loop-turn.machine)) (sym (ap action_of c.loop-turn.invariant.turn)) ∙ c.in_ok-act_item.ensures.plain ∙ ap (λ o. Came (item_of o) (progress_of c.act_item.new.self)) c.in-Some.is) c.bind_local.ensures.plain c.in_ok-charge_empty.ensures.plain (c.in_ok-exec.ensures.plain a.bound (omega (arith, a.room, c.in_ok-act_item.ensures.fuel, c.bind_local.ensures.fuel, c.in_ok-charge_empty.ensures.fuel))) go;
     }
 
 pub exec_branches-returns-in_err-v-clause-plain : goal.exec_branches-returns-in_err-v-clause-plain

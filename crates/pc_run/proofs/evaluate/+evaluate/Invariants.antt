@@ -17,6 +17,15 @@ decreases-eval l = 16 * l.machine.now.fuel + 0
 abbrev pub decreases-eval_node : goal.decreases-eval_node
 decreases-eval_node l = 16 * l.machine.now.fuel + 12
 
+abbrev pub decreases-eval_negative : goal.decreases-eval_negative
+decreases-eval_negative l = 16 * l.machine.now.fuel + 1
+
+abbrev pub decreases-eval_not : goal.decreases-eval_not
+decreases-eval_not l = 16 * l.machine.now.fuel + 1
+
+abbrev pub decreases-eval_attribute : goal.decreases-eval_attribute
+decreases-eval_attribute l = 16 * l.machine.now.fuel + 1
+
 abbrev pub decreases-eval_tuple : goal.decreases-eval_tuple
 decreases-eval_tuple l = 16 * l.machine.now.fuel + 2
 
@@ -56,6 +65,9 @@ decreases-eval_keywords l = 16 * l.machine.now.fuel + 1
 abbrev pub decreases-eval_callee : goal.decreases-eval_callee
 decreases-eval_callee l = 16 * l.machine.now.fuel + 1
 
+abbrev pub decreases-eval_instance_test : goal.decreases-eval_instance_test
+decreases-eval_instance_test l = 16 * l.machine.now.fuel + 10
+
 abbrev pub decreases-eval_call : goal.decreases-eval_call
 decreases-eval_call l = 16 * l.machine.now.fuel + 11
 
@@ -70,6 +82,12 @@ decreases-exec l = 16 * l.machine.now.fuel + 0
 
 abbrev pub decreases-exec_node : goal.decreases-exec_node
 decreases-exec_node l = 16 * l.machine.now.fuel + 10
+
+abbrev pub decreases-exec_assignment : goal.decreases-exec_assignment
+decreases-exec_assignment l = 16 * l.machine.now.fuel + 2
+
+abbrev pub decreases-exec_expression : goal.decreases-exec_expression
+decreases-exec_expression l = 16 * l.machine.now.fuel + 2
 
 abbrev pub decreases-exec_assert : goal.decreases-exec_assert
 decreases-exec_assert l = 16 * l.machine.now.fuel + 1
