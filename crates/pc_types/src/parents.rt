@@ -85,6 +85,13 @@ impl Parents {
         true
     }
 
+    /// Whether two lists of parents are the same.
+    pub fn is_same(&self, other: &Parents) -> bool
+        ensures { IsTrue result ↔ (self.now ≡ other.now) }
+    {
+        self.bases == other.bases
+    }
+
     /// The fact, for proofs, that each class's base has a smaller number than the class. It does nothing.
     pub fn ordered(&self)
         ensures { AreSmaller self.now }

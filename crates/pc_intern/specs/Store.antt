@@ -1,0 +1,41 @@
+-- What the types of an interned store mean, and when the answers that it remembers are right.
+-- Own rule of the profile.
+use Rattle.std.specs.Prelude.{◌≡◌, ◌≤◌, List, Option, Some, None, All}
+use Rattle.pc_types.specs.Tree.{Tree}
+use Rattle.pc_types.specs.Shape.{nodes, limit}
+use Rattle.pc_types.specs.Normal.{IsNormal}
+use Rattle.pc_types.specs.Below.{Bases}
+use Rattle.pc_types.specs.Computed.{static_test, assignable_test}
+use Rattle.pc_types.specs.Boxed.{tree_of}
+use Rattle.pc_types.specs.declared.boxed.BoxType.{BoxType}
+use Rattle.pc_intern.specs.Table.{tree_at}
+use Rattle.pc_intern.specs.declared.memo.Answers.{Answers}
+use Rattle.pc_intern.specs.declared.store.TypeId.{TypeId}
+
+-- the tree that a type means
+abbrev pub meaning : TypeId → Tree
+meaning t = tree_of t.meaning.value
+
+-- the type's number stands for what it means, which is in normal form and has at most 256 nodes
+pub record IsHeld (types : List BoxType) (t : TypeId) : Type 0 where
+  pub at : tree_at types t.number ≡ Some (meaning t)
+  pub normal : IsNormal (meaning t)
+  pub small : nodes (meaning t) ≤ limit
+
+-- the answers are those about the trees of the two numbers
+pub record IsRight (bases : Bases) (types : List BoxType) (a : Answers) : Type 0 where
+  pub left : Tree
+  pub right : Tree
+  pub at_left : tree_at types a.s ≡ Some left
+  pub at_right : tree_at types a.t ≡ Some right
+  pub is_static : a.is_static ≡ static_test bases left right
+  pub is_assignable : a.is_assignable ≡ assignable_test bases left right
+
+-- a place that keeps answers keeps right ones
+abbrev pub IsRightAt : Bases → List BoxType → Option Answers → Type 0
+IsRightAt bases types None = Unit {0}
+IsRightAt bases types (Some a) = IsRight bases types a
+
+-- so does each place
+abbrev pub AreRight : Bases → List BoxType → List (Option Answers) → Type 0
+AreRight bases types places = All (IsRightAt bases types) places

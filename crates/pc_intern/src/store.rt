@@ -1,0 +1,327 @@
+// The interned store.
+
+ghost use Rattle.std.specs.Prelude.{◌≡◌, ◌↔◌, ◌<◌, [], All, IfOk, IfSome, IsTrue, List, Some, length, map};
+ghost use Rattle.pc_types.specs.Tree.{Tree};
+ghost use Rattle.pc_types.specs.Boxed.{tree_of, IsGiven};
+ghost use Rattle.pc_types.specs.Head.{head_of};
+ghost use Rattle.pc_types.specs.Shape.{parts};
+ghost use Rattle.pc_types.specs.Store.{Means, Keeps};
+ghost use Rattle.pc_intern.specs.Table.{tree_at};
+ghost use Rattle.pc_intern.specs.Store.{IsHeld, IsRight, meaning};
+
+use crate::memo::{Answers, Memo};
+use crate::table::{Node, Numbers, Table};
+use pc_source::OutOfMemory;
+use pc_types::{BoxStore, BoxType, Head, Parents, TypeStore};
+use std::alloc::Global;
+use std::marker::Model;
+use std::snapshot::Snapshot;
+
+/// A type of an interned store: its number, and what it means, of which only contracts know.
+#[derive(Drop)]
+pub struct TypeId {
+    number: usize,
+    meaning: Snapshot<BoxType>,
+}
+
+/// A store whose types are numbers: each type tree stands once, so two types are equal exactly where
+/// their numbers are. It remembers how pairs of types compared.
+#[derive(Drop)]
+pub struct InternStore {
+    table: Table,
+    parents: Parents,
+    memo: Memo,
+}
+
+impl Model for InternStore {
+    ghost use Rattle.std.specs.Prelude.{List};
+    ghost use Rattle.std.specs.Coded.{coded_list};
+    ghost use Rattle.pc_types.specs.declared.boxed.BoxType.{BoxType};
+    ghost use Rattle.pc_types.specs.contracts.boxed.BoxType as boxed;
+
+    ghost Value = { List BoxType };
+
+    ghost coded = { coded_list boxed.the_row.coded };
+
+    ghost use Rattle.pc_intern.specs.Store.{AreRight};
+
+    ghost view = { λ s. s.table };
+
+    ghost invariant = { λ s. AreRight s.parents s.table s.memo.places.items };
+}
+
+/// How two types of a table compare.
+fn compare(table: &Table, parents: &Parents, s: usize, t: usize) -> Answers
+    requires left { s < length table.now }
+    requires right { t < length table.now }
+    ensures pair { (result.s ≡ s) × (result.t ≡ t) }
+    ensures right { IsRight parents.now table.now result }
+{
+    let mut store = BoxStore::new();
+    Answers {
+        s,
+        t,
+        is_static: store.is_static(parents, table.ty(s), table.ty(t)),
+        is_assignable: store.is_assignable(parents, table.ty(s), table.ty(t)),
+    }
+}
+
+impl InternStore {
+    /// A store without types, which remembers how types compare under these parents.
+    pub fn new(alloc: Global, parents: Parents) -> Result<InternStore, OutOfMemory>
+        ensures { IfOk result (λ s. s ≡ []) }
+    {
+        Ok(InternStore {
+            table: Table::new(alloc),
+            parents,
+            memo: Memo::new(alloc)?,
+        })
+    }
+
+    /// Whether two types of the store are the same: their numbers tell.
+    pub fn is_same(&self, s: &TypeId, t: &TypeId) -> bool
+        requires left { IsHeld self.now s.now }
+        requires right { IsHeld self.now t.now }
+        ensures { IsTrue result ↔ (meaning s.now ≡ meaning t.now) }
+    {
+        self.table.stands_once();
+        s.number == t.number
+    }
+
+    /// The type of a number.
+    fn held(&self, number: usize) -> TypeId
+        requires { number < length self.now }
+        ensures held { IsHeld self.now result }
+        ensures number { result.number ≡ number }
+    {
+        TypeId {
+            number,
+            meaning: Snapshot::of(self.table.ty(number)),
+        }
+    }
+
+    /// A type of the store that means the tree of a type in boxes.
+    fn made(&mut self, alloc: Global, ty: &BoxType) -> Result<TypeId, OutOfMemory>
+        requires { IsGiven ty.now }
+        ensures value { IfOk result (λ t. Means IsHeld meaning self.new t (tree_of ty.now)) }
+        ensures kept { Keeps IsHeld self.old self.new }
+    {
+        let number = self.table.intern(alloc, ty)?;
+        Ok(TypeId {
+            number,
+            meaning: Snapshot::of(ty),
+        })
+    }
+
+    /// The type with this head and parts of these numbers, if the store has it.
+    fn known(&self, head: Head, numbers: Numbers) -> Option<TypeId>
+        ensures held { IfSome result (IsHeld self.now) }
+        ensures head { IfSome result (λ t. head_of (meaning t) ≡ head) }
+        ensures parts { (us : List Tree) → map (tree_at self.now) numbers.items ≡ map Some us → IfSome result (λ t. parts (meaning t) ≡ us) }
+    {
+        let number = self.table.find(&Node {
+            head,
+            parts: numbers,
+        })?;
+        Some(self.held(number))
+    }
+
+    /// The numbers of types.
+    fn numbers(&self, alloc: Global, types: &[TypeId]) -> Result<Numbers, OutOfMemory>
+        requires { All (IsHeld self.now) types.now }
+        ensures { IfOk result (λ v. map (tree_at self.now) v.items ≡ map Some (map meaning types.now)) }
+    {
+        let mut numbers = Numbers::new(alloc);
+        for ty in types {
+            numbers.push(ty.number)?;
+        }
+        Ok(numbers)
+    }
+
+    /// Types in boxes that mean the same as types of the store.
+    fn boxes(&self, alloc: Global, types: &[TypeId]) -> Result<Vec<BoxType>, OutOfMemory>
+        requires { All (IsHeld self.now) types.now }
+        ensures given { IfOk result (λ v. All IsGiven v.items) }
+        ensures same { IfOk result (λ v. map tree_of v.items ≡ map meaning types.now) }
+    {
+        let store = BoxStore::new();
+        let mut boxes = Vec::new(alloc);
+        for ty in types {
+            boxes.push(store.copy(alloc, self.table.ty(ty.number))?)?;
+        }
+        Ok(boxes)
+    }
+
+    /// How two types compare, from memory where the parents are the store's.
+    fn answers(&mut self, parents: &Parents, s: usize, t: usize) -> Answers
+        requires left { s < length self.old }
+        requires right { t < length self.old }
+        ensures pair { (result.s ≡ s) × (result.t ≡ t) }
+        ensures right { IsRight parents.now self.old result }
+        ensures same { self.new ≡ self.old }
+    {
+        if !self.parents.is_same(parents) {
+            return compare(&self.table, parents, s, t);
+        }
+        if let Some(answers) = self.memo.recall(s, t) {
+            return answers;
+        }
+        let answers = compare(&self.table, parents, s, t);
+        self.memo.keep(answers);
+        answers
+    }
+}
+
+impl TypeStore for InternStore {
+    type Ty = TypeId;
+
+    ghost use Rattle.pc_intern.specs.Store.{IsHeld, meaning};
+
+    ghost has = { IsHeld };
+
+    ghost tree = { meaning };
+
+    ghost normal = { λ _ _ h. h.normal };
+
+    ghost small = { λ _ _ h. h.small };
+
+    fn any(&mut self, alloc: Global) -> Result<TypeId, OutOfMemory> {
+        self.made(alloc, &BoxType::Any)
+    }
+
+    fn object(&mut self, alloc: Global) -> Result<TypeId, OutOfMemory> {
+        self.made(alloc, &BoxType::Object)
+    }
+
+    fn never(&mut self, alloc: Global) -> Result<TypeId, OutOfMemory> {
+        self.made(alloc, &BoxType::Never)
+    }
+
+    fn int(&mut self, alloc: Global) -> Result<TypeId, OutOfMemory> {
+        self.made(alloc, &BoxType::Int)
+    }
+
+    fn bool(&mut self, alloc: Global) -> Result<TypeId, OutOfMemory> {
+        self.made(alloc, &BoxType::Bool)
+    }
+
+    fn str(&mut self, alloc: Global) -> Result<TypeId, OutOfMemory> {
+        self.made(alloc, &BoxType::Str)
+    }
+
+    fn none(&mut self, alloc: Global) -> Result<TypeId, OutOfMemory> {
+        self.made(alloc, &BoxType::NoneType)
+    }
+
+    fn class(&mut self, alloc: Global, number: usize) -> Result<TypeId, OutOfMemory> {
+        self.made(alloc, &BoxType::Class(number))
+    }
+
+    fn list(&mut self, alloc: Global, item: &TypeId) -> Result<Option<TypeId>, OutOfMemory> {
+        let numbers = Numbers::from_slice(alloc, &[item.number])?;
+        if let Some(known) = self.known(Head::List, numbers) {
+            return Ok(Some(known));
+        }
+        match BoxStore::new().list(alloc, self.table.ty(item.number))? {
+            None => Ok(None),
+            Some(ty) => Ok(Some(self.made(alloc, &ty)?)),
+        }
+    }
+
+    fn dict(
+        &mut self,
+        alloc: Global,
+        key: &TypeId,
+        value: &TypeId,
+    ) -> Result<Option<TypeId>, OutOfMemory> {
+        let numbers = Numbers::from_slice(alloc, &[key.number, value.number])?;
+        if let Some(known) = self.known(Head::Dict, numbers) {
+            return Ok(Some(known));
+        }
+        let (key, value) = (self.table.ty(key.number), self.table.ty(value.number));
+        match BoxStore::new().dict(alloc, key, value)? {
+            None => Ok(None),
+            Some(ty) => Ok(Some(self.made(alloc, &ty)?)),
+        }
+    }
+
+    fn tuple(&mut self, alloc: Global, parts: &[TypeId]) -> Result<Option<TypeId>, OutOfMemory> {
+        let numbers = self.numbers(alloc, parts)?;
+        if let Some(known) = self.known(Head::Tuple(parts.len()), numbers) {
+            return Ok(Some(known));
+        }
+        let boxes = self.boxes(alloc, parts)?;
+        match BoxStore::new().tuple(alloc, &boxes)? {
+            None => Ok(None),
+            Some(ty) => Ok(Some(self.made(alloc, &ty)?)),
+        }
+    }
+
+    fn copy(&self, _alloc: Global, ty: &TypeId) -> Result<TypeId, OutOfMemory> {
+        Ok(self.held(ty.number))
+    }
+
+    fn head(&self, ty: &TypeId) -> Head {
+        BoxStore::new().head(self.table.ty(ty.number))
+    }
+
+    fn nodes(&self, ty: &TypeId) -> usize {
+        BoxStore::new().nodes(self.table.ty(ty.number))
+    }
+
+    fn part(&self, _alloc: Global, ty: &TypeId, number: usize) -> Result<TypeId, OutOfMemory> {
+        Ok(self.held(self.table.parts(ty.number)[number]))
+    }
+
+    fn members(&self, alloc: Global, ty: &TypeId) -> Result<Vec<TypeId>, OutOfMemory> {
+        match self.head(ty) {
+            Head::Never => Ok(Vec::new(alloc)),
+            Head::Union(_) => Ok(self.parts(alloc, ty)?),
+            _ => Ok(vec![in alloc; self.held(ty.number)]?),
+        }
+    }
+
+    fn parts(&self, alloc: Global, ty: &TypeId) -> Result<Vec<TypeId>, OutOfMemory> {
+        let mut parts = Vec::new(alloc);
+        for number in self.table.parts(ty.number) {
+            parts.push(self.held(*number))?;
+        }
+        Ok(parts)
+    }
+
+    fn union(&mut self, alloc: Global, types: &[TypeId]) -> Result<Option<TypeId>, OutOfMemory> {
+        let numbers = self.numbers(alloc, types)?;
+        if let Some(known) = self.known(Head::Union(types.len()), numbers) {
+            return Ok(Some(known));
+        }
+        let boxes = self.boxes(alloc, types)?;
+        match BoxStore::new().union(alloc, &boxes)? {
+            None => Ok(None),
+            Some(ty) => Ok(Some(self.made(alloc, &ty)?)),
+        }
+    }
+
+    fn join(
+        &mut self,
+        alloc: Global,
+        parents: &Parents,
+        s: &TypeId,
+        t: &TypeId,
+    ) -> Result<Option<TypeId>, OutOfMemory> {
+        let (s, t) = (self.table.ty(s.number), self.table.ty(t.number));
+        match BoxStore::new().join(alloc, parents, s, t)? {
+            None => Ok(None),
+            Some(ty) => Ok(Some(self.made(alloc, &ty)?)),
+        }
+    }
+
+    fn is_static(&mut self, parents: &Parents, s: &TypeId, t: &TypeId) -> bool {
+        parents.ordered();
+        self.answers(parents, s.number, t.number).is_static
+    }
+
+    fn is_assignable(&mut self, parents: &Parents, s: &TypeId, t: &TypeId) -> bool {
+        parents.ordered();
+        self.answers(parents, s.number, t.number).is_assignable
+    }
+}

@@ -1,0 +1,132 @@
+// The table of an interned store, in which each type tree stands once.
+
+ghost use Rattle.std.specs.Prelude.{◌≡◌, ◌<◌, ℕ, [], length, slice_get, map, IfOk, IfSome, Some};
+ghost use Rattle.pc_types.specs.Tree.{Tree};
+ghost use Rattle.pc_types.specs.Boxed.{tree_of, IsGiven};
+ghost use Rattle.pc_types.specs.Shape.{parts};
+ghost use Rattle.pc_intern.specs.Table.{tree_at, IsNode, IsNodeAt, Grows};
+
+use indexmap::IndexMap;
+use pc_source::OutOfMemory;
+use pc_types::{BoxStore, BoxType, Head, TypeStore};
+use smallvec::SmallVec;
+use std::alloc::Global;
+use std::marker::Model;
+
+/// Numbers of types, in order. Few types have more than four parts.
+pub(crate) type Numbers = SmallVec<usize, 4>;
+
+/// What a type is told by in the table: its head, and the numbers of its parts.
+#[derive(PartialEq, Eq, Hash, Drop)]
+pub(crate) struct Node {
+    pub(crate) head: Head,
+    pub(crate) parts: Numbers,
+}
+
+/// The types of a store, by number. Contracts see them as the list of what the numbers mean.
+#[derive(Drop)]
+pub(crate) struct Table {
+    entries: IndexMap<Node, BoxType>,
+}
+
+impl Model for Table {
+    ghost use Rattle.std.specs.Prelude.{List};
+    ghost use Rattle.std.specs.Map.{values_of};
+    ghost use Rattle.std.specs.Coded.{coded_list};
+    ghost use Rattle.pc_types.specs.declared.boxed.BoxType.{BoxType};
+    ghost use Rattle.pc_types.specs.contracts.boxed.BoxType as boxed;
+
+    ghost Value = { List BoxType };
+
+    ghost coded = { coded_list boxed.the_row.coded };
+
+    ghost use Rattle.pc_intern.specs.Table.{IsTable};
+
+    ghost view = { λ t. values_of t.entries.entries };
+
+    ghost invariant = { λ t. IsTable t.entries.entries };
+}
+
+impl Table {
+    /// An empty table.
+    pub(crate) fn new(alloc: Global) -> Table
+        ensures { result ≡ [] }
+    {
+        Table {
+            entries: IndexMap::new(alloc),
+        }
+    }
+
+    /// The type of a number.
+    pub(crate) fn ty(&self, number: usize) -> &BoxType
+        requires { number < length self.now }
+        ensures value { slice_get self.now number ≡ Some result.now }
+        ensures given { IsGiven result.now }
+    {
+        let Some((_, ty)) = self.entries.get_index(number) else {
+            unreachable!()
+        };
+        ty
+    }
+
+    /// The numbers of a type's parts in order.
+    pub(crate) fn parts(&self, number: usize) -> &[usize]
+        requires { number < length self.now }
+        ensures { (b : _) → slice_get self.now number ≡ Some b → map (tree_at self.now) result.now ≡ map Some (parts (tree_of b)) }
+    {
+        let Some((node, _)) = self.entries.get_index(number) else {
+            unreachable!()
+        };
+        node.parts.as_slice()
+    }
+
+    /// The fact, for proofs, that no tree stands at two numbers. It does nothing.
+    pub(crate) fn stands_once(&self)
+        ensures { (m : ℕ) (n : ℕ) (t : Tree) → tree_at self.now m ≡ Some t → tree_at self.now n ≡ Some t → m ≡ n }
+    {
+        let _ = &self.entries;
+    }
+
+    /// The number of the type that a head and parts tell, if it is in the table.
+    pub(crate) fn find(&self, node: &Node) -> Option<usize>
+        ensures { IfSome result (λ n. IsNodeAt self.now node.now n) }
+    {
+        let (number, _, _) = self.entries.get_full(node)?;
+        Some(number)
+    }
+
+    /// The number of a type that has this head and parts. One that isn't in the table is put into it.
+    fn add(&mut self, alloc: Global, node: Node, ty: &BoxType) -> Result<usize, OutOfMemory>
+        requires given { IsGiven ty.now }
+        requires node { IsNode self.old node (tree_of ty.now) }
+        ensures value { IfOk result (λ n. tree_at self.new n ≡ Some (tree_of ty.now)) }
+        ensures grows { Grows self.old self.new }
+    {
+        if let Some((number, _, _)) = self.entries.get_full(&node) {
+            return Ok(number);
+        }
+        let number = self.entries.len();
+        let ty = BoxStore::new().copy(alloc, ty)?;
+        self.entries.insert(node, ty)?;
+        Ok(number)
+    }
+
+    /// The number of a type. It and its parts are put into the table where they aren't in it.
+    pub(crate) fn intern(&mut self, alloc: Global, ty: &BoxType) -> Result<usize, OutOfMemory>
+        requires { IsGiven ty.now }
+        ensures value { IfOk result (λ n. tree_at self.new n ≡ Some (tree_of ty.now)) }
+        ensures grows { Grows self.old self.new }
+    {
+        let store = BoxStore::new();
+        let parts = store.parts(alloc, ty)?;
+        let mut numbers = Numbers::new(alloc);
+        for part in &parts {
+            numbers.push(self.intern(alloc, part)?)?;
+        }
+        let node = Node {
+            head: store.head(ty),
+            parts: numbers,
+        };
+        self.add(alloc, node, ty)
+    }
+}
