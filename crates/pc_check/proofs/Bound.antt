@@ -1,6 +1,6 @@
 -- Names that are bound: their declared types, and what a local bound to a label comes to.
 use Rattle.std.proofs.Common.{◌≡◌, ◌∙◌, ℕ, List, [], ◌∷◌, ◌++◌, Option, Some, None, refl, sym, ap, subst, arith}
-use Rattle.std.specs.Prelude.{true, false, option_to_list, is_some, slice_set, slice_index_or, unwrap_or}
+use Rattle.std.specs.Prelude.{true, false, is_some, slice_set, slice_index_or, unwrap_or, map}
 use Rattle.std.specs.Option.{option_map}
 use Rattle.pc_source.specs.declared.place.Place.{Place}
 use Rattle.pc_tree.specs.declared.code.Code.{Code}
@@ -9,7 +9,6 @@ use Rattle.pc_tree.specs.Code.{finding}
 use Rattle.pc_tree.specs.Depth.{place_of}
 use Rattle.pc_tree.specs.Tree.{Name, Ann, Expr}
 use Rattle.pc_ann.specs.Listed.{ann_findings}
-use Rattle.pc_tree.specs.declared.code.Finding.{Finding}
 use Rattle.pc_scope.specs.declared.resolution.Res.{Res}
 use Rattle.pc_scope.specs.declared.resolution.Res.TheVariants as res
 use Rattle.pc_types.specs.Tree.{Tree, Any}
@@ -20,10 +19,11 @@ use Rattle.pc_flow.specs.Environment.{Env, assign, assigned_type}
 use Rattle.pc_flow.specs.Stored.{env_of}
 use Rattle.pc_flow.proofs.Assigned.{assigned_gives, set_well_formed, local_current}
 use Rattle.pc_flow.proofs.Conditions.{assigned_well_formed, current_well_formed}
+use Rattle.pc_notes.specs.Notes.{Note, plain}
 use Rattle.pc_expr.specs.Operations.{Mark}
 use Rattle.pc_expr.specs.Context.{is_early}
 use Rattle.pc_expr.specs.Computed.{code_unless, flows_of}
-use Rattle.pc_expr.specs.Found.{brief, flow_codes, flows_at}
+use Rattle.pc_expr.specs.Found.{brief, flows_at}
 use Rattle.pc_expr.specs.Standing.{mark_with, mark_in, finds_in}
 use Rattle.pc_expr.specs.declared.label.Label.{Label}
 use Rattle.pc_expr.proofs.Once.{once_early}
@@ -41,20 +41,12 @@ early_alike tree l m e = ap (λ (x : Mark). is_early x.codes) e ∙ once_early m
 pub code_alike : {Ty : Type 0} (tree : Ty → Tree) (bases : Bases) (l : Label Ty) (m : Mark) (d : Tree) → mark_with tree l ≡ brief m → code_unless (static_test bases) (assignable_test bases) (is_early l.codes.items) (tree l.ty) d ≡ code_unless (static_test bases) (assignable_test bases) (is_early m.codes) m.type d
 code_alike tree bases l m d e = ap (λ (b : _). code_unless (static_test bases) (assignable_test bases) b (tree l.ty) d) (early_alike tree l m e) ∙ ap (λ (x : Mark). code_unless (static_test bases) (assignable_test bases) (is_early m.codes) x.type d) e
 
-option_nil : (c : Option Code) → option_to_list c ++ [] ≡ option_to_list c
-option_nil None = refl
-option_nil (Some c) = refl
-
--- the codes of a single flow
-pub flow_listed : (bases : Bases) (m : Mark) (t : Tree) (c : Option Code) → c ≡ code_unless (static_test bases) (assignable_test bases) (is_early m.codes) m.type t → option_to_list c ≡ flow_codes (flows_of bases m (t ∷ []))
-flow_listed bases m t c e = ap option_to_list e ∙ sym (option_nil (code_unless (static_test bases) (assignable_test bases) (is_early m.codes) m.type t))
-
 -- a local bound to a value of which this is expected
-abbrev bind_known : Frame → Table → Env → ℕ → (want : Option Tree) → Expr → List Finding → Bound
+abbrev bind_known : Frame → Table → Env → ℕ → (want : Option Tree) → Expr → List Note → Bound
 bind_known frame table env x want e found = bind_label frame table env x want (place_of e) (mark_in (at frame table env) want e) (found ++ finds_in (at frame table env) want e)
 
 -- a local bound to a label, by the classes' bases alone
-abbrev bind_over : Bases → Table → Env → ℕ → (want : Option Tree) → Place → Mark → List Finding → Bound
+abbrev bind_over : Bases → Table → Env → ℕ → (want : Option Tree) → Place → Mark → List Note → Bound
 bind_over bases table env x want p m found =
     let d = unwrap_or want m.type in
     let flows = flows_of bases m (d ∷ []) in
@@ -97,7 +89,7 @@ module _ {Store Ty : Type 0} (has : Store → Ty → Type 0) (tree : Ty → Tree
 
   module _ (frame : Frame) (b : bases ≡ frame.context.bases) where
     -- a local bound to a label
-    pub label_bound : (types env : List (Option Ty)) (x : ℕ) (want : Option Tree) (p : Place) (l : Label Ty) (m : Mark) (before found : List Finding) (d current : Ty) (code : Option Code) →
+    pub label_bound : (types env : List (Option Ty)) (x : ℕ) (want : Option Tree) (p : Place) (l : Label Ty) (m : Mark) (before found : List Note) (d current : Ty) (code : Option Code) →
         mark_with tree l ≡ brief m →
         HoldsType (has store) tree bases d →
         tree d ≡ unwrap_or want (tree l.ty) →
@@ -140,7 +132,7 @@ pub bound_unless : (o : Option Tree) (t : Tree) → is_some o ≡ true → annot
 bound_unless (Some d) t e = refl
 bound_unless None t e = absurd (grind (arith, e))
 
-pub bound_finds : (frame : Frame) (o : Option Tree) (n : Name) (a : Ann) → is_some o ≡ true → annotation_finds frame o n a ≡ finding n.place E24 ∷ []
+pub bound_finds : (frame : Frame) (o : Option Tree) (n : Name) (a : Ann) → is_some o ≡ true → annotation_finds frame o n a ≡ plain (finding n.place E24) ∷ []
 bound_finds frame (Some d) n a e = refl
 bound_finds frame None n a e = absurd (grind (arith, e))
 
@@ -149,12 +141,12 @@ pub first_unless : (o : Option Tree) (t : Tree) → is_some o ≡ false → anno
 first_unless (Some d) t e = absurd (grind (arith, e))
 first_unless None t e = refl
 
-pub first_finds : (frame : Frame) (o : Option Tree) (n : Name) (a : Ann) → is_some o ≡ false → annotation_finds frame o n a ≡ ann_findings frame.whole frame.context.bases a
+pub first_finds : (frame : Frame) (o : Option Tree) (n : Name) (a : Ann) → is_some o ≡ false → annotation_finds frame o n a ≡ map plain (ann_findings frame.whole frame.context.bases a)
 first_finds frame (Some d) n a e = absurd (grind (arith, e))
 first_finds frame None n a e = refl
 
 -- an annotation that doesn't count changes nothing of a value that is bound
-pub value_unless : (frame : Frame) (table : Table) (env : Env) (r : Res) (t : Tree) (e : Expr) (found : List Finding) → bind_value frame table env r (annotation_unless (bound_name frame table r) t) e found ≡ bind_value frame table env r (Some t) e found
+pub value_unless : (frame : Frame) (table : Table) (env : Env) (r : Res) (t : Tree) (e : Expr) (found : List Note) → bind_value frame table env r (annotation_unless (bound_name frame table r) t) e found ≡ bind_value frame table env r (Some t) e found
 value_unless frame table env (res.Local x) t e found = go (bound_type table x)
   where
     go : (o : Option Tree) → bind_known frame table env x (known o (annotation_unless o t)) e found ≡ bind_known frame table env x (known o (Some t)) e found
@@ -168,7 +160,7 @@ value_unless frame table env res.None t e found = refl
 
 -- ---- names that are no locals
 
-pub value_elsewhere : (frame : Frame) (table : Table) (env : Env) (r : Res) (a : Option Tree) (e : Expr) (found : List Finding) → ((x : ℕ) → r ≡ res.Local x → ⊥) → bind_value frame table env r a e found ≡ record { table = table; env = env; found = found ++ finds_in (at frame table env) None e }
+pub value_elsewhere : (frame : Frame) (table : Table) (env : Env) (r : Res) (a : Option Tree) (e : Expr) (found : List Note) → ((x : ℕ) → r ≡ res.Local x → ⊥) → bind_value frame table env r a e found ≡ record { table = table; env = env; found = found ++ finds_in (at frame table env) None e }
 value_elsewhere frame table env (res.Local x) a e found h = absurd (h x refl)
 value_elsewhere frame table env (res.Const i) a e found h = refl
 value_elsewhere frame table env (res.Func i) a e found h = refl

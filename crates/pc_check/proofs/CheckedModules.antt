@@ -1,8 +1,7 @@
 -- Walks over the members of a class and over the items of a module, from one on.
-use Rattle.std.proofs.Common.{◌≡◌, ◌<◌, ◌+◌, ℕ, suc, List, [], ◌∷◌, map, drop, length, get_or, sym, ap, ◌∙◌, subst, arith}
+use Rattle.std.proofs.Common.{◌≡◌, ◌<◌, ◌+◌, ℕ, suc, List, ◌∷◌, map, drop, length, get_or, sym, ap, ◌∙◌, subst, arith}
 use Rattle.std.specs.Prelude.{Some, slice_get}
 use Rattle.pc_source.specs.declared.place.Place.{Place}
-use Rattle.pc_tree.specs.declared.code.Finding.{Finding}
 use Rattle.pc_tree.specs.declared.tree.Item.{Item as RustItem}
 use Rattle.pc_tree.specs.declared.tree.Member.{Member as RustMember}
 use Rattle.pc_tree.specs.Tree.{FuncDef, Field, Member, field_member, method_member, ClassDef, Constant, Item, constant_item, class_item, def_item, Module, member_of, item_of}
@@ -10,6 +9,7 @@ use Rattle.pc_tree.proofs.Stops.{cons_at}
 use Rattle.pc_scope.specs.Bindings.{classes_in, functions_in, methods_in}
 use Rattle.pc_scope.specs.declared.resolution.Owner.TheVariants as owners
 use Rattle.pc_types.specs.Tree.{Tree}
+use Rattle.pc_notes.specs.Notes.{Note}
 use Rattle.pc_check.specs.ComputedStatements.{function_finds}
 use Rattle.pc_check.specs.ComputedModules.{methods_find, bodies_find}
 
@@ -44,7 +44,7 @@ def_here all before rest n p x h is = stands_first all (functions_in rest) n x (
 module _ (m : Module) (constants : List Tree) where
   -- ---- members
 
-  module _ (class : ℕ) (all : List FuncDef) (total : List Finding) (before rest : List Member) (n next : ℕ) (old new : List Finding) where
+  module _ (class : ℕ) (all : List FuncDef) (total : List Note) (before rest : List Member) (n next : ℕ) (old new : List Note) where
     -- where a walk over members stands: behind so many methods, and what is found in all
     pub record MembersAt : Type 0 where
       pub stand : StandsFrom all next (methods_in rest)
@@ -67,7 +67,7 @@ module _ (m : Module) (constants : List Tree) where
 
   -- ---- items
 
-  module _ (classes : List ClassDef) (functions : List FuncDef) (total : List Finding) (before rest : List Item) (c f next_class next_function : ℕ) (old new : List Finding) where
+  module _ (classes : List ClassDef) (functions : List FuncDef) (total : List Note) (before rest : List Item) (c f next_class next_function : ℕ) (old new : List Note) where
     -- where a walk over items stands: behind so many classes and functions, and what is found in all
     pub record ItemsAt : Type 0 where
       pub classes_stand : StandsFrom classes next_class (classes_in rest)

@@ -4,7 +4,6 @@ use Rattle.std.specs.Prelude.{All, false, is_some, replicate, slice_set, slice_i
 use Rattle.std.specs.Borrow.{Bor}
 use Rattle.std.specs.Option.{option_map, option_copied}
 use Rattle.std.proofs.lemmas.List.Elements.{All-nil, All-head, All-tail, All-cons, All-replicate}
-use Rattle.pc_tree.specs.declared.code.Finding.{Finding}
 use Rattle.pc_tree.specs.Tree.{FuncDef, Module}
 use Rattle.pc_scope.specs.declared.resolution.Owner.{Owner}
 use Rattle.pc_scope.specs.declared.resolution.Res.{Res}
@@ -21,6 +20,7 @@ use Rattle.pc_class.specs.WellFormed.{ParametersWellFormed}
 use Rattle.pc_flow.specs.Environment.{Env, none_assigned}
 use Rattle.pc_flow.specs.WellFormed.{IsWellFormedEnv}
 use Rattle.pc_flow.specs.Stored.{HasOne, env_of}
+use Rattle.pc_notes.specs.Notes.{Note}
 use Rattle.pc_check.specs.ComputedStatements.{Frame, Table, Walk, enter, enter_local, enter_name, end_finds, frame_of, function_finds, walk_suite}
 use Rattle.pc_check.specs.Modules.{entries_of, receiver_parameter}
 use Rattle.pc_check.specs.Walking.{HoldsType, HoldsTypes}
@@ -79,17 +79,17 @@ enter_both resolve table env [] qs = refl
 enter_both resolve table env (p ∷ ps) qs = let r = enter_name table env (resolve p.name) p.type in enter_both resolve r.0 r.1 ps qs
 
 -- a walk from this entry
-abbrev walk_from : Frame → FuncDef → List Finding → Table × Env → Walk
+abbrev walk_from : Frame → FuncDef → List Note → Table × Env → Walk
 walk_from frame f found start = walk_suite frame (record { table = start.0; env = Some start.1; broken = None; found = found }) f.body
 
 -- what is found in a function of so many locals that is entered with these parameters
-abbrev found_from : Frame → FuncDef → List Finding → ℕ → List Parameter → List Finding
+abbrev found_from : Frame → FuncDef → List Note → ℕ → List Parameter → List Note
 found_from frame f found n ps =
     let body = walk_from frame f found (enter frame.context.resolve (none_assigned n) (none_assigned n) ps) in
     body.found ++ end_finds frame.context.bases frame.returned f.name.place body.env
 
 -- what is found in a function, by what its receiver, its parameters and its body come to
-pub function_found : (m : Module) (constants : List Tree) (owner : Owner) (f : FuncDef) (frame : Frame) (found : List Finding) (n : ℕ) (middle start : Table × Env) (body : Walk) →
+pub function_found : (m : Module) (constants : List Tree) (owner : Owner) (f : FuncDef) (frame : Frame) (found : List Note) (n : ℕ) (middle start : Table × Env) (body : Walk) →
     frame ≡ frame_of m constants owner f →
     n ≡ length (locals owner f) →
     middle ≡ enter frame.context.resolve (none_assigned n) (none_assigned n) (receiver_parameter owner) →

@@ -10,7 +10,7 @@ use Rattle.pc_types.specs.Tree.{Any, Tree}
 use Rattle.pc_types.specs.WellFormed.{IsWellFormed}
 use Rattle.pc_flow.specs.Environment.{Env, assign, assigned_type, declared_type}
 use Rattle.pc_flow.specs.WellFormed.{AreWellFormed}
-use Rattle.pc_expr.specs.Operations.{Mark, StoreOffer, clean, only_type, store_codes, store_index_types, stored_types}
+use Rattle.pc_expr.specs.Operations.{Mark, clean, only_type, store_codes, store_index_types, stored_types}
 use Rattle.pc_expr.specs.Context.{FlowsInto}
 use Rattle.pc_expr.specs.Labels.{Flowing, Marks, mark_of, type_of}
 use Rattle.pc_check.specs.StatementLabels.{TargetMarks}

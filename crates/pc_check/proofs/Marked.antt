@@ -1,6 +1,6 @@
 -- A table that has a type for each local bound so far, and none for the others, says what has been seen.
-use Rattle.std.proofs.Common.{◌≡◌, ℕ, zero, suc, ◌<◌, List, [], ◌∷◌, map, length, refl, sym, ap, ◌∙◌, subst, arith}
-use Rattle.std.specs.Prelude.{Bool as Test, true, false, ◌||◌, is_some, unwrap_or, replicate, Option, Some, None, bytes_eq, slice_set, slice_index_or}
+use Rattle.std.proofs.Common.{◌≡◌, ℕ, zero, suc, ◌<◌, List, [], ◌∷◌, length, refl, sym, ap, ◌∙◌, subst, arith}
+use Rattle.std.specs.Prelude.{Bool as Test, true, false, ◌||◌, is_some, unwrap_or, replicate, Option, Some, None, bytes_eq, slice_set}
 use Rattle.std.proofs.lemmas.Slice.Eq.{bytes_eq-Decides}
 use Rattle.std.proofs.lemmas.List.{get_or-set_same, get_or-set_other}
 use Rattle.pc_scope.specs.declared.resolution.Res.TheVariants as res

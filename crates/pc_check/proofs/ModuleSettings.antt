@@ -1,5 +1,5 @@
 -- What the bodies of a module stand in: types stay of the store, signatures are those of the module's functions, and a frame is that of a body.
-use Rattle.std.proofs.Common.{◌≡◌, ℕ, List, [], ◌∷◌, map, length, refl, sym, ap, ◌∙◌, subst, All, arith}
+use Rattle.std.proofs.Common.{◌≡◌, ℕ, List, map, length, refl, sym, ap, ◌∙◌, All, arith}
 use Rattle.std.specs.Prelude.{true, Option, Some, None, slice_get}
 use Rattle.std.specs.Option.{option_map}
 use Rattle.std.proofs.lemmas.List.Elements.{All-weaker}
@@ -22,12 +22,12 @@ use Rattle.pc_class.specs.Tables.{Entry, HasParameter, HasMethod, HasEntry, HasE
 use Rattle.pc_class.specs.declared.table.Parameter.{Parameter as RustParameter}
 use Rattle.pc_expr.specs.Context.{Signature}
 use Rattle.pc_expr.specs.Signatures.{signature_of, signatures_of}
-use Rattle.pc_expr.specs.SignaturesFound.{class_methods, all_methods, methods_of}
+use Rattle.pc_expr.specs.SignaturesFound.{class_methods, methods_of}
 use Rattle.pc_expr.specs.SignaturesHeld.{Signed, HasSigned, numbered, all_with}
 use Rattle.pc_expr.specs.Standing.{HasSignature, signature_with}
 use Rattle.pc_expr.specs.declared.setting.Signature.{Signature as RustSignature}
 use Rattle.pc_check.specs.declared.bodies.ModuleSetting.{ModuleSetting}
-use Rattle.pc_check.specs.Checking.{module_in, signature_for, IsModuleSetting}
+use Rattle.pc_check.specs.Checking.{signature_for, IsModuleSetting}
 use Rattle.pc_check.specs.ComputedStatements.{Frame, frame_of}
 
 -- ---- what the store gave stays given

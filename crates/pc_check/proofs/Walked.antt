@@ -1,17 +1,17 @@
 -- What a walk over statements comes to, put together from its parts.
-use Rattle.std.proofs.Common.{◌≡◌, ◌∙◌, ◌++◌, ◌≤◌, ℕ, List, [], ◌∷◌, Option, Some, None, length, drop, refl, sym, ap, subst}
+use Rattle.std.proofs.Common.{◌≡◌, ◌∙◌, ◌++◌, ◌≤◌, ℕ, List, Option, Some, None, length, drop, ap}
 use Rattle.std.specs.Prelude.{true, false}
 use Rattle.std.specs.Option.{option_map}
 use Rattle.std.proofs.lemmas.List.{drop_all}
-use Rattle.pc_tree.specs.declared.code.Finding.{Finding}
 use Rattle.pc_tree.specs.declared.tree.Stmt.{Stmt as RustStmt}
 use Rattle.pc_tree.specs.declared.tree.Branch.{Branch as RustBranch}
-use Rattle.pc_tree.specs.Tree.{Expr, Stmts, Branches, no_stmts, no_branches, more_branches, stmts_of_list}
+use Rattle.pc_tree.specs.Tree.{Expr, Stmts, no_stmts, no_branches, more_branches, stmts_of_list}
 use Rattle.pc_tree.specs.Lists.{branches_of_list}
 use Rattle.pc_types.specs.Tree.{Tree}
 use Rattle.pc_types.specs.Below.{Bases}
 use Rattle.pc_flow.specs.Environment.{Env}
 use Rattle.pc_flow.specs.Stored.{env_of}
+use Rattle.pc_notes.specs.Notes.{Note}
 use Rattle.pc_expr.specs.Standing.{finds_in}
 use Rattle.pc_check.specs.ComputedStatements.{Frame, Table, Walk, Forked, Bound, at, narrowed_at, with_way, behind_binding, behind_branches, walk_suite, walk_branches}
 use Rattle.pc_check.specs.Walking.{HoldsTypesIfAny, GivesBound, GivesWalk}
@@ -24,15 +24,15 @@ pub no_branch_left : (bs : List RustBranch) (i : ℕ) → length bs ≤ i → br
 no_branch_left bs i h = ap branches_of_list (drop_all i bs h)
 
 -- what a walk has come to, by what was found
-abbrev pub walk_by : Table → (env broken : Option Env) → List Finding → Walk
+abbrev pub walk_by : Table → (env broken : Option Env) → List Note → Walk
 walk_by table env broken found = record { table = table; env = env; broken = broken; found = found }
 
-pub found_by : (table : Table) (env broken : Option Env) (a b : List Finding) → a ≡ b → walk_by table env broken a ≡ walk_by table env broken b
+pub found_by : (table : Table) (env broken : Option Env) (a b : List Note) → a ≡ b → walk_by table env broken a ≡ walk_by table env broken b
 found_by table env broken a b e = ap (walk_by table env broken) e
 
 module _ (frame : Frame) where
   -- one branch more
-  pub branch_walked : (table : Table) (last : Env) (ways broken : Option Env) (found : List Finding) (c : Expr) (b : Stmts) (start body : Walk) (last' : Env) (ways' : Option Env) →
+  pub branch_walked : (table : Table) (last : Env) (ways broken : Option Env) (found : List Note) (c : Expr) (b : Stmts) (start body : Walk) (last' : Env) (ways' : Option Env) →
       start ≡ record { table = table; env = Some (narrowed_at frame table true c last); broken = broken; found = found ++ finds_in (at frame table last) None c } →
       body ≡ walk_suite frame start b →
       last' ≡ narrowed_at frame table false c last →
@@ -56,5 +56,5 @@ module _ (frame : Frame) where
 
 module _ {Store Ty : Type 0} (has : Store → Ty → Type 0) (tree : Ty → Tree) (bases : Bases) (store : Store) where
   -- behind a name that is bound
-  pub binding_walked : (frame : Frame) (declared env : List (Option Ty)) (broken : Option (List (Option Ty))) (found : List Finding) (b : Bound) → GivesBound has tree bases store declared env found b → HoldsTypesIfAny (has store) tree bases broken → GivesWalk has tree bases store declared (Some env) broken found (behind_binding frame (option_map (env_of tree) broken) b)
+  pub binding_walked : (frame : Frame) (declared env : List (Option Ty)) (broken : Option (List (Option Ty))) (found : List Note) (b : Bound) → GivesBound has tree bases store declared env found b → HoldsTypesIfAny (has store) tree bases broken → GivesWalk has tree bases store declared (Some env) broken found (behind_binding frame (option_map (env_of tree) broken) b)
   binding_walked frame declared env broken found b g h = record { declared_holds = g.declared_holds; env_holds = g.env_holds; broken_holds = h; is = ap (behind_binding frame (option_map (env_of tree) broken)) g.is }

@@ -17,6 +17,7 @@ use Rattle.pc_types.proofs.Readings.{read_ann_well_formed}
 use Rattle.pc_flow.specs.Environment.{Env, declared_type, assign, assigned_type}
 use Rattle.pc_flow.specs.WellFormed.{IsWellFormedIfAny}
 use Rattle.pc_flow.proofs.Conditions.{assign_well_formed, assigned_well_formed, current_well_formed}
+use Rattle.pc_notes.specs.Notes.{Note}
 use Rattle.pc_expr.specs.Operations.{Mark, clean}
 use Rattle.pc_expr.specs.Context.{FlowsInto}
 use Rattle.pc_expr.specs.Labels.{Flowing, Marks, mark_of, type_of, Finds, IsFlowAt}
@@ -49,18 +50,18 @@ module _ (setting : Setting) (returned : Tree) (declared : List Tree) where
   frame = frame_in setting returned
 
   -- a name bound has come to what is said: to this environment, with this found
-  pub record BoundSays (seen : Seen) (n : Name) (table : Table) (found : List Finding) (b : Bound) (after : Env) (Says : Finding → Type 0) : Type 0 where
+  pub record BoundSays (seen : Seen) (n : Name) (table : Table) (found : List Note) (b : Bound) (after : Env) (Says : Finding → Type 0) : Type 0 where
     pub fits : TableFits setting declared (n.text ∷ seen) b.table
     pub grows : (env : Env) → EnvFits setting declared table env → EnvFits setting declared b.table env
     pub env_is : b.env ≡ after
     pub env_fits : EnvFits setting declared b.table after
     pub found_is : Adds found b.found Says
 
-  says_same : {P Q : Finding → Type 0} (seen : Seen) (n : Name) (table : Table) (found : List Finding) (b : Bound) (after : Env) → ((f : Finding) → P f → Q f) → ((f : Finding) → Q f → P f) → BoundSays seen n table found b after P → BoundSays seen n table found b after Q
+  says_same : {P Q : Finding → Type 0} (seen : Seen) (n : Name) (table : Table) (found : List Note) (b : Bound) (after : Env) → ((f : Finding) → P f → Q f) → ((f : Finding) → Q f → P f) → BoundSays seen n table found b after P → BoundSays seen n table found b after Q
   says_same seen n table found b after to from h = record { fits = h.fits; grows = h.grows; env_is = h.env_is; env_fits = h.env_fits; found_is = adds_same found b.found to from h.found_is }
 
   -- with more found before
-  says_behind : {P Q : Finding → Type 0} (seen : Seen) (n : Name) (table : Table) (found more : List Finding) (b : Bound) (after : Env) → Adds found more P → BoundSays seen n table more b after Q → BoundSays seen n table found b after (λ f. P f ⊎ Q f)
+  says_behind : {P Q : Finding → Type 0} (seen : Seen) (n : Name) (table : Table) (found more : List Note) (b : Bound) (after : Env) → Adds found more P → BoundSays seen n table more b after Q → BoundSays seen n table found b after (λ f. P f ⊎ Q f)
   says_behind seen n table found more b after a h = record { fits = h.fits; grows = h.grows; env_is = h.env_is; env_fits = h.env_fits; found_is = adds_both found more b.found a h.found_is }
 
   -- ---- what is expected of what is bound
@@ -96,7 +97,7 @@ module _ (setting : Setting) (returned : Tree) (declared : List Tree) where
       unbound_here e = h.unbound n.text x e i
 
       -- bound to what has a label
-      label_says : (env : Env) → EnvFits setting declared table env → (want : Option Tree) (p : Place) (mark : Mark) (flows : Flowing) (after : Env) (found : List Finding)
+      label_says : (env : Env) → EnvFits setting declared table env → (want : Option Tree) (p : Place) (mark : Mark) (flows : Flowing) (after : Env) (found : List Note)
           → unwrap_or want mark.type ≡ declared_type declared x → IsWellFormedIfAny ctx.bases want → IsWellFormed ctx.bases mark.type
           → FlowsInto ctx.bases mark (declared_type declared x ∷ []) flows → after ≡ assign env x (assigned_type (declared_type declared x) mark.type (only_code flows))
           → BoundSays seen n table found (bind_label frame table env x want p mark found) after (IsFlowAt p flows)
@@ -121,7 +122,7 @@ module _ (setting : Setting) (returned : Tree) (declared : List Tree) where
           }
 
       -- bound to a value
-      value_says : (env : Env) → EnvFits setting declared table env → (a a' : Option Tree) → (is_first seen n ≡ true → a ≡ a') → IsWellFormedIfAny ctx.bases a' → (e : Expr) (marks : Marks e) (flows : Flowing) (after : Env) (found : List Finding)
+      value_says : (env : Env) → EnvFits setting declared table env → (a a' : Option Tree) → (is_first seen n ≡ true → a ≡ a') → IsWellFormedIfAny ctx.bases a' → (e : Expr) (marks : Marks e) (flows : Flowing) (after : Env) (found : List Note)
           → LawfulBinding m ctx declared env seen n (res.Local x) a e marks flows after
           → BoundSays seen n table found (bind_value frame table env (res.Local x) a' e found) after (λ f. Finds e marks f ⊎ IsFlowAt (place_of e) flows f)
       value_says env f a a' s ka e marks flows after found l =
@@ -137,7 +138,7 @@ module _ (setting : Setting) (returned : Tree) (declared : List Tree) where
           (label_says env f want (place_of e) (mark_of e marks) flows after (found ++ finds) is kw v.well_formed l.flow l.after_is))
 
     -- what is no local binds nothing
-    plain_says : ((x : ℕ) → ctx.resolve n.text ≡ res.Local x → ⊥) → (env : Env) → EnvFits setting declared table env → (e : Expr) (marks : Marks e) (flows : Flowing) (after : Env) (found : List Finding)
+    plain_says : ((x : ℕ) → ctx.resolve n.text ≡ res.Local x → ⊥) → (env : Env) → EnvFits setting declared table env → (e : Expr) (marks : Marks e) (flows : Flowing) (after : Env) (found : List Note)
         → Lawful ctx declared env None e marks → flows ≡ [] → after ≡ env
         → BoundSays seen n table found (record { table = table; env = env; found = found ++ finds_in (at frame table env) None e }) after (λ f. Finds e marks f ⊎ IsFlowAt (place_of e) flows f)
     plain_says other env f e marks flows after found l none is =
@@ -151,7 +152,7 @@ module _ (setting : Setting) (returned : Tree) (declared : List Tree) where
           found_is = adds_same found (found ++ finds_in (at frame table env) None e) (λ g y. inl y) (nothing_flows flows (place_of e) (Finds e marks) none) (adds_list found (finds_in (at frame table env) None e) v.found);
         }
 
-    pub binding_says : (r : Res) → ctx.resolve n.text ≡ r → (env : Env) → EnvFits setting declared table env → (a a' : Option Tree) → (is_first seen n ≡ true → a ≡ a') → IsWellFormedIfAny ctx.bases a' → (e : Expr) (marks : Marks e) (flows : Flowing) (after : Env) (found : List Finding)
+    pub binding_says : (r : Res) → ctx.resolve n.text ≡ r → (env : Env) → EnvFits setting declared table env → (a a' : Option Tree) → (is_first seen n ≡ true → a ≡ a') → IsWellFormedIfAny ctx.bases a' → (e : Expr) (marks : Marks e) (flows : Flowing) (after : Env) (found : List Note)
         → LawfulBinding m ctx declared env seen n r a e marks flows after
         → BoundSays seen n table found (bind_value frame table env r a' e found) after (λ f. Finds e marks f ⊎ IsFlowAt (place_of e) flows f)
     binding_says (res.Local x) i env f a a' s ka e marks flows after found l = value_says x i env f a a' s ka e marks flows after found l
@@ -163,7 +164,7 @@ module _ (setting : Setting) (returned : Tree) (declared : List Tree) where
 
     -- ---- the target of a `for`
 
-    idle_says : ((x : ℕ) → ctx.resolve n.text ≡ res.Local x → ⊥) → (head : Env) → EnvFits setting declared table head → (p : Place) (flows : Flowing) (inside : Env) (found : List Finding) → flows ≡ [] → inside ≡ head
+    idle_says : ((x : ℕ) → ctx.resolve n.text ≡ res.Local x → ⊥) → (head : Env) → EnvFits setting declared table head → (p : Place) (flows : Flowing) (inside : Env) (found : List Note) → flows ≡ [] → inside ≡ head
         → BoundSays seen n table found (record { table = table; env = head; found = found }) inside (IsFlowAt p flows)
     idle_says other head f p flows inside found none is =
         let nf = other_fits setting declared seen n.text table other h in
@@ -175,7 +176,7 @@ module _ (setting : Setting) (returned : Tree) (declared : List Tree) where
           found_is = adds_same found found (λ g y. absurd y) (λ g y. no_flows flows p g none y) (adds_nothing found);
         }
 
-    pub target_says : (r : Res) → ctx.resolve n.text ≡ r → (head : Env) → EnvFits setting declared table head → (item : Mark) → IsWellFormed ctx.bases item.type → (p : Place) (flows : Flowing) (inside : Env) (found : List Finding)
+    pub target_says : (r : Res) → ctx.resolve n.text ≡ r → (head : Env) → EnvFits setting declared table head → (item : Mark) → IsWellFormed ctx.bases item.type → (p : Place) (flows : Flowing) (inside : Env) (found : List Note)
         → LawfulTarget m ctx declared seen n r head item flows inside
         → BoundSays seen n table found (bind_item frame table head r p item.type found) inside (IsFlowAt p flows)
     target_says (res.Local x) i head f item k p flows inside found l =
@@ -213,7 +214,7 @@ module _ (setting : Setting) (returned : Tree) (declared : List Tree) where
     declaration_fits res.None i t k l = other_fits setting declared seen n.text table (λ x j. absurd (grind (arith, i, j))) h
 
     -- a name annotated, with a value or alone
-    pub annotated_says : (env : Env) → EnvFits setting declared table env → (p : Place) (a : Ann) (e : Option Expr) (marks : OptionMarks e) (flows : Flowing) (after : Env) (found : List Finding)
+    pub annotated_says : (env : Env) → EnvFits setting declared table env → (p : Place) (a : Ann) (e : Option Expr) (marks : OptionMarks e) (flows : Flowing) (after : Env) (found : List Note)
         → LawfulAnnotated m ctx declared env seen n a e marks flows after
         → BoundSays seen n table found (bind_annotated frame table env n a e found) after (λ f. AnnotationFinds m ctx (ctx.resolve n.text) (is_first seen n) n a f ⊎ (IsFlowAt (option_place m ctx p e) flows f ⊎ OptionFinds m ctx e marks f))
     annotated_says env f p a None marks flows after found l =

@@ -2,7 +2,6 @@
 use Rattle.std.proofs.Common.{◌≡◌, List, [], ◌∷◌, ◌++◌, map, sym, ap, ◌∙◌, subst, append-nil, append_assoc}
 use Rattle.std.specs.Prelude.{Bool as Test, true, false, if◌then◌else◌, Option, None}
 use Rattle.pc_source.specs.declared.place.Place.{Place}
-use Rattle.pc_tree.specs.declared.code.Finding.{Finding}
 use Rattle.pc_tree.specs.Tree.{Name, Expr, Exprs, Keywords, name, call}
 use Rattle.pc_scope.specs.Expressions.{is_instance_test}
 use Rattle.pc_types.specs.Tree.{Tree, Any, Int, Object}
@@ -11,6 +10,7 @@ use Rattle.pc_types.specs.WellFormed.{IsWellFormed}
 use Rattle.pc_types.specs.Computed.{static_test, assignable_test}
 use Rattle.pc_flow.specs.Environment.{Env}
 use Rattle.pc_flow.specs.WellFormed.{AreWellFormed, IsWellFormedEnv, IsWellFormedIfAny}
+use Rattle.pc_notes.specs.Notes.{Note}
 use Rattle.pc_expr.specs.Operations.{Mark, clean, iterate_member, offers_mark}
 use Rattle.pc_expr.specs.Calls.{CallOffer, given, is_suited, call_mark, positional_seat, named_seat, is_range, range_item, range_offers, range_signature}
 use Rattle.pc_expr.specs.Context.{FlowsInto}
@@ -80,7 +80,7 @@ module _ (setting : Setting) where
       frame = frame_in setting returned
 
       -- the walk reads the label of a turn's item, and what is found in the iterable
-      pub record IterableTold (e : Expr) (marks : Marks e) (item read : Mark) (found : List Finding) : Type 0 where
+      pub record IterableTold (e : Expr) (marks : Marks e) (item read : Mark) (found : List Note) : Type 0 where
         pub item_is : read ≡ item
         pub found_is : Lists found (Finds e marks)
         pub well_formed : IsWellFormed ctx.bases item.type
@@ -109,7 +109,7 @@ module _ (setting : Setting) where
           keywords = keywords_in here (named_seat offers) [] kws;
         }
 
-        moved : (a k c : List Finding) → (a ++ (k ++ [])) ++ c ≡ a ++ (k ++ c)
+        moved : (a k c : List Note) → (a ++ (k ++ [])) ++ c ≡ a ++ (k ++ c)
         moved a k c = append_assoc a (k ++ []) c ∙ ap (λ x. a ++ (x ++ c)) (append-nil k)
 
         range_listed : found_in (call p (name n) args kws) range_labels ≡ range_finds here p (name n) args kws

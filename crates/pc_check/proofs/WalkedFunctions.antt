@@ -18,6 +18,7 @@ use Rattle.pc_class.specs.WellFormed.{ParametersWellFormed}
 use Rattle.pc_class.proofs.WellFormed.{returned_well_formed}
 use Rattle.pc_flow.specs.Environment.{Env, declared_type, assign, none_assigned}
 use Rattle.pc_flow.proofs.Conditions.{assign_well_formed}
+use Rattle.pc_notes.specs.Notes.{plain}
 use Rattle.pc_expr.specs.Labels.{IsCodeAt}
 use Rattle.pc_expr.specs.Signatures.{body_context}
 use Rattle.pc_expr.proofs.ComputedFlows.{are_tests}
@@ -143,10 +144,10 @@ module _ (setting : Setting) (declared : List Tree) where
 -- E21 where the body can complete and None is not static to the return type
 end_says : (bases : Bases) (t : Tree) → AreSmaller bases → IsWellFormed bases t → (p : Place) (out : Option Env) (c : Option Code) → ReturnsWell bases t out c → Lists (end_finds bases t p out) (IsCodeAt p c)
 end_says bases t o k p _ _ leaves = lists_nothing
-end_says bases t o k p _ _ (may_complete is) = subst (λ b. Lists (if b then [] else finding p E21 ∷ []) (λ f. ⊥)) (sym (((are_tests bases o).of_static NoneType t tt k.0).1 is)) lists_nothing
+end_says bases t o k p _ _ (may_complete is) = subst (λ b. Lists (if b then [] else plain (finding p E21) ∷ []) (λ f. ⊥)) (sym (((are_tests bases o).of_static NoneType t tt k.0).1 is)) lists_nothing
 end_says bases t o k p _ _ (may_not wrong) = go (static_test bases NoneType t) refl
   where
-    go : (b : Test) → static_test bases NoneType t ≡ b → Lists (if b then [] else finding p E21 ∷ []) (IsCodeAt p (Some E21))
+    go : (b : Test) → static_test bases NoneType t ≡ b → Lists (if b then [] else plain (finding p E21) ∷ []) (IsCodeAt p (Some E21))
     go true e = absurd (wrong (((are_tests bases o).of_static NoneType t tt k.0).0 e))
     go false e = lists_one (finding p E21) refl
 

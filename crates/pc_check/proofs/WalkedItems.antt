@@ -1,6 +1,6 @@
 -- What is found of the items of a module, and in their bodies, is what lawful labels say of them; and the types of its constants are theirs.
 use Rattle.std.proofs.Common.{◌≡◌, ◌⊎◌, ◌+◌, ℕ, suc, List, [], ◌∷◌, ◌++◌, refl, sym, ap, ◌∙◌, subst, arith, append_assoc, append-nil}
-use Rattle.std.specs.Prelude.{Some, slice_get}
+use Rattle.std.specs.Prelude.{Some, slice_get, map}
 use Rattle.pc_tree.specs.declared.code.Finding.{Finding}
 use Rattle.pc_tree.specs.Tree.{ClassDef, Constant, Item, constant_item, class_item, def_item, Module}
 use Rattle.pc_tree.specs.Depth.{place_of}
@@ -16,6 +16,7 @@ use Rattle.pc_class.specs.Facts.{Class, inherited, classes_of}
 use Rattle.pc_class.specs.Findings.{base_class}
 use Rattle.pc_class.proofs.ClassesBuilt.{base_here}
 use Rattle.pc_flow.specs.WellFormed.{AreWellFormed}
+use Rattle.pc_notes.specs.Notes.{Note, plain}
 use Rattle.pc_expr.specs.Labels.{Marks, Finds, IsFlowAt, type_of}
 use Rattle.pc_expr.specs.Operations.{Mark}
 use Rattle.pc_expr.specs.Signatures.{initializer_context, binds_name, constant_type, annotated_types, first_of_types}
@@ -69,8 +70,8 @@ module _ (m : Module) where
 
     constant_listed : Lists (constant_findings m (reached_at b) c) ConstantSays
     constant_listed =
-        lists_both (option_findings m (bases_of m) c.annotation) (value_findings m (reached_at b) into c.value)
-        (lists_each (option_findings m (bases_of m) c.annotation) (λ f. option_listed m f c.annotation))
+        lists_both (map plain (option_findings m (bases_of m) c.annotation)) (value_findings m (reached_at b) into c.value)
+        (lists_each (map plain (option_findings m (bases_of m) c.annotation)) (λ f. option_listed m f c.annotation))
         (lists_each (value_findings m (reached_at b) into c.value) (λ f. value_listed m (reached_at b) kb into into_well_formed c.value marks.value l.value marks.flows l.flow f))
 
   -- ---- what is said in three parts: of functions' signatures, of constants and classes, and in bodies
@@ -168,7 +169,7 @@ module _ (m : Module) where
     BodiesSay b (class_item p c ∷ rest) marks f = MethodsSay m all b.classes 0 c.members marks.0 f ⊎ BodiesSay (before_next m b (class_item p c) marks.0) rest marks.1 f
     BodiesSay b (def_item p d ∷ rest) marks f = BodySays m all (owners.Func b.functions) d marks.0 f ⊎ BodiesSay (before_next m b (def_item p d) marks.0) rest marks.1 f
 
-    pub all_bodies_say : AreWellFormed (bases_of m) all → (b : Before) (items : List Item) (marks : ItemsMarks items) → LawfulItems m all b items marks → (found : List Finding) → Adds found (bodies_find m all b.classes b.functions items found) (BodiesSay b items marks)
+    pub all_bodies_say : AreWellFormed (bases_of m) all → (b : Before) (items : List Item) (marks : ItemsMarks items) → LawfulItems m all b items marks → (found : List Note) → Adds found (bodies_find m all b.classes b.functions items found) (BodiesSay b items marks)
     all_bodies_say k b [] marks l found = adds_nothing found
     all_bodies_say k b (constant_item p c ∷ rest) marks l found = all_bodies_say k (before_next m b (constant_item p c) marks.0) rest marks.1 l.1 found
     all_bodies_say k b (class_item p c ∷ rest) marks l found =

@@ -11,9 +11,10 @@ use Rattle.pc_types.specs.Annotations.{AnnFinds, OptionFinds}
 use Rattle.pc_class.specs.Bases.{bases_of}
 use Rattle.pc_class.specs.Facts.{Class}
 use Rattle.pc_flow.specs.WellFormed.{AreWellFormed}
+use Rattle.pc_notes.specs.Notes.{Note}
 use Rattle.pc_expr.specs.Signatures.{DefaultFinds, LawfulParams, ParamsMarks, ParamsFind}
 use Rattle.pc_expr.specs.SignaturesFound.{def_findings, field_findings, members_findings}
-use Rattle.pc_expr.proofs.FoundList.{Lists as ListsOne}
+use Rattle.pc_expr.proofs.FoundList.{Noted as ListsOne}
 use Rattle.pc_expr.proofs.SignaturesListed.{def_listed, field_listed}
 use Rattle.pc_check.specs.Modules.{FunctionMarks, FunctionFinds, MembersMarks, LawfulMembers, MembersFind}
 use Rattle.pc_check.specs.ComputedStatements.{function_finds}
@@ -23,7 +24,7 @@ use Rattle.pc_check.proofs.WalkedFindings.{Lists, lists_nothing, lists_both, add
 use Rattle.pc_check.proofs.WalkedFunctions.{bodies_say}
 
 -- a list that has each finding of which something stands
-pub lists_each : {Says : Finding → Type 0} (xs : List Finding) → ((f : Finding) → ListsOne f xs (Says f)) → Lists xs Says
+pub lists_each : {Says : Finding → Type 0} (xs : List Note) → ((f : Finding) → ListsOne f xs (Says f)) → Lists xs Says
 lists_each xs h f = ((h f).0, λ q. (h f).1 q.0 q.1)
 
 -- ---- what is said in two parts
@@ -87,7 +88,7 @@ module _ (m : Module) where
 
     -- what the walks over the bodies of methods find
     pub methods_say : AreWellFormed (bases_of m) constants → (base : Class) (c number : ℕ) (before : List (List ℕ)) (ms : List Member) (marks : MembersMarks ms) → LawfulMembers m constants base c number before ms marks
-        → (found : List Finding) → Adds found (methods_find m constants c number ms found) (MethodsSay c number ms marks)
+        → (found : List Note) → Adds found (methods_find m constants c number ms found) (MethodsSay c number ms marks)
     methods_say k base c number before [] marks l found = adds_nothing found
     methods_say k base c number before (field_member d ∷ rest) marks l found = methods_say k base c number (d.name.text ∷ before) rest marks.rest l.others found
     methods_say k base c number before (method_member d ∷ rest) marks l found =

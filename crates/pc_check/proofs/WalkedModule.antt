@@ -11,6 +11,7 @@ use Rattle.pc_types.specs.Tree.{Tree}
 use Rattle.pc_class.specs.Bases.{bases_of}
 use Rattle.pc_class.specs.Findings.{ClassFinds}
 use Rattle.pc_flow.specs.WellFormed.{AreWellFormed}
+use Rattle.pc_notes.specs.Notes.{Note, findings_of}
 use Rattle.pc_expr.specs.SignaturesFound.{constants_of, signatures_find, nothing_reached, functions_findings, items_findings}
 use Rattle.pc_check.specs.Modules.{Labelling, IsLawful, ItemsMarks, Before, nothing_before, before_next, constant_types, ItemsFind, LabelsSay, LabelsFind, IsFinding}
 use Rattle.pc_check.specs.ComputedModules.{bodies_find, module_finds}
@@ -108,7 +109,7 @@ module _ (m : Module) (marks : Labelling m) (l : IsLawful m marks) where
   unfolding signatures_find
   signatures_listed = lists_both (functions_findings m m.items) (items_findings m nothing_reached m.items) (functions_listed m all nothing_before m.items marks l) walked.listed
 
-  module_adds : (found : List Finding) → Adds found (module_finds m found) (LabelsSay m marks)
+  module_adds : (found : List Note) → Adds found (module_finds m found) (LabelsSay m marks)
   unfolding module_finds
   module_adds found =
       let signed = found ++ signatures_find m in
@@ -120,7 +121,7 @@ module _ (m : Module) (marks : Labelling m) (l : IsLawful m marks) where
       (all_bodies_say m all walked.well_formed nothing_before m.items marks l signed)) in
       subst (λ ts. Adds found (bodies_find m ts 0 0 m.items signed) (LabelsSay m marks)) (sym constants_are) adds
 
-  module_found : (f : Finding) → Contains (module_finds m []) f ↔ LabelsFind m marks f
+  module_found : (f : Finding) → Contains (findings_of (module_finds m [])) f ↔ LabelsFind m marks f
   module_found f = (
     λ h. elim ((module_adds [] f).0 h) [ inl none ↦ absurd (none_among f none) | inr s ↦ record { own = s.1; said = s.0 } ],
     λ s. (module_adds [] f).1 (inr (s.said, s.own)),
@@ -145,13 +146,13 @@ constants_well_formed m =
 pub findings_computed : FindingsOfModulesAreComputed
 findings_computed m f = (to, from)
   where
-    to : IsFinding m f → ScopeFinds m f ⊎ (ClassFinds m f ⊎ Contains (module_finds m []) f)
+    to : IsFinding m f → ScopeFinds m f ⊎ (ClassFinds m f ⊎ Contains (findings_of (module_finds m [])) f)
     to h = elim h.found [
       | inl s ↦ inl s
       | inr t ↦ elim t [ inl c ↦ inr (inl c) | inr x ↦ inr (inr ((module_found m h.marks h.lawful f).1 x)) ]
     ]
 
-    from : ScopeFinds m f ⊎ (ClassFinds m f ⊎ Contains (module_finds m []) f) → IsFinding m f
+    from : ScopeFinds m f ⊎ (ClassFinds m f ⊎ Contains (findings_of (module_finds m [])) f) → IsFinding m f
     from s =
         let h = every_module_has_a_labelling m in
         record {

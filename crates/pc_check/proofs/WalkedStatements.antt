@@ -12,6 +12,7 @@ use Rattle.pc_types.specs.Tree.{Tree}
 use Rattle.pc_types.specs.WellFormed.{IsWellFormed}
 use Rattle.pc_flow.specs.Environment.{Env, join_envs_onto, join_ways}
 use Rattle.pc_flow.specs.Narrowing.{narrow}
+use Rattle.pc_notes.specs.Notes.{Note}
 use Rattle.pc_expr.specs.Found.{codes_at}
 use Rattle.pc_expr.specs.Standing.{finds_in}
 use Rattle.pc_check.specs.StatementLabels.{StmtMarks, SuiteMarks, BranchesMarks, Behind, BehindRule, behind_list, breaks_in, breaks_in_suite, breaks_in_branches, ways_in}
@@ -28,7 +29,7 @@ use Rattle.pc_check.proofs.WalkedStores.{store_says, option_says, return_says}
 
 -- A walk over branches has come to what labels say: to the environment where no condition was true, and with the ways out of the suites
 -- joined behind those before.
-record ForkSays (setting : Setting) (declared : List Tree) (seen : Seen) (table : Table) (ways : List Env) (broken : Option Env) (found : List Finding) (w : Forked) (last : Env) (more envs : List Env) (Says : Finding → Type 0) : Type 0 where
+record ForkSays (setting : Setting) (declared : List Tree) (seen : Seen) (table : Table) (ways : List Env) (broken : Option Env) (found : List Note) (w : Forked) (last : Env) (more envs : List Env) (Says : Finding → Type 0) : Type 0 where
   fits : TableFits setting declared seen w.table
   grows : (env : Env) → EnvFits setting declared table env → EnvFits setting declared w.table env
   last_is : w.last ≡ last
@@ -48,7 +49,7 @@ module _ (setting : Setting) (returned : Tree) (kr : IsWellFormed setting.contex
   abbrev TableHere : Seen → Table → Type 0
   TableHere seen table = TableFits setting declared seen table
 
-  abbrev WalkHere : Seen → Table → Option Env → List Finding → Walk → Option Env → List Env → (Finding → Type 0) → Type 0
+  abbrev WalkHere : Seen → Table → Option Env → List Note → Walk → Option Env → List Env → (Finding → Type 0) → Type 0
   WalkHere seen table broken found w out envs P = WalkSays setting declared seen table broken found w out envs P
 
   abbrev truth_of : Test → Expr → Env → Env
@@ -62,7 +63,7 @@ module _ (setting : Setting) (returned : Tree) (kr : IsWellFormed setting.contex
 
   -- ---- walks, one after the other
 
-  both_say : {P Q : Finding → Type 0} (before seen : Seen) (table : Table) (broken : Option Env) (found : List Finding) (v w : Walk) (mid out : Option Env) (a b : List Env) → WalkHere before table broken found v mid a P → WalkHere seen v.table v.broken v.found w out b Q → WalkHere seen table broken found w out (a ++ b) (λ f. P f ⊎ Q f)
+  both_say : {P Q : Finding → Type 0} (before seen : Seen) (table : Table) (broken : Option Env) (found : List Note) (v w : Walk) (mid out : Option Env) (a b : List Env) → WalkHere before table broken found v mid a P → WalkHere seen v.table v.broken v.found w out b Q → WalkHere seen table broken found w out (a ++ b) (λ f. P f ⊎ Q f)
   both_say before seen table broken found v w mid out a b h k = record {
     fits = k.fits;
     grows = λ env f. k.grows env (h.grows env f);
@@ -74,11 +75,11 @@ module _ (setting : Setting) (returned : Tree) (kr : IsWellFormed setting.contex
   }
 
   -- of the same that is found
-  says_same : {P Q : Finding → Type 0} (seen : Seen) (table : Table) (broken : Option Env) (found : List Finding) (w : Walk) (out : Option Env) (a : List Env) → ((f : Finding) → P f → Q f) → ((f : Finding) → Q f → P f) → WalkHere seen table broken found w out a P → WalkHere seen table broken found w out a Q
+  says_same : {P Q : Finding → Type 0} (seen : Seen) (table : Table) (broken : Option Env) (found : List Note) (w : Walk) (out : Option Env) (a : List Env) → ((f : Finding) → P f → Q f) → ((f : Finding) → Q f → P f) → WalkHere seen table broken found w out a P → WalkHere seen table broken found w out a Q
   says_same seen table broken found w out a to from h = record { fits = h.fits; grows = h.grows; env_is = h.env_is; env_fits = h.env_fits; broken_is = h.broken_is; broken_fits = h.broken_fits; found_is = adds_same found w.found to from h.found_is }
 
   -- a walk that binds nothing
-  stays : {P : Finding → Type 0} (seen : Seen) (table : Table) (broken : Option Env) (found more : List Finding) (after out : Option Env) → TableHere seen table → OutFits setting declared table broken → after ≡ out → OutFits setting declared table after → Adds found more P
+  stays : {P : Finding → Type 0} (seen : Seen) (table : Table) (broken : Option Env) (found more : List Note) (after out : Option Env) → TableHere seen table → OutFits setting declared table broken → after ≡ out → OutFits setting declared table after → Adds found more P
       → WalkHere seen table broken found (record { table = table; env = after; broken = broken; found = more }) out [] P
   stays seen table broken found more after out t k e f a = record {
     fits = t;
@@ -91,7 +92,7 @@ module _ (setting : Setting) (returned : Tree) (kr : IsWellFormed setting.contex
   }
 
   -- a walk behind a name bound
-  bound_says : {P : Finding → Type 0} (seen : Seen) (n : Name) (table : Table) (broken : Option Env) (found : List Finding) (b : Bound) (after : Env) (out : Option Env) → OutFits setting declared table broken → out ≡ Some after → BoundSays setting returned declared seen n table found b after P
+  bound_says : {P : Finding → Type 0} (seen : Seen) (n : Name) (table : Table) (broken : Option Env) (found : List Note) (b : Bound) (after : Env) (out : Option Env) → OutFits setting declared table broken → out ≡ Some after → BoundSays setting returned declared seen n table found b after P
       → WalkHere (n.text ∷ seen) table broken found (behind_binding frame broken b) out [] P
   bound_says seen n table broken found b after out k e h = record {
     fits = h.fits;
@@ -120,7 +121,7 @@ module _ (setting : Setting) (returned : Tree) (kr : IsWellFormed setting.contex
       })
 
   -- a statement, and what stands behind it
-  behind_says : (b : Test) (seen : Seen) (table : Table) (env : Env) (broken : Option Env) (found : List Finding) (s : Stmt) (rest : Stmts) (s0 : StmtMarks s) (r : Behind b (Env × SuiteMarks rest)) (out : Option Env)
+  behind_says : (b : Test) (seen : Seen) (table : Table) (env : Env) (broken : Option Env) (found : List Note) (s : Stmt) (rest : Stmts) (s0 : StmtMarks s) (r : Behind b (Env × SuiteMarks rest)) (out : Option Env)
       → ((o : Option Env) → LawfulHere seen env s s0 o → WalkHere (texts (bound_by_stmt s) ++ seen) table broken found (step frame table (Some env) broken found s) o (breaks_in s s0) (StmtFinds m ctx seen s s0))
       → ((w : Walk) (mid : Env) → w.env ≡ Some mid → TableHere (texts (bound_by_stmt s) ++ seen) w.table → EnvFits setting declared w.table mid → OutFits setting declared w.table w.broken → (k : SuiteMarks rest) (o : Option Env) → LawfulThere (texts (bound_by_stmt s) ++ seen) mid rest k o → WalkHere (texts (bound_by rest) ++ (texts (bound_by_stmt s) ++ seen)) w.table w.broken w.found (walk_suite frame w rest) o (breaks_in_suite rest k) (SuiteFinds m ctx (texts (bound_by_stmt s) ++ seen) rest k))
       → BehindRule b r (λ x. LawfulHere seen env s s0 (Some x.0) × LawfulThere (texts (bound_by_stmt s) ++ seen) x.0 rest x.1 out) (LawfulHere seen env s s0 None × Undeclared m ctx declared (texts (bound_by_stmt s) ++ seen) (bound_by rest) × (out ≡ None))
@@ -137,12 +138,12 @@ module _ (setting : Setting) (returned : Tree) (kr : IsWellFormed setting.contex
       both_say (texts (bound_by_stmt s) ++ seen) (texts (bound_by rest) ++ (texts (bound_by_stmt s) ++ seen)) table broken found v (walk_suite frame v rest) None out (breaks_in s s0) [] f n
 
   -- with the names of both in order
-  says_named : {P : Finding → Type 0} (a b : List Name) (seen : Seen) (table : Table) (broken : Option Env) (found : List Finding) (w : Walk) (out : Option Env) (envs : List Env) → WalkHere (texts b ++ (texts a ++ seen)) table broken found w out envs P → WalkHere (texts (a ++ b) ++ seen) table broken found w out envs P
+  says_named : {P : Finding → Type 0} (a b : List Name) (seen : Seen) (table : Table) (broken : Option Env) (found : List Note) (w : Walk) (out : Option Env) (envs : List Env) → WalkHere (texts b ++ (texts a ++ seen)) table broken found w out envs P → WalkHere (texts (a ++ b) ++ seen) table broken found w out envs P
   says_named a b seen table broken found w out envs h = record { fits = fits_both setting declared a b seen w.table h.fits; grows = h.grows; env_is = h.env_is; env_fits = h.env_fits; broken_is = h.broken_is; broken_fits = h.broken_fits; found_is = h.found_is }
 
   -- ---- assignments
 
-  assignment_says : (seen : Seen) (table : Table) (env : Env) (broken : Option Env) (found : List Finding) → TableHere seen table → EnvFits setting declared table env → OutFits setting declared table broken → (p : Place) (t : Target) (e : Expr) (marks : StmtMarks (assigns p t e)) (out : Option Env) → LawfulHere seen env (assigns p t e) marks out
+  assignment_says : (seen : Seen) (table : Table) (env : Env) (broken : Option Env) (found : List Note) → TableHere seen table → EnvFits setting declared table env → OutFits setting declared table broken → (p : Place) (t : Target) (e : Expr) (marks : StmtMarks (assigns p t e)) (out : Option Env) → LawfulHere seen env (assigns p t e) marks out
       → WalkHere (texts (bound_by_stmt (assigns p t e)) ++ seen) table broken found (step frame table (Some env) broken found (assigns p t e)) out [] (StmtFinds m ctx seen (assigns p t e) marks)
   assignment_says seen table env broken found t f k p (to_name n) e marks out l =
       let b = bind_value frame table env (ctx.resolve n.text) None e found in
@@ -163,7 +164,7 @@ module _ (setting : Setting) (returned : Tree) (kr : IsWellFormed setting.contex
   -- ---- statements, suites and branches
 
   mutual
-    pub stmt_says : (seen : Seen) (table : Table) (env : Env) (broken : Option Env) (found : List Finding) → TableHere seen table → EnvFits setting declared table env → OutFits setting declared table broken → (s : Stmt) (marks : StmtMarks s) (out : Option Env) → LawfulHere seen env s marks out
+    pub stmt_says : (seen : Seen) (table : Table) (env : Env) (broken : Option Env) (found : List Note) → TableHere seen table → EnvFits setting declared table env → OutFits setting declared table broken → (s : Stmt) (marks : StmtMarks s) (out : Option Env) → LawfulHere seen env s marks out
         → WalkHere (texts (bound_by_stmt s) ++ seen) table broken found (step frame table (Some env) broken found s) out (breaks_in s marks) (StmtFinds m ctx seen s marks)
     stmt_says seen table env broken found t f k (pass p) marks out l = stays seen table broken found found (Some env) out t k (sym l) f (adds_nothing found)
     stmt_says seen table env broken found t f k (breaks p) marks out l = record {

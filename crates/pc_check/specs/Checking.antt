@@ -1,6 +1,6 @@
 -- What the program that walks over the bodies of a module is given, in terms of the definitions.
 -- Own rule of the profile.
-use Rattle.std.specs.Prelude.{◌≡◌, ℕ, List, map, length, Option, None, slice_get}
+use Rattle.std.specs.Prelude.{◌≡◌, map, length, Option, None, slice_get}
 use Rattle.pc_tree.specs.Tree.{Module, module_of}
 use Rattle.pc_scope.specs.declared.resolution.Owner.{Owner}
 use Rattle.pc_scope.specs.declared.resolution.Owner.TheVariants as owners

@@ -5,9 +5,8 @@
 use Rattle.std.specs.Prelude.{ℕ, List, [], ◌∷◌, ◌++◌, map, length, Bool as Test, true, false, if◌then◌else◌, Option, Some, None, unwrap_or, slice_set, slice_index_or}
 use Rattle.pc_source.specs.declared.place.Place.{Place}
 use Rattle.pc_tree.specs.declared.code.Code.TheVariants.{E21, E24}
-use Rattle.pc_tree.specs.declared.code.Finding.{Finding}
 use Rattle.pc_tree.specs.Code.{finding}
-use Rattle.pc_tree.specs.Tree.{Name, Expr, name, call, Exprs, Keywords, Ann, Target, to_name, to_attribute, to_index, Stmt, Stmts, Branches, pass, breaks, continues, returns, asserts, annotated, assigns, evaluates, while_loop, for_loop, conditional, no_stmts, more_stmts, no_branches, more_branches, FuncDef, Module}
+use Rattle.pc_tree.specs.Tree.{Name, Expr, name, call, Ann, Target, to_name, to_attribute, to_index, Stmt, Stmts, Branches, pass, breaks, continues, returns, asserts, annotated, assigns, evaluates, while_loop, for_loop, conditional, no_stmts, more_stmts, no_branches, more_branches, FuncDef, Module}
 use Rattle.pc_tree.specs.Stopping.{bound_by, bound_by_stmt}
 use Rattle.pc_tree.specs.Depth.{place_of}
 use Rattle.pc_scope.specs.declared.resolution.Owner.{Owner}
@@ -24,6 +23,7 @@ use Rattle.pc_class.specs.Bases.{bases_of}
 use Rattle.pc_class.specs.Facts.{Parameter, returned}
 use Rattle.pc_flow.specs.Environment.{Env, assign, assigned_type, join_env, loop_head, none_assigned}
 use Rattle.pc_flow.specs.Narrowing.{narrow}
+use Rattle.pc_notes.specs.Notes.{Note, plain}
 use Rattle.pc_expr.specs.Operations.{Mark, clean, offers_mark, iterate_member, StoreOffer, store_attribute_member, store_index_member, store_codes, store_index_types, stored_types, only_type}
 use Rattle.pc_expr.specs.Context.{Context}
 use Rattle.pc_expr.specs.Calls.{given, is_range, range_item}
@@ -73,13 +73,13 @@ pub record Walk : Type 0 where
   pub table : Table
   pub env : Option Env
   pub broken : Option Env
-  pub found : List Finding
+  pub found : List Note
 
 -- what a name bound comes to: declared types, the environment behind it, and what was found
 pub record Bound : Type 0 where
   pub table : Table
   pub env : Env
-  pub found : List Finding
+  pub found : List Note
 
 -- what a walk over branches has come to: declared types, the environment where all conditions so far are false, the ways out of the
 -- suites joined, breaks, and what was found
@@ -88,7 +88,7 @@ pub record Forked : Type 0 where
   pub last : Env
   pub ways : Option Env
   pub broken : Option Env
-  pub found : List Finding
+  pub found : List Note
 
 -- an environment joined onto a way, if there is one
 abbrev pub join_onto_way : Bases → Table → (way : Option Env) → Env → Option Env
@@ -125,7 +125,7 @@ module _ (frame : Frame) where
   -- ---- binding a name
 
   -- a local bound to what has this label, at this place: its declared type, the flow into it, and its current type
-  abbrev pub bind_label : (table : Table) → Env → ℕ → (want : Option Tree) → Place → Mark → List Finding → Bound
+  abbrev pub bind_label : (table : Table) → Env → ℕ → (want : Option Tree) → Place → Mark → List Note → Bound
   bind_label table env x want p mark found =
       let d = unwrap_or want mark.type in
       let flows = flows_of frame.context.bases mark (d ∷ []) in
@@ -136,7 +136,7 @@ module _ (frame : Frame) where
       }
 
   -- a value bound to a name, with its annotation if it is one that counts; what is reserved binds nothing
-  abbrev pub bind_value : Table → Env → Res → (annotation : Option Tree) → Expr → List Finding → Bound
+  abbrev pub bind_value : Table → Env → Res → (annotation : Option Tree) → Expr → List Note → Bound
   bind_value table env (res.Local x) annotation e found =
       let want = known (bound_type table x) annotation in
       bind_label table env x want (place_of e) (mark_in (at table env) want e) (found ++ finds_in (at table env) want e)
@@ -148,9 +148,9 @@ module _ (frame : Frame) where
   declared_alone table r t = table
 
   -- what is found at an annotation: E24 of a local that is bound already, else what is found in it
-  abbrev pub annotation_finds : (bound : Option Tree) → Name → Ann → List Finding
-  annotation_finds (Some d) n a = finding n.place E24 ∷ []
-  annotation_finds None n a = ann_findings frame.whole frame.context.bases a
+  abbrev pub annotation_finds : (bound : Option Tree) → Name → Ann → List Note
+  annotation_finds (Some d) n a = plain (finding n.place E24) ∷ []
+  annotation_finds None n a = map plain (ann_findings frame.whole frame.context.bases a)
 
   -- the declared type of the local that a name means, if it means one that is bound so far
   abbrev pub bound_name : Table → Res → Option Tree
@@ -158,7 +158,7 @@ module _ (frame : Frame) where
   bound_name table r = None
 
   -- a name annotated, with a value or alone
-  abbrev pub bind_annotated : Table → Env → Name → Ann → Option Expr → List Finding → Bound
+  abbrev pub bind_annotated : Table → Env → Name → Ann → Option Expr → List Note → Bound
   bind_annotated table env n a None found = record {
     table = declared_alone table (frame.context.resolve n.text) (read_ann frame.whole frame.context.bases a);
     env = env;
@@ -178,13 +178,13 @@ module _ (frame : Frame) where
   index_stores t = map store_index_member (members t)
 
   -- what is found at a store, and of the value: it flows into what the members take
-  abbrev pub stored_finds : Standing → List StoreOffer → Place → Expr → List Finding
+  abbrev pub stored_finds : Standing → List StoreOffer → Place → Expr → List Note
   stored_finds k offers p e =
       let want = only_type offers (stored_types offers) in
       codes_at p (store_codes offers) ++ (finds_in k want e ++ flows_at (place_of e) (flows_of frame.context.bases (mark_in k want e) (stored_types offers)))
 
   -- what is found in a store to a target that is no name: in the object, in the index and of its flow, and then of the value
-  abbrev pub store_finds : Standing → Target → Expr → List Finding
+  abbrev pub store_finds : Standing → Target → Expr → List Note
   store_finds k (to_name n) e = []
   store_finds k (to_attribute p o field) e = finds_in k None o ++ stored_finds k (attribute_stores field.text (mark_in k None o).type) p e
   store_finds k (to_index p o i) e =
@@ -192,7 +192,7 @@ module _ (frame : Frame) where
       finds_in k None o ++ (finds_in k None i ++ (flows_at (place_of i) (flows_of frame.context.bases (mark_in k None i) (store_index_types offers)) ++ stored_finds k offers p e))
 
   -- an assignment: a name is bound, any other target is stored to
-  abbrev pub assign_target : Table → Env → Target → Expr → List Finding → Bound
+  abbrev pub assign_target : Table → Env → Target → Expr → List Note → Bound
   assign_target table env (to_name n) e found = bind_value table env (frame.context.resolve n.text) None e found
   assign_target table env t e found = record { table = table; env = env; found = found ++ store_finds (at table env) t e }
 
@@ -209,13 +209,13 @@ module _ (frame : Frame) where
   item_of k e = values_item k e
 
   -- what is found in an iterable
-  abbrev pub iterable_finds : Standing → Expr → List Finding
+  abbrev pub iterable_finds : Standing → Expr → List Note
   iterable_finds k (call p (name n) arguments keywords) =
       if is_range (frame.context.resolve n.text) then range_finds k p (name n) arguments keywords else finds_in k None (call p (name n) arguments keywords)
   iterable_finds k e = finds_in k None e
 
   -- the target of a `for` bound to an item of this type, in the environment at the head
-  abbrev pub bind_item : Table → (head : Env) → Res → Place → Tree → List Finding → Bound
+  abbrev pub bind_item : Table → (head : Env) → Res → Place → Tree → List Note → Bound
   bind_item table head (res.Local x) p t found = bind_label table head x (bound_type table x) p (clean t) found
   bind_item table head r p t found = record { table = table; env = head; found = found }
 
@@ -226,12 +226,12 @@ module _ (frame : Frame) where
   -- ---- statements
 
   -- what is found in an expression that may be missing
-  abbrev pub option_finds : Standing → (want : Option Tree) → Option Expr → List Finding
+  abbrev pub option_finds : Standing → (want : Option Tree) → Option Expr → List Note
   option_finds k want None = []
   option_finds k want (Some e) = finds_in k want e
 
   -- what is found in a `return`: in its value, and of the flow into the return type; without a value None flows
-  abbrev pub return_finds : Standing → Place → Option Expr → List Finding
+  abbrev pub return_finds : Standing → Place → Option Expr → List Note
   return_finds k p None = flows_at p (flows_of frame.context.bases (clean NoneType) (frame.returned ∷ []))
   return_finds k p (Some e) = finds_in k (Some frame.returned) e ++ flows_at (place_of e) (flows_of frame.context.bases (mark_in k (Some frame.returned) e) (frame.returned ∷ []))
 
@@ -253,7 +253,7 @@ module _ (frame : Frame) where
 
   -- what a walk comes to over a statement from an environment, over a suite, and over branches
   abbrev mutual
-    pub step : Table → (env : Option Env) → (broken : Option Env) → List Finding → Stmt → Walk
+    pub step : Table → (env : Option Env) → (broken : Option Env) → List Note → Stmt → Walk
     -- no run comes to it: nothing is found, and what it binds first has Any
     step table None broken found s = record { table = unreached_names table (bound_by_stmt s); env = None; broken = broken; found = found }
     step table (Some env) broken found (pass p) = record { table = table; env = Some env; broken = broken; found = found }
@@ -323,23 +323,23 @@ enter resolve table env [] = (table, env)
 enter resolve table env (p ∷ ps) = let r = enter_name table env (resolve p.name) p.type in enter resolve r.0 r.1 ps
 
 -- E21 at this place: the end of the body can be reached, and None is not static to the return type
-abbrev pub end_finds : Bases → (returned : Tree) → Place → (out : Option Env) → List Finding
+abbrev pub end_finds : Bases → (returned : Tree) → Place → (out : Option Env) → List Note
 end_finds bases returned p None = []
-end_finds bases returned p (Some env) = if static_test bases NoneType returned then [] else finding p E21 ∷ []
+end_finds bases returned p (Some env) = if static_test bases NoneType returned then [] else plain (finding p E21) ∷ []
 
 -- what the statements of a function stand in
 abbrev pub frame_of : Module → (constants : List Tree) → Owner → FuncDef → Frame
 frame_of m constants owner f = record { whole = m; context = body_context m constants (locals owner f); returned = returned m f }
 
 -- the walk over the body of a function, from its entry
-abbrev pub walk_body : Module → (constants : List Tree) → Owner → FuncDef → List Finding → Walk
+abbrev pub walk_body : Module → (constants : List Tree) → Owner → FuncDef → List Note → Walk
 walk_body m constants owner f found =
     let frame = frame_of m constants owner f in
     let start = enter frame.context.resolve (none_assigned (length (locals owner f))) (none_assigned (length (locals owner f))) (entries_of m owner f) in
     walk_suite frame (record { table = start.0; env = Some start.1; broken = None; found = found }) f.body
 
 -- what was found, and then what is found in the body of a function, and E21 at its name
-abbrev pub function_finds : Module → (constants : List Tree) → Owner → FuncDef → List Finding → List Finding
+abbrev pub function_finds : Module → (constants : List Tree) → Owner → FuncDef → List Note → List Note
 function_finds m constants owner f found =
     let body = walk_body m constants owner f found in
     body.found ++ end_finds (bases_of m) (returned m f) f.name.place body.env

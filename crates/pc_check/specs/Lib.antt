@@ -2,6 +2,7 @@ pub mod Agreement
 pub mod Checking
 pub mod ComputedModules
 pub mod ComputedStatements
+pub mod DynamicFlows
 pub mod Entering
 pub mod Labelled
 pub mod ModuleLaw

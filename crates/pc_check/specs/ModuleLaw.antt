@@ -6,6 +6,7 @@ use Rattle.pc_tree.specs.declared.code.Finding.{Finding}
 use Rattle.pc_tree.specs.Tree.{Module}
 use Rattle.pc_scope.specs.Findings.{ScopeFinds}
 use Rattle.pc_class.specs.Findings.{ClassFinds}
+use Rattle.pc_notes.specs.Notes.{Note, findings_of}
 use Rattle.pc_expr.specs.SignaturesFound.{constants_of}
 use Rattle.pc_check.specs.Modules.{Labelling, IsLawful, LabelsSay, LabelsFind, IsFinding, constant_types}
 use Rattle.pc_check.specs.ComputedModules.{module_finds}
@@ -17,12 +18,12 @@ ConstantsHaveTheTypesOfLabels = (m : Module) (marks : Labelling m) → IsLawful 
 
 -- behind what was found, just what any lawful labelling says is found of the module, but for what is found of scopes
 abbrev pub ModulesFindWhatLabelsSay : Type 0
-ModulesFindWhatLabelsSay = (m : Module) (marks : Labelling m) → IsLawful m marks → (found : List Finding) → Adds found (module_finds m found) (LabelsSay m marks)
+ModulesFindWhatLabelsSay = (m : Module) (marks : Labelling m) → IsLawful m marks → (found : List Note) → Adds found (module_finds m found) (LabelsSay m marks)
 
 -- where nothing was found before, just what is found under any lawful labelling
 abbrev pub ModulesFindWhatLabelsFind : Type 0
-ModulesFindWhatLabelsFind = (m : Module) (marks : Labelling m) → IsLawful m marks → (f : Finding) → Contains (module_finds m []) f ↔ LabelsFind m marks f
+ModulesFindWhatLabelsFind = (m : Module) (marks : Labelling m) → IsLawful m marks → (f : Finding) → Contains (findings_of (module_finds m [])) f ↔ LabelsFind m marks f
 
 -- the findings of a module are what is found of scopes, what is found of classes, and this list, and no others
 abbrev pub FindingsOfModulesAreComputed : Type 0
-FindingsOfModulesAreComputed = (m : Module) (f : Finding) → IsFinding m f ↔ (ScopeFinds m f ⊎ (ClassFinds m f ⊎ Contains (module_finds m []) f))
+FindingsOfModulesAreComputed = (m : Module) (f : Finding) → IsFinding m f ↔ (ScopeFinds m f ⊎ (ClassFinds m f ⊎ Contains (findings_of (module_finds m [])) f))

@@ -1,6 +1,6 @@
 -- The lawful labelling of statements, and what is found in them.
 -- Language Reference 3.12, 7 "Simple statements", 8 "Compound statements"; own rules of the profile.
-use Rattle.std.specs.Prelude.{◌≡◌, ◌⊎◌, ℕ, List, [], ◌∷◌, ◌++◌, map, Bool as Test, true, false, not, if◌then◌else◌, nat_eq, Option, Some, None, option_to_list}
+use Rattle.std.specs.Prelude.{◌≡◌, ◌⊎◌, ℕ, List, [], ◌∷◌, ◌++◌, map, Bool as Test, true, false, not, nat_eq, Option, Some, None, option_to_list}
 use Rattle.std.specs.List.{list_any}
 use Rattle.pc_source.specs.declared.place.Place.{Place}
 use Rattle.pc_tree.specs.declared.code.Code.{Code}

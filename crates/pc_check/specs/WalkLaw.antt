@@ -16,6 +16,7 @@ use Rattle.pc_class.specs.Bases.{bases_of}
 use Rattle.pc_flow.specs.Agreement.{SameWhere}
 use Rattle.pc_flow.specs.Environment.{Env, declared_type, join_envs_onto}
 use Rattle.pc_flow.specs.WellFormed.{AreWellFormed, IsWellFormedEnv}
+use Rattle.pc_notes.specs.Notes.{Note, findings_of}
 use Rattle.pc_expr.specs.Labels.{is_of_scopes, IsCodeAt}
 use Rattle.pc_expr.specs.Signatures.{body_context}
 use Rattle.pc_check.specs.StatementLabels.{StmtMarks, SuiteMarks, breaks_in, breaks_in_suite}
@@ -51,12 +52,12 @@ with_breaks bases declared None envs = None
 with_breaks bases declared (Some way) envs = Some (join_envs_onto bases declared way envs)
 
 -- more was found: just what is said, but for what is found of scopes
-abbrev pub Adds : (before after : List Finding) → (Says : Finding → Type 0) → Type 0
-Adds before after Says = (f : Finding) → Contains after f ↔ (Contains before f ⊎ (Says f × (is_of_scopes f.code ≡ false)))
+abbrev pub Adds : (before after : List Note) → (Says : Finding → Type 0) → Type 0
+Adds before after Says = (f : Finding) → Contains (findings_of after) f ↔ (Contains (findings_of before) f ⊎ (Says f × (is_of_scopes f.code ≡ false)))
 
 -- A walk has come to what labels say: from a table to one that fits behind these names, to this environment, with these `break`s
 -- joined, and with what is said found; and what fitted the table before fits the one behind.
-pub record WalkSays (setting : Setting) (declared : List Tree) (seen : Seen) (table : Table) (broken : Option Env) (found : List Finding) (w : Walk) (out : Option Env) (breaks : List Env) (Says : Finding → Type 0) : Type 0 where
+pub record WalkSays (setting : Setting) (declared : List Tree) (seen : Seen) (table : Table) (broken : Option Env) (found : List Note) (w : Walk) (out : Option Env) (breaks : List Env) (Says : Finding → Type 0) : Type 0 where
   pub fits : TableFits setting declared seen w.table
   pub grows : (env : Env) → EnvFits setting declared table env → EnvFits setting declared w.table env
   pub env_is : w.env ≡ out
@@ -69,7 +70,7 @@ pub record WalkSays (setting : Setting) (declared : List Tree) (seen : Seen) (ta
 abbrev pub WalksOfStatementsSayWhatLabelsSay : Type 0
 WalksOfStatementsSayWhatLabelsSay =
     (setting : Setting) (returned : Tree) → IsWellFormed setting.context.bases returned →
-    (declared : List Tree) (seen : Seen) (table : Table) (env : Env) (broken : Option Env) (found : List Finding) →
+    (declared : List Tree) (seen : Seen) (table : Table) (env : Env) (broken : Option Env) (found : List Note) →
     TableFits setting declared seen table → EnvFits setting declared table env → OutFits setting declared table broken →
     (s : Stmt) (marks : StmtMarks s) (out : Option Env) → LawfulStmt setting.whole setting.context declared returned seen env s marks out →
     WalkSays setting declared (texts (bound_by_stmt s) ++ seen) table broken found (step (frame_in setting returned) table (Some env) broken found s) out (breaks_in s marks) (StmtFinds setting.whole setting.context seen s marks)
@@ -78,7 +79,7 @@ WalksOfStatementsSayWhatLabelsSay =
 abbrev pub WalksOfSuitesSayWhatLabelsSay : Type 0
 WalksOfSuitesSayWhatLabelsSay =
     (setting : Setting) (returned : Tree) → IsWellFormed setting.context.bases returned →
-    (declared : List Tree) (seen : Seen) (table : Table) (env : Env) (broken : Option Env) (found : List Finding) →
+    (declared : List Tree) (seen : Seen) (table : Table) (env : Env) (broken : Option Env) (found : List Note) →
     TableFits setting declared seen table → EnvFits setting declared table env → OutFits setting declared table broken →
     (b : Stmts) (marks : SuiteMarks b) (out : Option Env) → LawfulSuite setting.whole setting.context declared returned seen env b marks out →
     WalkSays setting declared (texts (bound_by b) ++ seen) table broken found (walk_suite (frame_in setting returned) (record { table = table; env = Some env; broken = broken; found = found }) b) out (breaks_in_suite b marks) (SuiteFinds setting.whole setting.context seen b marks)
@@ -92,4 +93,4 @@ BodySays m constants owner f marks g =
 abbrev pub BodiesFindWhatLabelsSay : Type 0
 BodiesFindWhatLabelsSay =
     (m : Module) (constants : List Tree) → AreWellFormed (bases_of m) constants → (owner : Owner) (f : FuncDef) (marks : FunctionMarks f) → LawfulFunction m constants owner f marks →
-    (found : List Finding) → Adds found (function_finds m constants owner f found) (BodySays m constants owner f marks)
+    (found : List Note) → Adds found (function_finds m constants owner f found) (BodySays m constants owner f marks)

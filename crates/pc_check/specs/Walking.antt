@@ -2,7 +2,6 @@
 -- Own rule of the profile.
 use Rattle.std.specs.Prelude.{◌≡◌, ℕ, List, [], ◌∷◌, All, map, filter_map, true, Option, Some, None, slice_index_or}
 use Rattle.std.specs.Option.{option_map}
-use Rattle.pc_tree.specs.declared.code.Finding.{Finding}
 use Rattle.pc_tree.specs.Tree.{Name, module_of}
 use Rattle.pc_scope.specs.declared.resolution.Res.{Res}
 use Rattle.pc_scope.specs.declared.resolution.Res.TheVariants as res
@@ -14,6 +13,7 @@ use Rattle.pc_class.specs.Tables.{HasEntries, classes_with}
 use Rattle.pc_flow.specs.WellFormed.{IsWellFormedEnv}
 use Rattle.pc_flow.specs.Narrowing.{as_local}
 use Rattle.pc_flow.specs.Stored.{HasEach, env_of}
+use Rattle.pc_notes.specs.Notes.{Note}
 use Rattle.pc_expr.specs.Operations.{Mark}
 use Rattle.pc_expr.specs.Context.{Context}
 use Rattle.pc_expr.specs.Standing.{HasSignature, IsMark, signature_with}
@@ -70,15 +70,15 @@ pub record HoldsFrame {Ty R : Type 0} (has : Ty → Type 0) (tree : Ty → Tree)
 
 module _ {Ty : Type 0} (tree : Ty → Tree) where
   -- what a walk has come to: the declared types, an environment if a run comes here, the way out of a loop, and what was found
-  abbrev pub walk_with : (declared : List (Option Ty)) → (env broken : Option (List (Option Ty))) → List Finding → Walk
+  abbrev pub walk_with : (declared : List (Option Ty)) → (env broken : Option (List (Option Ty))) → List Note → Walk
   walk_with declared env broken found = record { table = env_of tree declared; env = option_map (env_of tree) env; broken = option_map (env_of tree) broken; found = found }
 
   -- what a name bound comes to
-  abbrev pub bound_with : (declared env : List (Option Ty)) → List Finding → Bound
+  abbrev pub bound_with : (declared env : List (Option Ty)) → List Note → Bound
   bound_with declared env found = record { table = env_of tree declared; env = env_of tree env; found = found }
 
   -- what a walk over branches has come to
-  abbrev pub forked_with : (declared last : List (Option Ty)) → (ways broken : Option (List (Option Ty))) → List Finding → Forked
+  abbrev pub forked_with : (declared last : List (Option Ty)) → (ways broken : Option (List (Option Ty))) → List Note → Forked
   forked_with declared last ways broken found = record {
     table = env_of tree declared;
     last = env_of tree last;
@@ -99,20 +99,20 @@ module _ {Store Ty : Type 0} (has : Store → Ty → Type 0) (tree : Ty → Tree
     pub is : env_of tree types ≡ env
 
   -- a walk has come to this
-  pub record GivesWalk (store : Store) (declared : List (Option Ty)) (env broken : Option (List (Option Ty))) (found : List Finding) (w : Walk) : Type 0 where
+  pub record GivesWalk (store : Store) (declared : List (Option Ty)) (env broken : Option (List (Option Ty))) (found : List Note) (w : Walk) : Type 0 where
     pub declared_holds : HoldsTypes (has store) tree bases declared
     pub env_holds : HoldsTypesIfAny (has store) tree bases env
     pub broken_holds : HoldsTypesIfAny (has store) tree bases broken
     pub is : walk_with tree declared env broken found ≡ w
 
   -- a name bound has come to this
-  pub record GivesBound (store : Store) (declared env : List (Option Ty)) (found : List Finding) (b : Bound) : Type 0 where
+  pub record GivesBound (store : Store) (declared env : List (Option Ty)) (found : List Note) (b : Bound) : Type 0 where
     pub declared_holds : HoldsTypes (has store) tree bases declared
     pub env_holds : HoldsTypes (has store) tree bases env
     pub is : bound_with tree declared env found ≡ b
 
   -- a walk over branches has come to this
-  pub record GivesForked (store : Store) (declared last : List (Option Ty)) (ways broken : Option (List (Option Ty))) (found : List Finding) (w : Forked) : Type 0 where
+  pub record GivesForked (store : Store) (declared last : List (Option Ty)) (ways broken : Option (List (Option Ty))) (found : List Note) (w : Forked) : Type 0 where
     pub declared_holds : HoldsTypes (has store) tree bases declared
     pub last_holds : HoldsTypes (has store) tree bases last
     pub ways_holds : HoldsTypesIfAny (has store) tree bases ways

@@ -7,6 +7,7 @@ ghost use Rattle.pc_types.specs.Tree.{Tree};
 ghost use Rattle.pc_types.specs.Store.{Keeps, Means};
 ghost use Rattle.pc_types.specs.Annotations.{read_ann};
 ghost use Rattle.pc_flow.specs.Stored.{env_of, HasOne, HasEach, GivesOne};
+ghost use Rattle.pc_notes.specs.Notes.{notes_of};
 ghost use Rattle.pc_expr.specs.Operations.{Mark};
 ghost use Rattle.pc_expr.specs.Found.{brief};
 ghost use Rattle.pc_expr.specs.Standing.{mark_with};
@@ -18,9 +19,10 @@ use crate::typing::{flow_in, type_in};
 use pc_ann::read_ann;
 use pc_expr::Label;
 use pc_flow::{DeclaredTypes, Env, Resolver, assigned_type};
+use pc_notes::Notes;
 use pc_scope::Res;
 use pc_source::{OutOfMemory, Place};
-use pc_tree::{Ann, Code, Expr, Finding, Findings, Name};
+use pc_tree::{Ann, Code, Expr, Name};
 use pc_types::TypeStore;
 use std::alloc::Global;
 
@@ -80,13 +82,13 @@ pub(crate) fn bind_label<S: TypeStore, R: Resolver>(
     want: Option<S::Ty>,
     place: Place,
     label: &Label<S::Ty>,
-    found: &mut Findings,
+    found: &mut Notes,
 ) -> Result<Env<S::Ty>, OutOfMemory>
     requires declared { HoldsTypes (S.has store.old) S.tree frame.now.parents.now declared.old }
     requires env { HoldsTypes (S.has store.old) S.tree frame.now.parents.now env }
     requires want { HoldsTypeIfAny (S.has store.old) S.tree frame.now.parents.now want }
     requires label { HoldsType (S.has store.old) S.tree frame.now.parents.now label.now.ty }
-    ensures bound { (m : Mark) → mark_with S.tree label.now ≡ brief m → IfOk result (λ e. GivesBound S.has S.tree frame.now.parents.now store.new declared.new e found.new.items (bind_label (frame_with S.tree R.meaning frame.now) (env_of S.tree declared.old) (env_of S.tree env) local (option_map S.tree want) place m found.old.items)) }
+    ensures bound { (m : Mark) → mark_with S.tree label.now ≡ brief m → IfOk result (λ e. GivesBound S.has S.tree frame.now.parents.now store.new declared.new e (notes_of found.new) (bind_label (frame_with S.tree R.meaning frame.now) (env_of S.tree declared.old) (env_of S.tree env) local (option_map S.tree want) place m (notes_of found.old))) }
     ensures kept { Keeps S.has store.old store.new }
 {
     let ty = type_or(store, alloc, want, &label.ty)?;
@@ -108,13 +110,13 @@ pub(crate) fn bind_value<S: TypeStore, R: Resolver>(
     meaning: Res,
     annotation: Option<S::Ty>,
     e: &Expr,
-    found: &mut Findings,
+    found: &mut Notes,
 ) -> Result<Env<S::Ty>, OutOfMemory>
     requires frame { HoldsFrame (S.has store.old) S.tree R.meaning frame.now }
     requires declared { HoldsTypes (S.has store.old) S.tree frame.now.parents.now declared.old }
     requires env { HoldsTypes (S.has store.old) S.tree frame.now.parents.now env }
     requires annotation { HoldsTypeIfAny (S.has store.old) S.tree frame.now.parents.now annotation }
-    ensures bound { IfOk result (λ b. GivesBound S.has S.tree frame.now.parents.now store.new declared.new b found.new.items (bind_value (frame_with S.tree R.meaning frame.now) (env_of S.tree declared.old) (env_of S.tree env) meaning (option_map S.tree annotation) (expr_of e.now) found.old.items)) }
+    ensures bound { IfOk result (λ b. GivesBound S.has S.tree frame.now.parents.now store.new declared.new b (notes_of found.new) (bind_value (frame_with S.tree R.meaning frame.now) (env_of S.tree declared.old) (env_of S.tree env) meaning (option_map S.tree annotation) (expr_of e.now) (notes_of found.old))) }
     ensures kept { Keeps S.has store.old store.new }
 {
     match meaning {
@@ -161,29 +163,28 @@ fn annotated_type<S: TypeStore, R: Resolver>(
     meaning: Res,
     name: &Name,
     annotation: &Ann,
-    found: &mut Findings,
+    found: &mut Notes,
 ) -> Result<Option<S::Ty>, OutOfMemory>
     requires frame { HoldsFrame (S.has store.old) S.tree R.meaning frame.now }
     ensures typed { IfOk result (λ t. HoldsTypeIfAny (S.has store.new) S.tree frame.now.parents.now t × (option_map S.tree t ≡ annotation_unless (bound_name (frame_with S.tree R.meaning frame.now) (env_of S.tree declared.now) meaning) (read_ann (module_of frame.now.tree.now) frame.now.parents.now (ann_of annotation.now)))) }
-    ensures pushed { OnOk result (found.new.items ≡ found.old.items ++ annotation_finds (frame_with S.tree R.meaning frame.now) (bound_name (frame_with S.tree R.meaning frame.now) (env_of S.tree declared.now) meaning) (name_of name.now) (ann_of annotation.now)) }
+    ensures pushed { OnOk result (notes_of found.new ≡ notes_of found.old ++ annotation_finds (frame_with S.tree R.meaning frame.now) (bound_name (frame_with S.tree R.meaning frame.now) (env_of S.tree declared.now) meaning) (name_of name.now) (ann_of annotation.now)) }
     ensures kept { Keeps S.has store.old store.new }
 {
     if is_bound(declared, meaning) {
-        found.push(Finding {
-            place: name.place,
-            code: Code::E24,
-        })?;
+        found.put(name.place, Code::E24)?;
         return Ok(None);
     }
+    let mut in_it = Vec::new(alloc);
     let ty = read_ann(
         store,
         alloc,
         frame.parents,
         frame.tree,
         frame.scopes,
-        found,
+        &mut in_it,
         annotation,
     )?;
+    found.put_all(&in_it)?;
     Ok(Some(ty))
 }
 
@@ -213,12 +214,12 @@ pub(crate) fn bind_annotated<S: TypeStore, R: Resolver>(
     name: &Name,
     annotation: &Ann,
     value: &Option<Expr>,
-    found: &mut Findings,
+    found: &mut Notes,
 ) -> Result<Env<S::Ty>, OutOfMemory>
     requires frame { HoldsFrame (S.has store.old) S.tree R.meaning frame.now }
     requires declared { HoldsTypes (S.has store.old) S.tree frame.now.parents.now declared.old }
     requires env { HoldsTypes (S.has store.old) S.tree frame.now.parents.now env }
-    ensures bound { IfOk result (λ b. GivesBound S.has S.tree frame.now.parents.now store.new declared.new b found.new.items (bind_annotated (frame_with S.tree R.meaning frame.now) (env_of S.tree declared.old) (env_of S.tree env) (name_of name.now) (ann_of annotation.now) (option_expr_of value.now) found.old.items)) }
+    ensures bound { IfOk result (λ b. GivesBound S.has S.tree frame.now.parents.now store.new declared.new b (notes_of found.new) (bind_annotated (frame_with S.tree R.meaning frame.now) (env_of S.tree declared.old) (env_of S.tree env) (name_of name.now) (ann_of annotation.now) (option_expr_of value.now) (notes_of found.old))) }
     ensures kept { Keeps S.has store.old store.new }
 {
     let meaning = frame.names.resolve(name.text.as_str());

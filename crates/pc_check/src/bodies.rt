@@ -3,6 +3,7 @@ ghost use Rattle.std.specs.Option.{option_copied};
 ghost use Rattle.pc_tree.specs.Tree.{func_of};
 ghost use Rattle.pc_scope.specs.Resolution.{function_of};
 ghost use Rattle.pc_types.specs.Store.{Keeps};
+ghost use Rattle.pc_notes.specs.Notes.{notes_of};
 ghost use Rattle.pc_expr.specs.Signatures.{signature_of};
 ghost use Rattle.pc_expr.specs.SignaturesFound.{constants_of};
 ghost use Rattle.pc_expr.specs.Standing.{HasSignature, signature_with};
@@ -14,9 +15,10 @@ use crate::frame::Frame;
 use pc_class::ClassTable;
 use pc_expr::{Signature, Sigs};
 use pc_flow::OwnerNames;
+use pc_notes::Notes;
 use pc_scope::{Owner, Scopes};
 use pc_source::OutOfMemory;
-use pc_tree::{Findings, FuncDef, Module};
+use pc_tree::{FuncDef, Module};
 use pc_types::{Parents, TypeStore};
 use std::alloc::Global;
 
@@ -52,13 +54,13 @@ fn check_body<S: TypeStore>(
     owner: Owner,
     signature: &Signature<S::Ty>,
     def: &FuncDef,
-    found: &mut Findings,
+    found: &mut Notes,
 ) -> Result<(), OutOfMemory>
     requires setting { IsModuleSetting (S.has store.old) S.tree setting.now }
     requires owner { function_of (module_in setting.now) owner ≡ Some (func_of def.now) }
     requires given { HasSignature (S.has store.old) signature.now }
     requires signature { signature_with S.tree signature.now ≡ signature_of (module_in setting.now) (func_of def.now) }
-    ensures pushed { OnOk result (found.new.items ≡ function_finds (module_in setting.now) (constants_of (module_in setting.now)) owner (func_of def.now) found.old.items) }
+    ensures pushed { OnOk result (notes_of found.new ≡ function_finds (module_in setting.now) (constants_of (module_in setting.now)) owner (func_of def.now) (notes_of found.old)) }
     ensures kept { Keeps S.has store.old store.new }
 {
     let names = OwnerNames {
@@ -97,11 +99,11 @@ pub(crate) fn check_owned<S: TypeStore>(
     setting: &ModuleSetting<'_, S::Ty>,
     owner: Owner,
     def: &FuncDef,
-    found: &mut Findings,
+    found: &mut Notes,
 ) -> Result<(), OutOfMemory>
     requires setting { IsModuleSetting (S.has store.old) S.tree setting.now }
     requires owner { function_of (module_in setting.now) owner ≡ Some (func_of def.now) }
-    ensures pushed { OnOk result (found.new.items ≡ function_finds (module_in setting.now) (constants_of (module_in setting.now)) owner (func_of def.now) found.old.items) }
+    ensures pushed { OnOk result (notes_of found.new ≡ function_finds (module_in setting.now) (constants_of (module_in setting.now)) owner (func_of def.now) (notes_of found.old)) }
     ensures kept { Keeps S.has store.old store.new }
 {
     match signature_for(setting.signatures, owner) {

@@ -8,6 +8,7 @@ ghost use Rattle.pc_types.specs.Store.{Keeps};
 ghost use Rattle.pc_class.specs.Tables.{HasParameter, parameters_with};
 ghost use Rattle.pc_class.specs.Facts.{parameters_of};
 ghost use Rattle.pc_flow.specs.Stored.{env_of};
+ghost use Rattle.pc_notes.specs.Notes.{notes_of};
 ghost use Rattle.pc_check.specs.Modules.{receiver_parameter};
 ghost use Rattle.pc_check.specs.ComputedStatements.{frame_of, function_finds, enter, enter_name, end_finds};
 ghost use Rattle.pc_check.specs.Walking.{frame_with, HoldsFrame, HoldsType, HoldsTypes};
@@ -17,9 +18,10 @@ use crate::frame::Frame;
 use crate::statements::check_suite;
 use pc_class::Parameter;
 use pc_flow::{DeclaredTypes, Env, Resolver};
+use pc_notes::Notes;
 use pc_scope::{Owner, Res};
 use pc_source::{OutOfMemory, Place};
-use pc_tree::{Code, Finding, Findings, FuncDef};
+use pc_tree::{Code, FuncDef};
 use pc_types::{Parents, TypeStore};
 use std::alloc::Global;
 
@@ -117,10 +119,10 @@ fn find_end<S: TypeStore>(
     returned: &S::Ty,
     name: Place,
     out: &Option<Env<S::Ty>>,
-    found: &mut Findings,
+    found: &mut Notes,
 ) -> Result<(), OutOfMemory>
     requires { S.has store.old returned.now }
-    ensures pushed { OnOk result (found.new.items ≡ found.old.items ++ end_finds parents.now (S.tree returned.now) name (option_map (env_of S.tree) out.now)) }
+    ensures pushed { OnOk result (notes_of found.new ≡ notes_of found.old ++ end_finds parents.now (S.tree returned.now) name (option_map (env_of S.tree) out.now)) }
     ensures kept { Keeps S.has store.old store.new }
 {
     if out.is_none() {
@@ -130,10 +132,7 @@ fn find_end<S: TypeStore>(
     if store.is_static(parents, &none, returned) {
         return Ok(());
     }
-    found.push(Finding {
-        place: name,
-        code: Code::E21,
-    })?;
+    found.put(name, Code::E21)?;
     Ok(())
 }
 
@@ -147,14 +146,14 @@ pub(crate) fn check_function<S: TypeStore, R: Resolver>(
     count: usize,
     params: &[Parameter<S::Ty>],
     def: &FuncDef,
-    found: &mut Findings,
+    found: &mut Notes,
 ) -> Result<(), OutOfMemory>
     requires frame { HoldsFrame (S.has store.old) S.tree R.meaning frame.now }
     requires body { frame_with S.tree R.meaning frame.now ≡ frame_of (module_of frame.now.tree.now) (map S.tree frame.now.constants.now) owner (func_of def.now) }
     requires count { count ≡ length (locals owner (func_of def.now)) }
     requires given { All (HasParameter (S.has store.old)) params.now }
     requires params { parameters_with S.tree params.now ≡ parameters_of (module_of frame.now.tree.now) (func_of def.now).params }
-    ensures pushed { OnOk result (found.new.items ≡ function_finds (module_of frame.now.tree.now) (map S.tree frame.now.constants.now) owner (func_of def.now) found.old.items) }
+    ensures pushed { OnOk result (notes_of found.new ≡ function_finds (module_of frame.now.tree.now) (map S.tree frame.now.constants.now) owner (func_of def.now) (notes_of found.old)) }
     ensures kept { Keeps S.has store.old store.new }
 {
     let mut declared = DeclaredTypes::new(alloc, count)?;

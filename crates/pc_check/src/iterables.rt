@@ -7,6 +7,7 @@ ghost use Rattle.pc_tree.specs.Lists.{exprs_of_list, keywords_of_list};
 ghost use Rattle.pc_tree.specs.Depth.{place_of};
 ghost use Rattle.pc_types.specs.Store.{Keeps};
 ghost use Rattle.pc_flow.specs.Stored.{env_of};
+ghost use Rattle.pc_notes.specs.Notes.{notes_of};
 ghost use Rattle.pc_expr.specs.Found.{codes_at};
 ghost use Rattle.pc_expr.specs.Standing.{finds_in};
 ghost use Rattle.pc_check.specs.ComputedStatements.{at, item_of, values_item, iterable_finds};
@@ -17,8 +18,9 @@ use crate::frame::Frame;
 use crate::typing::type_in;
 use pc_expr::{Label, Setting, find_codes, is_range, item_label, type_range};
 use pc_flow::{DeclaredTypes, Env, Resolver};
+use pc_notes::Notes;
 use pc_source::{OutOfMemory, Place};
-use pc_tree::{Expr, Findings, KeywordArgument};
+use pc_tree::{Expr, KeywordArgument};
 use pc_types::TypeStore;
 use std::alloc::Global;
 
@@ -67,13 +69,13 @@ fn label_values<S: TypeStore, R: Resolver>(
     declared: &DeclaredTypes<S::Ty>,
     env: &Env<S::Ty>,
     iterable: &Expr,
-    found: &mut Findings,
+    found: &mut Notes,
 ) -> Result<Label<S::Ty>, OutOfMemory>
     requires frame { HoldsFrame (S.has store.old) S.tree R.meaning frame.now }
     requires declared { HoldsTypes (S.has store.old) S.tree frame.now.parents.now declared.now }
     requires env { HoldsTypes (S.has store.old) S.tree frame.now.parents.now env.now }
     ensures labelled { IfOk result (λ l. GivesLabel S.has S.tree frame.now.parents.now store.new l (values_item (frame_with S.tree R.meaning frame.now) (at (frame_with S.tree R.meaning frame.now) (env_of S.tree declared.now) (env_of S.tree env.now)) (expr_of iterable.now))) }
-    ensures pushed { OnOk result (found.new.items ≡ found.old.items ++ finds_in (at (frame_with S.tree R.meaning frame.now) (env_of S.tree declared.now) (env_of S.tree env.now)) None (expr_of iterable.now)) }
+    ensures pushed { OnOk result (notes_of found.new ≡ notes_of found.old ++ finds_in (at (frame_with S.tree R.meaning frame.now) (env_of S.tree declared.now) (env_of S.tree env.now)) None (expr_of iterable.now)) }
     ensures kept { Keeps S.has store.old store.new }
 {
     let label = type_in(store, alloc, frame, declared, env, &None, iterable, found)?;
@@ -88,14 +90,14 @@ fn label_range<S: TypeStore, R: Resolver>(
     declared: &DeclaredTypes<S::Ty>,
     env: &Env<S::Ty>,
     iterable: &RangeCall<'_>,
-    found: &mut Findings,
+    found: &mut Notes,
 ) -> Result<Label<S::Ty>, OutOfMemory>
     requires frame { HoldsFrame (S.has store.old) S.tree R.meaning frame.now }
     requires declared { HoldsTypes (S.has store.old) S.tree frame.now.parents.now declared.now }
     requires env { HoldsTypes (S.has store.old) S.tree frame.now.parents.now env.now }
     requires range { over_range (R.meaning frame.now.names.now) (call iterable.now.place (expr_of iterable.now.callee.now) (exprs_of_list iterable.now.arguments.now) (keywords_of_list iterable.now.by_name.now)) ≡ true }
     ensures labelled { IfOk result (λ l. GivesLabel S.has S.tree frame.now.parents.now store.new l (item_of (frame_with S.tree R.meaning frame.now) (at (frame_with S.tree R.meaning frame.now) (env_of S.tree declared.now) (env_of S.tree env.now)) (call iterable.now.place (expr_of iterable.now.callee.now) (exprs_of_list iterable.now.arguments.now) (keywords_of_list iterable.now.by_name.now)))) }
-    ensures pushed { OnOk result (found.new.items ≡ found.old.items ++ iterable_finds (frame_with S.tree R.meaning frame.now) (at (frame_with S.tree R.meaning frame.now) (env_of S.tree declared.now) (env_of S.tree env.now)) (call iterable.now.place (expr_of iterable.now.callee.now) (exprs_of_list iterable.now.arguments.now) (keywords_of_list iterable.now.by_name.now))) }
+    ensures pushed { OnOk result (notes_of found.new ≡ notes_of found.old ++ iterable_finds (frame_with S.tree R.meaning frame.now) (at (frame_with S.tree R.meaning frame.now) (env_of S.tree declared.now) (env_of S.tree env.now)) (call iterable.now.place (expr_of iterable.now.callee.now) (exprs_of_list iterable.now.arguments.now) (keywords_of_list iterable.now.by_name.now))) }
     ensures kept { Keeps S.has store.old store.new }
 {
     let setting = Setting {
@@ -129,13 +131,13 @@ fn label_item<S: TypeStore, R: Resolver>(
     declared: &DeclaredTypes<S::Ty>,
     env: &Env<S::Ty>,
     iterable: &Expr,
-    found: &mut Findings,
+    found: &mut Notes,
 ) -> Result<Label<S::Ty>, OutOfMemory>
     requires frame { HoldsFrame (S.has store.old) S.tree R.meaning frame.now }
     requires declared { HoldsTypes (S.has store.old) S.tree frame.now.parents.now declared.now }
     requires env { HoldsTypes (S.has store.old) S.tree frame.now.parents.now env.now }
     ensures labelled { IfOk result (λ l. GivesLabel S.has S.tree frame.now.parents.now store.new l (item_of (frame_with S.tree R.meaning frame.now) (at (frame_with S.tree R.meaning frame.now) (env_of S.tree declared.now) (env_of S.tree env.now)) (expr_of iterable.now))) }
-    ensures pushed { OnOk result (found.new.items ≡ found.old.items ++ iterable_finds (frame_with S.tree R.meaning frame.now) (at (frame_with S.tree R.meaning frame.now) (env_of S.tree declared.now) (env_of S.tree env.now)) (expr_of iterable.now)) }
+    ensures pushed { OnOk result (notes_of found.new ≡ notes_of found.old ++ iterable_finds (frame_with S.tree R.meaning frame.now) (at (frame_with S.tree R.meaning frame.now) (env_of S.tree declared.now) (env_of S.tree env.now)) (expr_of iterable.now)) }
     ensures kept { Keeps S.has store.old store.new }
 {
     match range_call(frame.names, iterable) {
@@ -152,13 +154,13 @@ pub(crate) fn item_type<S: TypeStore, R: Resolver>(
     declared: &DeclaredTypes<S::Ty>,
     env: &Env<S::Ty>,
     iterable: &Expr,
-    found: &mut Findings,
+    found: &mut Notes,
 ) -> Result<S::Ty, OutOfMemory>
     requires frame { HoldsFrame (S.has store.old) S.tree R.meaning frame.now }
     requires declared { HoldsTypes (S.has store.old) S.tree frame.now.parents.now declared.now }
     requires env { HoldsTypes (S.has store.old) S.tree frame.now.parents.now env.now }
     ensures typed { IfOk result (λ t. HoldsType (S.has store.new) S.tree frame.now.parents.now t × (S.tree t ≡ (item_of (frame_with S.tree R.meaning frame.now) (at (frame_with S.tree R.meaning frame.now) (env_of S.tree declared.now) (env_of S.tree env.now)) (expr_of iterable.now)).type)) }
-    ensures pushed { OnOk result (found.new.items ≡ (found.old.items ++ iterable_finds (frame_with S.tree R.meaning frame.now) (at (frame_with S.tree R.meaning frame.now) (env_of S.tree declared.now) (env_of S.tree env.now)) (expr_of iterable.now)) ++ codes_at (place_of (expr_of iterable.now)) (item_of (frame_with S.tree R.meaning frame.now) (at (frame_with S.tree R.meaning frame.now) (env_of S.tree declared.now) (env_of S.tree env.now)) (expr_of iterable.now)).codes) }
+    ensures pushed { OnOk result (notes_of found.new ≡ (notes_of found.old ++ iterable_finds (frame_with S.tree R.meaning frame.now) (at (frame_with S.tree R.meaning frame.now) (env_of S.tree declared.now) (env_of S.tree env.now)) (expr_of iterable.now)) ++ codes_at (place_of (expr_of iterable.now)) (item_of (frame_with S.tree R.meaning frame.now) (at (frame_with S.tree R.meaning frame.now) (env_of S.tree declared.now) (env_of S.tree env.now)) (expr_of iterable.now)).codes) }
     ensures kept { Keeps S.has store.old store.new }
 {
     let label = label_item(store, alloc, frame, declared, env, iterable, found)?;

@@ -5,6 +5,7 @@ ghost use Rattle.std.specs.Option.{option_map};
 ghost use Rattle.pc_tree.specs.Tree.{expr_of, option_expr_of};
 ghost use Rattle.pc_types.specs.Store.{Keeps};
 ghost use Rattle.pc_flow.specs.Stored.{env_of};
+ghost use Rattle.pc_notes.specs.Notes.{notes_of};
 ghost use Rattle.pc_expr.specs.Standing.{finds_in};
 ghost use Rattle.pc_check.specs.ComputedStatements.{at, narrowed_at, join_onto_way, with_way, return_finds, option_finds};
 ghost use Rattle.pc_check.specs.Walking.{frame_with, HoldsFrame, HoldsTypes, HoldsTypesIfAny, GivesTypes, GivesTypesIfAny};
@@ -13,8 +14,9 @@ use crate::frame::Frame;
 use crate::typing::{flow_in, join_in, narrow_in, type_in};
 use pc_expr::Label;
 use pc_flow::{BothWays, DeclaredTypes, Env, Resolver};
+use pc_notes::Notes;
 use pc_source::{OutOfMemory, Place};
-use pc_tree::{Expr, Findings};
+use pc_tree::Expr;
 use pc_types::TypeStore;
 use std::alloc::Global;
 
@@ -76,12 +78,12 @@ pub(crate) fn find_return<S: TypeStore, R: Resolver>(
     env: &Env<S::Ty>,
     first: Place,
     value: &Option<Expr>,
-    found: &mut Findings,
+    found: &mut Notes,
 ) -> Result<(), OutOfMemory>
     requires frame { HoldsFrame (S.has store.old) S.tree R.meaning frame.now }
     requires declared { HoldsTypes (S.has store.old) S.tree frame.now.parents.now declared.now }
     requires env { HoldsTypes (S.has store.old) S.tree frame.now.parents.now env.now }
-    ensures pushed { OnOk result (found.new.items ≡ found.old.items ++ return_finds (frame_with S.tree R.meaning frame.now) (at (frame_with S.tree R.meaning frame.now) (env_of S.tree declared.now) (env_of S.tree env.now)) first (option_expr_of value.now)) }
+    ensures pushed { OnOk result (notes_of found.new ≡ notes_of found.old ++ return_finds (frame_with S.tree R.meaning frame.now) (at (frame_with S.tree R.meaning frame.now) (env_of S.tree declared.now) (env_of S.tree env.now)) first (option_expr_of value.now)) }
     ensures kept { Keeps S.has store.old store.new }
 {
     match value {
@@ -127,12 +129,12 @@ fn find_option<S: TypeStore, R: Resolver>(
     declared: &DeclaredTypes<S::Ty>,
     env: &Env<S::Ty>,
     e: &Option<Expr>,
-    found: &mut Findings,
+    found: &mut Notes,
 ) -> Result<(), OutOfMemory>
     requires frame { HoldsFrame (S.has store.old) S.tree R.meaning frame.now }
     requires declared { HoldsTypes (S.has store.old) S.tree frame.now.parents.now declared.now }
     requires env { HoldsTypes (S.has store.old) S.tree frame.now.parents.now env.now }
-    ensures pushed { OnOk result (found.new.items ≡ found.old.items ++ option_finds (frame_with S.tree R.meaning frame.now) (at (frame_with S.tree R.meaning frame.now) (env_of S.tree declared.now) (env_of S.tree env.now)) None (option_expr_of e.now)) }
+    ensures pushed { OnOk result (notes_of found.new ≡ notes_of found.old ++ option_finds (frame_with S.tree R.meaning frame.now) (at (frame_with S.tree R.meaning frame.now) (env_of S.tree declared.now) (env_of S.tree env.now)) None (option_expr_of e.now)) }
     ensures kept { Keeps S.has store.old store.new }
 {
     match e {
@@ -154,13 +156,13 @@ pub(crate) fn check_assert<S: TypeStore, R: Resolver>(
     env: Env<S::Ty>,
     condition: &Expr,
     message: &Option<Expr>,
-    found: &mut Findings,
+    found: &mut Notes,
 ) -> Result<Env<S::Ty>, OutOfMemory>
     requires frame { HoldsFrame (S.has store.old) S.tree R.meaning frame.now }
     requires declared { HoldsTypes (S.has store.old) S.tree frame.now.parents.now declared.now }
     requires env { HoldsTypes (S.has store.old) S.tree frame.now.parents.now env }
     ensures behind { IfOk result (λ e. GivesTypes S.has S.tree frame.now.parents.now store.new e (narrowed_at (frame_with S.tree R.meaning frame.now) (env_of S.tree declared.now) true (expr_of condition.now) (env_of S.tree env))) }
-    ensures pushed { OnOk result (found.new.items ≡ (found.old.items ++ finds_in (at (frame_with S.tree R.meaning frame.now) (env_of S.tree declared.now) (env_of S.tree env)) None (expr_of condition.now)) ++ option_finds (frame_with S.tree R.meaning frame.now) (at (frame_with S.tree R.meaning frame.now) (env_of S.tree declared.now) (narrowed_at (frame_with S.tree R.meaning frame.now) (env_of S.tree declared.now) false (expr_of condition.now) (env_of S.tree env))) None (option_expr_of message.now)) }
+    ensures pushed { OnOk result (notes_of found.new ≡ (notes_of found.old ++ finds_in (at (frame_with S.tree R.meaning frame.now) (env_of S.tree declared.now) (env_of S.tree env)) None (expr_of condition.now)) ++ option_finds (frame_with S.tree R.meaning frame.now) (at (frame_with S.tree R.meaning frame.now) (env_of S.tree declared.now) (narrowed_at (frame_with S.tree R.meaning frame.now) (env_of S.tree declared.now) false (expr_of condition.now) (env_of S.tree env))) None (option_expr_of message.now)) }
     ensures kept { Keeps S.has store.old store.new }
 {
     type_in(store, alloc, frame, declared, &env, &None, condition, found)?;

@@ -4,6 +4,7 @@
 mod binding;
 mod bodies;
 mod entering;
+mod explaining;
 mod frame;
 mod iterables;
 mod laws;
@@ -17,6 +18,7 @@ mod targets;
 mod typing;
 mod unreached;
 
+pub use explaining::explain_flow;
 pub use laws::{
     every_module_has_a_labelling, every_module_has_exactly_one_labelling, findings_of_scopes,
     functions_have_labels, labels_agree_with_scopes, modules_find_what_labels_say, one_labelling,

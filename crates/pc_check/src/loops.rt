@@ -6,6 +6,7 @@ ghost use Rattle.pc_tree.specs.Tree.{Name as NameOf, name_of, stmts_of_list};
 ghost use Rattle.pc_tree.specs.Stopping.{bound_by};
 ghost use Rattle.pc_types.specs.Store.{Keeps};
 ghost use Rattle.pc_flow.specs.Stored.{env_of};
+ghost use Rattle.pc_notes.specs.Notes.{notes_of};
 ghost use Rattle.pc_expr.specs.Found.{codes_at};
 ghost use Rattle.pc_check.specs.ComputedStatements.{at, head_at, bind_item, item_of, iterable_finds};
 ghost use Rattle.pc_check.specs.Walking.{frame_with, HoldsFrame, HoldsType, HoldsTypes, GivesTypes, GivesBound, numbers_of};
@@ -16,9 +17,10 @@ use crate::locals::{add_bound, add_name, locals_of, marks_of};
 use crate::typing::head_in;
 use pc_expr::Label;
 use pc_flow::{DeclaredTypes, Env, Resolver};
+use pc_notes::Notes;
 use pc_scope::Res;
 use pc_source::{OutOfMemory, Place};
-use pc_tree::{Findings, Name, Stmt};
+use pc_tree::{Name, Stmt};
 use pc_types::TypeStore;
 use std::alloc::Global;
 
@@ -93,12 +95,12 @@ pub(crate) fn bind_item<S: TypeStore, R: Resolver>(
     target: &Name,
     place: Place,
     item: S::Ty,
-    found: &mut Findings,
+    found: &mut Notes,
 ) -> Result<Env<S::Ty>, OutOfMemory>
     requires declared { HoldsTypes (S.has store.old) S.tree frame.now.parents.now declared.old }
     requires head { HoldsTypes (S.has store.old) S.tree frame.now.parents.now head }
     requires item { HoldsType (S.has store.old) S.tree frame.now.parents.now item }
-    ensures bound { IfOk result (λ e. GivesBound S.has S.tree frame.now.parents.now store.new declared.new e found.new.items (bind_item (frame_with S.tree R.meaning frame.now) (env_of S.tree declared.old) (env_of S.tree head) (R.meaning frame.now.names.now (name_of target.now).text) place (S.tree item) found.old.items)) }
+    ensures bound { IfOk result (λ e. GivesBound S.has S.tree frame.now.parents.now store.new declared.new e (notes_of found.new) (bind_item (frame_with S.tree R.meaning frame.now) (env_of S.tree declared.old) (env_of S.tree head) (R.meaning frame.now.names.now (name_of target.now).text) place (S.tree item) (notes_of found.old))) }
     ensures kept { Keeps S.has store.old store.new }
 {
     match frame.names.resolve(target.text.as_str()) {

@@ -6,6 +6,7 @@ ghost use Rattle.pc_types.specs.Store.{Keeps};
 ghost use Rattle.pc_class.specs.Bases.{bases_of};
 ghost use Rattle.pc_class.specs.Facts.{classes_of};
 ghost use Rattle.pc_class.specs.Tables.{HasEntries, classes_with};
+ghost use Rattle.pc_notes.specs.Notes.{notes_of};
 ghost use Rattle.pc_expr.specs.SignaturesFound.{constants_of};
 ghost use Rattle.pc_check.specs.ComputedModules.{methods_find, bodies_find, module_finds};
 ghost use Rattle.pc_check.specs.Checking.{module_in, IsModuleSetting};
@@ -13,9 +14,10 @@ ghost use Rattle.pc_check.specs.Checking.{module_in, IsModuleSetting};
 use crate::bodies::{ModuleSetting, check_owned};
 use pc_class::ClassTable;
 use pc_expr::read_signatures;
+use pc_notes::Notes;
 use pc_scope::{Owner, Scopes};
 use pc_source::OutOfMemory;
-use pc_tree::{ClassDef, Findings, Item, ItemKind, Member, Module};
+use pc_tree::{ClassDef, Item, ItemKind, Member, Module};
 use pc_types::{Parents, TypeStore};
 use std::alloc::Global;
 
@@ -42,11 +44,11 @@ fn check_methods<S: TypeStore>(
     setting: &ModuleSetting<'_, S::Ty>,
     class: usize,
     def: &ClassDef,
-    found: &mut Findings,
+    found: &mut Notes,
 ) -> Result<(), OutOfMemory>
     requires setting { IsModuleSetting (S.has store.old) S.tree setting.now }
     requires class { slice_get (classes_in (module_in setting.now).items) class ≡ Some (class_of def.now) }
-    ensures pushed { OnOk result (found.new.items ≡ methods_find (module_in setting.now) (constants_of (module_in setting.now)) class 0 (class_of def.now).members found.old.items) }
+    ensures pushed { OnOk result (notes_of found.new ≡ methods_find (module_in setting.now) (constants_of (module_in setting.now)) class 0 (class_of def.now).members (notes_of found.old)) }
     ensures kept { Keeps S.has store.old store.new }
 {
     let mut methods = 0;
@@ -69,10 +71,10 @@ fn check_bodies<S: TypeStore>(
     store: &mut S,
     alloc: Global,
     setting: &ModuleSetting<'_, S::Ty>,
-    found: &mut Findings,
+    found: &mut Notes,
 ) -> Result<(), OutOfMemory>
     requires { IsModuleSetting (S.has store.old) S.tree setting.now }
-    ensures pushed { OnOk result (found.new.items ≡ bodies_find (module_in setting.now) (constants_of (module_in setting.now)) 0 0 (module_in setting.now).items found.old.items) }
+    ensures pushed { OnOk result (notes_of found.new ≡ bodies_find (module_in setting.now) (constants_of (module_in setting.now)) 0 0 (module_in setting.now).items (notes_of found.old)) }
     ensures kept { Keeps S.has store.old store.new }
 {
     let mut classes = 0;
@@ -106,13 +108,13 @@ pub fn check_module<S: TypeStore>(
     tree: &Module,
     scopes: &Scopes,
     classes: &ClassTable<S::Ty>,
-    found: &mut Findings,
+    found: &mut Notes,
 ) -> Result<(), OutOfMemory>
     requires scopes { AreScopes (module_of tree.now) scopes.now }
     requires parents { parents.now ≡ bases_of (module_of tree.now) }
     requires classes { classes_with S.tree classes.now ≡ classes_of (module_of tree.now) }
     requires entries { HasEntries (S.has store.old) classes.now }
-    ensures found { OnOk result (found.new.items ≡ module_finds (module_of tree.now) found.old.items) }
+    ensures found { OnOk result (notes_of found.new ≡ module_finds (module_of tree.now) (notes_of found.old)) }
     ensures kept { Keeps S.has store.old store.new }
 {
     let signatures = read_signatures(store, alloc, parents, tree, scopes, classes, found)?;

@@ -7,6 +7,7 @@ ghost use Rattle.pc_tree.specs.Tree.{expr_of, name_of, stmt_of, stmt_of_kind, st
 ghost use Rattle.pc_tree.specs.Lists.{branches_of_list, with_branch};
 ghost use Rattle.pc_types.specs.Store.{Keeps};
 ghost use Rattle.pc_flow.specs.Stored.{env_of};
+ghost use Rattle.pc_notes.specs.Notes.{notes_of};
 ghost use Rattle.pc_check.specs.ComputedStatements.{step, walk_suite, walk_branches, behind_branches};
 ghost use Rattle.pc_check.specs.Walking.{frame_with, walk_with, forked_with, HoldsFrame, HoldsTypes, HoldsTypesIfAny, GivesWalk, GivesForked};
 
@@ -19,8 +20,9 @@ use crate::targets::assign_target;
 use crate::typing::{narrow_in, type_in};
 use crate::unreached::declare_unreached;
 use pc_flow::{BothWays, DeclaredTypes, Env, Resolver, copy_env};
+use pc_notes::Notes;
 use pc_source::{OutOfMemory, Place};
-use pc_tree::{Branch, Expr, Findings, Name, Stmt, StmtKind};
+use pc_tree::{Branch, Expr, Name, Stmt, StmtKind};
 use pc_types::TypeStore;
 use std::alloc::Global;
 
@@ -42,13 +44,13 @@ pub(crate) fn check_suite<S: TypeStore, R: Resolver>(
     env: Option<Env<S::Ty>>,
     broken: &mut Option<Env<S::Ty>>,
     body: &[Stmt],
-    found: &mut Findings,
+    found: &mut Notes,
 ) -> Result<Option<Env<S::Ty>>, OutOfMemory>
     requires frame { HoldsFrame (S.has store.old) S.tree R.meaning frame.now }
     requires declared { HoldsTypes (S.has store.old) S.tree frame.now.parents.now declared.old }
     requires env { HoldsTypesIfAny (S.has store.old) S.tree frame.now.parents.now env }
     requires broken { HoldsTypesIfAny (S.has store.old) S.tree frame.now.parents.now broken.old }
-    ensures walked { IfOk result (λ out. GivesWalk S.has S.tree frame.now.parents.now store.new declared.new out broken.new found.new.items (walk_suite (frame_with S.tree R.meaning frame.now) (walk_with S.tree declared.old env broken.old found.old.items) (stmts_of_list body.now))) }
+    ensures walked { IfOk result (λ out. GivesWalk S.has S.tree frame.now.parents.now store.new declared.new out broken.new (notes_of found.new) (walk_suite (frame_with S.tree R.meaning frame.now) (walk_with S.tree declared.old env broken.old (notes_of found.old)) (stmts_of_list body.now))) }
     ensures kept { Keeps S.has store.old store.new }
 {
     let mut env = env;
@@ -68,13 +70,13 @@ fn check_next<S: TypeStore, R: Resolver>(
     env: Option<Env<S::Ty>>,
     broken: &mut Option<Env<S::Ty>>,
     statement: &Stmt,
-    found: &mut Findings,
+    found: &mut Notes,
 ) -> Result<Option<Env<S::Ty>>, OutOfMemory>
     requires frame { HoldsFrame (S.has store.old) S.tree R.meaning frame.now }
     requires declared { HoldsTypes (S.has store.old) S.tree frame.now.parents.now declared.old }
     requires env { HoldsTypesIfAny (S.has store.old) S.tree frame.now.parents.now env }
     requires broken { HoldsTypesIfAny (S.has store.old) S.tree frame.now.parents.now broken.old }
-    ensures walked { IfOk result (λ out. GivesWalk S.has S.tree frame.now.parents.now store.new declared.new out broken.new found.new.items (step (frame_with S.tree R.meaning frame.now) (env_of S.tree declared.old) (option_map (env_of S.tree) env) (option_map (env_of S.tree) broken.old) found.old.items (stmt_of statement.now))) }
+    ensures walked { IfOk result (λ out. GivesWalk S.has S.tree frame.now.parents.now store.new declared.new out broken.new (notes_of found.new) (step (frame_with S.tree R.meaning frame.now) (env_of S.tree declared.old) (option_map (env_of S.tree) env) (option_map (env_of S.tree) broken.old) (notes_of found.old) (stmt_of statement.now))) }
     ensures kept { Keeps S.has store.old store.new }
 {
     match env {
@@ -107,13 +109,13 @@ fn check_stmt<S: TypeStore, R: Resolver>(
     broken: &mut Option<Env<S::Ty>>,
     first: Place,
     kind: &StmtKind,
-    found: &mut Findings,
+    found: &mut Notes,
 ) -> Result<Option<Env<S::Ty>>, OutOfMemory>
     requires frame { HoldsFrame (S.has store.old) S.tree R.meaning frame.now }
     requires declared { HoldsTypes (S.has store.old) S.tree frame.now.parents.now declared.old }
     requires env { HoldsTypes (S.has store.old) S.tree frame.now.parents.now env }
     requires broken { HoldsTypesIfAny (S.has store.old) S.tree frame.now.parents.now broken.old }
-    ensures walked { IfOk result (λ out. GivesWalk S.has S.tree frame.now.parents.now store.new declared.new out broken.new found.new.items (step (frame_with S.tree R.meaning frame.now) (env_of S.tree declared.old) (Some (env_of S.tree env)) (option_map (env_of S.tree) broken.old) found.old.items (stmt_of_kind first kind.now))) }
+    ensures walked { IfOk result (λ out. GivesWalk S.has S.tree frame.now.parents.now store.new declared.new out broken.new (notes_of found.new) (step (frame_with S.tree R.meaning frame.now) (env_of S.tree declared.old) (Some (env_of S.tree env)) (option_map (env_of S.tree) broken.old) (notes_of found.old) (stmt_of_kind first kind.now))) }
     ensures kept { Keeps S.has store.old store.new }
 {
     match kind {
@@ -175,12 +177,12 @@ fn check_while<S: TypeStore, R: Resolver>(
     env: &Env<S::Ty>,
     body: &[Stmt],
     condition: &Expr,
-    found: &mut Findings,
+    found: &mut Notes,
 ) -> Result<Option<Env<S::Ty>>, OutOfMemory>
     requires frame { HoldsFrame (S.has store.old) S.tree R.meaning frame.now }
     requires declared { HoldsTypes (S.has store.old) S.tree frame.now.parents.now declared.old }
     requires env { HoldsTypes (S.has store.old) S.tree frame.now.parents.now env.now }
-    ensures walked { (p : PlaceOf) (broken : Option (List (Option S.Ty))) → HoldsTypesIfAny (S.has store.new) S.tree frame.now.parents.now broken → IfOk result (λ out. GivesWalk S.has S.tree frame.now.parents.now store.new declared.new out broken found.new.items (step (frame_with S.tree R.meaning frame.now) (env_of S.tree declared.old) (Some (env_of S.tree env.now)) (option_map (env_of S.tree) broken) found.old.items (while_loop p (expr_of condition.now) (stmts_of_list body.now)))) }
+    ensures walked { (p : PlaceOf) (broken : Option (List (Option S.Ty))) → HoldsTypesIfAny (S.has store.new) S.tree frame.now.parents.now broken → IfOk result (λ out. GivesWalk S.has S.tree frame.now.parents.now store.new declared.new out broken (notes_of found.new) (step (frame_with S.tree R.meaning frame.now) (env_of S.tree declared.old) (Some (env_of S.tree env.now)) (option_map (env_of S.tree) broken) (notes_of found.old) (while_loop p (expr_of condition.now) (stmts_of_list body.now)))) }
     ensures kept { Keeps S.has store.old store.new }
 {
     let head = while_start(store, alloc, frame, declared, env, body)?;
@@ -217,12 +219,12 @@ fn check_for<S: TypeStore, R: Resolver>(
     body: &[Stmt],
     name: &Name,
     iterable: &Expr,
-    found: &mut Findings,
+    found: &mut Notes,
 ) -> Result<Option<Env<S::Ty>>, OutOfMemory>
     requires frame { HoldsFrame (S.has store.old) S.tree R.meaning frame.now }
     requires declared { HoldsTypes (S.has store.old) S.tree frame.now.parents.now declared.old }
     requires env { HoldsTypes (S.has store.old) S.tree frame.now.parents.now env.now }
-    ensures walked { (p : PlaceOf) (broken : Option (List (Option S.Ty))) → HoldsTypesIfAny (S.has store.new) S.tree frame.now.parents.now broken → IfOk result (λ out. GivesWalk S.has S.tree frame.now.parents.now store.new declared.new out broken found.new.items (step (frame_with S.tree R.meaning frame.now) (env_of S.tree declared.old) (Some (env_of S.tree env.now)) (option_map (env_of S.tree) broken) found.old.items (for_loop p (name_of name.now) (expr_of iterable.now) (stmts_of_list body.now)))) }
+    ensures walked { (p : PlaceOf) (broken : Option (List (Option S.Ty))) → HoldsTypesIfAny (S.has store.new) S.tree frame.now.parents.now broken → IfOk result (λ out. GivesWalk S.has S.tree frame.now.parents.now store.new declared.new out broken (notes_of found.new) (step (frame_with S.tree R.meaning frame.now) (env_of S.tree declared.old) (Some (env_of S.tree env.now)) (option_map (env_of S.tree) broken) (notes_of found.old) (for_loop p (name_of name.now) (expr_of iterable.now) (stmts_of_list body.now)))) }
     ensures kept { Keeps S.has store.old store.new }
 {
     let item = item_type(store, alloc, frame, declared, env, iterable, found)?;
@@ -263,14 +265,14 @@ fn check_otherwise<S: TypeStore, R: Resolver>(
     fork: Fork<S::Ty>,
     broken: &mut Option<Env<S::Ty>>,
     otherwise: &[Stmt],
-    found: &mut Findings,
+    found: &mut Notes,
 ) -> Result<Option<Env<S::Ty>>, OutOfMemory>
     requires frame { HoldsFrame (S.has store.old) S.tree R.meaning frame.now }
     requires declared { HoldsTypes (S.has store.old) S.tree frame.now.parents.now declared.old }
     requires last { HoldsTypes (S.has store.old) S.tree frame.now.parents.now fork.last }
     requires ways { HoldsTypesIfAny (S.has store.old) S.tree frame.now.parents.now fork.ways }
     requires broken { HoldsTypesIfAny (S.has store.old) S.tree frame.now.parents.now broken.old }
-    ensures walked { IfOk result (λ out. GivesWalk S.has S.tree frame.now.parents.now store.new declared.new out broken.new found.new.items (behind_branches (frame_with S.tree R.meaning frame.now) (option_map (env_of S.tree) fork.ways) (walk_suite (frame_with S.tree R.meaning frame.now) (walk_with S.tree declared.old (Some fork.last) broken.old found.old.items) (stmts_of_list otherwise.now)))) }
+    ensures walked { IfOk result (λ out. GivesWalk S.has S.tree frame.now.parents.now store.new declared.new out broken.new (notes_of found.new) (behind_branches (frame_with S.tree R.meaning frame.now) (option_map (env_of S.tree) fork.ways) (walk_suite (frame_with S.tree R.meaning frame.now) (walk_with S.tree declared.old (Some fork.last) broken.old (notes_of found.old)) (stmts_of_list otherwise.now)))) }
     ensures kept { Keeps S.has store.old store.new }
 {
     let Fork { last, ways } = fork;
@@ -297,13 +299,13 @@ fn check_branches<S: TypeStore, R: Resolver>(
     env: Env<S::Ty>,
     broken: &mut Option<Env<S::Ty>>,
     branches: &[Branch],
-    found: &mut Findings,
+    found: &mut Notes,
 ) -> Result<Fork<S::Ty>, OutOfMemory>
     requires frame { HoldsFrame (S.has store.old) S.tree R.meaning frame.now }
     requires declared { HoldsTypes (S.has store.old) S.tree frame.now.parents.now declared.old }
     requires env { HoldsTypes (S.has store.old) S.tree frame.now.parents.now env }
     requires broken { HoldsTypesIfAny (S.has store.old) S.tree frame.now.parents.now broken.old }
-    ensures walked { IfOk result (λ f. GivesForked S.has S.tree frame.now.parents.now store.new declared.new f.last f.ways broken.new found.new.items (walk_branches (frame_with S.tree R.meaning frame.now) (forked_with S.tree declared.old env None broken.old found.old.items) (branches_of_list branches.now))) }
+    ensures walked { IfOk result (λ f. GivesForked S.has S.tree frame.now.parents.now store.new declared.new f.last f.ways broken.new (notes_of found.new) (walk_branches (frame_with S.tree R.meaning frame.now) (forked_with S.tree declared.old env None broken.old (notes_of found.old)) (branches_of_list branches.now))) }
     ensures kept { Keeps S.has store.old store.new }
 {
     let mut fork = Fork {
@@ -326,14 +328,14 @@ fn check_branch<S: TypeStore, R: Resolver>(
     fork: Fork<S::Ty>,
     broken: &mut Option<Env<S::Ty>>,
     branch: &Branch,
-    found: &mut Findings,
+    found: &mut Notes,
 ) -> Result<Fork<S::Ty>, OutOfMemory>
     requires frame { HoldsFrame (S.has store.old) S.tree R.meaning frame.now }
     requires declared { HoldsTypes (S.has store.old) S.tree frame.now.parents.now declared.old }
     requires last { HoldsTypes (S.has store.old) S.tree frame.now.parents.now fork.last }
     requires ways { HoldsTypesIfAny (S.has store.old) S.tree frame.now.parents.now fork.ways }
     requires broken { HoldsTypesIfAny (S.has store.old) S.tree frame.now.parents.now broken.old }
-    ensures walked { IfOk result (λ f. GivesForked S.has S.tree frame.now.parents.now store.new declared.new f.last f.ways broken.new found.new.items (walk_branches (frame_with S.tree R.meaning frame.now) (forked_with S.tree declared.old fork.last fork.ways broken.old found.old.items) (with_branch branch.now no_branches))) }
+    ensures walked { IfOk result (λ f. GivesForked S.has S.tree frame.now.parents.now store.new declared.new f.last f.ways broken.new (notes_of found.new) (walk_branches (frame_with S.tree R.meaning frame.now) (forked_with S.tree declared.old fork.last fork.ways broken.old (notes_of found.old)) (with_branch branch.now no_branches))) }
     ensures kept { Keeps S.has store.old store.new }
 {
     let Fork { last, ways } = fork;

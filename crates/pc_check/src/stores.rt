@@ -5,6 +5,7 @@ ghost use Rattle.pc_tree.specs.Tree.{expr_of, target_of, name_of, to_attribute, 
 ghost use Rattle.pc_types.specs.Store.{Keeps};
 ghost use Rattle.pc_flow.specs.WellFormed.{AreWellFormed};
 ghost use Rattle.pc_flow.specs.Stored.{env_of};
+ghost use Rattle.pc_notes.specs.Notes.{notes_of};
 ghost use Rattle.pc_expr.specs.Operations.{stored_types};
 ghost use Rattle.pc_expr.specs.Storing.{HasStoreOffer, store_offer_with};
 ghost use Rattle.pc_check.specs.ComputedStatements.{at, store_finds, stored_finds};
@@ -17,8 +18,9 @@ use pc_expr::{
     store_offers, stored_types,
 };
 use pc_flow::{DeclaredTypes, Env, Resolver};
+use pc_notes::Notes;
 use pc_source::{OutOfMemory, Place};
-use pc_tree::{Expr, Findings, Name, Target};
+use pc_tree::{Expr, Name, Target};
 use pc_types::TypeStore;
 use std::alloc::Global;
 
@@ -32,14 +34,14 @@ fn find_stored<S: TypeStore, R: Resolver>(
     offers: &[StoreOffer<S::Ty>],
     place: Place,
     value: &Expr,
-    found: &mut Findings,
+    found: &mut Notes,
 ) -> Result<(), OutOfMemory>
     requires frame { HoldsFrame (S.has store.old) S.tree R.meaning frame.now }
     requires declared { HoldsTypes (S.has store.old) S.tree frame.now.parents.now declared.now }
     requires env { HoldsTypes (S.has store.old) S.tree frame.now.parents.now env.now }
     requires offers { All (HasStoreOffer (S.has store.old)) offers.now }
     requires well_formed { AreWellFormed frame.now.parents.now (stored_types (map (store_offer_with S.tree) offers.now)) }
-    ensures pushed { OnOk result (found.new.items ≡ found.old.items ++ stored_finds (frame_with S.tree R.meaning frame.now) (at (frame_with S.tree R.meaning frame.now) (env_of S.tree declared.now) (env_of S.tree env.now)) (map (store_offer_with S.tree) offers.now) place (expr_of value.now)) }
+    ensures pushed { OnOk result (notes_of found.new ≡ notes_of found.old ++ stored_finds (frame_with S.tree R.meaning frame.now) (at (frame_with S.tree R.meaning frame.now) (env_of S.tree declared.now) (env_of S.tree env.now)) (map (store_offer_with S.tree) offers.now) place (expr_of value.now)) }
     ensures kept { Keeps S.has store.old store.new }
 {
     let codes = store_codes(alloc, offers)?;
@@ -69,12 +71,12 @@ fn find_attribute_store<S: TypeStore, R: Resolver>(
     object: &Expr,
     field: &Name,
     value: &Expr,
-    found: &mut Findings,
+    found: &mut Notes,
 ) -> Result<(), OutOfMemory>
     requires frame { HoldsFrame (S.has store.old) S.tree R.meaning frame.now }
     requires declared { HoldsTypes (S.has store.old) S.tree frame.now.parents.now declared.now }
     requires env { HoldsTypes (S.has store.old) S.tree frame.now.parents.now env.now }
-    ensures pushed { OnOk result (found.new.items ≡ found.old.items ++ store_finds (frame_with S.tree R.meaning frame.now) (at (frame_with S.tree R.meaning frame.now) (env_of S.tree declared.now) (env_of S.tree env.now)) (to_attribute place (expr_of object.now) (name_of field.now)) (expr_of value.now)) }
+    ensures pushed { OnOk result (notes_of found.new ≡ notes_of found.old ++ store_finds (frame_with S.tree R.meaning frame.now) (at (frame_with S.tree R.meaning frame.now) (env_of S.tree declared.now) (env_of S.tree env.now)) (to_attribute place (expr_of object.now) (name_of field.now)) (expr_of value.now)) }
     ensures kept { Keeps S.has store.old store.new }
 {
     let label = type_in(store, alloc, frame, declared, env, &None, object, found)?;
@@ -96,12 +98,12 @@ fn find_item_store<S: TypeStore, R: Resolver>(
     object: &Expr,
     index: &Expr,
     value: &Expr,
-    found: &mut Findings,
+    found: &mut Notes,
 ) -> Result<(), OutOfMemory>
     requires frame { HoldsFrame (S.has store.old) S.tree R.meaning frame.now }
     requires declared { HoldsTypes (S.has store.old) S.tree frame.now.parents.now declared.now }
     requires env { HoldsTypes (S.has store.old) S.tree frame.now.parents.now env.now }
-    ensures pushed { OnOk result (found.new.items ≡ found.old.items ++ store_finds (frame_with S.tree R.meaning frame.now) (at (frame_with S.tree R.meaning frame.now) (env_of S.tree declared.now) (env_of S.tree env.now)) (to_index place (expr_of object.now) (expr_of index.now)) (expr_of value.now)) }
+    ensures pushed { OnOk result (notes_of found.new ≡ notes_of found.old ++ store_finds (frame_with S.tree R.meaning frame.now) (at (frame_with S.tree R.meaning frame.now) (env_of S.tree declared.now) (env_of S.tree env.now)) (to_index place (expr_of object.now) (expr_of index.now)) (expr_of value.now)) }
     ensures kept { Keeps S.has store.old store.new }
 {
     let label = type_in(store, alloc, frame, declared, env, &None, object, found)?;
@@ -131,12 +133,12 @@ pub(crate) fn find_store<S: TypeStore, R: Resolver>(
     env: &Env<S::Ty>,
     target: &Target,
     value: &Expr,
-    found: &mut Findings,
+    found: &mut Notes,
 ) -> Result<(), OutOfMemory>
     requires frame { HoldsFrame (S.has store.old) S.tree R.meaning frame.now }
     requires declared { HoldsTypes (S.has store.old) S.tree frame.now.parents.now declared.now }
     requires env { HoldsTypes (S.has store.old) S.tree frame.now.parents.now env.now }
-    ensures pushed { OnOk result (found.new.items ≡ found.old.items ++ store_finds (frame_with S.tree R.meaning frame.now) (at (frame_with S.tree R.meaning frame.now) (env_of S.tree declared.now) (env_of S.tree env.now)) (target_of target.now) (expr_of value.now)) }
+    ensures pushed { OnOk result (notes_of found.new ≡ notes_of found.old ++ store_finds (frame_with S.tree R.meaning frame.now) (at (frame_with S.tree R.meaning frame.now) (env_of S.tree declared.now) (env_of S.tree env.now)) (target_of target.now) (expr_of value.now)) }
     ensures kept { Keeps S.has store.old store.new }
 {
     match target {

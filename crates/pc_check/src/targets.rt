@@ -4,6 +4,7 @@ ghost use Rattle.std.specs.Prelude.{◌≡◌, ◌++◌, IfOk, OnOk, None};
 ghost use Rattle.pc_tree.specs.Tree.{expr_of, target_of};
 ghost use Rattle.pc_types.specs.Store.{Keeps};
 ghost use Rattle.pc_flow.specs.Stored.{env_of};
+ghost use Rattle.pc_notes.specs.Notes.{notes_of};
 ghost use Rattle.pc_check.specs.ComputedStatements.{at, assign_target, store_finds};
 ghost use Rattle.pc_check.specs.Walking.{frame_with, HoldsFrame, HoldsTypes, GivesBound};
 
@@ -11,8 +12,9 @@ use crate::binding::bind_value;
 use crate::frame::Frame;
 use crate::stores::find_store;
 use pc_flow::{DeclaredTypes, Env, Resolver};
+use pc_notes::Notes;
 use pc_source::OutOfMemory;
-use pc_tree::{Expr, Findings, Target};
+use pc_tree::{Expr, Target};
 use pc_types::TypeStore;
 use std::alloc::Global;
 
@@ -25,12 +27,12 @@ pub(crate) fn assign_target<S: TypeStore, R: Resolver>(
     env: Env<S::Ty>,
     target: &Target,
     value: &Expr,
-    found: &mut Findings,
+    found: &mut Notes,
 ) -> Result<Env<S::Ty>, OutOfMemory>
     requires frame { HoldsFrame (S.has store.old) S.tree R.meaning frame.now }
     requires declared { HoldsTypes (S.has store.old) S.tree frame.now.parents.now declared.old }
     requires env { HoldsTypes (S.has store.old) S.tree frame.now.parents.now env }
-    ensures bound { IfOk result (λ b. GivesBound S.has S.tree frame.now.parents.now store.new declared.new b found.new.items (assign_target (frame_with S.tree R.meaning frame.now) (env_of S.tree declared.old) (env_of S.tree env) (target_of target.now) (expr_of value.now) found.old.items)) }
+    ensures bound { IfOk result (λ b. GivesBound S.has S.tree frame.now.parents.now store.new declared.new b (notes_of found.new) (assign_target (frame_with S.tree R.meaning frame.now) (env_of S.tree declared.old) (env_of S.tree env) (target_of target.now) (expr_of value.now) (notes_of found.old))) }
     ensures kept { Keeps S.has store.old store.new }
 {
     match target {

@@ -7,6 +7,7 @@ ghost use Rattle.pc_types.specs.Computed.{static_test, assignable_test};
 ghost use Rattle.pc_types.specs.Store.{Keeps};
 ghost use Rattle.pc_flow.specs.Environment.{join_env, loop_head};
 ghost use Rattle.pc_flow.specs.Stored.{env_of};
+ghost use Rattle.pc_notes.specs.Notes.{notes_of};
 ghost use Rattle.pc_expr.specs.Operations.{Mark};
 ghost use Rattle.pc_expr.specs.Context.{is_early};
 ghost use Rattle.pc_expr.specs.Computed.{code_unless, flows_of};
@@ -18,8 +19,9 @@ ghost use Rattle.pc_check.specs.Walking.{frame_with, HoldsFrame, HoldsTypes, Hol
 use crate::frame::Frame;
 use pc_expr::{Label, Setting, find_flow, type_expr};
 use pc_flow::{BothWays, DeclaredTypes, Env, Resolver, join_env, loop_head, narrow};
+use pc_notes::Notes;
 use pc_source::{OutOfMemory, Place};
-use pc_tree::{Code, Expr, Findings};
+use pc_tree::{Code, Expr};
 use pc_types::{Parents, TypeStore};
 use std::alloc::Global;
 
@@ -32,14 +34,14 @@ pub(crate) fn type_in<S: TypeStore, R: Resolver>(
     env: &Env<S::Ty>,
     want: &Option<S::Ty>,
     e: &Expr,
-    found: &mut Findings,
+    found: &mut Notes,
 ) -> Result<Label<S::Ty>, OutOfMemory>
     requires frame { HoldsFrame (S.has store.old) S.tree R.meaning frame.now }
     requires declared { HoldsTypes (S.has store.old) S.tree frame.now.parents.now declared.now }
     requires env { HoldsTypes (S.has store.old) S.tree frame.now.parents.now env.now }
     requires want { HoldsTypeIfAny (S.has store.old) S.tree frame.now.parents.now want.now }
     ensures labelled { IfOk result (λ l. GivesLabel S.has S.tree frame.now.parents.now store.new l (mark_in (at (frame_with S.tree R.meaning frame.now) (env_of S.tree declared.now) (env_of S.tree env.now)) (option_map S.tree want.now) (expr_of e.now))) }
-    ensures pushed { OnOk result (found.new.items ≡ found.old.items ++ finds_in (at (frame_with S.tree R.meaning frame.now) (env_of S.tree declared.now) (env_of S.tree env.now)) (option_map S.tree want.now) (expr_of e.now)) }
+    ensures pushed { OnOk result (notes_of found.new ≡ notes_of found.old ++ finds_in (at (frame_with S.tree R.meaning frame.now) (env_of S.tree declared.now) (env_of S.tree env.now)) (option_map S.tree want.now) (expr_of e.now)) }
     ensures kept { Keeps S.has store.old store.new }
 {
     let setting = Setting {
@@ -63,12 +65,12 @@ pub(crate) fn flow_in<S: TypeStore>(
     place: Place,
     label: &Label<S::Ty>,
     into: &S::Ty,
-    found: &mut Findings,
+    found: &mut Notes,
 ) -> Result<Option<Code>, OutOfMemory>
     requires label { S.has store.old label.now.ty }
     requires into { S.has store.old into.now }
     ensures code { IfOk result (λ c. c ≡ code_unless (static_test parents.now) (assignable_test parents.now) (is_early label.now.codes.items) (S.tree label.now.ty) (S.tree into.now)) }
-    ensures pushed { (m : Mark) → mark_with S.tree label.now ≡ brief m → OnOk result (found.new.items ≡ found.old.items ++ flows_at place (flows_of parents.now m (S.tree into.now ∷ []))) }
+    ensures pushed { (m : Mark) → mark_with S.tree label.now ≡ brief m → OnOk result (notes_of found.new ≡ notes_of found.old ++ flows_at place (flows_of parents.now m (S.tree into.now ∷ []))) }
     ensures kept { Keeps S.has store.old store.new }
 {
     let code = find_flow(store, alloc, parents, place, label, into, found)?;

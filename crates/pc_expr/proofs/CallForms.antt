@@ -3,7 +3,6 @@ use Rattle.std.proofs.Common.{◌≡◌, ◌<◌, length, arith, refl, List, [],
 use Rattle.std.specs.Prelude.{Vec, Bool as Test, true, false, ◌&&◌, codes, flat_map}
 use Rattle.std.specs.Global.{Global}
 use Rattle.pc_source.specs.declared.place.Place.{Place}
-use Rattle.pc_tree.specs.declared.code.Finding.{Finding}
 use Rattle.pc_tree.specs.declared.code.Code.{Code}
 use Rattle.pc_tree.specs.Tree.{Expr, Exprs, Keywords, no_keywords, more_keywords, call, expr_of}
 use Rattle.pc_tree.specs.declared.tree.Expr.{Expr as RustExpr}
@@ -14,6 +13,7 @@ use Rattle.pc_tree.specs.Lists.{exprs_of_list, keywords_of_list}
 use Rattle.pc_tree.proofs.Trees.{call_tree}
 use Rattle.pc_scope.specs.Expressions.{is_named, are_two, is_instance_test}
 use Rattle.pc_types.specs.Tree.{Tree}
+use Rattle.pc_notes.specs.Notes.{Note}
 use Rattle.pc_expr.specs.Calls.{Given, CallOffer, CallRule, member_rule, length_rule, test_rule, Callee, given, positional_seat, named_seat}
 use Rattle.pc_expr.specs.Labels.{ItemsMarks, second_place}
 use Rattle.pc_expr.specs.Lawful.{whole_call_mark, whole_second_code, early_second}
@@ -77,7 +77,7 @@ module _ (k : Standing) (want : Option Tree) (p : Place) (c : Expr) (args : Expr
       ∙ ap (λ (os : List CallOffer). whole_call_mark k.context k.env (callee_in k (given args kws) c).rule os args (types_in k (positional_seat os) args)) offers_there
       ∙ sym (mark_call k want p c args kws)
 
-  pub call_parts_found : (old callee_new callee_last then_arguments then_keywords last : List Finding) (codes : List Code) (is_test early : Test) →
+  pub call_parts_found : (old callee_new callee_last then_arguments then_keywords last : List Note) (codes : List Code) (is_test early : Test) →
       codes ≡ once (callee_in k g c).mark.codes →
       is_test ≡ is_instance_test c args kws →
       early ≡ early_in k (positional_seat offers) args →

@@ -2,11 +2,11 @@
 use Rattle.std.proofs.Common.{◌≡◌, ℕ, suc, List, [], ◌∷◌, sym, ap, ◌∙◌, subst, length, get_or, arith}
 use Rattle.std.specs.Prelude.{Result, IfOk, Bool as Test, true, Option, ◌++◌}
 use Rattle.pc_tree.specs.declared.code.Code.{Code}
-use Rattle.pc_tree.specs.declared.code.Finding.{Finding}
 use Rattle.pc_tree.specs.declared.tree.Expr.{Expr as RustExpr}
 use Rattle.pc_tree.specs.Tree.{more_exprs, no_exprs, expr_of}
 use Rattle.pc_tree.specs.Lists.{exprs_of_list}
 use Rattle.pc_types.specs.Tree.{Tree}
+use Rattle.pc_notes.specs.Notes.{Note}
 use Rattle.pc_expr.specs.Calls.{Callee, Seat}
 use Rattle.pc_expr.specs.Context.{is_early}
 use Rattle.pc_expr.specs.Found.{once}
@@ -47,7 +47,7 @@ module _ (k : Standing) (seat : ℕ → Seat) (es : List RustExpr) (a b : RustEx
       ∙ sym (ap (early_in k seat) are ∙ early_two k seat (expr_of a) (expr_of b) no_exprs)
 
   -- of a test of an instance the first argument alone is looked at
-  pub first_found : (v : Option Tree) → v ≡ (seat 0).want → (old new : List Finding) → new ≡ old ++ finds_in k v (expr_of a) → new ≡ old ++ arguments_find k true seat (exprs_of_list es)
+  pub first_found : (v : Option Tree) → v ≡ (seat 0).want → (old new : List Note) → new ≡ old ++ finds_in k v (expr_of a) → new ≡ old ++ arguments_find k true seat (exprs_of_list es)
   first_found v first old new h =
       h
       ∙ ap (λ o. old ++ finds_in k o (expr_of a)) first

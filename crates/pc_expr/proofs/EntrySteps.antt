@@ -2,7 +2,6 @@
 use Rattle.std.proofs.Common.{◌≡◌, ◌<◌, ◌≤◌, ◌+◌, ℕ, List, [], ◌∷◌, ◌++◌, refl, sym, ap, ◌∙◌, map, length, drop, get_or, append_assoc, Option, Some, None}
 use Rattle.std.specs.Prelude.{Bool as Test, ◌||◌, bytes_eq, if◌then◌else◌}
 use Rattle.std.proofs.lemmas.List.{map_push, append-nil, drop_all}
-use Rattle.pc_tree.specs.declared.code.Finding.{Finding}
 use Rattle.pc_tree.specs.declared.tree.Entry.{Entry as RustEntry}
 use Rattle.pc_tree.specs.declared.tree.KeywordArgument.{KeywordArgument as RustKeyword}
 use Rattle.pc_tree.specs.Tree.{Entries, Keywords, no_entries, more_entries, no_keywords, more_keywords, expr_of, name_of}
@@ -11,6 +10,7 @@ use Rattle.pc_tree.specs.Lists.{entries_of_list, keywords_of_list}
 use Rattle.pc_tree.proofs.Stops.{cons_at}
 use Rattle.pc_scope.specs.Resolution.{is_among}
 use Rattle.pc_types.specs.Tree.{Tree}
+use Rattle.pc_notes.specs.Notes.{Note}
 use Rattle.pc_expr.specs.Calls.{Seat, nowhere}
 use Rattle.pc_expr.specs.Lawful.{keyword_seat}
 use Rattle.pc_expr.specs.Computed.{flows_of}
@@ -29,7 +29,7 @@ module _ (k : Standing) (x y : Seat) (es : List RustEntry) (i : ℕ) where
   abbrev pub values_from : List Tree
   values_from = values_in k x y (entries_of_list (drop i es))
 
-  abbrev pub entries_from : List Finding
+  abbrev pub entries_from : List Note
   entries_from = entries_find k x y (entries_of_list (drop i es))
 
 module _ (k : Standing) (x y : Seat) (es : List RustEntry) (i : ℕ) (e : RustEntry) (lt : i < length es) (is : e ≡ get_or es i e) where
@@ -50,7 +50,7 @@ module _ (k : Standing) (x y : Seat) (es : List RustEntry) (i : ℕ) (e : RustEn
         ∙ ap (λ ts. map tree out ++ ts) (sym (ap (λ rest. values_in k x y (entries_of_list rest)) (cons_at es i e lt is) ∙ values_more k x y (expr_of e.key) (expr_of e.value) (entries_of_list (drop (i + 1) es))))
         ∙ h
 
-  pub entries_step : (old a b c last all : List Finding) → a ≡ old ++ finds_in k x.want (expr_of e.key) → b ≡ a ++ flows_at (place_of (expr_of e.key)) (flows_of k.context.bases (mark_in k x.want (expr_of e.key)) x.into) →
+  pub entries_step : (old a b c last all : List Note) → a ≡ old ++ finds_in k x.want (expr_of e.key) → b ≡ a ++ flows_at (place_of (expr_of e.key)) (flows_of k.context.bases (mark_in k x.want (expr_of e.key)) x.into) →
       c ≡ b ++ finds_in k y.want (expr_of e.value) → last ≡ c ++ flows_at (place_of (expr_of e.value)) (flows_of k.context.bases (mark_in k y.want (expr_of e.value)) y.into) →
       old ++ entries_from k x y es i ≡ all → last ++ entries_from k x y es (i + 1) ≡ all
   entries_step old a b c last all ha hb hc hl h =
@@ -70,7 +70,7 @@ module _ (k : Standing) (x y : Seat) (es : List RustEntry) (i : ℕ) (le : lengt
   pub values_end : (out all : List Tree) → out ++ values_from k x y es i ≡ all → out ≡ all
   values_end out all h = sym (append-nil out) ∙ ap (λ l. out ++ l) (sym (ap (λ l. values_in k x y (entries_of_list l)) (drop_all i es le) ∙ values_none k x y)) ∙ h
 
-  pub entries_end : (out all : List Finding) → out ++ entries_from k x y es i ≡ all → out ≡ all
+  pub entries_end : (out all : List Note) → out ++ entries_from k x y es i ≡ all → out ≡ all
   entries_end out all h = sym (append-nil out) ∙ ap (λ l. out ++ l) (sym (ap (λ l. entries_find k x y (entries_of_list l)) (drop_all i es le) ∙ entries_none k x y)) ∙ h
 
 -- ---- arguments by name
@@ -95,7 +95,7 @@ module _ (k : Standing) (seat : List ℕ → Seat) where
   module _ (es : List RustKeyword) (i : ℕ) (a : RustKeyword) (lt : i < length es) (is : a ≡ get_or es i a) where
     -- an argument further
     pub keywords_step : (before later : List (List ℕ)) → HaveSame later ((name_of a.name).text ∷ before) → (w : Option Tree) (ts : List Tree) → w ≡ (keyword_seat seat before (name_of a.name)).want → ts ≡ (keyword_seat seat before (name_of a.name)).into →
-        (old new last all : List Finding) → new ≡ old ++ finds_in k w (expr_of a.value) → last ≡ new ++ flows_at (place_of (expr_of a.value)) (flows_of k.context.bases (mark_in k w (expr_of a.value)) ts) →
+        (old new last all : List Note) → new ≡ old ++ finds_in k w (expr_of a.value) → last ≡ new ++ flows_at (place_of (expr_of a.value)) (flows_of k.context.bases (mark_in k w (expr_of a.value)) ts) →
         old ++ keywords_find k seat before (keywords_of_list (drop i es)) ≡ all → last ++ keywords_find k seat later (keywords_of_list (drop (i + 1) es)) ≡ all
     keywords_step before later same w ts wants into old new last all n l h =
         let e = expr_of a.value in
@@ -109,5 +109,5 @@ module _ (k : Standing) (seat : List ℕ → Seat) where
         ∙ ap (λ fs. old ++ fs) (sym (ap (λ x. keywords_find k seat before (keywords_of_list x)) (cons_at es i a lt is) ∙ keywords_more k seat before (name_of a.name) e (keywords_of_list (drop (i + 1) es))))
         ∙ h
 
-  pub keywords_end : (es : List RustKeyword) (i : ℕ) → length es ≤ i → (before : List (List ℕ)) (out all : List Finding) → out ++ keywords_find k seat before (keywords_of_list (drop i es)) ≡ all → out ≡ all
+  pub keywords_end : (es : List RustKeyword) (i : ℕ) → length es ≤ i → (before : List (List ℕ)) (out all : List Note) → out ++ keywords_find k seat before (keywords_of_list (drop i es)) ≡ all → out ≡ all
   keywords_end es i le before out all h = sym (append-nil out) ∙ ap (λ l. out ++ l) (sym (ap (λ l. keywords_find k seat before (keywords_of_list l)) (drop_all i es le) ∙ keywords_none k seat before)) ∙ h

@@ -4,7 +4,6 @@ use Rattle.std.specs.Prelude.{Bool as Test, true, false, if◌then◌else◌}
 use Rattle.pc_source.specs.declared.place.Place.{Place}
 use Rattle.pc_tree.specs.declared.code.Code.{Code}
 use Rattle.pc_tree.specs.declared.code.Code.TheVariants.{E03}
-use Rattle.pc_tree.specs.declared.code.Finding.{Finding}
 use Rattle.pc_tree.specs.declared.tree.BinaryOperator.{BinaryOperator}
 use Rattle.pc_tree.specs.declared.tree.ComparisonOperator.{ComparisonOperator}
 use Rattle.pc_tree.specs.Tree.{Name, Expr, Exprs, Entries, Keywords, name, number, text, truth, nothing, tuple, list, dict, negative, negation, binary, compare, is_none, is_not_none, conjunction, disjunction, attribute, index, call, no_exprs, more_exprs, no_entries, more_entries, no_keywords, more_keywords}
@@ -14,6 +13,7 @@ use Rattle.pc_types.specs.Tree.{Tree, Int, Bool, Str, NoneType, TupleOf}
 use Rattle.pc_types.specs.Shape.{members, trees}
 use Rattle.pc_types.specs.Computed.{static_test, assignable_test}
 use Rattle.pc_flow.specs.Environment.{join_or_object}
+use Rattle.pc_notes.specs.Notes.{Note}
 use Rattle.pc_expr.specs.Operations.{Mark, clean, in_error, offers_mark, operand_types, negative_member, attribute_member, index_member, binary_mark, display_mark}
 use Rattle.pc_expr.specs.Context.{Context, name_mark, is_early}
 use Rattle.pc_expr.specs.Calls.{Seat, Given, Callee, CallRule, member_rule, length_rule, test_rule, given, count_exprs, value_callee, name_callee, method_callee, positional_seat, named_seat}

@@ -1,6 +1,7 @@
 -- The list of an expression's findings has just what stands under its labels and is not found of scopes.
 use Rattle.std.proofs.Common.{◌≡◌, ◌⊎◌, ◌↔◌, List, [], ◌∷◌, ◌++◌, refl, sym, ap, ◌∙◌, subst, inl, inr, Contains}
-use Rattle.std.specs.Prelude.{Bool as Test, true, false, if◌then◌else◌, Option, Some, None, flat_map, option_to_list}
+use Rattle.std.specs.Prelude.{Bool as Test, true, false, if◌then◌else◌, Option, Some, None, flat_map, map, option_to_list}
+use Rattle.std.proofs.lemmas.List.{map-append}
 use Rattle.std.proofs.lemmas.List.Elements.{Contains-append_left, Contains-append_right}
 use Rattle.pc_source.specs.declared.place.Place.{Place}
 use Rattle.pc_tree.specs.declared.code.Code.{Code}
@@ -12,7 +13,10 @@ use Rattle.pc_scope.specs.Expressions.{is_instance_test}
 use Rattle.pc_scope.proofs.Among.{none_among, first_among, later_among, among_first, either}
 use Rattle.pc_expr.specs.Operations.{FlowMark}
 use Rattle.pc_expr.specs.Labels.{Flowing, Marks, ItemsMarks, EntriesMarks, KeywordsMarks, is_of_scopes, second_place, IsFoundAt, IsFlowAt, IsCodeAt, Finds, ItemsFind, ArgumentsFind, EntriesFind, KeywordsFind}
-use Rattle.pc_expr.specs.Found.{own_at, once, codes_at, code_at, flow_codes, flows_at, found_in, found_in_items, found_in_arguments, found_in_entries, found_in_keywords, IsOwn}
+use Rattle.pc_notes.specs.Notes.{Note, plain, findings_of}
+use Rattle.pc_expr.specs.Found.{once, IsOwn}
+use Rattle.pc_expr.specs.Found as noted
+use Rattle.pc_expr.proofs.Forgotten.{own_at, codes_at, code_at, flow_codes, flows_at, found_in, found_in_items, found_in_arguments, found_in_entries, found_in_keywords, forget_inside, forget_flows}
 use Rattle.pc_expr.proofs.SameCodes.{once_has, once_from}
 
 -- ---- the findings of codes and of flows
@@ -265,7 +269,37 @@ mutual
       over_item f (found_in value m.first) (found_in_keywords rest m.rest) (place_of value) m.flows (in_expression f value m.first) (in_keywords f rest m.rest)
 
 -- the list has just what stands under the labels and is not found of scopes
-pub findings_listed : (e : Expr) (m : Marks e) (f : Finding) → Contains (found_in e m) f ↔ IsOwn e m f
+pub findings_listed : (e : Expr) (m : Marks e) (f : Finding) → Contains (findings_of (noted.found_in e m)) f ↔ IsOwn e m f
 findings_listed e m f =
     let h = in_expression f e m in
-    (λ c. let r = h.0 c in record { stands = r.0; own = r.1 }, λ o. h.1 o.stands o.own)
+    subst (λ (l : List Finding). Contains l f ↔ IsOwn e m f) (sym (forget_inside e m)) (λ c. let r = h.0 c in record { stands = r.0; own = r.1 }, λ o. h.1 o.stands o.own)
+
+-- ---- lists with the types of flows
+
+-- a list with the types of flows has the findings of which something stands, those of scopes left out
+abbrev pub Noted : Finding → List Note → Type 0 → Type 0
+Noted f ns P = Lists f (findings_of ns) P
+
+pub nothing_noted : (f : Finding) → Noted f [] ⊥
+nothing_noted f = nothing_listed f
+
+-- it has the same of what comes to the same
+pub noted_same : (f : Finding) (xs : List Note) {P Q : Type 0} → (P → Q) → (Q → P) → Noted f xs P → Noted f xs Q
+noted_same f xs to from h = same_listed f (findings_of xs) to from h
+
+-- one list after another has what either has
+pub noted_in_turn : (f : Finding) (xs ys : List Note) {P Q : Type 0} → Noted f xs P → Noted f ys Q → Noted f (xs ++ ys) (P ⊎ Q)
+noted_in_turn f xs ys {P} {Q} h k =
+    subst (λ (l : List Finding). Lists f l (P ⊎ Q)) (sym (map-append (λ (n : Note). n.finding) xs ys)) (in_turn f (findings_of xs) (findings_of ys) h k)
+
+-- the list of flows has the codes of flows
+pub noted_flows : (f : Finding) (p : Place) (flows : Flowing) → Noted f (noted.flows_at p flows) (IsFlowAt p flows f)
+noted_flows f p flows = subst (λ (l : List Finding). Lists f l (IsFlowAt p flows f)) (sym (forget_flows p flows)) (at_flows f p flows)
+
+pub plain_findings : (fs : List Finding) → findings_of (map plain fs) ≡ fs
+plain_findings [] = refl
+plain_findings (g ∷ gs) = ap (λ l. g ∷ l) (plain_findings gs)
+
+-- findings that tell of no flow
+pub noted_plain : (f : Finding) (fs : List Finding) (P : Type 0) → Lists f fs P → Noted f (map plain fs) P
+noted_plain f fs P h = subst (λ (l : List Finding). Lists f l P) (sym (plain_findings fs)) h

@@ -17,11 +17,12 @@ use Rattle.pc_expr.specs.Labels.{Flowing, Marks, mark_of, Finds, IsFlowAt}
 use Rattle.pc_expr.specs.Lawful.{Lawful}
 use Rattle.pc_expr.specs.Signatures.{initializer_context, first_of_types}
 use Rattle.pc_expr.specs.SignaturesFound.{Reached, initial, value_findings}
+use Rattle.pc_notes.specs.Notes.{Note}
 use Rattle.pc_expr.specs.Standing.{mark_in, finds_in}
 use Rattle.pc_expr.proofs.ComputedFlows.{flows_are_lawful}
 use Rattle.pc_expr.proofs.ComputedLawful.{labels_are_lawful}
 use Rattle.pc_expr.proofs.Contexts.{initializers_well_formed}
-use Rattle.pc_expr.proofs.FoundList.{Lists, in_turn, at_flows, findings_listed}
+use Rattle.pc_expr.proofs.FoundList.{Noted, noted_in_turn as in_turn, noted_flows as at_flows, findings_listed}
 use Rattle.pc_expr.proofs.One.{into_one, one_labelling}
 
 first_well_formed : (bases : Bases) (ts : List Tree) → AreWellFormed bases ts → IsWellFormedIfAny bases (first_of_types ts)
@@ -56,12 +57,12 @@ module _ (m : Module) (r : Reached) (known : AreWellFormed (bases_of m) r.consta
         let k = subst (λ (x : Marks e). FlowsInto (bases_of m) (mark_of e x) into (flows_of (bases_of m) (mark_of e x) into)) is_computed (flows_are_lawful (bases_of m) (mark_of e computed) into (smaller m) w.1 wanted) in
         ap (λ (x : Mark). flows_of (bases_of m) x into) initializer_label ∙ into_one (bases_of m) (mark_of e marks) into (flows_of (bases_of m) (mark_of e marks) into) flows k h
 
-    listed_own : (f : Finding) → Lists f (found_in e marks) (Finds e marks f)
+    listed_own : (f : Finding) → Noted f (found_in e marks) (Finds e marks f)
     listed_own f = let l = findings_listed e marks f in (λ c. let o = l.0 c in (o.stands, o.own), λ s own. l.1 (record { stands = s; own = own }))
 
     -- what is found of an initializer, by its lawful labels and its lawful flow
-    pub value_listed : (flows : Flowing) → FlowsInto (bases_of m) (mark_of e marks) into flows → (f : Finding) → Lists f (value_findings m r into e) (Finds e marks f ⊎ IsFlowAt (place_of e) flows f)
+    pub value_listed : (flows : Flowing) → FlowsInto (bases_of m) (mark_of e marks) into flows → (f : Finding) → Noted f (value_findings m r into e) (Finds e marks f ⊎ IsFlowAt (place_of e) flows f)
     value_listed flows h f =
         let p = place_of e in
         let all : value_findings m r into e ≡ found_in e marks ++ flows_at p flows = λ i. initializer_found i ++ flows_at p (flows_computed flows h i) in
-        subst (λ (l : List Finding). Lists f l (Finds e marks f ⊎ IsFlowAt p flows f)) (sym all) (in_turn f (found_in e marks) (flows_at p flows) (listed_own f) (at_flows f p flows))
+        subst (λ (l : List Note). Noted f l (Finds e marks f ⊎ IsFlowAt p flows f)) (sym all) (in_turn f (found_in e marks) (flows_at p flows) (listed_own f) (at_flows f p flows))

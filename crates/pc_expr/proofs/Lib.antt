@@ -16,6 +16,7 @@ pub mod Expected
 pub mod Filling
 pub mod FirstNames
 pub mod Flowing
+pub mod Forgotten
 pub mod Forms
 pub mod FoundList
 pub mod HeldClasses

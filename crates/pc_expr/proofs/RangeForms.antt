@@ -2,10 +2,10 @@
 use Rattle.std.proofs.Common.{◌≡◌, List, [], ◌++◌, sym, ap, ◌∙◌}
 use Rattle.std.specs.Prelude.{Bool as Test, flat_map}
 use Rattle.pc_source.specs.declared.place.Place.{Place}
-use Rattle.pc_tree.specs.declared.code.Finding.{Finding}
 use Rattle.pc_tree.specs.declared.code.Code.{Code}
 use Rattle.pc_tree.specs.Tree.{Expr, Exprs, Keywords}
 use Rattle.pc_scope.specs.Expressions.{is_instance_test}
+use Rattle.pc_notes.specs.Notes.{Note}
 use Rattle.pc_expr.specs.Calls.{Given, CallOffer, given, call_mark, call_codes, positional_seat, named_seat, range_offers}
 use Rattle.pc_expr.specs.Found.{own_at, once, codes_at}
 use Rattle.pc_expr.specs.Standing.{Standing, arguments_find, keywords_find}
@@ -16,7 +16,7 @@ module _ (k : Standing) (p : Place) (c : Expr) (args : Exprs) (kws : Keywords) (
   offers_there : offers ≡ range_offers (given args kws)
   offers_there = offers_are ∙ ap range_offers given_is
 
-  pub range_found : (old then_arguments then_keywords last : List Finding) (codes : List Code) (is_test : Test) →
+  pub range_found : (old then_arguments then_keywords last : List Note) (codes : List Code) (is_test : Test) →
       codes ≡ once (call_codes offers) →
       is_test ≡ is_instance_test c args kws →
       then_arguments ≡ old ++ arguments_find k is_test (positional_seat offers) args →

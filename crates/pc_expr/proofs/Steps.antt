@@ -4,13 +4,13 @@ use Rattle.std.proofs.lemmas.List.{map_push, append-nil, drop_all}
 use Rattle.std.proofs.lemmas.Bool.Decides.{nat_tests}
 use Rattle.std.specs.Prelude.{Bool as Test, true, false, ◌||◌, ◌&&◌, nat_eq, ◌≤◌}
 use Rattle.pc_tree.specs.declared.code.Code.{Code}
-use Rattle.pc_tree.specs.declared.code.Finding.{Finding}
 use Rattle.pc_tree.specs.declared.tree.Expr.{Expr as RustExpr}
 use Rattle.pc_tree.specs.Tree.{Expr, Exprs, no_exprs, more_exprs, expr_of}
 use Rattle.pc_tree.specs.Depth.{place_of}
 use Rattle.pc_tree.specs.Lists.{exprs_of_list}
 use Rattle.pc_tree.proofs.Stops.{cons_at}
 use Rattle.pc_types.specs.Tree.{Tree}
+use Rattle.pc_notes.specs.Notes.{Note}
 use Rattle.pc_expr.specs.Context.{is_early}
 use Rattle.pc_expr.specs.Calls.{Seat}
 use Rattle.pc_expr.specs.Computed.{flows_of}
@@ -43,7 +43,7 @@ module _ (k : Standing) (seat : ℕ → Seat) (items : List RustExpr) (i : ℕ) 
   abbrev pub types_from : List Tree
   types_from = types_in k (seats_from i seat) (exprs_of_list (drop i items))
 
-  abbrev pub finds_from : List Finding
+  abbrev pub finds_from : List Note
   finds_from = items_find k (seats_from i seat) (exprs_of_list (drop i items))
 
 module _ (k : Standing) (seat : ℕ → Seat) (items : List RustExpr) (i : ℕ) (e : RustExpr) (lt : i < length items) (is : e ≡ get_or items i e) where
@@ -72,7 +72,7 @@ module _ (k : Standing) (seat : ℕ → Seat) (items : List RustExpr) (i : ℕ) 
       ∙ h
 
   -- and what is found so far
-  pub finds_step : (old new last all : List Finding) → new ≡ old ++ finds_in k (seat i).want (expr_of e) → last ≡ new ++ flows_at (place_of (expr_of e)) (flows_of k.context.bases (mark_in k (seat i).want (expr_of e)) (seat i).into) →
+  pub finds_step : (old new last all : List Note) → new ≡ old ++ finds_in k (seat i).want (expr_of e) → last ≡ new ++ flows_at (place_of (expr_of e)) (flows_of k.context.bases (mark_in k (seat i).want (expr_of e)) (seat i).into) →
       old ++ finds_from k seat items i ≡ all → last ++ finds_from k seat items (i + 1) ≡ all
   finds_step old new last all n l h =
       let a = finds_in k (seat i).want (expr_of e) in
@@ -91,7 +91,7 @@ module _ (k : Standing) (seat : ℕ → Seat) (items : List RustExpr) (i : ℕ) 
       map tree out ++ types_from k seat items i ≡ all → map tree (out ++ l.ty ∷ []) ++ types_from k seat items (i + 1) ≡ all
   seated_types tree out l all m h = types_step k seat items i e lt is tree out l.ty all (type_is tree l (mark_in k w (expr_of e)) m ∙ ap (λ x. (mark_in k x (expr_of e)).type) wants) h
 
-  pub seated_finds : (ts : List Tree) → ts ≡ (seat i).into → (old new last all : List Finding) → new ≡ old ++ finds_in k w (expr_of e) → last ≡ new ++ flows_at (place_of (expr_of e)) (flows_of k.context.bases (mark_in k w (expr_of e)) ts) →
+  pub seated_finds : (ts : List Tree) → ts ≡ (seat i).into → (old new last all : List Note) → new ≡ old ++ finds_in k w (expr_of e) → last ≡ new ++ flows_at (place_of (expr_of e)) (flows_of k.context.bases (mark_in k w (expr_of e)) ts) →
       old ++ finds_from k seat items i ≡ all → last ++ finds_from k seat items (i + 1) ≡ all
   seated_finds ts into old new last all n l h =
       finds_step k seat items i e lt is old new last all (n ∙ ap (λ x. old ++ finds_in k x (expr_of e)) wants)
@@ -103,7 +103,7 @@ module _ (k : Standing) (seat : ℕ → Seat) (items : List RustExpr) (i : ℕ) 
   pub types_end : (out all : List Tree) → out ++ types_from k seat items i ≡ all → out ≡ all
   types_end out all h = sym (append-nil out) ∙ ap (λ l. out ++ l) (sym (ap (λ es. types_in k (seats_from i seat) (exprs_of_list es)) (drop_all i items le) ∙ types_none k (seats_from i seat))) ∙ h
 
-  pub finds_end : (out all : List Finding) → out ++ finds_from k seat items i ≡ all → out ≡ all
+  pub finds_end : (out all : List Note) → out ++ finds_from k seat items i ≡ all → out ≡ all
   finds_end out all h = sym (append-nil out) ∙ ap (λ l. out ++ l) (sym (ap (λ es. items_find k (seats_from i seat) (exprs_of_list es)) (drop_all i items le) ∙ items_none k (seats_from i seat))) ∙ h
 
 -- ---- whether the second stands too early

@@ -7,7 +7,6 @@ use Rattle.std.specs.Option.{option_map}
 use Rattle.std.proofs.lemmas.List.{append-nil}
 use Rattle.pc_source.specs.declared.place.Place.{Place}
 use Rattle.pc_tree.specs.declared.code.Code.{Code}
-use Rattle.pc_tree.specs.declared.code.Finding.{Finding}
 use Rattle.pc_tree.specs.declared.tree.BinaryOperator.{BinaryOperator}
 use Rattle.pc_tree.specs.declared.tree.ComparisonOperator.{ComparisonOperator}
 use Rattle.pc_tree.specs.Tree.{Name, Expr, Exprs, negative, negation, binary, compare, is_none, is_not_none, conjunction, disjunction, attribute, index}
@@ -20,6 +19,7 @@ use Rattle.pc_tree.proofs.Trees.{tuple_tree, list_tree, dict_tree, call_tree}
 use Rattle.pc_types.specs.Tree.{TupleOf}
 use Rattle.pc_types.specs.Shape.{trees}
 use Rattle.pc_types.specs.Computed.{static_test, assignable_test}
+use Rattle.pc_notes.specs.Notes.{Note}
 use Rattle.pc_expr.specs.Calls.{Seat, count_exprs}
 use Rattle.pc_tree.specs.Depth.{place_of}
 use Rattle.pc_types.specs.Tree.{Tree}
@@ -39,8 +39,8 @@ use Rattle.pc_expr.proofs.Forms.{finds_whole, mark_negative, mark_attribute, mar
 pub marked_by : {Store Ty E : Type 0} (has : Store → Ty → Type 0) (tree : Ty → Tree) (store : Store) (r : Result (Label Ty) E) (m n : Mark) → m ≡ n → IfOk r (λ l. IsMark has tree store l m) → IfOk r (λ l. IsMark has tree store l n)
 marked_by has tree store r m n e h = subst (λ (x : Mark). IfOk r (λ l. IsMark has tree store l x)) e h
 
-pub pushed_by : {T E : Type 0} (r : Result T E) (new old more : List Finding) → old ≡ more → OnOk r (new ≡ old) → OnOk r (new ≡ more)
-pushed_by r new old more e h = subst (λ (x : List Finding). OnOk r (new ≡ x)) e h
+pub pushed_by : {T E : Type 0} (r : Result T E) (new old more : List Note) → old ≡ more → OnOk r (new ≡ old) → OnOk r (new ≡ more)
+pushed_by r new old more e h = subst (λ (x : List Note). OnOk r (new ≡ x)) e h
 
 module _ {T : Type 0} (tree : T → Tree) (l : Label T) (m : Mark) (is : mark_with tree l ≡ brief m) where
   pub type_is : tree l.ty ≡ m.type
@@ -51,15 +51,15 @@ module _ {T : Type 0} (tree : T → Tree) (l : Label T) (m : Mark) (is : mark_wi
 
 -- ---- findings in turn
 
-pub two_found : (old new last a b : List Finding) → new ≡ old ++ a → last ≡ new ++ b → last ≡ old ++ (a ++ b)
+pub two_found : (old new last a b : List Note) → new ≡ old ++ a → last ≡ new ++ b → last ≡ old ++ (a ++ b)
 two_found old new last a b h k = k ∙ ap (λ x. x ++ b) h ∙ append_assoc old a b
 
-pub three_found : (old new next last a b c : List Finding) → new ≡ old ++ a → next ≡ new ++ b → last ≡ next ++ c → last ≡ old ++ (a ++ (b ++ c))
+pub three_found : (old new next last a b c : List Note) → new ≡ old ++ a → next ≡ new ++ b → last ≡ next ++ c → last ≡ old ++ (a ++ (b ++ c))
 three_found old new next last a b c h k i = two_found old new last a (b ++ c) h (two_found new next last b c k i)
 
 module _ {T : Type 0} (tree : T → Tree) (k : Standing) (want : Option Tree) where
   -- what is found in an expression, by what is found in its parts and the codes of its label
-  pub whole_found : (e : Expr) (l : Label T) (old new last : List Finding) → mark_with tree l ≡ brief (mark_in k want e) → new ≡ old ++ parts_find k want e → last ≡ new ++ flat_map (own_at (place_of e)) l.codes.items → last ≡ old ++ finds_in k want e
+  pub whole_found : (e : Expr) (l : Label T) (old new last : List Note) → mark_with tree l ≡ brief (mark_in k want e) → new ≡ old ++ parts_find k want e → last ≡ new ++ flat_map (own_at (place_of e)) l.codes.items → last ≡ old ++ finds_in k want e
   whole_found e l old new last is h j =
       two_found old new last (parts_find k want e) (codes_at (place_of e) (mark_in k want e).codes) h (j ∙ ap (λ cs. new ++ flat_map (own_at (place_of e)) cs) (codes_are tree l (mark_in k want e) is))
       ∙ ap (λ fs. old ++ fs) (sym (finds_whole k want e))
@@ -83,7 +83,7 @@ module _ {T : Type 0} (tree : T → Tree) (k : Standing) (want : Option Tree) wh
         ∙ ap (λ t. compare_mark k.context.bases o (mark_in k None a).type t) (type_is tree r (mark_in k None b) right_is)
         ∙ sym (mark_compare k want p o a b)
 
-    pub compare_found : (o : ComparisonOperator) (old new next last : List Finding) → mark_with tree r ≡ brief (mark_in k None b) → new ≡ old ++ finds_in k None a → next ≡ new ++ finds_in k None b → last ≡ next ++ flows_at (place_of a) (flows_of k.context.bases (mark_in k None a) (compare_types o (tree r.ty))) → last ≡ old ++ parts_find k want (compare p o a b)
+    pub compare_found : (o : ComparisonOperator) (old new next last : List Note) → mark_with tree r ≡ brief (mark_in k None b) → new ≡ old ++ finds_in k None a → next ≡ new ++ finds_in k None b → last ≡ next ++ flows_at (place_of a) (flows_of k.context.bases (mark_in k None a) (compare_types o (tree r.ty))) → last ≡ old ++ parts_find k want (compare p o a b)
     compare_found o old new next last right_is h j i =
         three_found old new next last (finds_in k None a) (finds_in k None b) (flows_at (place_of a) (flows_of k.context.bases (mark_in k None a) (compare_types o (mark_in k None b).type))) h j (i ∙ ap (λ t. next ++ flows_at (place_of a) (flows_of k.context.bases (mark_in k None a) (compare_types o t))) (type_is tree r (mark_in k None b) right_is))
         ∙ ap (λ fs. old ++ fs) (sym (parts_compare k want p o a b))
@@ -91,7 +91,7 @@ module _ {T : Type 0} (tree : T → Tree) (k : Standing) (want : Option Tree) wh
     pub index_is : offers_mark k.context.bases (map (index_member k.context.bases (int_literal b)) (members (tree l.ty))) ≡ mark_in k want (index p a b)
     index_is = ap (λ t. offers_mark k.context.bases (map (index_member k.context.bases (int_literal b)) (members t))) (type_is tree l (mark_in k None a) left_is) ∙ sym (mark_index k want p a b)
 
-    pub index_found : (old new next last : List Finding) → new ≡ old ++ finds_in k None a → next ≡ new ++ finds_in k None b → last ≡ next ++ flows_at (place_of b) (flows_of k.context.bases (mark_in k None b) (operand_types (map (index_member k.context.bases (int_literal b)) (members (tree l.ty))))) → last ≡ old ++ parts_find k want (index p a b)
+    pub index_found : (old new next last : List Note) → new ≡ old ++ finds_in k None a → next ≡ new ++ finds_in k None b → last ≡ next ++ flows_at (place_of b) (flows_of k.context.bases (mark_in k None b) (operand_types (map (index_member k.context.bases (int_literal b)) (members (tree l.ty))))) → last ≡ old ++ parts_find k want (index p a b)
     index_found old new next last h j i =
         three_found old new next last (finds_in k None a) (finds_in k None b) (flows_at (place_of b) (flows_of k.context.bases (mark_in k None b) (operand_types (map (index_member k.context.bases (int_literal b)) (members (mark_in k None a).type))))) h j
         (i ∙ ap (λ t. next ++ flows_at (place_of b) (flows_of k.context.bases (mark_in k None b) (operand_types (map (index_member k.context.bases (int_literal b)) (members t))))) (type_is tree l (mark_in k None a) left_is))
@@ -113,19 +113,19 @@ module _ {T : Type 0} (tree : T → Tree) (k : Standing) (want : Option Tree) wh
           ∙ ap (λ (s : Standing). clean (join_or_object k.context.bases (mark_in k None a).type (mark_in s None b).type)) e
           ∙ sym (mark_disjunction k want p a b)
 
-  pub and_found : (p : Place) (a b : Expr) (after : Standing) (old new last : List Finding) → after ≡ narrowed k true a → new ≡ old ++ finds_in k None a → last ≡ new ++ finds_in after None b → last ≡ old ++ parts_find k want (conjunction p a b)
+  pub and_found : (p : Place) (a b : Expr) (after : Standing) (old new last : List Note) → after ≡ narrowed k true a → new ≡ old ++ finds_in k None a → last ≡ new ++ finds_in after None b → last ≡ old ++ parts_find k want (conjunction p a b)
   and_found p a b after old new last e h j =
       two_found old new last (finds_in k None a) (finds_in after None b) h j
       ∙ ap (λ (s : Standing). old ++ (finds_in k None a ++ finds_in s None b)) e
       ∙ ap (λ fs. old ++ fs) (sym (parts_conjunction k want p a b))
 
-  pub or_found : (p : Place) (a b : Expr) (after : Standing) (old new last : List Finding) → after ≡ narrowed k false a → new ≡ old ++ finds_in k None a → last ≡ new ++ finds_in after None b → last ≡ old ++ parts_find k want (disjunction p a b)
+  pub or_found : (p : Place) (a b : Expr) (after : Standing) (old new last : List Note) → after ≡ narrowed k false a → new ≡ old ++ finds_in k None a → last ≡ new ++ finds_in after None b → last ≡ old ++ parts_find k want (disjunction p a b)
   or_found p a b after old new last e h j =
       two_found old new last (finds_in k None a) (finds_in after None b) h j
       ∙ ap (λ (s : Standing). old ++ (finds_in k None a ++ finds_in s None b)) e
       ∙ ap (λ fs. old ++ fs) (sym (parts_disjunction k want p a b))
 
-  pub binary_found : (p : Place) (o : BinaryOperator) (a b : Expr) (old new last : List Finding) → new ≡ old ++ finds_in k None a → last ≡ new ++ finds_in k None b → last ≡ old ++ parts_find k want (binary p o a b)
+  pub binary_found : (p : Place) (o : BinaryOperator) (a b : Expr) (old new last : List Note) → new ≡ old ++ finds_in k None a → last ≡ new ++ finds_in k None b → last ≡ old ++ parts_find k want (binary p o a b)
   binary_found p o a b old new last h j = two_found old new last (finds_in k None a) (finds_in k None b) h j ∙ ap (λ fs. old ++ fs) (sym (parts_binary k want p o a b))
 
 -- the standing behind a condition, by the environment that it leaves
@@ -152,7 +152,7 @@ module _ (k : Standing) (want : Option Tree) (p : Place) where
         ∙ sym (mark_list k want p (exprs_of_list v.items))
         ∙ ap (mark_in k want) (sym (list_tree p v))
 
-    pub list_found : (old new : List Finding) → seat ≡ (λ i. item_seat (list_item (members_of want))) → new ≡ old ++ items_find k seat (exprs_of_list v.items) → new ≡ old ++ parts_find k want (expr_of (View.List p v))
+    pub list_found : (old new : List Note) → seat ≡ (λ i. item_seat (list_item (members_of want))) → new ≡ old ++ items_find k seat (exprs_of_list v.items) → new ≡ old ++ parts_find k want (expr_of (View.List p v))
     list_found old new s h =
         h
         ∙ ap (λ (f : ℕ → Seat). old ++ items_find k f (exprs_of_list v.items)) s
@@ -169,7 +169,7 @@ module _ (k : Standing) (want : Option Tree) (p : Place) where
           ∙ sym (mark_tuple k want p (exprs_of_list v.items))
           ∙ ap (mark_in k want) (sym (tuple_tree p v))
 
-      pub tuple_found : (old new : List Finding) → new ≡ old ++ items_find k seat (exprs_of_list v.items) → new ≡ old ++ parts_find k want (expr_of (View.Tuple p v))
+      pub tuple_found : (old new : List Note) → new ≡ old ++ items_find k seat (exprs_of_list v.items) → new ≡ old ++ parts_find k want (expr_of (View.Tuple p v))
       tuple_found old new h =
           h
           ∙ ap (λ (f : ℕ → Seat). old ++ items_find k f (exprs_of_list v.items)) seats_are
@@ -187,7 +187,7 @@ module _ (k : Standing) (want : Option Tree) (p : Place) where
         ∙ sym (mark_dict k want p (entries_of_list v.items))
         ∙ ap (mark_in k want) (sym (dict_tree p v))
 
-    pub dict_found : (old new : List Finding) → new ≡ old ++ entries_find k key value (entries_of_list v.items) → new ≡ old ++ parts_find k want (expr_of (View.Dict p v))
+    pub dict_found : (old new : List Note) → new ≡ old ++ entries_find k key value (entries_of_list v.items) → new ≡ old ++ parts_find k want (expr_of (View.Dict p v))
     dict_found old new h =
         h
         ∙ ap (λ (x : Seat). old ++ entries_find k x value (entries_of_list v.items)) at_key

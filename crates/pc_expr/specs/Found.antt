@@ -1,21 +1,24 @@
--- What is found under the labels of an expression, as a list in the order in which a walk comes to it: computed twin of what stands
--- under labels, but for E02 and E03, which are found of scopes.
+-- What is found under the labels of an expression, as a list in the order in which a walk comes to it, each dynamic flow with its two
+-- types: computed twin of what stands under labels, but for E02 and E03, which are found of scopes.
 -- Own rule of the profile.
 use Rattle.std.specs.Prelude.{◌≡◌, ◌↔◌, List, [], ◌∷◌, ◌++◌, flat_map, Bool as Test, true, false, if◌then◌else◌, Option, Some, None, Contains, option_to_list, bytes_eq}
 use Rattle.std.specs.List.{list_any}
 use Rattle.pc_source.specs.declared.place.Place.{Place}
 use Rattle.pc_tree.specs.declared.code.Code.{Code}
+use Rattle.pc_tree.specs.declared.code.Code.TheVariants.{A1}
 use Rattle.pc_tree.specs.declared.code.Finding.{Finding}
 use Rattle.pc_tree.specs.Code.{finding, text_of}
 use Rattle.pc_tree.specs.Tree.{Expr, Exprs, Entries, Keywords, name, number, text, truth, nothing, tuple, list, dict, negative, negation, binary, compare, is_none, is_not_none, conjunction, disjunction, attribute, index, call, no_exprs, more_exprs, no_entries, more_entries, no_keywords, more_keywords}
 use Rattle.pc_tree.specs.Depth.{place_of}
+use Rattle.pc_types.specs.Tree.{Tree}
 use Rattle.pc_scope.specs.Expressions.{is_instance_test}
+use Rattle.pc_notes.specs.Notes.{Note, plain, dynamic, findings_of}
 use Rattle.pc_expr.specs.Operations.{Mark}
 use Rattle.pc_expr.specs.Labels.{Flowing, Marks, ItemsMarks, EntriesMarks, KeywordsMarks, mark_of, is_of_scopes, second_place, Finds}
 
 -- the finding of a code at a place, none of a code that is found of scopes
-abbrev pub own_at : Place → Code → List Finding
-own_at p c = if is_of_scopes c then [] else finding p c ∷ []
+abbrev pub own_at : Place → Code → List Note
+own_at p c = if is_of_scopes c then [] else plain (finding p c) ∷ []
 
 -- a code is one of these
 abbrev pub has_code : List Code → Code → Test
@@ -39,11 +42,11 @@ abbrev pub brief : Mark → Mark
 brief m = record { type = m.type; codes = once m.codes }
 
 -- the findings of a label's codes at its place, each once
-abbrev pub codes_at : Place → List Code → List Finding
+abbrev pub codes_at : Place → List Code → List Note
 codes_at p codes = flat_map (own_at p) (once codes)
 
 -- the finding of a code that there may be
-abbrev pub code_at : Place → Option Code → List Finding
+abbrev pub code_at : Place → Option Code → List Note
 code_at p None = []
 code_at p (Some c) = own_at p c
 
@@ -51,18 +54,42 @@ code_at p (Some c) = own_at p c
 abbrev pub flow_codes : Flowing → List Code
 flow_codes flows = flat_map (λ f. option_to_list f.code) flows
 
--- the findings of flows at the place of what flows, each code once
-abbrev pub flows_at : Place → Flowing → List Finding
-flows_at p flows = codes_at p (flow_codes flows)
+-- what is found of a flow of a type into another, at the place of what flows: a dynamic one with its two types
+abbrev pub flow_note : Place → (from into : Tree) → Code → Note
+flow_note p s t A1 = dynamic p s t
+flow_note p s t c = plain (finding p c)
+
+-- the same, but nothing of a code that is found of scopes
+abbrev pub own_flow : Place → (from into : Tree) → Code → List Note
+own_flow p s t c = if is_of_scopes c then [] else flow_note p s t c ∷ []
+
+-- what is found of a flow with this code, if it has one
+abbrev pub flow_at : Place → (from into : Tree) → Option Code → List Note
+flow_at p s t None = []
+flow_at p s t (Some c) = own_flow p s t c
+
+-- what is found of one flow, unless its code is among these, and of others behind it
+abbrev pub flow_then : Place → (before : List Code) → (from into : Tree) → Option Code → (rest : List Code → List Note) → List Note
+flow_then p before s t None rest = rest before
+flow_then p before s t (Some c) rest = if has_code before c then rest before else own_flow p s t c ++ rest (before ++ c ∷ [])
+
+-- what is found of flows whose codes are not among these, each code once, of the first flow that has it
+abbrev pub flows_behind : Place → (before : List Code) → Flowing → List Note
+flows_behind p before [] = []
+flows_behind p before (f ∷ fs) = flow_then p before f.from f.into f.code (λ codes. flows_behind p codes fs)
+
+-- the findings of flows at the place of what flows, each code once, of the first flow that has it
+abbrev pub flows_at : Place → Flowing → List Note
+flows_at p flows = flows_behind p [] flows
 
 -- the findings in the parts of an expression, with those of its own codes behind them
-abbrev pub whole : (e : Expr) → Marks e → List Finding → List Finding
+abbrev pub whole : (e : Expr) → Marks e → List Note → List Note
 whole e m parts = parts ++ codes_at (place_of e) (mark_of e m).codes
 
 -- the findings in the parts of an expression, under the labels of items, of arguments, and of the entries of a dict
 abbrev mutual
   -- what is found in the parts of an expression and of their flows
-  pub found_in_parts : (e : Expr) → Marks e → List Finding
+  pub found_in_parts : (e : Expr) → Marks e → List Note
   found_in_parts (name n) m = []
   found_in_parts (number p digits) m = []
   found_in_parts (text p characters) m = []
@@ -87,29 +114,29 @@ abbrev mutual
       ++ (found_in_keywords keywords m.keywords ++ code_at (second_place arguments p) m.second))
 
   -- of items, each with its flows
-  pub found_in_items : (es : Exprs) → ItemsMarks es → List Finding
+  pub found_in_items : (es : Exprs) → ItemsMarks es → List Note
   found_in_items no_exprs m = []
   found_in_items (more_exprs e rest) m = whole e m.first (found_in_parts e m.first) ++ (flows_at (place_of e) m.flows ++ found_in_items rest m.rest)
 
   -- of arguments; of a test of an instance what stands second is not looked at
-  pub found_in_arguments : (is_test : Test) → (es : Exprs) → ItemsMarks es → List Finding
+  pub found_in_arguments : (is_test : Test) → (es : Exprs) → ItemsMarks es → List Note
   found_in_arguments is_test no_exprs m = []
   found_in_arguments true (more_exprs e rest) m = whole e m.first (found_in_parts e m.first)
   found_in_arguments false (more_exprs e rest) m = whole e m.first (found_in_parts e m.first) ++ (flows_at (place_of e) m.flows ++ found_in_arguments false rest m.rest)
 
   -- of the entries of a dict, each key and value with its flows
-  pub found_in_entries : (es : Entries) → EntriesMarks es → List Finding
+  pub found_in_entries : (es : Entries) → EntriesMarks es → List Note
   found_in_entries no_entries m = []
   found_in_entries (more_entries key value rest) m =
       whole key m.key (found_in_parts key m.key) ++ (flows_at (place_of key) m.key_flows ++ (whole value m.value (found_in_parts value m.value) ++ (flows_at (place_of value) m.value_flows ++ found_in_entries rest m.rest)))
 
   -- of arguments by name, each with its flows
-  pub found_in_keywords : (es : Keywords) → KeywordsMarks es → List Finding
+  pub found_in_keywords : (es : Keywords) → KeywordsMarks es → List Note
   found_in_keywords no_keywords m = []
   found_in_keywords (more_keywords parameter value rest) m = whole value m.first (found_in_parts value m.first) ++ (flows_at (place_of value) m.flows ++ found_in_keywords rest m.rest)
 
 -- the findings under the labels of an expression: what is found in its parts, and then at it
-abbrev pub found_in : (e : Expr) → Marks e → List Finding
+abbrev pub found_in : (e : Expr) → Marks e → List Note
 found_in e m = whole e m (found_in_parts e m)
 
 -- a finding under labels that is not found of scopes
@@ -119,4 +146,4 @@ pub record IsOwn (e : Expr) (m : Marks e) (f : Finding) : Type 0 where
 
 -- the law that the list has just what stands under the labels and is not found of scopes
 abbrev pub FindingsAreListed : Type 0
-FindingsAreListed = (e : Expr) (m : Marks e) (f : Finding) → Contains (found_in e m) f ↔ IsOwn e m f
+FindingsAreListed = (e : Expr) (m : Marks e) (f : Finding) → Contains (findings_of (found_in e m)) f ↔ IsOwn e m f

@@ -5,7 +5,6 @@
 use Rattle.std.specs.Prelude.{ℕ, suc, List, [], ◌∷◌, ◌++◌, map, Bool as Test, true, false, ◌&&◌, ◌||◌, not, Option, Some, None, is_some, codes, bytes_eq, String}
 use Rattle.std.specs.Global.{Global}
 use Rattle.indexmap.specs.IndexSet.{IndexSet}
-use Rattle.pc_tree.specs.declared.code.Finding.{Finding}
 use Rattle.pc_tree.specs.Tree.{Expr, Literal, Param, FuncDef, Field, Member, field_member, method_member, ClassDef, Constant, Item, constant_item, class_item, def_item, Module}
 use Rattle.pc_tree.specs.Stopping.{name_of_member}
 use Rattle.pc_tree.specs.Depth.{place_of}
@@ -19,6 +18,7 @@ use Rattle.pc_types.specs.Annotations.{read_ann, read_option}
 use Rattle.pc_ann.specs.Listed.{ann_findings, option_findings}
 use Rattle.pc_class.specs.Bases.{bases_of}
 use Rattle.pc_class.specs.Facts.{Class, field_of, method_of, inherited, classes_of}
+use Rattle.pc_notes.specs.Notes.{Note, plain}
 use Rattle.pc_expr.specs.Operations.{Mark, clean}
 use Rattle.pc_expr.specs.Context.{Signature}
 use Rattle.pc_expr.specs.Computed.{flows_of}
@@ -55,11 +55,11 @@ binds_as_field base bound name = not (is_reserved name || bytes_eq name (codes "
 -- ---- defaults
 
 -- what is found of the flow of a default's literal, at the literal
-abbrev pub literal_findings : Bases → Literal → Tree → List Finding
+abbrev pub literal_findings : Bases → Literal → Tree → List Note
 literal_findings bases l t = flows_at (literal_place l) (flows_of bases (clean (literal_type l)) (t ∷ []))
 
 -- what is found at a default: the code of its flow; what binds nothing, nothing flows into
-abbrev pub default_findings : Bases → (binds : Test) → Option Literal → Tree → List Finding
+abbrev pub default_findings : Bases → (binds : Test) → Option Literal → Tree → List Note
 default_findings bases binds None t = []
 default_findings bases false (Some l) t = []
 default_findings bases true (Some l) t = literal_findings bases l t
@@ -80,44 +80,44 @@ module _ (m : Module) where
   -- ---- functions
 
   -- what is found of a parameter: in its annotation, and at its default
-  abbrev pub param_findings : (bound : List ℕ → Test) → Param → List Finding
+  abbrev pub param_findings : (bound : List ℕ → Test) → Param → List Note
   param_findings bound p =
-      option_findings m (bases_of m) p.annotation ++ default_findings (bases_of m) (binds_text bound p.name.text) p.default (read_option m (bases_of m) p.annotation)
+      map plain (option_findings m (bases_of m) p.annotation) ++ default_findings (bases_of m) (binds_text bound p.name.text) p.default (read_option m (bases_of m) p.annotation)
 
   -- what is found of parameters, behind names that are bound already
-  abbrev pub params_findings : (bound : List ℕ → Test) → List Param → List Finding
+  abbrev pub params_findings : (bound : List ℕ → Test) → List Param → List Note
   params_findings bound [] = []
   params_findings bound (p ∷ ps) = param_findings bound p ++ params_findings (with_name bound p.name.text) ps
 
   -- what is found of the signature of a function: of its parameters, and in the annotation of what it returns
-  abbrev pub def_findings : (bound : List ℕ → Test) → FuncDef → List Finding
-  def_findings bound f = params_findings bound f.params ++ option_findings m (bases_of m) f.returns
+  abbrev pub def_findings : (bound : List ℕ → Test) → FuncDef → List Note
+  def_findings bound f = params_findings bound f.params ++ map plain (option_findings m (bases_of m) f.returns)
 
   -- what is found of the signature of an item that is a function
-  abbrev pub function_findings : Item → List Finding
+  abbrev pub function_findings : Item → List Note
   function_findings (constant_item p c) = []
   function_findings (class_item p c) = []
   function_findings (def_item p f) = def_findings no_name f
 
   -- what is found of the signatures of the functions among items
-  abbrev pub functions_findings : List Item → List Finding
+  abbrev pub functions_findings : List Item → List Note
   functions_findings [] = []
   functions_findings (i ∷ is) = function_findings i ++ functions_findings is
 
   -- ---- classes
 
   -- what is found of a field: in its annotation, and at its default
-  abbrev pub field_findings : Class → (bound : List ℕ → Test) → Field → List Finding
+  abbrev pub field_findings : Class → (bound : List ℕ → Test) → Field → List Note
   field_findings base bound d =
-      ann_findings m (bases_of m) d.annotation ++ default_findings (bases_of m) (binds_as_field base bound d.name.text) d.default (read_ann m (bases_of m) d.annotation)
+      map plain (ann_findings m (bases_of m) d.annotation) ++ default_findings (bases_of m) (binds_as_field base bound d.name.text) d.default (read_ann m (bases_of m) d.annotation)
 
   -- what is found of a member: of a field, or of a method's signature, behind `self`
-  abbrev pub member_findings : Class → (bound : List ℕ → Test) → Member → List Finding
+  abbrev pub member_findings : Class → (bound : List ℕ → Test) → Member → List Note
   member_findings base bound (field_member d) = field_findings base bound d
   member_findings base bound (method_member d) = def_findings (with_name no_name (codes "self")) d
 
   -- what is found of members, behind names that are bound already
-  abbrev pub members_findings : Class → (bound : List ℕ → Test) → List Member → List Finding
+  abbrev pub members_findings : Class → (bound : List ℕ → Test) → List Member → List Note
   members_findings base bound [] = []
   members_findings base bound (x ∷ xs) = member_findings base bound x ++ members_findings base (with_name bound (name_of_member x).text) xs
 
@@ -126,7 +126,7 @@ module _ (m : Module) where
   base_at c = inherited (classes_of m) (base_of (bases_of m) c)
 
   -- what is found of the members of a class of this number
-  abbrev pub class_findings : ℕ → ClassDef → List Finding
+  abbrev pub class_findings : ℕ → ClassDef → List Note
   class_findings c d = members_findings (base_at c) no_name d.members
 
   -- the methods of a class as what is called
@@ -156,13 +156,13 @@ module _ (m : Module) where
   type_of_constant r c = constant_type m c.annotation (initializer_mark r c).type
 
   -- what is found of an initializer that flows into these types: in it, and of its flow
-  abbrev pub value_findings : Reached → (into : List Tree) → Expr → List Finding
+  abbrev pub value_findings : Reached → (into : List Tree) → Expr → List Note
   value_findings r into e =
       finds_in (initial r.constants r.classes) (first_of_types into) e ++ flows_at (place_of e) (flows_of (bases_of m) (mark_in (initial r.constants r.classes) (first_of_types into) e) into)
 
   -- what is found of a constant: in its annotation, and of its initializer
-  abbrev pub constant_findings : Reached → Constant → List Finding
-  constant_findings r c = option_findings m (bases_of m) c.annotation ++ value_findings r (initializer_types r c) c.value
+  abbrev pub constant_findings : Reached → Constant → List Note
+  constant_findings r c = map plain (option_findings m (bases_of m) c.annotation) ++ value_findings r (initializer_types r c) c.value
 
   -- ---- items
 
@@ -178,13 +178,13 @@ module _ (m : Module) where
   behind_all r (i ∷ is) = behind_all (behind r i) is
 
   -- what is found of an item that is a constant or a class
-  abbrev pub item_findings : Reached → Item → List Finding
+  abbrev pub item_findings : Reached → Item → List Note
   item_findings r (constant_item p c) = constant_findings r c
   item_findings r (class_item p c) = class_findings r.classes c
   item_findings r (def_item p f) = []
 
   -- what is found of the constants and classes among items
-  abbrev pub items_findings : Reached → List Item → List Finding
+  abbrev pub items_findings : Reached → List Item → List Note
   items_findings r [] = []
   items_findings r (i ∷ is) = item_findings r i ++ items_findings (behind r i) is
 
@@ -199,5 +199,5 @@ module _ (m : Module) where
   methods_of = all_methods (classes_in m.items)
 
   -- what is found of the signatures and the constants of a module
-  unfoldable pub signatures_find : List Finding
+  unfoldable pub signatures_find : List Note
   signatures_find = functions_findings m.items ++ items_findings nothing_reached m.items

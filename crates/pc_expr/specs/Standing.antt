@@ -2,7 +2,6 @@
 -- Own rule of the profile.
 use Rattle.std.specs.Prelude.{◌≡◌, ℕ, List, map, Bool as Test, true, Option, Some, None, All, option_to_list}
 use Rattle.std.specs.Option.{option_map}
-use Rattle.pc_tree.specs.declared.code.Finding.{Finding}
 use Rattle.pc_tree.specs.Tree.{Expr, Exprs, Entries, Keywords}
 use Rattle.pc_scope.specs.declared.resolution.Res.{Res}
 use Rattle.pc_types.specs.Tree.{Tree}
@@ -13,6 +12,7 @@ use Rattle.pc_flow.specs.Environment.{Env}
 use Rattle.pc_flow.specs.Narrowing.{narrow}
 use Rattle.pc_flow.specs.Stored.{HasEach, env_of, declared_of}
 use Rattle.pc_flow.specs.WellFormed.{AreWellFormed, IsWellFormedEnv}
+use Rattle.pc_notes.specs.Notes.{Note}
 use Rattle.pc_expr.specs.Operations.{Mark, Offer}
 use Rattle.pc_expr.specs.Context.{Context, Signature}
 use Rattle.pc_expr.specs.Calls.{Seat}
@@ -43,11 +43,11 @@ unfoldable pub mark_in : Standing → (want : Option Tree) → Expr → Mark
 mark_in k want e = mark_of e (labels_of k.context k.declared k.env want e)
 
 -- what is found in it and in its parts
-unfoldable pub finds_in : Standing → (want : Option Tree) → Expr → List Finding
+unfoldable pub finds_in : Standing → (want : Option Tree) → Expr → List Note
 finds_in k want e = found_in e (labels_of k.context k.declared k.env want e)
 
 -- what is found in its parts alone
-unfoldable pub parts_find : Standing → (want : Option Tree) → Expr → List Finding
+unfoldable pub parts_find : Standing → (want : Option Tree) → Expr → List Note
 parts_find k want e = found_in_parts e (labels_of k.context k.declared k.env want e)
 
 module _ (k : Standing) where
@@ -67,11 +67,11 @@ module _ (k : Standing) where
 unfoldable pub types_in : Standing → (seat : ℕ → Seat) → Exprs → List Tree
 types_in k seat es = item_types es (items_in k seat es)
 
-unfoldable pub items_find : Standing → (seat : ℕ → Seat) → Exprs → List Finding
+unfoldable pub items_find : Standing → (seat : ℕ → Seat) → Exprs → List Note
 items_find k seat es = found_in_items es (items_in k seat es)
 
 -- what is found in arguments by position; of a test of an instance what stands second is not looked at
-unfoldable pub arguments_find : Standing → (is_test : Test) → (seat : ℕ → Seat) → Exprs → List Finding
+unfoldable pub arguments_find : Standing → (is_test : Test) → (seat : ℕ → Seat) → Exprs → List Note
 arguments_find k is_test seat es = found_in_arguments is_test es (items_in k seat es)
 
 -- the types of the keys and of the values of a dict, and what is found in its entries
@@ -81,11 +81,11 @@ keys_in k key value es = key_types es (entries_in k key value es)
 unfoldable pub values_in : Standing → (key value : Seat) → Entries → List Tree
 values_in k key value es = value_types es (entries_in k key value es)
 
-unfoldable pub entries_find : Standing → (key value : Seat) → Entries → List Finding
+unfoldable pub entries_find : Standing → (key value : Seat) → Entries → List Note
 entries_find k key value es = found_in_entries es (entries_in k key value es)
 
 -- what is found in arguments by name
-unfoldable pub keywords_find : Standing → (seat : List ℕ → Seat) → (before : List (List ℕ)) → Keywords → List Finding
+unfoldable pub keywords_find : Standing → (seat : List ℕ → Seat) → (before : List (List ℕ)) → Keywords → List Note
 keywords_find k seat before es = found_in_keywords es (keywords_in k seat before es)
 
 -- ---- values of the program

@@ -3,9 +3,9 @@
 use Rattle.std.specs.Prelude.{ℕ, List, [], ◌++◌, Bool as Test, true, false, None}
 use Rattle.pc_source.specs.declared.place.Place.{Place}
 use Rattle.pc_tree.specs.declared.code.Code.TheVariants.{E03}
-use Rattle.pc_tree.specs.declared.code.Finding.{Finding}
 use Rattle.pc_tree.specs.Tree.{Expr, Exprs, Keywords, name, attribute}
 use Rattle.pc_scope.specs.Expressions.{is_instance_test}
+use Rattle.pc_notes.specs.Notes.{Note}
 use Rattle.pc_expr.specs.Operations.{Mark, in_error}
 use Rattle.pc_expr.specs.Calls.{Given, Callee, Seat, value_callee, given, call_mark, positional_seat, named_seat, range_offers}
 use Rattle.pc_expr.specs.Labels.{with_mark}
@@ -30,7 +30,7 @@ unfoldable pub callee_in : Standing → Given → Expr → Callee
 callee_in k g e = callee_of k.context k.env g e (labels_of k.context k.declared k.env None e)
 
 -- what is found in a callee and in its parts
-unfoldable pub callee_finds : Standing → Given → Expr → List Finding
+unfoldable pub callee_finds : Standing → Given → Expr → List Note
 callee_finds k g e = found_in e (with_mark e (labels_of k.context k.declared k.env None e) (callee_in k g e).mark)
 
 -- whether an initializer names the second of several expressions too early
@@ -38,7 +38,7 @@ unfoldable pub early_in : Standing → (seat : ℕ → Seat) → Exprs → Test
 early_in k seat es = early_second es (items_in k seat es)
 
 -- what is found in a call of `range` as what a `for` goes over: in its arguments, which flow into int, and at the call
-abbrev pub range_finds : Standing → Place → (callee : Expr) → Exprs → Keywords → List Finding
+abbrev pub range_finds : Standing → Place → (callee : Expr) → Exprs → Keywords → List Note
 range_finds k p callee arguments keywords =
     let offers = range_offers (given arguments keywords) in
     arguments_find k (is_instance_test callee arguments keywords) (positional_seat offers) arguments

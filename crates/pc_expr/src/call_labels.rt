@@ -8,6 +8,7 @@ ghost use Rattle.pc_scope.specs.Expressions.{is_instance_test};
 ghost use Rattle.pc_types.specs.Store.{Keeps};
 ghost use Rattle.pc_class.specs.Tables.{HasEntries};
 ghost use Rattle.pc_flow.specs.Stored.{env_of, HasEach};
+ghost use Rattle.pc_notes.specs.Notes.{notes_of};
 ghost use Rattle.pc_expr.specs.Operations.{Mark};
 ghost use Rattle.pc_expr.specs.Calls.{value_callee};
 ghost use Rattle.pc_expr.specs.Labels.{second_place};
@@ -25,9 +26,10 @@ use crate::label::{Label, find_codes};
 use crate::setting::Setting;
 use crate::whole::call_label;
 use pc_flow::{Env, Resolver};
+use pc_notes::Notes;
 use pc_scope::is_instance_test;
 use pc_source::{OutOfMemory, Place};
-use pc_tree::{Code, Expr, Findings, KeywordArgument};
+use pc_tree::{Code, Expr, KeywordArgument};
 use pc_types::TypeStore;
 use std::alloc::Global;
 
@@ -59,8 +61,8 @@ fn second_place(arguments: &[Expr], place: Place) -> Place
 }
 
 /// Adds the finding of a code that there may be.
-fn find_code(place: Place, code: Option<Code>, found: &mut Findings) -> Result<(), OutOfMemory>
-    ensures { OnOk result (found.new.items ≡ found.old.items ++ code_at place code) }
+fn find_code(place: Place, code: Option<Code>, found: &mut Notes) -> Result<(), OutOfMemory>
+    ensures { OnOk result (notes_of found.new ≡ notes_of found.old ++ code_at place code) }
 {
     match code {
         None => Ok(()),
@@ -79,14 +81,14 @@ pub(crate) fn label_call<S: TypeStore, R: Resolver>(
     callee: &Callee<'_, S::Ty>,
     arguments: &[Expr],
     typed: &Typed<S::Ty>,
-    found: &mut Findings,
+    found: &mut Notes,
 ) -> Result<Label<S::Ty>, OutOfMemory>
     requires classes { HasEntries (S.has store.old) setting.now.classes.now }
     requires env { HasEach (S.has store.old) env.now }
     requires offers { All (HasCallOffer (S.has store.old)) callee.now.offers.items }
     requires types { All (S.has store.old) typed.now.types.items }
     ensures value { IfOk result (λ l. IsMark S.has S.tree store.new l (whole_call_mark (context_with S.tree R.meaning setting.now) (env_of S.tree env.now) (rule_of callee.now.rule) (map (offer_called S.tree) callee.now.offers.items) (exprs_of_list arguments.now) (map S.tree typed.now.types.items))) }
-    ensures pushed { OnOk result (found.new.items ≡ found.old.items ++ code_at (second_place (exprs_of_list arguments.now) place) (second_code_of (R.meaning setting.now.names.now) (rule_of callee.now.rule) (exprs_of_list arguments.now) typed.now.early)) }
+    ensures pushed { OnOk result (notes_of found.new ≡ notes_of found.old ++ code_at (second_place (exprs_of_list arguments.now) place) (second_code_of (R.meaning setting.now.names.now) (rule_of callee.now.rule) (exprs_of_list arguments.now) typed.now.early)) }
     ensures kept { Keeps S.has store.old store.new }
 {
     let code = second_code(setting.names, callee.rule, arguments, typed.early);

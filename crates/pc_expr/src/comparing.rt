@@ -4,6 +4,7 @@ ghost use Rattle.std.specs.Prelude.{◌≡◌, ◌++◌, IfOk, OnOk};
 ghost use Rattle.pc_tree.specs.Tree.{expr_of};
 ghost use Rattle.pc_tree.specs.Depth.{place_of};
 ghost use Rattle.pc_types.specs.Store.{Keeps};
+ghost use Rattle.pc_notes.specs.Notes.{notes_of};
 ghost use Rattle.pc_expr.specs.Operations.{Mark};
 ghost use Rattle.pc_expr.specs.Lawful.{compare_mark, compare_types};
 ghost use Rattle.pc_expr.specs.Computed.{flows_of};
@@ -13,8 +14,9 @@ ghost use Rattle.pc_expr.specs.Standing.{mark_with, IsMark};
 use crate::flows::find_flows;
 use crate::label::Label;
 use crate::pairs::{compare_label, compare_types};
+use pc_notes::Notes;
 use pc_source::OutOfMemory;
-use pc_tree::{ComparisonOperator, Expr, Findings};
+use pc_tree::{ComparisonOperator, Expr};
 use pc_types::{Parents, TypeStore};
 use std::alloc::Global;
 
@@ -27,12 +29,12 @@ pub(crate) fn label_comparison<S: TypeStore>(
     left: &Expr,
     label: &Label<S::Ty>,
     right: &S::Ty,
-    found: &mut Findings,
+    found: &mut Notes,
 ) -> Result<Label<S::Ty>, OutOfMemory>
     requires left { S.has store.old label.now.ty }
     requires right { S.has store.old right.now }
     ensures value { IfOk result (λ l. IsMark S.has S.tree store.new l (compare_mark parents.now operator (S.tree label.now.ty) (S.tree right.now))) }
-    ensures pushed { (m : Mark) → mark_with S.tree label.now ≡ brief m → OnOk result (found.new.items ≡ found.old.items ++ flows_at (place_of (expr_of left.now)) (flows_of parents.now m (compare_types operator (S.tree right.now)))) }
+    ensures pushed { (m : Mark) → mark_with S.tree label.now ≡ brief m → OnOk result (notes_of found.new ≡ notes_of found.old ++ flows_at (place_of (expr_of left.now)) (flows_of parents.now m (compare_types operator (S.tree right.now)))) }
     ensures kept { Keeps S.has store.old store.new }
 {
     let types = compare_types(store, alloc, operator, right)?;

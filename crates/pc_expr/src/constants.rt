@@ -10,6 +10,7 @@ ghost use Rattle.pc_types.specs.Tree.{Tree as TypeTree};
 ghost use Rattle.pc_types.specs.Store.{Means, Keeps};
 ghost use Rattle.pc_class.specs.Facts.{inherited, classes_of};
 ghost use Rattle.pc_class.specs.Tables.{classes_with};
+ghost use Rattle.pc_notes.specs.Notes.{notes_of};
 ghost use Rattle.pc_expr.specs.Signatures.{signature_of};
 ghost use Rattle.pc_expr.specs.SignaturesFound.{bound_in, has_member, binds_as_field, member_findings, members_findings, class_methods, all_methods, initial, type_of_constant, constant_findings, behind, item_findings, items_findings, constants_of, methods_of, no_name, with_name, def_findings, field_findings, class_findings, value_findings, nothing_reached};
 ghost use Rattle.pc_expr.specs.SignaturesRead.{module_in, IsFrame, AreGlobals, AreSignatures, HasSignatures, HasReached, signatures_with, methods_with, reached_with};
@@ -24,9 +25,10 @@ use crate::typing::type_expr;
 use indexmap::IndexSet;
 use pc_class::ClassTable;
 use pc_flow::{DeclaredTypes, Env, OwnerNames};
+use pc_notes::Notes;
 use pc_scope::Owner;
 use pc_source::OutOfMemory;
-use pc_tree::{ClassDef, Constant, Expr, Field, Findings, FuncDef, Item, ItemKind, Member, Name};
+use pc_tree::{ClassDef, Constant, Expr, Field, FuncDef, Item, ItemKind, Member, Name};
 use pc_types::TypeStore;
 use std::alloc::Global;
 
@@ -78,10 +80,10 @@ fn read_field<S: TypeStore>(
     base: Option<usize>,
     bound: &Texts,
     field: &Field,
-    found: &mut Findings,
+    found: &mut Notes,
 ) -> Result<(), OutOfMemory>
     requires { AreGlobals S.has S.tree store.old globals.now }
-    ensures pushed { OnOk result (found.new.items ≡ found.old.items ++ field_findings (module_in globals.now.frame.now) (inherited (classes_of (module_in globals.now.frame.now)) base) (bound_in bound.now) (field_of field.now)) }
+    ensures pushed { OnOk result (notes_of found.new ≡ notes_of found.old ++ field_findings (module_in globals.now.frame.now) (inherited (classes_of (module_in globals.now.frame.now)) base) (bound_in bound.now) (field_of field.now)) }
     ensures kept { Keeps S.has store.old store.new }
 {
     let frame = globals.frame;
@@ -105,13 +107,13 @@ fn add_method<S: TypeStore>(
     frame: &Frame,
     def: &FuncDef,
     methods: &mut Vec<Signature<S::Ty>>,
-    found: &mut Findings,
+    found: &mut Notes,
 ) -> Result<(), OutOfMemory>
     requires frame { IsFrame frame.now }
     requires held { HasSignatures (S.has store.old) methods.old.items }
     ensures held { OnOk result (HasSignatures (S.has store.new) methods.new.items) }
     ensures typed { OnOk result (signatures_with S.tree methods.new.items ≡ signatures_with S.tree methods.old.items ++ signature_of (module_in frame.now) (func_of def.now) ∷ []) }
-    ensures pushed { OnOk result (found.new.items ≡ found.old.items ++ def_findings (module_in frame.now) (with_name no_name (codes "self")) (func_of def.now)) }
+    ensures pushed { OnOk result (notes_of found.new ≡ notes_of found.old ++ def_findings (module_in frame.now) (with_name no_name (codes "self")) (func_of def.now)) }
     ensures kept { Keeps S.has store.old store.new }
 {
     let mut bound = IndexSet::new(alloc);
@@ -130,13 +132,13 @@ fn add_member<S: TypeStore>(
     bound: &Texts,
     member: &Member,
     methods: &mut Vec<Signature<S::Ty>>,
-    found: &mut Findings,
+    found: &mut Notes,
 ) -> Result<(), OutOfMemory>
     requires globals { AreGlobals S.has S.tree store.old globals.now }
     requires held { HasSignatures (S.has store.old) methods.old.items }
     ensures held { OnOk result (HasSignatures (S.has store.new) methods.new.items) }
     ensures typed { OnOk result (signatures_with S.tree methods.new.items ≡ signatures_with S.tree methods.old.items ++ map (signature_of (module_in globals.now.frame.now)) (methods_in (member_of member.now ∷ []))) }
-    ensures pushed { OnOk result (found.new.items ≡ found.old.items ++ member_findings (module_in globals.now.frame.now) (inherited (classes_of (module_in globals.now.frame.now)) base) (bound_in bound.now) (member_of member.now)) }
+    ensures pushed { OnOk result (notes_of found.new ≡ notes_of found.old ++ member_findings (module_in globals.now.frame.now) (inherited (classes_of (module_in globals.now.frame.now)) base) (bound_in bound.now) (member_of member.now)) }
     ensures kept { Keeps S.has store.old store.new }
 {
     match member {
@@ -163,11 +165,11 @@ fn read_members<S: TypeStore>(
     globals: &Globals<'_, S::Ty>,
     base: Option<usize>,
     members: &[Member],
-    found: &mut Findings,
+    found: &mut Notes,
 ) -> Result<Vec<Signature<S::Ty>>, OutOfMemory>
     requires { AreGlobals S.has S.tree store.old globals.now }
     ensures typed { IfOk result (λ ss. AreSignatures S.has S.tree store.new ss.items (map (signature_of (module_in globals.now.frame.now)) (methods_in (map member_of members.now)))) }
-    ensures pushed { OnOk result (found.new.items ≡ found.old.items ++ members_findings (module_in globals.now.frame.now) (inherited (classes_of (module_in globals.now.frame.now)) base) no_name (map member_of members.now)) }
+    ensures pushed { OnOk result (notes_of found.new ≡ notes_of found.old ++ members_findings (module_in globals.now.frame.now) (inherited (classes_of (module_in globals.now.frame.now)) base) no_name (map member_of members.now)) }
     ensures kept { Keeps S.has store.old store.new }
 {
     let mut methods = Vec::new(alloc);
@@ -196,13 +198,13 @@ fn type_initializer<S: TypeStore>(
     walk: &Walk<S::Ty>,
     want: &Option<S::Ty>,
     value: &Expr,
-    found: &mut Findings,
+    found: &mut Notes,
 ) -> Result<Label<S::Ty>, OutOfMemory>
     requires globals { AreGlobals S.has S.tree store.old globals.now }
     requires constants { All (S.has store.old) walk.now.constants.items }
     requires want { HasIfAny (S.has store.old) want.now }
     ensures marked { IfOk result (λ l. IsMark S.has S.tree store.new l (mark_in (initial (module_in globals.now.frame.now) (map S.tree walk.now.constants.items) (length walk.now.methods.items)) (option_map S.tree want.now) (expr_of value.now))) }
-    ensures pushed { OnOk result (found.new.items ≡ found.old.items ++ finds_in (initial (module_in globals.now.frame.now) (map S.tree walk.now.constants.items) (length walk.now.methods.items)) (option_map S.tree want.now) (expr_of value.now)) }
+    ensures pushed { OnOk result (notes_of found.new ≡ notes_of found.old ++ finds_in (initial (module_in globals.now.frame.now) (map S.tree walk.now.constants.items) (length walk.now.methods.items)) (option_map S.tree want.now) (expr_of value.now)) }
     ensures kept { Keeps S.has store.old store.new }
 {
     let names = OwnerNames {
@@ -233,12 +235,12 @@ fn check_annotated<S: TypeStore>(
     binds: bool,
     ty: &S::Ty,
     value: &Expr,
-    found: &mut Findings,
+    found: &mut Notes,
 ) -> Result<(), OutOfMemory>
     requires globals { AreGlobals S.has S.tree store.old globals.now }
     requires constants { All (S.has store.old) walk.now.constants.items }
     requires ty { S.has store.old ty.now }
-    ensures pushed { OnOk result (found.new.items ≡ found.old.items ++ value_findings (module_in globals.now.frame.now) (reached_with S.tree walk.now) (if binds then S.tree ty.now ∷ [] else []) (expr_of value.now)) }
+    ensures pushed { OnOk result (notes_of found.new ≡ notes_of found.old ++ value_findings (module_in globals.now.frame.now) (reached_with S.tree walk.now) (if binds then S.tree ty.now ∷ [] else []) (expr_of value.now)) }
     ensures kept { Keeps S.has store.old store.new }
 {
     if !binds {
@@ -266,12 +268,12 @@ fn read_constant<S: TypeStore>(
     globals: &Globals<'_, S::Ty>,
     walk: &Walk<S::Ty>,
     constant: &Constant,
-    found: &mut Findings,
+    found: &mut Notes,
 ) -> Result<S::Ty, OutOfMemory>
     requires globals { AreGlobals S.has S.tree store.old globals.now }
     requires constants { All (S.has store.old) walk.now.constants.items }
     ensures typed { IfOk result (λ t. Means S.has S.tree store.new t (type_of_constant (module_in globals.now.frame.now) (reached_with S.tree walk.now) (constant_of constant.now))) }
-    ensures pushed { OnOk result (found.new.items ≡ found.old.items ++ constant_findings (module_in globals.now.frame.now) (reached_with S.tree walk.now) (constant_of constant.now)) }
+    ensures pushed { OnOk result (notes_of found.new ≡ notes_of found.old ++ constant_findings (module_in globals.now.frame.now) (reached_with S.tree walk.now) (constant_of constant.now)) }
     ensures kept { Keeps S.has store.old store.new }
 {
     let value = &constant.value;
@@ -296,14 +298,14 @@ fn add_constant<S: TypeStore>(
     globals: &Globals<'_, S::Ty>,
     walk: &mut Walk<S::Ty>,
     constant: &Constant,
-    found: &mut Findings,
+    found: &mut Notes,
 ) -> Result<(), OutOfMemory>
     requires globals { AreGlobals S.has S.tree store.old globals.now }
     requires held { HasReached (S.has store.old) walk.old }
     ensures held { OnOk result (HasReached (S.has store.new) walk.new) }
     ensures methods { OnOk result (walk.new.methods ≡ walk.old.methods) }
     ensures reached { (p : Place) → OnOk result (reached_with S.tree walk.new ≡ behind (module_in globals.now.frame.now) (reached_with S.tree walk.old) (constant_item p (constant_of constant.now))) }
-    ensures pushed { OnOk result (found.new.items ≡ found.old.items ++ constant_findings (module_in globals.now.frame.now) (reached_with S.tree walk.old) (constant_of constant.now)) }
+    ensures pushed { OnOk result (notes_of found.new ≡ notes_of found.old ++ constant_findings (module_in globals.now.frame.now) (reached_with S.tree walk.old) (constant_of constant.now)) }
     ensures kept { Keeps S.has store.old store.new }
 {
     let ty = read_constant(store, alloc, globals, walk, constant, found)?;
@@ -318,14 +320,14 @@ fn add_class<S: TypeStore>(
     globals: &Globals<'_, S::Ty>,
     walk: &mut Walk<S::Ty>,
     class: &ClassDef,
-    found: &mut Findings,
+    found: &mut Notes,
 ) -> Result<(), OutOfMemory>
     requires globals { AreGlobals S.has S.tree store.old globals.now }
     requires held { HasReached (S.has store.old) walk.old }
     ensures held { OnOk result (HasReached (S.has store.new) walk.new) }
     ensures methods { OnOk result (map (methods_with S.tree) walk.new.methods.items ≡ map (methods_with S.tree) walk.old.methods.items ++ class_methods (module_in globals.now.frame.now) (class_of class.now) ∷ []) }
     ensures reached { (p : Place) → OnOk result (reached_with S.tree walk.new ≡ behind (module_in globals.now.frame.now) (reached_with S.tree walk.old) (class_item p (class_of class.now))) }
-    ensures pushed { OnOk result (found.new.items ≡ found.old.items ++ class_findings (module_in globals.now.frame.now) (length walk.old.methods.items) (class_of class.now)) }
+    ensures pushed { OnOk result (notes_of found.new ≡ notes_of found.old ++ class_findings (module_in globals.now.frame.now) (length walk.old.methods.items) (class_of class.now)) }
     ensures kept { Keeps S.has store.old store.new }
 {
     let base = globals.frame.parents.base(walk.methods.len());
@@ -341,14 +343,14 @@ fn add_item<S: TypeStore>(
     globals: &Globals<'_, S::Ty>,
     walk: &mut Walk<S::Ty>,
     item: &Item,
-    found: &mut Findings,
+    found: &mut Notes,
 ) -> Result<(), OutOfMemory>
     requires globals { AreGlobals S.has S.tree store.old globals.now }
     requires held { HasReached (S.has store.old) walk.old }
     ensures held { OnOk result (HasReached (S.has store.new) walk.new) }
     ensures methods { OnOk result (map (methods_with S.tree) walk.new.methods.items ≡ map (methods_with S.tree) walk.old.methods.items ++ all_methods (module_in globals.now.frame.now) (classes_in (item_of item.now ∷ []))) }
     ensures reached { OnOk result (reached_with S.tree walk.new ≡ behind (module_in globals.now.frame.now) (reached_with S.tree walk.old) (item_of item.now)) }
-    ensures pushed { OnOk result (found.new.items ≡ found.old.items ++ item_findings (module_in globals.now.frame.now) (reached_with S.tree walk.old) (item_of item.now)) }
+    ensures pushed { OnOk result (notes_of found.new ≡ notes_of found.old ++ item_findings (module_in globals.now.frame.now) (reached_with S.tree walk.old) (item_of item.now)) }
     ensures kept { Keeps S.has store.old store.new }
 {
     match &item.kind {
@@ -365,13 +367,13 @@ pub(crate) fn read_items<S: TypeStore>(
     store: &mut S,
     alloc: Global,
     globals: &Globals<'_, S::Ty>,
-    found: &mut Findings,
+    found: &mut Notes,
 ) -> Result<Walk<S::Ty>, OutOfMemory>
     requires { AreGlobals S.has S.tree store.old globals.now }
     ensures held { IfOk result (HasReached (S.has store.new)) }
     ensures constants { IfOk result (λ w. map S.tree w.constants.items ≡ constants_of (module_in globals.now.frame.now)) }
     ensures methods { IfOk result (λ w. map (methods_with S.tree) w.methods.items ≡ methods_of (module_in globals.now.frame.now)) }
-    ensures pushed { OnOk result (found.new.items ≡ found.old.items ++ items_findings (module_in globals.now.frame.now) nothing_reached (module_in globals.now.frame.now).items) }
+    ensures pushed { OnOk result (notes_of found.new ≡ notes_of found.old ++ items_findings (module_in globals.now.frame.now) nothing_reached (module_in globals.now.frame.now).items) }
     ensures kept { Keeps S.has store.old store.new }
 {
     let mut walk = Walk {

@@ -4,6 +4,7 @@ ghost use Rattle.std.specs.Prelude.{◌≡◌, ◌++◌, ◌∷◌, [], IfOk, On
 ghost use Rattle.pc_tree.specs.Tree.{literal_of, option_literal_of};
 ghost use Rattle.pc_scope.specs.Reserved.{is_reserved};
 ghost use Rattle.pc_types.specs.Store.{Means, Keeps};
+ghost use Rattle.pc_notes.specs.Notes.{notes_of};
 ghost use Rattle.pc_expr.specs.Operations.{Mark, clean};
 ghost use Rattle.pc_expr.specs.Computed.{flows_of};
 ghost use Rattle.pc_expr.specs.Found.{brief, flows_at};
@@ -14,8 +15,9 @@ ghost use Rattle.pc_expr.specs.Standing.{IsMark, mark_with};
 use crate::bound::{Texts, is_bound};
 use crate::flows::find_flow;
 use crate::label::Label;
+use pc_notes::Notes;
 use pc_source::{OutOfMemory, Place};
-use pc_tree::{Findings, Literal, LiteralKind};
+use pc_tree::{Literal, LiteralKind};
 use pc_types::{Parents, TypeStore};
 use std::alloc::Global;
 
@@ -76,11 +78,11 @@ pub(crate) fn find_into<S: TypeStore>(
     place: Place,
     label: &Label<S::Ty>,
     into: &S::Ty,
-    found: &mut Findings,
+    found: &mut Notes,
 ) -> Result<(), OutOfMemory>
     requires label { S.has store.old label.now.ty }
     requires into { S.has store.old into.now }
-    ensures pushed { (m : Mark) → mark_with S.tree label.now ≡ brief m → OnOk result (found.new.items ≡ found.old.items ++ flows_at place (flows_of parents.now m (S.tree into.now ∷ []))) }
+    ensures pushed { (m : Mark) → mark_with S.tree label.now ≡ brief m → OnOk result (notes_of found.new ≡ notes_of found.old ++ flows_at place (flows_of parents.now m (S.tree into.now ∷ []))) }
     ensures kept { Keeps S.has store.old store.new }
 {
     find_flow(store, alloc, parents, place, label, into, found)?;
@@ -94,10 +96,10 @@ fn find_literal<S: TypeStore>(
     parents: &Parents,
     literal: &Literal,
     into: &S::Ty,
-    found: &mut Findings,
+    found: &mut Notes,
 ) -> Result<(), OutOfMemory>
     requires { S.has store.old into.now }
-    ensures pushed { OnOk result (found.new.items ≡ found.old.items ++ literal_findings parents.now (literal_of literal.now) (S.tree into.now)) }
+    ensures pushed { OnOk result (notes_of found.new ≡ notes_of found.old ++ literal_findings parents.now (literal_of literal.now) (S.tree into.now)) }
     ensures kept { Keeps S.has store.old store.new }
 {
     let label = literal_label(store, alloc, literal)?;
@@ -113,10 +115,10 @@ pub(crate) fn find_default<S: TypeStore>(
     binds: bool,
     default: &Option<Literal>,
     into: &S::Ty,
-    found: &mut Findings,
+    found: &mut Notes,
 ) -> Result<(), OutOfMemory>
     requires { S.has store.old into.now }
-    ensures pushed { OnOk result (found.new.items ≡ found.old.items ++ default_findings parents.now binds (option_literal_of default.now) (S.tree into.now)) }
+    ensures pushed { OnOk result (notes_of found.new ≡ notes_of found.old ++ default_findings parents.now binds (option_literal_of default.now) (S.tree into.now)) }
     ensures kept { Keeps S.has store.old store.new }
 {
     match default {

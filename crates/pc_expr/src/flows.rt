@@ -3,15 +3,17 @@
 ghost use Rattle.std.specs.Prelude.{◌≡◌, ◌++◌, All, IfOk, OnOk, map, option_to_list};
 ghost use Rattle.pc_types.specs.Computed.{static_test, assignable_test};
 ghost use Rattle.pc_types.specs.Store.{Keeps};
+ghost use Rattle.pc_notes.specs.Notes.{notes_of};
 ghost use Rattle.pc_expr.specs.Operations.{Mark};
 ghost use Rattle.pc_expr.specs.Context.{is_early};
 ghost use Rattle.pc_expr.specs.Computed.{code_unless, flows_of};
-ghost use Rattle.pc_expr.specs.Found.{codes_at, flows_at, brief};
+ghost use Rattle.pc_expr.specs.Found.{own_flow, flow_at, flows_at, brief};
 ghost use Rattle.pc_expr.specs.Standing.{mark_with};
 
-use crate::label::{Label, add_found, find_codes, is_early};
+use crate::label::{Label, has_code, is_early, is_of_scopes};
+use pc_notes::Notes;
 use pc_source::{OutOfMemory, Place};
-use pc_tree::{Code, Findings};
+use pc_tree::Code;
 use pc_types::{Parents, TypeStore};
 use std::alloc::Global;
 
@@ -37,6 +39,29 @@ fn flow_code<S: TypeStore>(
     Some(Code::E12)
 }
 
+/// Notes a flow with this code, a dynamic one with its two types; but nothing of a code that is found of scopes.
+fn note_flow<S: TypeStore>(
+    store: &S,
+    alloc: Global,
+    place: Place,
+    code: Code,
+    from: &S::Ty,
+    into: &S::Ty,
+    found: &mut Notes,
+) -> Result<(), OutOfMemory>
+    requires from { S.has store.now from.now }
+    requires into { S.has store.now into.now }
+    ensures { OnOk result (notes_of found.new ≡ notes_of found.old ++ own_flow place (S.tree from.now) (S.tree into.now) code) }
+{
+    if is_of_scopes(code) {
+        return Ok(());
+    }
+    if let Code::A1 = code {
+        return found.put_flow(store, alloc, place, from, into);
+    }
+    found.put(place, code)
+}
+
 /// Finds the flow of a labelled expression, which stands at this place, into a type, and answers its code. Typing
 /// specification, "Type system concepts", assignability; own rule of the profile.
 pub fn find_flow<S: TypeStore>(
@@ -46,18 +71,18 @@ pub fn find_flow<S: TypeStore>(
     place: Place,
     label: &Label<S::Ty>,
     into: &S::Ty,
-    found: &mut Findings,
+    found: &mut Notes,
 ) -> Result<Option<Code>, OutOfMemory>
     requires label { S.has store.old label.now.ty }
     requires into { S.has store.old into.now }
     ensures value { IfOk result (λ c. c ≡ code_unless (static_test parents.now) (assignable_test parents.now) (is_early label.now.codes.items) (S.tree label.now.ty) (S.tree into.now)) }
-    ensures found { IfOk result (λ c. found.new.items ≡ found.old.items ++ codes_at place (option_to_list c)) }
+    ensures found { IfOk result (λ c. notes_of found.new ≡ notes_of found.old ++ flow_at place (S.tree label.now.ty) (S.tree into.now) c) }
     ensures kept { Keeps S.has store.old store.new }
 {
     let code = flow_code(store, parents, label, into);
-    let mut codes = Vec::new(alloc);
-    add_found(&mut codes, code)?;
-    find_codes(place, &codes, found)?;
+    if let Some(code) = code {
+        note_flow(store, alloc, place, code, &label.ty, into, found)?;
+    }
     Ok(code)
 }
 
@@ -69,17 +94,21 @@ pub fn find_flows<S: TypeStore>(
     place: Place,
     label: &Label<S::Ty>,
     into: &[S::Ty],
-    found: &mut Findings,
+    found: &mut Notes,
 ) -> Result<(), OutOfMemory>
     requires label { S.has store.old label.now.ty }
     requires into { All (S.has store.old) into.now }
-    ensures found { (m : Mark) → mark_with S.tree label.now ≡ brief m → OnOk result (found.new.items ≡ found.old.items ++ flows_at place (flows_of parents.now m (map S.tree into.now))) }
+    ensures found { (m : Mark) → mark_with S.tree label.now ≡ brief m → OnOk result (notes_of found.new ≡ notes_of found.old ++ flows_at place (flows_of parents.now m (map S.tree into.now))) }
     ensures kept { Keeps S.has store.old store.new }
 {
     let mut codes = Vec::new(alloc);
     for ty in into {
-        let code = flow_code(store, parents, label, ty);
-        add_found(&mut codes, code)?;
+        if let Some(code) = flow_code(store, parents, label, ty) {
+            if !has_code(&codes, code) {
+                codes.push(code)?;
+                note_flow(store, alloc, place, code, &label.ty, ty, found)?;
+            }
+        }
     }
-    find_codes(place, &codes, found)
+    Ok(())
 }

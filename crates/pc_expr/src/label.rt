@@ -1,14 +1,16 @@
 ghost use Rattle.std.specs.Prelude.{◌≡◌, ◌++◌, IfOk, OnOk, flat_map, option_to_list};
 ghost use Rattle.pc_types.specs.Tree.{Tree};
 ghost use Rattle.pc_types.specs.Store.{Keeps};
+ghost use Rattle.pc_notes.specs.Notes.{notes_of};
 ghost use Rattle.pc_expr.specs.Operations.{clean, in_error};
 ghost use Rattle.pc_expr.specs.Context.{is_early};
 ghost use Rattle.pc_expr.specs.Labels.{is_of_scopes};
 ghost use Rattle.pc_expr.specs.Found.{own_at, has_code, add_code, once_onto};
 ghost use Rattle.pc_expr.specs.Standing.{mark_with, IsMark};
 
+use pc_notes::Notes;
 use pc_source::{OutOfMemory, Place};
-use pc_tree::{Code, Finding, Findings};
+use pc_tree::Code;
 use pc_types::TypeStore;
 use std::alloc::Global;
 
@@ -64,26 +66,26 @@ pub(crate) fn is_early(codes: &[Code]) -> bool
 }
 
 /// Whether a code is found of scopes.
-fn is_of_scopes(code: Code) -> bool
+pub(crate) fn is_of_scopes(code: Code) -> bool
     ensures { result ≡ is_of_scopes code }
 {
     matches!(code, Code::E02 | Code::E03)
 }
 
 /// Adds the findings of codes at a place, but for those of codes that are found of scopes.
-pub fn find_codes(place: Place, codes: &[Code], found: &mut Findings) -> Result<(), OutOfMemory>
-    ensures { OnOk result (found.new.items ≡ found.old.items ++ flat_map (own_at place) codes.now) }
+pub fn find_codes(place: Place, codes: &[Code], found: &mut Notes) -> Result<(), OutOfMemory>
+    ensures { OnOk result (notes_of found.new ≡ notes_of found.old ++ flat_map (own_at place) codes.now) }
 {
     for code in codes {
         if !is_of_scopes(*code) {
-            found.push(Finding { place, code: *code })?;
+            found.put(place, *code)?;
         }
     }
     Ok(())
 }
 
 /// Whether a code is one of these.
-fn has_code(codes: &[Code], code: Code) -> bool
+pub(crate) fn has_code(codes: &[Code], code: Code) -> bool
     ensures { result ≡ has_code codes.now code }
 {
     codes.contains(&code)

@@ -10,6 +10,7 @@ ghost use Rattle.pc_class.specs.Tables.{classes_with, HasEntries};
 ghost use Rattle.pc_flow.specs.Environment.{join_or_object};
 ghost use Rattle.pc_flow.specs.Narrowing.{narrow};
 ghost use Rattle.pc_flow.specs.Stored.{env_of, declared_of};
+ghost use Rattle.pc_notes.specs.Notes.{notes_of};
 ghost use Rattle.pc_expr.specs.Operations.{Mark, clean, offers_mark, operand_types, negative_member, attribute_member, index_member};
 ghost use Rattle.pc_expr.specs.Lawful.{int_literal};
 ghost use Rattle.pc_expr.specs.Computed.{flows_of};
@@ -21,8 +22,9 @@ use crate::label::Label;
 use crate::offers::{Operation, literal_index, member_offers, offers_label, operand_types};
 use crate::setting::Setting;
 use pc_flow::{Env, Resolver, join_or_object, narrow_false, narrow_true};
+use pc_notes::Notes;
 use pc_source::OutOfMemory;
-use pc_tree::{Expr, Findings, Name};
+use pc_tree::{Expr, Name};
 use pc_types::{Parents, TypeStore};
 use std::alloc::Global;
 
@@ -130,13 +132,13 @@ pub(crate) fn label_index<S: TypeStore, R: Resolver>(
     object: &S::Ty,
     key: &Expr,
     label: &Label<S::Ty>,
-    found: &mut Findings,
+    found: &mut Notes,
 ) -> Result<Label<S::Ty>, OutOfMemory>
     requires object { S.has store.old object.now }
     requires key { S.has store.old label.now.ty }
     requires classes { HasEntries (S.has store.old) setting.now.classes.now }
     ensures value { IfOk result (λ l. IsMark S.has S.tree store.new l (offers_mark setting.now.parents.now (map (index_member setting.now.parents.now (int_literal (expr_of key.now))) (members (S.tree object.now))))) }
-    ensures pushed { (m : Mark) → mark_with S.tree label.now ≡ brief m → OnOk result (found.new.items ≡ found.old.items ++ flows_at (place_of (expr_of key.now)) (flows_of setting.now.parents.now m (operand_types (map (index_member setting.now.parents.now (int_literal (expr_of key.now))) (members (S.tree object.now)))))) }
+    ensures pushed { (m : Mark) → mark_with S.tree label.now ≡ brief m → OnOk result (notes_of found.new ≡ notes_of found.old ++ flows_at (place_of (expr_of key.now)) (flows_of setting.now.parents.now m (operand_types (map (index_member setting.now.parents.now (int_literal (expr_of key.now))) (members (S.tree object.now)))))) }
     ensures kept { Keeps S.has store.old store.new }
 {
     let parents = setting.parents;

@@ -4,6 +4,7 @@ ghost use Rattle.std.specs.Prelude.{◌≡◌, ◌++◌, IfOk, OnOk};
 ghost use Rattle.pc_tree.specs.Tree.{expr_of};
 ghost use Rattle.pc_tree.specs.Lists.{exprs_of_list, keywords_of_list};
 ghost use Rattle.pc_types.specs.Store.{Keeps};
+ghost use Rattle.pc_notes.specs.Notes.{notes_of};
 ghost use Rattle.pc_expr.specs.Calls.{given, range_item};
 ghost use Rattle.pc_expr.specs.Standing.{standing, Stands, IsMark};
 ghost use Rattle.pc_expr.specs.Typing.{range_finds};
@@ -15,9 +16,10 @@ use crate::ranging::{range_item, range_offers};
 use crate::setting::Setting;
 use crate::typing::{type_arguments, type_keywords};
 use pc_flow::{Env, Resolver};
+use pc_notes::Notes;
 use pc_scope::is_instance_test;
 use pc_source::{OutOfMemory, Place};
-use pc_tree::{Expr, Findings, KeywordArgument};
+use pc_tree::{Expr, KeywordArgument};
 use pc_types::TypeStore;
 use std::alloc::Global;
 
@@ -32,10 +34,10 @@ fn find_range<S: TypeStore, R: Resolver>(
     callee: &Expr,
     arguments: &[Expr],
     by_name: &[KeywordArgument],
-    found: &mut Findings,
+    found: &mut Notes,
 ) -> Result<(), OutOfMemory>
     requires { Stands (S.has store.old) S.tree setting.now env.now }
-    ensures pushed { OnOk result (found.new.items ≡ found.old.items ++ range_finds (standing S.tree R.meaning setting.now env.now) place (expr_of callee.now) (exprs_of_list arguments.now) (keywords_of_list by_name.now)) }
+    ensures pushed { OnOk result (notes_of found.new ≡ notes_of found.old ++ range_finds (standing S.tree R.meaning setting.now env.now) place (expr_of callee.now) (exprs_of_list arguments.now) (keywords_of_list by_name.now)) }
     ensures kept { Keeps S.has store.old store.new }
 {
     let given = given(alloc, arguments, by_name)?;
@@ -60,11 +62,11 @@ pub fn type_range<S: TypeStore, R: Resolver>(
     callee: &Expr,
     arguments: &[Expr],
     by_name: &[KeywordArgument],
-    found: &mut Findings,
+    found: &mut Notes,
 ) -> Result<Label<S::Ty>, OutOfMemory>
     requires { Stands (S.has store.old) S.tree setting.now env.now }
     ensures label { IfOk result (λ l. IsMark S.has S.tree store.new l (range_item (given (exprs_of_list arguments.now) (keywords_of_list by_name.now)))) }
-    ensures pushed { OnOk result (found.new.items ≡ found.old.items ++ range_finds (standing S.tree R.meaning setting.now env.now) place (expr_of callee.now) (exprs_of_list arguments.now) (keywords_of_list by_name.now)) }
+    ensures pushed { OnOk result (notes_of found.new ≡ notes_of found.old ++ range_finds (standing S.tree R.meaning setting.now env.now) place (expr_of callee.now) (exprs_of_list arguments.now) (keywords_of_list by_name.now)) }
     ensures kept { Keeps S.has store.old store.new }
 {
     find_range(

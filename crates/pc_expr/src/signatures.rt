@@ -8,6 +8,7 @@ ghost use Rattle.pc_types.specs.Annotations.{read_ann, read_option};
 ghost use Rattle.pc_ann.specs.Listed.{ann_findings, option_findings};
 ghost use Rattle.pc_class.specs.Bases.{bases_of};
 ghost use Rattle.pc_class.specs.Facts.{parameter_of, parameters_of};
+ghost use Rattle.pc_notes.specs.Notes.{notes_of, plain};
 ghost use Rattle.pc_expr.specs.Signatures.{signature_of, signatures_of};
 ghost use Rattle.pc_expr.specs.SignaturesFound.{bound_in, param_findings, params_findings, def_findings, function_findings, functions_findings};
 ghost use Rattle.pc_expr.specs.SignaturesRead.{module_in, IsFrame, IsParameter, AreParameters, IsSignature, AreSignatures, HasSignatures, signatures_with};
@@ -17,9 +18,10 @@ use crate::defaults::{binds, find_default};
 use crate::setting::Signature;
 use indexmap::IndexSet;
 use pc_class::Parameter;
+use pc_notes::Notes;
 use pc_scope::Scopes;
 use pc_source::OutOfMemory;
-use pc_tree::{Ann, Findings, FuncDef, Item, ItemKind, Module, Param};
+use pc_tree::{Ann, FuncDef, Item, ItemKind, Module, Param};
 use pc_types::{Parents, TypeStore};
 use std::alloc::Global;
 
@@ -37,22 +39,25 @@ pub(crate) fn read_annotation<S: TypeStore>(
     alloc: Global,
     frame: &Frame,
     ann: &Ann,
-    found: &mut Findings,
+    found: &mut Notes,
 ) -> Result<S::Ty, OutOfMemory>
     requires { IsFrame frame.now }
     ensures typed { IfOk result (λ t. Means S.has S.tree store.new t (read_ann (module_in frame.now) (bases_of (module_in frame.now)) (ann_of ann.now))) }
-    ensures pushed { OnOk result (found.new.items ≡ found.old.items ++ ann_findings (module_in frame.now) (bases_of (module_in frame.now)) (ann_of ann.now)) }
+    ensures pushed { OnOk result (notes_of found.new ≡ notes_of found.old ++ map plain (ann_findings (module_in frame.now) (bases_of (module_in frame.now)) (ann_of ann.now))) }
     ensures kept { Keeps S.has store.old store.new }
 {
-    pc_ann::read_ann(
+    let mut in_it = Vec::new(alloc);
+    let ty = pc_ann::read_ann(
         store,
         alloc,
         frame.parents,
         frame.tree,
         frame.scopes,
-        found,
+        &mut in_it,
         ann,
-    )
+    )?;
+    found.put_all(&in_it)?;
+    Ok(ty)
 }
 
 /// The type of an annotation that may be left out, with what is found in it.
@@ -61,22 +66,25 @@ pub(crate) fn read_optional<S: TypeStore>(
     alloc: Global,
     frame: &Frame,
     ann: &Option<Ann>,
-    found: &mut Findings,
+    found: &mut Notes,
 ) -> Result<S::Ty, OutOfMemory>
     requires { IsFrame frame.now }
     ensures typed { IfOk result (λ t. Means S.has S.tree store.new t (read_option (module_in frame.now) (bases_of (module_in frame.now)) (option_ann_of ann.now))) }
-    ensures pushed { OnOk result (found.new.items ≡ found.old.items ++ option_findings (module_in frame.now) (bases_of (module_in frame.now)) (option_ann_of ann.now)) }
+    ensures pushed { OnOk result (notes_of found.new ≡ notes_of found.old ++ map plain (option_findings (module_in frame.now) (bases_of (module_in frame.now)) (option_ann_of ann.now))) }
     ensures kept { Keeps S.has store.old store.new }
 {
-    pc_ann::read_option(
+    let mut in_it = Vec::new(alloc);
+    let ty = pc_ann::read_option(
         store,
         alloc,
         frame.parents,
         frame.tree,
         frame.scopes,
-        found,
+        &mut in_it,
         ann,
-    )
+    )?;
+    found.put_all(&in_it)?;
+    Ok(ty)
 }
 
 /// A parameter with its type, behind names that are bound already; what is found in its annotation and at its default.
@@ -86,11 +94,11 @@ fn read_param<S: TypeStore>(
     frame: &Frame,
     bound: &Texts,
     param: &Param,
-    found: &mut Findings,
+    found: &mut Notes,
 ) -> Result<Parameter<S::Ty>, OutOfMemory>
     requires { IsFrame frame.now }
     ensures typed { IfOk result (λ p. IsParameter S.has S.tree store.new p (parameter_of (module_in frame.now) (param_of param.now))) }
-    ensures pushed { OnOk result (found.new.items ≡ found.old.items ++ param_findings (module_in frame.now) (bound_in bound.now) (param_of param.now)) }
+    ensures pushed { OnOk result (notes_of found.new ≡ notes_of found.old ++ param_findings (module_in frame.now) (bound_in bound.now) (param_of param.now)) }
     ensures kept { Keeps S.has store.old store.new }
 {
     let name = param.name.text.as_str();
@@ -120,11 +128,11 @@ fn read_params<S: TypeStore>(
     frame: &Frame,
     bound: &mut Texts,
     params: &[Param],
-    found: &mut Findings,
+    found: &mut Notes,
 ) -> Result<Vec<Parameter<S::Ty>>, OutOfMemory>
     requires { IsFrame frame.now }
     ensures typed { IfOk result (λ ps. AreParameters S.has S.tree store.new ps.items (parameters_of (module_in frame.now) (map param_of params.now))) }
-    ensures pushed { OnOk result (found.new.items ≡ found.old.items ++ params_findings (module_in frame.now) (bound_in bound.old) (map param_of params.now)) }
+    ensures pushed { OnOk result (notes_of found.new ≡ notes_of found.old ++ params_findings (module_in frame.now) (bound_in bound.old) (map param_of params.now)) }
     ensures kept { Keeps S.has store.old store.new }
 {
     let mut all = Vec::new(alloc);
@@ -144,11 +152,11 @@ pub(crate) fn read_signature<S: TypeStore>(
     frame: &Frame,
     bound: &mut Texts,
     def: &FuncDef,
-    found: &mut Findings,
+    found: &mut Notes,
 ) -> Result<Signature<S::Ty>, OutOfMemory>
     requires { IsFrame frame.now }
     ensures typed { IfOk result (λ s. IsSignature S.has S.tree store.new s (signature_of (module_in frame.now) (func_of def.now))) }
-    ensures pushed { OnOk result (found.new.items ≡ found.old.items ++ def_findings (module_in frame.now) (bound_in bound.old) (func_of def.now)) }
+    ensures pushed { OnOk result (notes_of found.new ≡ notes_of found.old ++ def_findings (module_in frame.now) (bound_in bound.old) (func_of def.now)) }
     ensures kept { Keeps S.has store.old store.new }
 {
     let params = read_params(store, alloc, frame, bound, &def.params, found)?;
@@ -163,13 +171,13 @@ fn add_function<S: TypeStore>(
     frame: &Frame,
     item: &Item,
     functions: &mut Vec<Signature<S::Ty>>,
-    found: &mut Findings,
+    found: &mut Notes,
 ) -> Result<(), OutOfMemory>
     requires frame { IsFrame frame.now }
     requires held { HasSignatures (S.has store.old) functions.old.items }
     ensures held { OnOk result (HasSignatures (S.has store.new) functions.new.items) }
     ensures typed { OnOk result (signatures_with S.tree functions.new.items ≡ signatures_with S.tree functions.old.items ++ map (signature_of (module_in frame.now)) (functions_in (item_of item.now ∷ []))) }
-    ensures pushed { OnOk result (found.new.items ≡ found.old.items ++ function_findings (module_in frame.now) (item_of item.now)) }
+    ensures pushed { OnOk result (notes_of found.new ≡ notes_of found.old ++ function_findings (module_in frame.now) (item_of item.now)) }
     ensures kept { Keeps S.has store.old store.new }
 {
     match &item.kind {
@@ -190,11 +198,11 @@ pub(crate) fn read_functions<S: TypeStore>(
     store: &mut S,
     alloc: Global,
     frame: &Frame,
-    found: &mut Findings,
+    found: &mut Notes,
 ) -> Result<Vec<Signature<S::Ty>>, OutOfMemory>
     requires { IsFrame frame.now }
     ensures typed { IfOk result (λ fs. AreSignatures S.has S.tree store.new fs.items (signatures_of (module_in frame.now))) }
-    ensures pushed { OnOk result (found.new.items ≡ found.old.items ++ functions_findings (module_in frame.now) (module_in frame.now).items) }
+    ensures pushed { OnOk result (notes_of found.new ≡ notes_of found.old ++ functions_findings (module_in frame.now) (module_in frame.now).items) }
     ensures kept { Keeps S.has store.old store.new }
 {
     let items = frame.tree.items.as_slice();

@@ -6,6 +6,7 @@ ghost use Rattle.pc_types.specs.Store.{Keeps};
 ghost use Rattle.pc_class.specs.Bases.{bases_of};
 ghost use Rattle.pc_class.specs.Facts.{classes_of};
 ghost use Rattle.pc_class.specs.Tables.{HasEntries, classes_with};
+ghost use Rattle.pc_notes.specs.Notes.{notes_of};
 ghost use Rattle.pc_expr.specs.Signatures.{signatures_of};
 ghost use Rattle.pc_expr.specs.SignaturesFound.{constants_of, methods_of, signatures_find};
 ghost use Rattle.pc_expr.specs.SignaturesHeld.{Signed, methods_seen, method_at, HasSigned, all_with};
@@ -15,9 +16,10 @@ use crate::constants::{Globals, read_items};
 use crate::setting::Signature;
 use crate::signatures::{Frame, read_functions};
 use pc_class::ClassTable;
+use pc_notes::Notes;
 use pc_scope::Scopes;
 use pc_source::OutOfMemory;
-use pc_tree::{Findings, Module};
+use pc_tree::Module;
 use pc_types::{Parents, TypeStore};
 use std::alloc::Global;
 use std::marker::Model;
@@ -86,7 +88,7 @@ pub fn read_signatures<S: TypeStore>(
     tree: &Module,
     scopes: &Scopes,
     classes: &ClassTable<S::Ty>,
-    found: &mut Findings,
+    found: &mut Notes,
 ) -> Result<Sigs<S::Ty>, OutOfMemory>
     requires scopes { AreScopes (module_of tree.now) scopes.now }
     requires parents { parents.now ≡ bases_of (module_of tree.now) }
@@ -96,7 +98,7 @@ pub fn read_signatures<S: TypeStore>(
     ensures constants { IfOk result (λ s. map S.tree s.constants ≡ constants_of (module_of tree.now)) }
     ensures functions { IfOk result (λ s. map (signature_with S.tree) s.functions ≡ signatures_of (module_of tree.now)) }
     ensures methods { IfOk result (λ s. all_with S.tree s.methods ≡ methods_of (module_of tree.now)) }
-    ensures pushed { OnOk result (found.new.items ≡ found.old.items ++ signatures_find (module_of tree.now)) }
+    ensures pushed { OnOk result (notes_of found.new ≡ notes_of found.old ++ signatures_find (module_of tree.now)) }
     ensures kept { Keeps S.has store.old store.new }
 {
     let frame = Frame {

@@ -7,6 +7,7 @@ ghost use Rattle.std.specs.Option.{option_map};
 ghost use Rattle.pc_tree.specs.Tree.{expr_of};
 ghost use Rattle.pc_tree.specs.Lists.{exprs_of_list, entries_of_list, keywords_of_list};
 ghost use Rattle.pc_types.specs.Store.{Keeps};
+ghost use Rattle.pc_notes.specs.Notes.{notes_of};
 ghost use Rattle.pc_expr.specs.Calls.{positional_seat, named_seat};
 ghost use Rattle.pc_expr.specs.Standing.{standing, mark_in, finds_in, parts_find, types_in, items_find, arguments_find, entries_find, keywords_find, Stands, HasIfAny, IsMark};
 ghost use Rattle.pc_expr.specs.Calling.{given_with, offer_called, HasCallOffer, IsCallee};
@@ -36,8 +37,9 @@ use crate::seats::{keyword_seat, positional_seat};
 use crate::setting::Setting;
 use indexmap::IndexSet;
 use pc_flow::{Env, Resolver};
+use pc_notes::Notes;
 use pc_source::OutOfMemory;
-use pc_tree::{Entry, Expr, Findings, KeywordArgument};
+use pc_tree::{Entry, Expr, KeywordArgument};
 use pc_types::TypeStore;
 use std::alloc::Global;
 
@@ -51,12 +53,12 @@ pub fn type_expr<S: TypeStore, R: Resolver>(
     env: &Env<S::Ty>,
     want: &Option<S::Ty>,
     e: &Expr,
-    found: &mut Findings,
+    found: &mut Notes,
 ) -> Result<Label<S::Ty>, OutOfMemory>
     requires given { Stands (S.has store.old) S.tree setting.now env.now }
     requires want { HasIfAny (S.has store.old) want.now }
     ensures marked { IfOk result (λ l. IsMark S.has S.tree store.new l (mark_in (standing S.tree R.meaning setting.now env.now) (option_map S.tree want.now) (expr_of e.now))) }
-    ensures pushed { OnOk result (found.new.items ≡ found.old.items ++ finds_in (standing S.tree R.meaning setting.now env.now) (option_map S.tree want.now) (expr_of e.now)) }
+    ensures pushed { OnOk result (notes_of found.new ≡ notes_of found.old ++ finds_in (standing S.tree R.meaning setting.now env.now) (option_map S.tree want.now) (expr_of e.now)) }
     ensures kept { Keeps S.has store.old store.new }
 {
     let label = label_expr(store, alloc, setting, env, want, e, found)?;
@@ -73,12 +75,12 @@ fn label_expr<S: TypeStore, R: Resolver>(
     env: &Env<S::Ty>,
     want: &Option<S::Ty>,
     e: &Expr,
-    found: &mut Findings,
+    found: &mut Notes,
 ) -> Result<Label<S::Ty>, OutOfMemory>
     requires given { Stands (S.has store.old) S.tree setting.now env.now }
     requires want { HasIfAny (S.has store.old) want.now }
     ensures marked { IfOk result (λ l. IsMark S.has S.tree store.new l (mark_in (standing S.tree R.meaning setting.now env.now) (option_map S.tree want.now) (expr_of e.now))) }
-    ensures pushed { OnOk result (found.new.items ≡ found.old.items ++ parts_find (standing S.tree R.meaning setting.now env.now) (option_map S.tree want.now) (expr_of e.now)) }
+    ensures pushed { OnOk result (notes_of found.new ≡ notes_of found.old ++ parts_find (standing S.tree R.meaning setting.now env.now) (option_map S.tree want.now) (expr_of e.now)) }
     ensures kept { Keeps S.has store.old store.new }
 {
     match e {
@@ -203,13 +205,13 @@ fn type_items<S: TypeStore, R: Resolver>(
     env: &Env<S::Ty>,
     seats: &Seats<S::Ty>,
     items: &[Expr],
-    found: &mut Findings,
+    found: &mut Notes,
 ) -> Result<Vec<S::Ty>, OutOfMemory>
     requires given { Stands (S.has store.old) S.tree setting.now env.now }
     requires seats { HasSeats (S.has store.old) seats.now }
     ensures held { IfOk result (λ ts. All (S.has store.new) ts.items) }
     ensures typed { IfOk result (λ ts. map S.tree ts.items ≡ types_in (standing S.tree R.meaning setting.now env.now) (seats_of S.tree seats.now) (exprs_of_list items.now)) }
-    ensures pushed { OnOk result (found.new.items ≡ found.old.items ++ items_find (standing S.tree R.meaning setting.now env.now) (seats_of S.tree seats.now) (exprs_of_list items.now)) }
+    ensures pushed { OnOk result (notes_of found.new ≡ notes_of found.old ++ items_find (standing S.tree R.meaning setting.now env.now) (seats_of S.tree seats.now) (exprs_of_list items.now)) }
     ensures kept { Keeps S.has store.old store.new }
 {
     let mut types = Vec::new(alloc);
@@ -239,12 +241,12 @@ fn type_entries<S: TypeStore, R: Resolver>(
     env: &Env<S::Ty>,
     seats: &EntrySeats<S::Ty>,
     entries: &[Entry],
-    found: &mut Findings,
+    found: &mut Notes,
 ) -> Result<EntryTypes<S::Ty>, OutOfMemory>
     requires given { Stands (S.has store.old) S.tree setting.now env.now }
     requires seats { HasEntrySeats (S.has store.old) seats.now }
     ensures typed { IfOk result (λ t. AreEntryTypes S.has S.tree store.new (standing S.tree R.meaning setting.now env.now) t (seat_with S.tree seats.now.key) (seat_with S.tree seats.now.value) (entries_of_list entries.now)) }
-    ensures pushed { OnOk result (found.new.items ≡ found.old.items ++ entries_find (standing S.tree R.meaning setting.now env.now) (seat_with S.tree seats.now.key) (seat_with S.tree seats.now.value) (entries_of_list entries.now)) }
+    ensures pushed { OnOk result (notes_of found.new ≡ notes_of found.old ++ entries_find (standing S.tree R.meaning setting.now env.now) (seat_with S.tree seats.now.key) (seat_with S.tree seats.now.value) (entries_of_list entries.now)) }
     ensures kept { Keeps S.has store.old store.new }
 {
     let mut keys = Vec::new(alloc);
@@ -302,11 +304,11 @@ fn label_callee<'t, S: TypeStore, R: Resolver>(
     env: &Env<S::Ty>,
     given: &Given,
     callee: &Expr,
-    found: &mut Findings,
+    found: &mut Notes,
 ) -> Result<Callee<'t, S::Ty>, OutOfMemory>
     requires given { Stands (S.has store.old) S.tree setting.now env.now }
     ensures called { IfOk result (λ c. IsCallee S.has S.tree store.new c (callee_in (standing S.tree R.meaning setting.now env.now) (given_with given.now) (expr_of callee.now))) }
-    ensures pushed { OnOk result (found.new.items ≡ found.old.items ++ parts_find (standing S.tree R.meaning setting.now env.now) None (expr_of callee.now)) }
+    ensures pushed { OnOk result (notes_of found.new ≡ notes_of found.old ++ parts_find (standing S.tree R.meaning setting.now env.now) None (expr_of callee.now)) }
     ensures kept { Keeps S.has store.old store.new }
 {
     match callee {
@@ -353,19 +355,19 @@ fn type_tested<S: TypeStore, R: Resolver>(
     env: &Env<S::Ty>,
     offers: &[CallOffer<'_, S::Ty>],
     arguments: &[Expr],
-    found: &mut Findings,
+    found: &mut Notes,
 ) -> Result<Typed<S::Ty>, OutOfMemory>
     requires given { Stands (S.has store.old) S.tree setting.now env.now }
     requires offers { All (HasCallOffer (S.has store.old)) offers.now }
     requires two { length arguments.now ≡ 2 }
     ensures typed { IfOk result (λ t. AreTyped S.has S.tree store.new (standing S.tree R.meaning setting.now env.now) t (positional_seat (map (offer_called S.tree) offers.now)) (exprs_of_list arguments.now)) }
-    ensures pushed { OnOk result (found.new.items ≡ found.old.items ++ arguments_find (standing S.tree R.meaning setting.now env.now) true (positional_seat (map (offer_called S.tree) offers.now)) (exprs_of_list arguments.now)) }
+    ensures pushed { OnOk result (notes_of found.new ≡ notes_of found.old ++ arguments_find (standing S.tree R.meaning setting.now env.now) true (positional_seat (map (offer_called S.tree) offers.now)) (exprs_of_list arguments.now)) }
     ensures kept { Keeps S.has store.old store.new }
 {
     let seat = positional_seat(store, alloc, offers, 0)?;
     let tested = type_expr(store, alloc, setting, env, &seat.want, &arguments[0], found)?;
     let seat = positional_seat(store, alloc, offers, 1)?;
-    let mut unseen = Vec::new(alloc);
+    let mut unseen = Notes::new(alloc);
     still_stands(store, setting, env);
     let kind = type_expr(
         store,
@@ -394,13 +396,13 @@ pub(crate) fn type_arguments<S: TypeStore, R: Resolver>(
     is_test: bool,
     offers: &[CallOffer<'_, S::Ty>],
     arguments: &[Expr],
-    found: &mut Findings,
+    found: &mut Notes,
 ) -> Result<Typed<S::Ty>, OutOfMemory>
     requires given { Stands (S.has store.old) S.tree setting.now env.now }
     requires offers { All (HasCallOffer (S.has store.old)) offers.now }
     requires two { is_test ≡ true → length arguments.now ≡ 2 }
     ensures typed { IfOk result (λ t. AreTyped S.has S.tree store.new (standing S.tree R.meaning setting.now env.now) t (positional_seat (map (offer_called S.tree) offers.now)) (exprs_of_list arguments.now)) }
-    ensures pushed { OnOk result (found.new.items ≡ found.old.items ++ arguments_find (standing S.tree R.meaning setting.now env.now) is_test (positional_seat (map (offer_called S.tree) offers.now)) (exprs_of_list arguments.now)) }
+    ensures pushed { OnOk result (notes_of found.new ≡ notes_of found.old ++ arguments_find (standing S.tree R.meaning setting.now env.now) is_test (positional_seat (map (offer_called S.tree) offers.now)) (exprs_of_list arguments.now)) }
     ensures kept { Keeps S.has store.old store.new }
 {
     if is_test {
@@ -435,11 +437,11 @@ pub(crate) fn type_keywords<S: TypeStore, R: Resolver>(
     env: &Env<S::Ty>,
     offers: &[CallOffer<'_, S::Ty>],
     by_name: &[KeywordArgument],
-    found: &mut Findings,
+    found: &mut Notes,
 ) -> Result<(), OutOfMemory>
     requires given { Stands (S.has store.old) S.tree setting.now env.now }
     requires offers { All (HasCallOffer (S.has store.old)) offers.now }
-    ensures pushed { OnOk result (found.new.items ≡ found.old.items ++ keywords_find (standing S.tree R.meaning setting.now env.now) (named_seat (map (offer_called S.tree) offers.now)) [] (keywords_of_list by_name.now)) }
+    ensures pushed { OnOk result (notes_of found.new ≡ notes_of found.old ++ keywords_find (standing S.tree R.meaning setting.now env.now) (named_seat (map (offer_called S.tree) offers.now)) [] (keywords_of_list by_name.now)) }
     ensures kept { Keeps S.has store.old store.new }
 {
     let mut before = IndexSet::new(alloc);

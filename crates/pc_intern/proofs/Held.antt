@@ -19,10 +19,11 @@ use Rattle.pc_intern.specs.declared.memo.Answers.{Answers}
 use Rattle.pc_intern.specs.declared.store.TypeId.{TypeId}
 use Rattle.pc_intern.specs.declared.table.Node.{Node}
 use Rattle.pc_intern.specs.Table.{tree_at, IsNodeAt, Grows}
-use Rattle.pc_intern.specs.Store.{meaning, IsHeld, IsRight, IsRightAt, AreRight}
+use Rattle.pc_intern.specs.Store.{meaning, IsHeld, IsRightAt, AreRight}
 use Rattle.pc_intern.proofs.Places.{map_at, at_map, each_push, same_items}
 use Rattle.pc_intern.proofs.Standing.{tree_stays}
-use Rattle.pc_intern.proofs.Trees.{rebuilt, rebuilt_is}
+use Rattle.pc_types.specs.Rebuilding.{rebuilt}
+use Rattle.pc_types.proofs.Rebuilt.{rebuilt_is}
 
 -- a type is held still where types are put behind the others
 pub held_stays : (old new : List BoxType) → Grows old new → (ty : TypeId) → IsHeld old ty → IsHeld new ty
@@ -101,13 +102,7 @@ numbered_more types tys ps k x h all l read =
     let b = each_push (map tree_of types) ps x.number (map meaning (take k tys)) (meaning x) h g.at in
     b ∙ ap (map Some) (sym (meant_more tys k x l read))
 
--- what right answers say of two held types
-pub compared : (bases : Bases) (types : List BoxType) (a : Answers) (s t : TypeId) → IsRight bases types a → a.s ≡ s.number → a.t ≡ t.number → IsHeld types s → IsHeld types t → (a.is_static ≡ static_test bases (meaning s) (meaning t)) × (a.is_assignable ≡ assignable_test bases (meaning s) (meaning t))
-compared bases types a s t r e f h g =
-    let p = meant types s a.s r.left h (sym e) r.at_left in
-    let q = meant types t a.t r.right g (sym f) r.at_right in
-    (r.is_static ∙ (λ i. static_test bases (sym p i) (sym q i)), r.is_assignable ∙ (λ i. assignable_test bases (sym p i) (sym q i)))
-
+-- what a test of two held types says
 pub static_told : (bases : Bases) (types : List BoxType) (s t : TypeId) (r : Bool) → AreSmaller bases → IsHeld types s → IsHeld types t → r ≡ static_test bases (meaning s) (meaning t) → IsTrue r ↔ Static bases (meaning s) (meaning t)
 static_told bases types s t r smaller h g e =
     subst (λ b. IsTrue b ↔ Static bases (meaning s) (meaning t)) (sym e) (static_decided bases (meaning s) (meaning t) smaller h.normal g.normal)
@@ -126,9 +121,6 @@ box_means types ty b h at =
 -- what a held type means that a node tells
 told_meaning : (types : List BoxType) (node : Node) (n : ℕ) (r : TypeId) (w : IsNodeAt types node n) → IsHeld types r → r.number ≡ n → meaning r ≡ tree_of w.ty
 told_meaning types node n r w h e = meant types r n (tree_of w.ty) h e (map_at tree_of types n w.ty w.at)
-
-pub known_head : (types : List BoxType) (node : Node) (n : ℕ) (r : TypeId) → IsNodeAt types node n → IsHeld types r → r.number ≡ n → head_of (meaning r) ≡ node.head
-known_head types node n r w h e = ap head_of (told_meaning types node n r w h e) ∙ sym w.told.head
 
 pub known_parts : (types : List BoxType) (node : Node) (n : ℕ) (r : TypeId) (us : List Tree) → IsNodeAt types node n → IsHeld types r → r.number ≡ n → map (tree_at types) node.parts.items ≡ map Some us → parts (meaning r) ≡ us
 known_parts types node n r us w h e k =
@@ -165,6 +157,17 @@ answer_some types None b r s t e q h g = cc
 answer_some types (Some c) b r s t e q h g =
     let f : c ≡ b = cc in
     (g.0, g.1 ∙ ap tree_of (sym f) ∙ h.1 ∙ q, subst (λ x. nodes x ≤ limit) q h.2)
+
+-- there is no join, or one that is made
+pub joined_none : (o : Option BoxType) (x y : Option Tree) → o ≡ None → x ≡ y → MatchOption o (x ≡ None) (λ u. IsGiven u × (x ≡ Some (tree_of u))) → y ≡ None
+joined_none None x y e q h = sym q ∙ h
+joined_none (Some u) x y e q h = cc
+
+pub joined_some : (types : List BoxType) (o : Option BoxType) (b : BoxType) (r : TypeId) (x y : Option Tree) → o ≡ Some b → x ≡ y → MatchOption o (x ≡ None) (λ u. IsGiven u × (x ≡ Some (tree_of u))) → IsHeld types r × (meaning r ≡ tree_of b) → IsHeld types r × (y ≡ Some (meaning r))
+joined_some types None b r x y e q h g = cc
+joined_some types (Some u) b r x y e q h g =
+    let f : u ≡ b = cc in
+    (g.0, sym q ∙ h.1 ∙ ap (λ v. Some (tree_of v)) f ∙ ap Some (sym g.1))
 
 -- one more type in boxes that means what a held type means
 pub boxed_more : (types now : List BoxType) (tys : List TypeId) (bs : List BoxType) (k : ℕ) (x : TypeId) (b c : BoxType) → types ≡ now → All (IsHeld now) tys → k < length tys → x ≡ get_or tys k x → slice_get types x.number ≡ Some b → tree_of c ≡ tree_of b → map tree_of bs ≡ map meaning (take k tys) → map tree_of (bs ++ c ∷ []) ≡ map meaning (take (k + 1) tys)

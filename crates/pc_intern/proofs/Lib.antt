@@ -1,5 +1,6 @@
 pub mod Held
+pub mod Itself
 pub mod Keys
+pub mod Parts
 pub mod Places
 pub mod Standing
-pub mod Trees

@@ -1,19 +1,18 @@
 -- What stands in a table, and what a table keeps where a type is put behind the others.
-use Rattle.std.proofs.Common.{◌≡◌, ◌≤◌, ◌<◌, ◌+◌, take, get_or, All, ℕ, Bool, true, true≢false, inl, inr, List, [], ◌∷◌, ◌++◌, length, map, Some, None, refl, sym, ap, subst, ◌∙◌, append_assoc}
-use Rattle.std.proofs.lemmas.List.{map-append, append-nil, take_more}
+use Rattle.std.proofs.Common.{◌≡◌, ◌<◌, ◌+◌, take, get_or, All, ℕ, Bool, true, true≢false, inl, inr, List, [], ◌∷◌, ◌++◌, length, map, Some, None, refl, sym, ap, subst, ◌∙◌, append_assoc}
+use Rattle.std.proofs.lemmas.List.{map-append, take_more}
 use Rattle.std.proofs.lemmas.List.Elements.{All-get_or}
 use Rattle.std.proofs.lemmas.Option.{slice_get_read}
 use Rattle.std.specs.List.{slice_get}
 use Rattle.std.specs.Map.{lookup, values_of}
 use Rattle.pc_types.specs.Tree.{Tree}
-use Rattle.pc_types.specs.Shape.{parts, nodes, limit}
-use Rattle.pc_types.specs.Normal.{IsNormal}
+use Rattle.pc_types.specs.Shape.{parts, nodes}
 use Rattle.pc_types.specs.Boxed.{tree_of, IsGiven}
 use Rattle.pc_types.specs.declared.boxed.BoxType.{BoxType}
 use Rattle.pc_intern.specs.declared.table.Node.{Node}
 use Rattle.pc_intern.specs.Table.{tree_at, IsNode, IsNodeAt, IsTable, Grows}
 use Rattle.pc_intern.proofs.Places.{each_push, stays, each_stays, pushed, IsOnce, same_places, same_items, map_at, at_map, fails}
-use Rattle.pc_intern.proofs.Trees.{told, part_fewer}
+use Rattle.pc_types.proofs.Rebuilt.{told, part_fewer}
 use Rattle.pc_intern.proofs.Keys.{node_eq, node_decides}
 
 -- the tree of a number stays where types are put behind the others
@@ -88,9 +87,6 @@ pub grows_twice : (a b c : List BoxType) → Grows a b → Grows b c → Grows a
 grows_twice a b c g h =
     record { added = g.added ++ h.added; is = h.is ∙ ap (λ l. l ++ h.added) g.is ∙ append_assoc a g.added h.added }
 
-pub grows_none : (a : List BoxType) → Grows a a
-grows_none a = record { added = []; is = sym (append-nil a) }
-
 -- the entry of a node that is equal to another one
 pub found : (es : List (Node × BoxType)) (node : Node) (e : Node × BoxType) (n : ℕ) → IsTable es → slice_get es n ≡ Some e → node_eq node e.0 ≡ true → IsNodeAt (values_of es) node n
 found es node e n table at same =
@@ -108,10 +104,6 @@ found es node e n table at same =
 pub found_tree : (types : List BoxType) (node : Node) (n : ℕ) (b : BoxType) → IsNodeAt types node n → IsGiven b → IsNode types node (tree_of b) → tree_at types n ≡ Some (tree_of b)
 found_tree types node n b w g h =
     map_at tree_of types n w.ty w.at ∙ ap Some (same_tree types node node w.ty b w.given g refl refl w.told h)
-
--- a copy of a type is one that a store may give
-pub same_given : (b c : BoxType) → tree_of c ≡ tree_of b → IsGiven b → IsGiven c
-same_given b c e g = record { small = subst (λ t. nodes t ≤ limit) (sym e) g.small; normal = subst IsNormal (sym e) g.normal }
 
 -- the tree of the type that was put behind the others
 pub pushed_tree : (es : List (Node × BoxType)) (node : Node) (b : BoxType) → tree_at (values_of (es ++ (node, b) ∷ [])) (length es) ≡ Some (tree_of b)
@@ -132,5 +124,5 @@ part_at items t k x e l read =
     part_fewer t k (tree_of x) (ap (λ ts. slice_get ts k) (sym e) ∙ map_at tree_of items k x (slice_get_read items (length items) k x refl l read))
 
 -- an item that a loop comes to, of types that a store may give
-pub given_item : (xs ys : List BoxType) (k : ℕ) (x : BoxType) → xs ≡ ys → All IsGiven ys → k < length xs → x ≡ get_or xs k x → IsGiven x
-given_item xs ys k x e all l read = subst IsGiven (sym read) (All-get_or IsGiven xs k x l (subst (All IsGiven) (sym e) all))
+pub given_item : (items : List BoxType) (k : ℕ) (x : BoxType) → All IsGiven items → k < length items → x ≡ get_or items k x → IsGiven x
+given_item items k x all l read = subst IsGiven (sym read) (All-get_or IsGiven items k x l all)

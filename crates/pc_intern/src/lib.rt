@@ -4,7 +4,5 @@
 mod memo;
 mod store;
 mod table;
-#[cfg(test)]
-mod tests;
 
 pub use store::{InternStore, TypeId};

@@ -6,6 +6,7 @@ ghost use Rattle.pc_types.specs.Boxed.{tree_of, IsGiven};
 ghost use Rattle.pc_types.specs.Head.{head_of};
 ghost use Rattle.pc_types.specs.Shape.{parts};
 ghost use Rattle.pc_types.specs.Store.{Means, Keeps};
+ghost use Rattle.pc_types.specs.Computed.{static_test, assignable_test};
 ghost use Rattle.pc_intern.specs.Table.{tree_at};
 ghost use Rattle.pc_intern.specs.Store.{IsHeld, IsRight, meaning};
 
@@ -16,6 +17,10 @@ use pc_types::{BoxStore, BoxType, Head, Parents, TypeStore};
 use std::alloc::Global;
 use std::marker::Model;
 use std::snapshot::Snapshot;
+
+/// Up to how many classes the memo is asked. Whether parents are the store's is told by comparing the two lists, and of
+/// more classes that takes longer than most types take to be compared in boxes.
+const MEMO_CLASSES: usize = 256;
 
 /// A type of an interned store: its number, and what it means, of which only contracts know.
 #[derive(Drop)]
@@ -152,23 +157,36 @@ impl InternStore {
         Ok(boxes)
     }
 
-    /// How two types compare, from memory where the parents are the store's.
-    fn answers(&mut self, parents: &Parents, s: usize, t: usize) -> Answers
-        requires left { s < length self.old }
-        requires right { t < length self.old }
-        ensures pair { (result.s ≡ s) × (result.t ≡ t) }
-        ensures right { IsRight parents.now self.old result }
+    /// How two types compare, where that is told at once or by the memo, which is asked of types with parts under the
+    /// store's parents, if these tell few classes. None where boxes are to be compared.
+    fn answers(&mut self, parents: &Parents, s: &TypeId, t: &TypeId) -> Option<Answers>
+        requires left { IsHeld self.old s.now }
+        requires right { IsHeld self.old t.now }
+        ensures static_test { IfSome result (λ a. a.is_static ≡ static_test parents.now (meaning s.now) (meaning t.now)) }
+        ensures assignable_test { IfSome result (λ a. a.is_assignable ≡ assignable_test parents.now (meaning s.now) (meaning t.now)) }
         ensures same { self.new ≡ self.old }
     {
-        if !self.parents.is_same(parents) {
-            return compare(&self.table, parents, s, t);
+        if self.is_same(s, t) {
+            parents.ordered();
+            return Some(Answers {
+                s: s.number,
+                t: t.number,
+                is_static: true,
+                is_assignable: true,
+            });
         }
-        if let Some(answers) = self.memo.recall(s, t) {
-            return answers;
+        if self.table.is_simple(s.number) && self.table.is_simple(t.number) {
+            return None;
         }
-        let answers = compare(&self.table, parents, s, t);
+        if self.parents.count() > MEMO_CLASSES || !self.parents.is_same(parents) {
+            return None;
+        }
+        if let Some(answers) = self.memo.recall(s.number, t.number) {
+            return Some(answers);
+        }
+        let answers = compare(&self.table, parents, s.number, t.number);
         self.memo.keep(answers);
-        answers
+        Some(answers)
     }
 }
 
@@ -308,6 +326,9 @@ impl TypeStore for InternStore {
         s: &TypeId,
         t: &TypeId,
     ) -> Result<Option<TypeId>, OutOfMemory> {
+        if self.is_same(s, t) {
+            return Ok(Some(self.held(s.number)));
+        }
         let (s, t) = (self.table.ty(s.number), self.table.ty(t.number));
         match BoxStore::new().join(alloc, parents, s, t)? {
             None => Ok(None),
@@ -317,11 +338,19 @@ impl TypeStore for InternStore {
 
     fn is_static(&mut self, parents: &Parents, s: &TypeId, t: &TypeId) -> bool {
         parents.ordered();
-        self.answers(parents, s.number, t.number).is_static
+        if let Some(answers) = self.answers(parents, s, t) {
+            return answers.is_static;
+        }
+        let (s, t) = (self.table.ty(s.number), self.table.ty(t.number));
+        BoxStore::new().is_static(parents, s, t)
     }
 
     fn is_assignable(&mut self, parents: &Parents, s: &TypeId, t: &TypeId) -> bool {
         parents.ordered();
-        self.answers(parents, s.number, t.number).is_assignable
+        if let Some(answers) = self.answers(parents, s, t) {
+            return answers.is_assignable;
+        }
+        let (s, t) = (self.table.ty(s.number), self.table.ty(t.number));
+        BoxStore::new().is_assignable(parents, s, t)
     }
 }

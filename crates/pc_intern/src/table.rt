@@ -1,9 +1,9 @@
 // The table of an interned store, in which each type tree stands once.
 
-ghost use Rattle.std.specs.Prelude.{◌≡◌, ◌<◌, ℕ, [], length, slice_get, map, IfOk, IfSome, Some};
+ghost use Rattle.std.specs.Prelude.{◌≡◌, ◌↔◌, ◌<◌, ◌++◌, ℕ, List, [], All, length, slice_get, map, IfOk, IfSome, IsTrue, OnOk, Some};
 ghost use Rattle.pc_types.specs.Tree.{Tree};
 ghost use Rattle.pc_types.specs.Boxed.{tree_of, IsGiven};
-ghost use Rattle.pc_types.specs.Shape.{parts};
+ghost use Rattle.pc_types.specs.Shape.{members, parts};
 ghost use Rattle.pc_intern.specs.Table.{tree_at, IsNode, IsNodeAt, Grows};
 
 use indexmap::IndexMap;
@@ -80,6 +80,14 @@ impl Table {
         node.parts.as_slice()
     }
 
+    /// Whether a type has no parts.
+    pub(crate) fn is_simple(&self, number: usize) -> bool
+        requires { number < length self.now }
+        ensures { (b : _) → slice_get self.now number ≡ Some b → IsTrue result ↔ (parts (tree_of b) ≡ []) }
+    {
+        self.parts(number).is_empty()
+    }
+
     /// The fact, for proofs, that no tree stands at two numbers. It does nothing.
     pub(crate) fn stands_once(&self)
         ensures { (m : ℕ) (n : ℕ) (t : Tree) → tree_at self.now m ≡ Some t → tree_at self.now n ≡ Some t → m ≡ n }
@@ -112,21 +120,84 @@ impl Table {
     }
 
     /// The number of a type. It and its parts are put into the table where they aren't in it.
+    #[cycle(intern)]
     pub(crate) fn intern(&mut self, alloc: Global, ty: &BoxType) -> Result<usize, OutOfMemory>
         requires { IsGiven ty.now }
         ensures value { IfOk result (λ n. tree_at self.new n ≡ Some (tree_of ty.now)) }
         ensures grows { Grows self.old self.new }
     {
-        let store = BoxStore::new();
-        let parts = store.parts(alloc, ty)?;
-        let mut numbers = Numbers::new(alloc);
-        for part in &parts {
-            numbers.push(self.intern(alloc, part)?)?;
-        }
+        let parts = self.intern_parts(alloc, ty)?;
         let node = Node {
-            head: store.head(ty),
-            parts: numbers,
+            head: BoxStore::new().head(ty),
+            parts,
         };
         self.add(alloc, node, ty)
+    }
+
+    /// The numbers of a type's parts, each put into the table where it isn't in it.
+    #[cycle(intern)]
+    fn intern_parts(&mut self, alloc: Global, ty: &BoxType) -> Result<Numbers, OutOfMemory>
+        requires { IsGiven ty.now }
+        ensures value { IfOk result (λ v. map (tree_at self.new) v.items ≡ map Some (parts (tree_of ty.now))) }
+        ensures grows { Grows self.old self.new }
+    {
+        match ty {
+            BoxType::List(item) => {
+                let item = self.intern(alloc, item)?;
+                Ok(Numbers::from_slice(alloc, &[item])?)
+            }
+            BoxType::Dict(key, value) => {
+                let key = self.intern(alloc, key)?;
+                let value = self.intern(alloc, value)?;
+                Ok(Numbers::from_slice(alloc, &[key, value])?)
+            }
+            BoxType::Tuple(parts) => self.intern_each(alloc, parts),
+            BoxType::Union(first, others) => {
+                let first = self.intern(alloc, first)?;
+                let mut numbers = Numbers::from_slice(alloc, &[first])?;
+                self.intern_members(alloc, others, &mut numbers)?;
+                Ok(numbers)
+            }
+            _ => Ok(Numbers::new(alloc)),
+        }
+    }
+
+    /// The numbers of types, each put into the table where it isn't in it.
+    #[cycle(intern)]
+    fn intern_each(&mut self, alloc: Global, types: &[BoxType]) -> Result<Numbers, OutOfMemory>
+        requires { All IsGiven types.now }
+        ensures value { IfOk result (λ v. map (tree_at self.new) v.items ≡ map Some (map tree_of types.now)) }
+        ensures grows { Grows self.old self.new }
+    {
+        let mut numbers = Numbers::new(alloc);
+        for ty in types {
+            numbers.push(self.intern(alloc, ty)?)?;
+        }
+        Ok(numbers)
+    }
+
+    /// Puts the numbers of a type's members behind others, each member into the table where it isn't in it.
+    #[cycle(intern)]
+    fn intern_members(
+        &mut self,
+        alloc: Global,
+        ty: &BoxType,
+        numbers: &mut Numbers,
+    ) -> Result<(), OutOfMemory>
+        requires { IsGiven ty.now }
+        ensures value { (us : List Tree) → map (tree_at self.old) numbers.old.items ≡ map Some us → OnOk result (map (tree_at self.new) numbers.new.items ≡ map Some (us ++ members (tree_of ty.now))) }
+        ensures grows { Grows self.old self.new }
+    {
+        match ty {
+            BoxType::Never => Ok(()),
+            BoxType::Union(first, others) => {
+                numbers.push(self.intern(alloc, first)?)?;
+                self.intern_members(alloc, others, numbers)
+            }
+            _ => {
+                numbers.push(self.intern(alloc, ty)?)?;
+                Ok(())
+            }
+        }
     }
 }

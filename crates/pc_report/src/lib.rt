@@ -2,15 +2,11 @@
 //! bytes are read from one.
 #![tactic(auto)]
 
-#[cfg(test)]
-mod device_tests;
 mod flow;
 mod format;
 mod object;
 mod reading;
 mod report;
-#[cfg(test)]
-mod tests;
 mod writing;
 
 pub use flow::FlowTexts;

@@ -98,3 +98,9 @@ pub mod ClassListing
 pub mod OrderExample
 pub mod NarrowingExample
 pub mod DispatchExample
+pub mod Requirements
+pub mod Inhabitants
+pub mod TupleMembers
+pub mod Differences
+pub mod FurnishedHeaps
+pub mod ReadTypes

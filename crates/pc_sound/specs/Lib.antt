@@ -6,6 +6,7 @@ pub mod Judgment
 pub mod Kept
 pub mod LoopExample
 pub mod NarrowingExample
+pub mod Needed
 pub mod OrderExample
 pub mod Sound
 pub mod Values

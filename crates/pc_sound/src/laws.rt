@@ -1,13 +1,21 @@
 ghost use Rattle.std.specs.Prelude.{◌≡◌, ◌⊎◌, List, Some};
+ghost use Rattle.pc_token.specs.Lexeme.{Lexeme};
+ghost use Rattle.pc_tree.specs.Grammar.Annotations.{Annotation};
+ghost use Rattle.pc_tree.specs.Grammar.Modules.{SpellsModule};
+ghost use Rattle.pc_tree.specs.Tree.{Ann, Module};
+ghost use Rattle.pc_types.specs.Annotations.{read_ann};
+ghost use Rattle.pc_types.specs.Bases.{bases_of};
 ghost use Rattle.pc_types.specs.Below.{AreSmaller, Bases, Static};
 ghost use Rattle.pc_types.specs.Tree.{Int, ListOf, NoneType, Tree};
+ghost use Rattle.pc_types.specs.Normal.{IsNormal};
 ghost use Rattle.pc_types.specs.Shape.{members};
 ghost use Rattle.pc_types.specs.Join.{join};
-ghost use Rattle.pc_class.specs.Facts.{Class};
+ghost use Rattle.pc_class.specs.Facts.{Class, classes_of};
 ghost use Rattle.pc_flow.specs.Narrowing.{Tested, passing, failing};
 ghost use Rattle.pc_value.specs.Value.{Heap, Value, seen};
 ghost use Rattle.pc_value.specs.Containers.{append_outcome, store_outcome};
 ghost use Rattle.pc_sound.specs.Values.{HeapTyping, HasType, IsWell};
+ghost use Rattle.pc_sound.specs.Needed.{FieldsHaveNoNever, HasNoNever, IsNeeded};
 ghost use Rattle.pc_sound.specs.Sound.{Sound};
 ghost use Rattle.pc_sound.specs.Kept.{ActsWell, CanFollowAll, Passes};
 
@@ -33,6 +41,26 @@ pub fn aliases_keep_heaps()
 /// The law that a value of either of two types is one of their join, whatever the two are.
 pub fn joins_keep_values()
     ensures { (bases : Bases) → AreSmaller bases → (k : HeapTyping) (s t u : Tree) → join bases s t ≡ Some u → (v : Value) → HasType bases k s v ⊎ HasType bases k t v → HasType bases k u v }
+{}
+
+/// The law that no flow is dynamic without need: where a type that holds no `Never` is not static to another one, both
+/// in normal form, some well-typed heap of the classes has a value of the first that is not of the second. So it is of
+/// the classes of each module that tokens spell. Nothing is claimed of the heaps that its runs come by.
+pub fn dynamic_flows_are_needed()
+    ensures classes { (bases : Bases) → AreSmaller bases → (classes : List Class) → FieldsHaveNoNever classes
+        → (s t : Tree) → IsNormal s → IsNormal t → HasNoNever s → ¬ (Static bases s t)
+        → IsNeeded bases classes s t }
+    ensures modules { (m : Module) (ts : List Lexeme) → SpellsModule m ts
+        → (s t : Tree) → IsNormal s → IsNormal t → HasNoNever s → ¬ (Static (bases_of m) s t)
+        → IsNeeded (bases_of m) (classes_of m) s t }
+{}
+
+/// The law that the type that an annotation of a text is read as holds no `Never`, and that no field's type does in the
+/// classes of a module that tokens spell.
+pub fn annotations_have_no_never()
+    ensures annotation { (m : Module) (bases : Bases) (a : Ann) (ts : List Lexeme) → Annotation a ts
+        → HasNoNever (read_ann m bases a) }
+    ensures fields { (m : Module) (ts : List Lexeme) → SpellsModule m ts → FieldsHaveNoNever (classes_of m) }
 {}
 
 /// The law that a run of a module whose findings are no errors, if it ends in a fault, has by then evaluated a listed

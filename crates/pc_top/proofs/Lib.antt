@@ -1,3 +1,4 @@
+pub mod ExplainedRows
 pub mod Main
 pub mod ModuleFindings
 pub mod StreamBytes

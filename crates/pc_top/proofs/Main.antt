@@ -1,5 +1,6 @@
 -- The main theorem, of what the parts ensure.
 use Rattle.std.proofs.Common.{◌≡◌, ℕ, List, Contains, ◌↔◌}
+use Rattle.std.specs.List.{AllByRecursion}
 use Rattle.pc_source.specs.declared.place.Place.{Place}
 use Rattle.pc_source.specs.declared.fault.Fault.{Fault}
 use Rattle.pc_source.specs.declared.fault.Fault.TheVariants as fault
@@ -13,7 +14,7 @@ use Rattle.pc_sound.proofs.Sounding.{sound}
 use Rattle.pc_front.specs.Bytes.{IsModuleOf, IsRefusalOf}
 use Rattle.pc_report.specs.declared.report.Row.{Row}
 use Rattle.pc_report.specs.Report.{Lists, findings_of}
-use Rattle.pc_top.specs.Headline.{HasNoError, HasEvaluated, Headline, OnCheckFault, checked}
+use Rattle.pc_top.specs.Headline.{HasNoError, HasEvaluated, Headline, IsExplainedRow, OnCheckFault, checked}
 use Rattle.pc_front.proofs.BytesLaws.{one_module}
 
 module _ (bytes : List ℕ) (whole : Module) where
@@ -22,14 +23,15 @@ module _ (bytes : List ℕ) (whole : Module) where
       let e = sound whole (λ f found. clean f ((lists.exact f).1 found)) events end run fault in
       record { place = e.place; listed = (lists.exact e.place).1 e.found; dynamic = e.dynamic; event = e.event }
 
-  pub headline_from : IsModuleOf bytes whole → (found : List Finding) (rows : List Row) → ((f : Finding) → Contains found f ↔ IsFinding whole f) → Lists bytes (Contains found) rows → Headline bytes rows
-  headline_from spelled found rows exactly lists =
+  pub headline_from : IsModuleOf bytes whole → (found : List Finding) (rows : List Row) → ((f : Finding) → Contains found f ↔ IsFinding whole f) → Lists bytes (Contains found) rows
+      → (((f : Finding) → Contains (findings_of rows) f → IsFinding whole f) → AllByRecursion (IsExplainedRow whole) rows) → Headline bytes rows
+  headline_from spelled found rows exactly lists explained =
       let exact : (f : Finding) → Contains (findings_of rows) f ↔ IsFinding whole f = λ f. (
         (λ h. (exactly f).0 ((lists.exact f).0 h)),
         (λ h. (lists.exact f).1 ((exactly f).1 h)),
       ) in
       let listed : Lists bytes (IsFinding whole) rows = record { sorted = lists.sorted; exact = exact; placed = lists.placed } in
-      record { whole = whole; spelled = spelled; only = λ other h. one_module bytes other whole h spelled; labelled = every_module_has_a_labelling whole; listed = listed; sound = sound_here rows listed }
+      record { whole = whole; spelled = spelled; only = λ other h. one_module bytes other whole h spelled; labelled = every_module_has_a_labelling whole; listed = listed; explained = explained (λ f h. (exact f).0 h); sound = sound_here rows listed }
 
 -- a refusal of the bytes
 pub refused_bytes : (bytes : List ℕ) (f : Fault) → OnRefusal (IsRefusalOf bytes) f → OnCheckFault (IsRefusalOf bytes) (checked f)

@@ -1,52 +1,88 @@
--- What is found of scopes, of classes and of types together are just the findings of a module.
-use Rattle.std.proofs.Common.{List, [], ◌++◌, inl, inr, Contains, ◌↔◌}
-use Rattle.std.specs.Prelude.{◌⊎◌}
+-- What is found under the labels of a module, of its scopes and of its classes are together just its findings; and the dynamic flows
+-- are those found under the labels.
+use Rattle.std.proofs.Common.{◌≡◌, List, [], ◌∷◌, ◌++◌, map, refl, ap, ◌∙◌, sym, subst, inl, inr, Contains, ◌↔◌, Option, None, append-nil}
+use Rattle.std.specs.Prelude.{◌⊎◌, Bool, true, false, if◌then◌else◌}
+use Rattle.std.proofs.lemmas.List.{map-append}
 use Rattle.std.proofs.lemmas.List.Elements.{Contains-append_left, Contains-append_right, Contains-append_cases}
+use Rattle.pc_source.specs.declared.place.Place.{Place}
 use Rattle.pc_tree.specs.declared.code.Finding.{Finding}
 use Rattle.pc_tree.specs.Tree.{Module}
 use Rattle.pc_scope.specs.Findings.{ScopeFinds}
+use Rattle.pc_types.specs.Tree.{Tree}
 use Rattle.pc_class.specs.Built.{class_findings}
 use Rattle.pc_class.specs.Findings.{ClassFinds}
 use Rattle.pc_class.specs.Overriding.{override_findings}
 use Rattle.pc_class.proofs.FoundClashes.{just_their_lists}
+use Rattle.pc_notes.specs.Notes.{Note, plain, findings_of, is_same_place, flow_or, flow_noted}
 use Rattle.pc_check.specs.Modules.{IsFinding}
 use Rattle.pc_check.specs.ComputedModules.{module_finds}
-use Rattle.pc_check.proofs.LabelledModule.{every_module_has_a_labelling}
-use Rattle.pc_check.proofs.WalkedModule.{modules_say, modules_find, findings_computed}
+use Rattle.pc_check.proofs.WalkedModule.{findings_computed}
 
--- what is found behind what was found before, and what is found where nothing was
-more_found : (m : Module) (found : List Finding) (f : Finding) → Contains (module_finds m found) f ↔ (Contains found f ⊎ Contains (module_finds m []) f)
-more_found m found f =
-    let labelled = every_module_has_a_labelling m in
-    let adds = modules_say m labelled.marks labelled.lawful found f in
-    let alone = modules_find m labelled.marks labelled.lawful f in (
-      (λ h. elim (adds.0 h) [ inl a ↦ inl a | inr b ↦ inr (alone.1 (record { own = b.1; said = b.0 })) ]),
-      (λ h. elim h [ inl a ↦ adds.1 (inl a) | inr b ↦ let l = alone.0 b in adds.1 (inr (l.said, l.own)) ]),
-    )
+-- ---- findings
 
--- the lists of scopes and of classes, and what the walk over the module puts behind them, are just its findings
-pub exactly : (m : Module) (of_scopes : List Finding) → ((f : Finding) → Contains of_scopes f ↔ ScopeFinds m f) → (f : Finding)
-    → Contains (module_finds m ((of_scopes ++ class_findings m) ++ override_findings m)) f ↔ IsFinding m f
-exactly m of_scopes scopes_found f =
-    let before = (of_scopes ++ class_findings m) ++ override_findings m in
-    let more = more_found m before f in
-    let computed = findings_computed m f in
-    let of_classes = just_their_lists m f in
-    let split : Contains before f → ScopeFinds m f ⊎ ClassFinds m f = λ h. elim (Contains-append_cases (of_scopes ++ class_findings m) (override_findings m) f h) [
-      | inl a ↦ elim (Contains-append_cases of_scopes (class_findings m) f a) [ inl s ↦ inl ((scopes_found f).0 s) | inr c ↦ inr (of_classes.0 (inl c)) ]
-      | inr o ↦ inr (of_classes.0 (inr o))
-    ] in
-    let from_scopes : ScopeFinds m f → Contains before f = λ s. Contains-append_left (of_scopes ++ class_findings m) (override_findings m) f (Contains-append_left of_scopes (class_findings m) f ((scopes_found f).1 s)) in
-    let from_classes : ClassFinds m f → Contains before f = λ c. elim (of_classes.1 c) [
-      | inl n ↦ Contains-append_left (of_scopes ++ class_findings m) (override_findings m) f (Contains-append_right of_scopes (class_findings m) f n)
-      | inr o ↦ Contains-append_right (of_scopes ++ class_findings m) (override_findings m) f o
-    ] in (
-      (λ h. elim (more.0 h) [
-        | inl b ↦ elim (split b) [ inl s ↦ computed.1 (inl s) | inr c ↦ computed.1 (inr (inl c)) ]
-        | inr t ↦ computed.1 (inr (inr t))
-      ]),
-      (λ h. elim (computed.0 h) [
-        | inl s ↦ more.1 (inl (from_scopes s))
-        | inr rest ↦ elim rest [ inl c ↦ more.1 (inl (from_classes c)) | inr t ↦ more.1 (inr t) ]
-      ]),
-    )
+-- the findings of notes that tell of no flow
+plain_findings : (fs : List Finding) → findings_of (map plain fs) ≡ fs
+plain_findings [] = refl
+plain_findings (f ∷ fs) = ap (λ (l : List Finding). f ∷ l) (plain_findings fs)
+
+-- the findings of notes with others behind them that tell of no flow
+with_plain : (notes : List Note) (fs : List Finding) → findings_of (notes ++ map plain fs) ≡ findings_of notes ++ fs
+with_plain notes fs = map-append (λ (n : Note). n.finding) notes (map plain fs) ∙ ap (λ (l : List Finding). findings_of notes ++ l) (plain_findings fs)
+
+module _ (m : Module) (of_scopes : List Finding) (scopes_found : (f : Finding) → Contains of_scopes f ↔ ScopeFinds m f) where
+  of_classes : List Finding
+  of_classes = class_findings m ++ override_findings m
+
+  classes_found : (f : Finding) → Contains of_classes f ↔ ClassFinds m f
+  unfolding of_classes
+  classes_found f =
+      let lists = just_their_lists m f in (
+        (λ h. lists.0 (Contains-append_cases (class_findings m) (override_findings m) f h)),
+        (λ c. elim (lists.1 c) [
+          | inl n ↦ Contains-append_left (class_findings m) (override_findings m) f n
+          | inr o ↦ Contains-append_right (class_findings m) (override_findings m) f o
+        ]),
+      )
+
+  all_found : (f : Finding) → Contains ((findings_of (module_finds m []) ++ of_scopes) ++ of_classes) f ↔ IsFinding m f
+  all_found f =
+      let labels = findings_of (module_finds m []) in
+      let computed = findings_computed m f in (
+        (λ h. elim (Contains-append_cases (labels ++ of_scopes) of_classes f h) [
+          | inl a ↦ elim (Contains-append_cases labels of_scopes f a) [ inl l ↦ computed.1 (inr (inr l)) | inr s ↦ computed.1 (inl ((scopes_found f).0 s)) ]
+          | inr c ↦ computed.1 (inr (inl ((classes_found f).0 c)))
+        ]),
+        (λ h. elim (computed.0 h) [
+          | inl s ↦ Contains-append_left (labels ++ of_scopes) of_classes f (Contains-append_right labels of_scopes f ((scopes_found f).1 s))
+          | inr rest ↦ elim rest [
+            | inl c ↦ Contains-append_right (labels ++ of_scopes) of_classes f ((classes_found f).1 c)
+            | inr l ↦ Contains-append_left (labels ++ of_scopes) of_classes f (Contains-append_left labels of_scopes f l)
+          ]
+        ]),
+      )
+
+  -- what the walk over a module finds, with what is found of scopes and of classes behind it, are just its findings
+  pub exactly : (notes : List Note) → notes ≡ (module_finds m [] ++ map plain of_scopes) ++ map plain (class_findings m ++ override_findings m) → (f : Finding) → Contains (findings_of notes) f ↔ IsFinding m f
+  unfolding of_classes
+  exactly notes is f =
+      let whole : findings_of notes ≡ (findings_of (module_finds m []) ++ of_scopes) ++ of_classes =
+      ap findings_of is ∙ with_plain (module_finds m [] ++ map plain of_scopes) of_classes ∙ ap (λ (l : List Finding). l ++ of_classes) (with_plain (module_finds m []) of_scopes) in
+      subst (λ (l : List Finding). Contains l f ↔ IsFinding m f) (sym whole) (all_found f)
+
+-- ---- flows
+
+same_or : (b : Bool) (o : Option (Tree × Tree)) → (if b then o else o) ≡ o
+same_or true o = refl
+same_or false o = refl
+
+-- notes that tell of no flow add none
+none_added : (p : Place) (fs : List Finding) → flow_noted p (map plain fs) ≡ None
+none_added p [] = refl
+none_added p (f ∷ fs) = same_or (is_same_place p f.place) (flow_noted p (map plain fs)) ∙ none_added p fs
+
+flows_stay : (p : Place) (notes : List Note) (fs : List Finding) → flow_noted p (notes ++ map plain fs) ≡ flow_noted p notes
+flows_stay p [] fs = none_added p fs
+flows_stay p (n ∷ ns) fs = ap (flow_or p n) (flows_stay p ns fs)
+
+pub same_flows : (p : Place) (notes first : List Note) (xs ys : List Finding) → notes ≡ (first ++ map plain xs) ++ map plain ys → flow_noted p notes ≡ flow_noted p first
+same_flows p notes first xs ys is = ap (flow_noted p) is ∙ flows_stay p (first ++ map plain xs) ys ∙ flows_stay p first xs

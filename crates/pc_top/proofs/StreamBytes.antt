@@ -8,6 +8,7 @@ use Rattle.pc_source.specs.declared.fault.RefusalCode.TheVariants.{S1, S2, S3}
 use Rattle.pc_source.specs.Text.{limit, IsText, IsSourceFault}
 use Rattle.pc_front.specs.Bytes.{IsRefusalOf, of_source, of_tokens, of_layout, of_grammar}
 use Rattle.pc_source.specs.declared.counted.Counted.{Counted}
+use Rattle.pc_report.specs.declared.format.Format.{Format}
 use Rattle.pc_report.specs.declared.report.Row.{Row}
 use Rattle.pc_report.specs.declared.writing.WriteFault.{WriteFault}
 use Rattle.pc_report.specs.declared.writing.WriteFault.TheVariants as write_fault
@@ -75,9 +76,9 @@ module _ (told left : Option (List ℕ)) (given : List ℕ) (consumed : Consumes
   reported_all : (rows : List Row) → Headline given rows → Headline (all_bytes told given) rows
   reported_all rows h = subst (λ (l : List ℕ). Headline l rows) (sym (same h.spelled.laid_out.lined.text.short)) h
 
-  module _ {W : Type 0} (contents : W → Option (List ℕ)) (json : Bool) (old new : Counted W) (rows : List Row) (h : Headline given rows) where
-    pub reported_stream : (errors dynamic : ℕ) → errors ≡ errors_of rows → dynamic ≡ dynamic_of rows → TakesAll contents (report_bytes json rows) old new
-        → IsReported contents told json old new errors dynamic
+  module _ {W : Type 0} (contents : W → Option (List ℕ)) (json : Bool) (format : Format) (old new : Counted W) (rows : List Row) (h : Headline given rows) where
+    pub reported_stream : (errors dynamic : ℕ) → errors ≡ errors_of rows → dynamic ≡ dynamic_of rows → TakesAll contents (report_bytes json format rows) old new
+        → IsReported contents told json format old new errors dynamic
     reported_stream errors dynamic e d written = record {
       bytes = all_bytes told given;
       given = are_all told given;
@@ -88,7 +89,7 @@ module _ (told left : Option (List ℕ)) (given : List ℕ) (consumed : Consumes
       written = written;
     }
 
-    pub begun_stream : (e : WriteFault) → OnWriteFault e (new ≡ old) (TakesBeginning contents (report_bytes json rows) old new)
-        → WhenWriteFails (IsBegun contents told json old new) (write_checked e)
+    pub begun_stream : (e : WriteFault) → OnWriteFault e (new ≡ old) (TakesBeginning contents (report_bytes json format rows) old new)
+        → WhenWriteFails (IsBegun contents told json format old new) (write_checked e)
     begun_stream write_fault.OutOfMemory written = tt
     begun_stream write_fault.Write written = record { bytes = all_bytes told given; given = are_all told given; rows = rows; headline = reported_all rows h; written = written }

@@ -1,15 +1,21 @@
 -- The main theorem's statement: what a report says of the bytes, and what a refusal does.
-use Rattle.std.specs.Prelude.{◌≡◌, ℕ, List, Contains}
+use Rattle.std.specs.Prelude.{◌≡◌, ℕ, List, Contains, Option, None, Some, MatchOption, string_bytes}
+use Rattle.std.specs.List.{AllByRecursion}
 use Rattle.pc_source.specs.declared.place.Place.{Place}
 use Rattle.pc_source.specs.declared.fault.Fault.{Fault}
 use Rattle.pc_source.specs.declared.fault.Fault.TheVariants as fault
 use Rattle.pc_source.specs.declared.fault.Refusal.{Refusal}
+use Rattle.pc_tree.specs.declared.code.Code.TheVariants.{A1}
 use Rattle.pc_tree.specs.declared.code.Finding.{Finding}
 use Rattle.pc_tree.specs.Code.{IsError}
 use Rattle.pc_tree.specs.Tree.{Module}
+use Rattle.pc_types.specs.Tree.{Tree}
+use Rattle.pc_ann.specs.Text.{type_text}
+use Rattle.pc_check.specs.DynamicFlows.{dynamic_flow}
 use Rattle.pc_check.specs.Modules.{HasLabelling, IsFinding}
 use Rattle.pc_machine.specs.Runs.{Run, End, IsFault}
 use Rattle.pc_front.specs.Bytes.{IsModuleOf}
+use Rattle.pc_report.specs.declared.flow.FlowTexts.{FlowTexts}
 use Rattle.pc_report.specs.declared.report.Row.{Row}
 use Rattle.pc_top.specs.declared.fault.CheckFault.{CheckFault}
 use Rattle.pc_top.specs.declared.fault.CheckFault.TheVariants as check_fault
@@ -26,8 +32,18 @@ pub record HasEvaluated (rows : List Row) (events : List Place) : Type 0 where
   pub dynamic : ¬ (IsError place.code)
   pub event : Contains events place.place
 
--- What a report says. The bytes spell exactly one module; the rows list exactly the findings of its typing; and where no row
--- is an error, each run of the module that ends in a fault has by then evaluated a listed dynamic place.
+-- the texts are those of the two types of a dynamic flow
+abbrev pub AreTextsOf : Module → Option (Tree × Tree) → FlowTexts → Type 0
+AreTextsOf m None texts = ⊥
+AreTextsOf m (Some flow) texts = (string_bytes texts.from ≡ type_text m flow.0) × (string_bytes texts.to ≡ type_text m flow.1)
+
+-- a row of a dynamic flow has the texts of its two types, and no other row has texts
+abbrev pub IsExplainedRow : Module → Row → Type 0
+IsExplainedRow m row =
+    MatchOption row.flow (¬ (row.finding.code ≡ A1)) (λ texts. (row.finding.code ≡ A1) × AreTextsOf m (dynamic_flow m row.finding.place) texts)
+
+-- What a report says. The bytes spell exactly one module; the rows list exactly the findings of its typing, each dynamic flow
+-- with its two types; and where no row is an error, each run of the module that ends in a fault has by then evaluated a listed dynamic place.
 pub record Headline (bytes : List ℕ) (rows : List Row) : Type 0 where
   pub whole : Module
   pub spelled : IsModuleOf bytes whole
@@ -35,6 +51,7 @@ pub record Headline (bytes : List ℕ) (rows : List Row) : Type 0 where
   -- of its types there is a labelling, so its findings are those of one; the law `one_labelling` says that there is no other
   pub labelled : HasLabelling whole
   pub listed : Lists bytes (IsFinding whole) rows
+  pub explained : AllByRecursion (IsExplainedRow whole) rows
   pub sound : HasNoError rows → (events : List Place) (end : End) → Run whole events end → IsFault end → HasEvaluated rows events
 
 -- of a fault: where it is a refusal, P holds of it; want of memory may come at any time, and no device is used

@@ -3,7 +3,7 @@ use Rattle.std.specs.Prelude.{◌≡◌, ℕ, Bool, true, false, List, Option, N
 use Rattle.pc_source.specs.declared.counted.Counted.{Counted}
 use Rattle.pc_source.specs.declared.fault.Refusal.{Refusal}
 use Rattle.pc_front.specs.Bytes.{IsRefusalOf}
-use Rattle.pc_report.specs.declared.format.Format.TheVariants.{One}
+use Rattle.pc_report.specs.declared.format.Format.{Format}
 use Rattle.pc_report.specs.declared.reading.ReadFault.{ReadFault}
 use Rattle.pc_report.specs.declared.reading.ReadFault.TheVariants as read_fault
 use Rattle.pc_report.specs.declared.writing.WriteFault.{WriteFault}
@@ -56,10 +56,10 @@ abbrev pub AreBytesOf : Option (List ℕ) → List ℕ → Type 0
 AreBytesOf None bytes = ⊤
 AreBytesOf (Some told) bytes = bytes ≡ told
 
--- a report in format one, as text or as JSON
-abbrev pub report_bytes : Bool → List Row → List ℕ
-report_bytes false rows = report_text One rows
-report_bytes true rows = report_json One rows
+-- a report in a format, as text or as JSON
+abbrev pub report_bytes : (json : Bool) → Format → List Row → List ℕ
+report_bytes false format rows = report_text format rows
+report_bytes true format rows = report_json format rows
 
 -- the refusal is that of the bytes of the reader
 pub record IsRefusedStream (told : Option (List ℕ)) (refusal : Refusal) : Type 0 where
@@ -69,19 +69,19 @@ pub record IsRefusedStream (told : Option (List ℕ)) (refusal : Refusal) : Type
 
 module _ {W : Type 0} (contents : W → Option (List ℕ)) where
   -- the report of the bytes of the reader was written whole, and these are its numbers of errors and of dynamic places
-  pub record IsReported (told : Option (List ℕ)) (json : Bool) (old new : Counted W) (errors dynamic : ℕ) : Type 0 where
+  pub record IsReported (told : Option (List ℕ)) (json : Bool) (format : Format) (old new : Counted W) (errors dynamic : ℕ) : Type 0 where
     pub bytes : List ℕ
     pub given : AreBytesOf told bytes
     pub rows : List Row
     pub headline : Headline bytes rows
     pub errors_are : errors ≡ errors_of rows
     pub dynamic_are : dynamic ≡ dynamic_of rows
-    pub written : TakesAll contents (report_bytes json rows) old new
+    pub written : TakesAll contents (report_bytes json format rows) old new
 
   -- a beginning of the report of the bytes of the reader was written, and then the writer failed
-  pub record IsBegun (told : Option (List ℕ)) (json : Bool) (old new : Counted W) : Type 0 where
+  pub record IsBegun (told : Option (List ℕ)) (json : Bool) (format : Format) (old new : Counted W) : Type 0 where
     pub bytes : List ℕ
     pub given : AreBytesOf told bytes
     pub rows : List Row
     pub headline : Headline bytes rows
-    pub written : TakesBeginning contents (report_bytes json rows) old new
+    pub written : TakesBeginning contents (report_bytes json format rows) old new

@@ -1,31 +1,57 @@
 // What is found in a module.
 
-ghost use Rattle.std.specs.Prelude.{◌↔◌, Contains, IfOk};
+ghost use Rattle.std.specs.Prelude.{◌≡◌, ◌↔◌, Contains, IfOk};
+ghost use Rattle.pc_source.specs.declared.place.Place.{Place};
 ghost use Rattle.pc_tree.specs.declared.code.Finding.{Finding};
 ghost use Rattle.pc_tree.specs.Tree.{module_of};
+ghost use Rattle.pc_scope.specs.Scoped.{AreScopes};
+ghost use Rattle.pc_class.specs.Bases.{bases_of};
+ghost use Rattle.pc_notes.specs.Notes.{findings_of, flow_noted, notes_of};
+ghost use Rattle.pc_check.specs.DynamicFlows.{dynamic_flow};
 ghost use Rattle.pc_check.specs.Modules.{IsFinding};
 
 use pc_check::check_module;
 use pc_class::{class_table, override_findings};
-use pc_scope::scopes;
+use pc_intern::InternStore;
+use pc_notes::Notes;
+use pc_scope::{Scopes, scopes};
 use pc_source::OutOfMemory;
-use pc_tree::{Findings, Module};
-use pc_types::{BoxStore, Parents};
+use pc_tree::Module;
+use pc_types::{Parents, TypeStore};
 use std::alloc::Global;
 
-/// What is found in a module: of its names, of its classes, of its signatures and constants, and in its bodies.
-pub(crate) fn findings(alloc: Global, module: &Module) -> Result<Findings, OutOfMemory>
-    ensures { IfOk result (λ v. (f : Finding) → Contains v.items f ↔ IsFinding (module_of «module».now) f) }
+/// What is found in a module, by the types of a store: in its signatures, constants and bodies, each dynamic flow with its types; of its
+/// names; of its classes.
+pub(crate) fn findings_by<S: TypeStore>(
+    store: &mut S,
+    alloc: Global,
+    parents: &Parents,
+    module: &Module,
+    scopes: &Scopes,
+) -> Result<Notes, OutOfMemory>
+    requires scopes { AreScopes (module_of «module».now) scopes.now }
+    requires parents { parents.now ≡ bases_of (module_of «module».now) }
+    ensures found { IfOk result (λ v. (f : Finding) → Contains (findings_of (notes_of v)) f ↔ IsFinding (module_of «module».now) f) }
+    ensures flows { IfOk result (λ v. (p : Place) → flow_noted p (notes_of v) ≡ dynamic_flow (module_of «module».now) p) }
+{
+    let mut of_classes = Vec::new(alloc);
+    let classes = class_table(store, alloc, parents, module, scopes, &mut of_classes)?;
+    override_findings(store, parents, module, &classes, &mut of_classes)?;
+    let mut found = Notes::new(alloc);
+    check_module(store, alloc, parents, module, scopes, &classes, &mut found)?;
+    found.put_all(scopes.findings())?;
+    found.put_all(&of_classes)?;
+    Ok(found)
+}
+
+/// What is found in a module, by types that are kept once each.
+pub(crate) fn findings(alloc: Global, module: &Module) -> Result<Notes, OutOfMemory>
+    ensures found { IfOk result (λ v. (f : Finding) → Contains (findings_of (notes_of v)) f ↔ IsFinding (module_of «module».now) f) }
+    ensures flows { IfOk result (λ v. (p : Place) → flow_noted p (notes_of v) ≡ dynamic_flow (module_of «module».now) p) }
 {
     let scopes = scopes(alloc, module)?;
     let parents = Parents::of(alloc, module, &scopes)?;
-    let mut store = BoxStore::new();
-    let mut found = Vec::new(alloc);
-    found.extend_from_slice(scopes.findings())?;
-    let classes = class_table(&mut store, alloc, &parents, module, &scopes, &mut found)?;
-    override_findings(&mut store, &parents, module, &classes, &mut found)?;
-    check_module(
-        &mut store, alloc, &parents, module, &scopes, &classes, &mut found,
-    )?;
-    Ok(found)
+    let own_parents = Parents::of(alloc, module, &scopes)?;
+    let mut store = InternStore::new(alloc, own_parents)?;
+    findings_by(&mut store, alloc, &parents, module, &scopes)
 }

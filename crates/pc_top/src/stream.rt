@@ -13,24 +13,25 @@ use std::io::{Read, Write};
 /// How many bytes are read at most: one more than a source text may have.
 const MOST: usize = 1_048_577;
 
-/// Writes a report in format one.
+/// Writes a report in a format, as JSON or as text.
 fn write_report<W: Write + Drop>(
     alloc: Global,
     report: &Report,
     writer: &mut Counted<W>,
     json: bool,
+    format: Format,
 ) -> Result<(), WriteFault>
-    ensures { IsWritten W.contents (report_bytes json report.now) writer.old writer.new result }
+    ensures { IsWritten W.contents (report_bytes json format report.now) writer.old writer.new result }
 {
     if json {
-        report.write_json(alloc, Format::One, writer)
+        report.write_json(alloc, format, writer)
     } else {
-        report.write_text(alloc, Format::One, writer)
+        report.write_text(alloc, format, writer)
     }
 }
 
-/// Reads bytes to their end, checks them as `check` does, writes the report in format one, as JSON
-/// or as text, and gives its numbers of errors and of dynamic places. The writer is not flushed.
+/// Reads bytes to their end, checks them as `check` does, writes the report in the format that is asked for, as
+/// JSON or as text, and gives its numbers of errors and of dynamic places. The writer is not flushed.
 /// Own rule of the profile.
 ///
 /// # Errors
@@ -44,16 +45,17 @@ pub fn check_stream<R: Read + Drop, W: Write + Drop>(
     reader: &mut Counted<R>,
     writer: &mut Counted<W>,
     json: bool,
+    format: Format,
 ) -> Result<(u64, u64), CheckFault>
-    ensures reported { IfOk result (λ counts. IsReported W.contents (R.remaining reader.old.device) json writer.old writer.new counts.0 counts.1) }
+    ensures reported { IfOk result (λ counts. IsReported W.contents (R.remaining reader.old.device) json format writer.old writer.new counts.0 counts.1) }
     ensures refused { IfErr result (WhenRefused (IsRefusedStream (R.remaining reader.old.device))) }
-    ensures begun { IfErr result (WhenWriteFails (IsBegun W.contents (R.remaining reader.old.device) json writer.old writer.new)) }
+    ensures begun { IfErr result (WhenWriteFails (IsBegun W.contents (R.remaining reader.old.device) json format writer.old writer.new)) }
     ensures untouched { IfErr result (UnlessWriteFails (writer.new ≡ writer.old)) }
     ensures read_failures { reader.new.failures ≡ failures_after (reader_fails result) reader.old.failures }
     ensures write_failures { writer.new.failures ≡ failures_after (writer_fails result) writer.old.failures }
 {
     let bytes = read_at_most(alloc, reader, MOST)?;
     let report = check(alloc, bytes.as_slice())?;
-    write_report(alloc, &report, writer, json)?;
+    write_report(alloc, &report, writer, json, format)?;
     Ok((report.errors(), report.dynamic()))
 }

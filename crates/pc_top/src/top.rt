@@ -12,7 +12,7 @@ use std::alloc::Global;
 /// The report of the module that the bytes spell.
 ///
 /// Where a report is answered, the bytes spell exactly one module and the report lists exactly the
-/// findings of its typing. Where it lists no error, each run of that module that raises `TypeError`,
+/// findings of its typing, each dynamic flow with its two types. Where it lists no error, each run of that module that raises `TypeError`,
 /// `AttributeError`, `NameError` or `UnboundLocalError`, or leaves the profile, has by then evaluated
 /// a listed dynamic place.
 ///
@@ -26,7 +26,9 @@ pub fn check(alloc: Global, bytes: &[u8]) -> Result<Report, CheckFault>
 {
     let source = read_source(alloc, bytes)?;
     let module = module_in(alloc, &source)?;
-    let found = findings(alloc, &module)?;
-    let report = Report::of(alloc, &source, &found, &[])?;
+    let notes = findings(alloc, &module)?;
+    let flows = notes.texts(alloc, &module)?;
+    let found = notes.findings(alloc)?;
+    let report = Report::of(alloc, &source, &found, &flows)?;
     Ok(report)
 }

@@ -16,6 +16,7 @@ pub mod Meets
 pub mod Nodes
 pub mod ParentsOf
 pub mod Readings
+pub mod Rebuilt
 pub mod Sound
 pub mod Structural
 pub mod Together

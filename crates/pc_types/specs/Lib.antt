@@ -8,6 +8,7 @@ pub mod Flow
 pub mod Head
 pub mod Join
 pub mod Normal
+pub mod Rebuilding
 pub mod Shape
 pub mod Store
 pub mod Tree

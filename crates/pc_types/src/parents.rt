@@ -1,4 +1,4 @@
-ghost use Rattle.std.specs.Prelude.{◌≡◌, ◌↔◌, List, Option, ℕ, IfOk, IsTrue};
+ghost use Rattle.std.specs.Prelude.{◌≡◌, ◌↔◌, List, Option, ℕ, IfOk, IsTrue, length};
 ghost use Rattle.std.specs.Option.{SomeIff};
 ghost use Rattle.pc_tree.specs.Tree.{Module as Tree, module_of, option_name_of};
 ghost use Rattle.pc_scope.specs.Scoped.{AreScopes};
@@ -83,6 +83,13 @@ impl Parents {
             }
         }
         true
+    }
+
+    /// For how many classes a base or none is told.
+    pub fn count(&self) -> usize
+        ensures { result ≡ length self.now }
+    {
+        self.bases.len()
     }
 
     /// Whether two lists of parents are the same.

@@ -9,9 +9,10 @@ use Rattle.clap.specs.declared.error.kind.ErrorKind.{ErrorKind}
 use Rattle.clap.specs.declared.error.kind.ErrorKind.TheVariants as kind
 use Rattle.clap.proofs.OnLiterals.{clap_on_literals}
 use Rattle.clap.proofs.WalkLemmas.{first_value-rows}
+use Rattle.pc_report.specs.declared.format.Format.{Format}
 use Rattle.pycheck.specs.declared.words.OptionFault.{OptionFault}
 use Rattle.pycheck.specs.declared.words.OptionFault.TheVariants.{Usage, Help, OutOfMemory}
-use Rattle.pycheck.specs.Words.{Asked, OnFault, asked, asks_for_help, command_line, faults, is_mistake, is_mistaken, is_request, value_of, without_faults}
+use Rattle.pycheck.specs.Words.{Asked, OnFault, asked, asks_for_help, command_line, faults, format_in, in_format, is_mistake, is_mistaken, is_request, mistaken_by, value_of, without_faults}
 
 pub simple : is_simple command_line ≡ true
 unfolding clap_on_literals
@@ -22,29 +23,35 @@ unfolding clap_on_literals
 simple_and_free = refl
 
 -- a getter reads the value of an argument, and where there is none the empty text
-value_read : (m : ArgMatches) (id : Text) (words : List Text) (got : Option (Bor Text)) (other : Bor Text) → option_map (λ s. s.now) got ≡ first_value (found_of m) id
-    → rows_of (found_of m) ≡ matches_of command_line words → other.now ≡ [] → (unwrap_or got other).now ≡ value_of id words
-value_read m id words got other is rows empty =
-    or_empty got ∙ ap (λ o. unwrap_or o []) (is ∙ first_value-rows (found_of m) id ∙ ap (first_of id) rows)
+pub value_read : (m : ArgMatches) (id : Text) (words : List Text) (got : Option (Bor Text)) (other text : Bor Text) → text ≡ unwrap_or got other
+    → option_map (λ s. s.now) got ≡ first_value (found_of m) id → rows_of (found_of m) ≡ matches_of command_line words → other.now ≡ [] → text.now ≡ value_of id words
+value_read m id words got other text so is rows empty =
+    ap (λ (t : Bor Text). t.now) so ∙ or_empty got ∙ ap (λ o. unwrap_or o []) (is ∙ first_value-rows (found_of m) id ∙ ap (first_of id) rows)
   where
     or_empty : (got : Option (Bor Text)) → (unwrap_or got other).now ≡ unwrap_or (option_map (λ s. s.now) got) []
     or_empty None = empty
     or_empty (Some t) = refl
 
 -- where `clap` finds no fault, the words ask for a check of what was read
-pub asked_is : (words : List Text) → faults words ≡ []
-    → asked words ≡ Some (record { json = bytes_eq (value_of (codes "json") words) (codes "true"); file = value_of (codes "file") words })
-asked_is words none = ap (λ kinds. without_faults kinds (record { json = bytes_eq (value_of (codes "json") words) (codes "true"); file = value_of (codes "file") words })) none
+asked_is : (words : List Text) (flag number file : Text) → faults words ≡ [] → flag ≡ value_of (codes "json") words → number ≡ value_of (codes "format") words → file ≡ value_of (codes "file") words
+    → asked words ≡ in_format (bytes_eq flag (codes "true")) (format_in number) file
+asked_is words flag number file none flag_is number_is file_is = rw (flag_is, number_is, file_is) (
+    ap (λ kinds. without_faults kinds (in_format (bytes_eq (value_of (codes "json") words) (codes "true")) (format_in (value_of (codes "format") words)) (value_of (codes "file") words))) none
+    )
 
--- what is asked, by what the getters gave
-pub reads : (words : List Text) (m : ArgMatches) (flag file : Option (Bor Text)) (no_flag no_file flag_text file_text : Bor Text) (json : Bool) (copy : Text)
-    → flag_text ≡ unwrap_or flag no_flag → file_text ≡ unwrap_or file no_file → faults words ≡ [] → rows_of (found_of m) ≡ matches_of command_line words
-    → option_map (λ s. s.now) flag ≡ first_value (found_of m) (codes "json") → option_map (λ s. s.now) file ≡ first_value (found_of m) (codes "file")
-    → no_flag.now ≡ [] → no_file.now ≡ [] → json ≡ bytes_eq flag_text.now (codes "true") → copy ≡ file_text.now → asked words ≡ Some (record { json = json; file = copy })
-reads words m flag file no_flag no_file flag_text file_text json copy flag_or file_or none rows flag_is file_is no_flag_is no_file_is json_is copy_is =
-    let flag_read = ap (λ (t : Bor Text). t.now) flag_or ∙ value_read m (codes "json") words flag no_flag flag_is rows no_flag_is in
-    let file_read = ap (λ (t : Bor Text). t.now) file_or ∙ value_read m (codes "file") words file no_file file_is rows no_file_is in
-    asked_is words none ∙ sym (ap₂ (λ (j : Bool) (f : Text). Some (record { json = j; file = f })) (json_is ∙ ap (λ (t : Text). bytes_eq t (codes "true")) flag_read) (copy_is ∙ file_read))
+-- the number names a format, and the file was copied
+pub gives : (words : List Text) (flag number file copy : Text) (json : Bool) (format : Format) → faults words ≡ [] → flag ≡ value_of (codes "json") words → number ≡ value_of (codes "format") words
+    → file ≡ value_of (codes "file") words → json ≡ bytes_eq flag (codes "true") → format_in number ≡ Some format → copy ≡ file
+    → asked words ≡ Some (record { json = json; format = format; file = copy })
+gives words flag number file copy json format none flag_is number_is file_is json_is format_is copy_is =
+    asked_is words flag number file none flag_is number_is file_is ∙ ap (λ o. in_format (bytes_eq flag (codes "true")) o file) format_is
+    ∙ sym (ap₂ (λ (j : Bool) (f : Text). in_format j (Some format) f) json_is copy_is)
+
+-- the number names no format
+pub misses : (words : List Text) (number : Text) → faults words ≡ [] → number ≡ value_of (codes "format") words → format_in number ≡ None → asked words ≡ None
+misses words number none number_is format_is =
+    asked_is words _ number _ none refl number_is refl
+    ∙ ap (λ o. in_format (bytes_eq (value_of (codes "json") words) (codes "true")) o (value_of (codes "file") words)) format_is
 
 -- of the kinds, one passes the test
 some_passes : (p : ErrorKind → Bool) (k : ErrorKind) (kinds : Kinds) → IsAmong k kinds → p k ≡ true → list_any p kinds ≡ true
@@ -60,9 +67,31 @@ some_passes p k (x ∷ xs) (inr rest) passes = go (p x) (some_passes p k xs rest
 nothing_asked : (words : List Text) (k : ErrorKind) → IsAmong k (faults words) → asked words ≡ None
 nothing_asked words k among = go (faults words) _ among
   where
-    go : (kinds : Kinds) (o : Asked) → IsAmong k kinds → without_faults kinds o ≡ None
+    go : (kinds : Kinds) (o : Option Asked) → IsAmong k kinds → without_faults kinds o ≡ None
     go [] o h = absurd h
     go (x ∷ xs) o h = refl
+
+-- nothing but the number is at fault
+no_asking : (words : List Text) → faults words ≡ [] → asked words ≡ None → is_mistaken words ≡ true
+no_asking words none nothing = go (faults words) (asked words) none nothing
+  where
+    go : (kinds : Kinds) (o : Option Asked) → kinds ≡ [] → o ≡ None → mistaken_by kinds o ≡ true
+    go kinds o e f = rw (e, f) refl
+
+-- a mistake is among the faults
+mistake_among : (words : List Text) (k : ErrorKind) → IsAmong k (faults words) → is_mistake k ≡ true → is_mistaken words ≡ true
+mistake_among words k among mistake = go (faults words) (asked words) among
+  where
+    go : (kinds : Kinds) (o : Option Asked) → IsAmong k kinds → mistaken_by kinds o ≡ true
+    go [] o h = absurd h
+    go (x ∷ xs) o h = some_passes is_mistake k (x ∷ xs) h mistake
+
+-- the number is at fault
+pub number_at_fault : (words : List Text) (r : OptionFault) → faults words ≡ [] → asked words ≡ None → OnFault (Unit {0}) ⊥ r
+    → OnFault (asked words ≡ None) (asked words ≡ None) r × OnFault (is_mistaken words ≡ true) (asks_for_help words ≡ true) r
+number_at_fault words (Usage text) none nothing said = (nothing, no_asking words none nothing)
+number_at_fault words (Help text) none nothing said = absurd said
+number_at_fault words OutOfMemory none nothing said = (tt, tt)
 
 -- a weaker fact of a fault
 on_fault : (r : OptionFault) (P Q P2 Q2 : Type 0) → (P → P2) → (Q → Q2) → OnFault P Q r → OnFault P2 Q2 r
@@ -85,5 +114,5 @@ says words k r has said =
     let mistaken : is_mistake k ≡ true → IsAmong k (faults words) = λ m. among words k has (no_memory is_mistake k refl m) in
     let requested : is_request k ≡ true → IsAmong k (faults words) = λ q. among words k has (no_memory is_request k refl q) in (
       on_fault r _ _ _ _ (λ m. nothing_asked words k (mistaken m)) (λ q. nothing_asked words k (requested q)) said,
-      on_fault r _ _ _ _ (λ m. some_passes is_mistake k (faults words) (mistaken m) m) (λ q. some_passes is_request k (faults words) (requested q) q) said,
+      on_fault r _ _ _ _ (λ m. mistake_among words k (mistaken m) m) (λ q. some_passes is_request k (faults words) (requested q) q) said,
     )

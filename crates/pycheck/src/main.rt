@@ -1,4 +1,4 @@
-//! Checks a module: `pycheck [--json] FILE`.
+//! Checks a module: `pycheck [--json] [--format N] FILE`.
 #![tactic(auto)]
 
 mod command_line;
@@ -61,7 +61,13 @@ fn checked<R: Print + Files + AllocGlobal>(
     let file = File::open(rt, options.file.as_str()).map_err(|_| CheckFault::Read)?;
     let mut input = Counted::new(file);
     let mut output = Counted::new(io::writer(rt));
-    let counts = check_stream(rt.alloc(), &mut input, &mut output, options.json)?;
+    let counts = check_stream(
+        rt.alloc(),
+        &mut input,
+        &mut output,
+        options.json,
+        options.format,
+    )?;
     output.flush().map_err(|_| CheckFault::Write)?;
     Ok(counts)
 }

@@ -1,13 +1,15 @@
 ghost use Rattle.std.specs.Prelude.{◌≡◌};
 ghost use Rattle.pycheck.specs.declared.words.OptionFault.TheVariants as option_fault;
 
+use pc_top::Format;
 use std::alloc::AllocError;
 use thiserror::Error;
 
-/// What the words of the command line ask for: a check of a file, whose report is JSON or text.
+/// What the words of the command line ask for: a check of a file, whose report is JSON or text, in a format.
 #[derive(Debug, PartialEq, Eq, Drop)]
 pub struct Options {
     pub json: bool,
+    pub format: Format,
     pub file: String,
 }
 

@@ -1,50 +1,12 @@
 //! Runs a module: `pyrun --fuel N FILE`.
 #![tactic(auto)]
 
-#[cfg(test)]
-mod actions_tests;
-#[cfg(test)]
-mod attributes_tests;
-#[cfg(test)]
-mod built_ins_tests;
-#[cfg(test)]
-mod calls_tests;
-#[cfg(test)]
-mod choices_tests;
 mod command_line;
-#[cfg(test)]
-mod comparisons_tests;
-#[cfg(test)]
-mod depth_tests;
-#[cfg(test)]
-mod events_tests;
-#[cfg(test)]
-mod fuel_tests;
-#[cfg(test)]
-mod items_tests;
-#[cfg(test)]
-mod limits_tests;
-#[cfg(test)]
-mod loops_tests;
-#[cfg(test)]
-mod modules_tests;
-#[cfg(test)]
-mod names_tests;
-#[cfg(test)]
-mod operators_tests;
 mod running;
 mod status;
-#[cfg(test)]
-mod traces;
-#[cfg(test)]
-mod truth_tests;
 mod words;
 #[cfg(test)]
-mod words_of_modules_tests;
-#[cfg(test)]
 mod words_tests;
-#[cfg(test)]
-mod worked_tests;
 
 use crate::running::traced;
 use crate::status::status_of;

@@ -4,111 +4,122 @@ use crate::running::traced;
 use crate::status::status_of;
 use crate::words::OptionFault;
 use pc_source::Fault;
+use std::alloc::Global;
 use std::test::Fail;
+
+/// The words of a row of a table, each behind a bar.
+fn words_of<'a>(alloc: Global, row: &'a str) -> Result<Vec<&'a str>, Fail> {
+    Ok(row.split('|').skip(1).collect(alloc)?)
+}
+
+/// Words that ask for a run, with its fuel and its file.
+const RUNS: &str = "\
+|--fuel|4|add.py ⇒ 4|add.py
+|--fuel|0|add.py ⇒ 0|add.py
+|--fuel|18446744073709551615|a b.py ⇒ 18446744073709551615|a b.py
+|--fuel|007|- ⇒ 7|-
+|--fuel|000000000000000000000000000012|café.py ⇒ 12|café.py
+|--fuel|10| ⇒ 10|
+|--fuel=4|add.py ⇒ 4|add.py
+|add.py|--fuel|4 ⇒ 4|add.py
+|add.py|--fuel=4 ⇒ 4|add.py
+|--fuel|4|--|add.py ⇒ 4|add.py
+|--fuel|4|--|-v.py ⇒ 4|-v.py
+|--fuel|1|--|--fuel ⇒ 1|--fuel
+|--fuel|1|--|-- ⇒ 1|--
+|--fuel|1|--|--help ⇒ 1|--help";
 
 #[test]
 fn words_for_a_run(rt: HostRuntime) -> Result<(), Fail> {
-    let cases: [(&[&str], u64, &str); 14] = [
-        (&["--fuel", "4", "add.py"], 4, "add.py"),
-        (&["--fuel", "0", "add.py"], 0, "add.py"),
-        (
-            &["--fuel", "18446744073709551615", "a b.py"],
-            u64::MAX,
-            "a b.py",
-        ),
-        (&["--fuel", "007", "-"], 7, "-"),
-        (
-            &["--fuel", "000000000000000000000000000012", "caf\u{e9}.py"],
-            12,
-            "caf\u{e9}.py",
-        ),
-        (&["--fuel", "10", ""], 10, ""),
-        (&["--fuel=4", "add.py"], 4, "add.py"),
-        (&["add.py", "--fuel", "4"], 4, "add.py"),
-        (&["add.py", "--fuel=4"], 4, "add.py"),
-        (&["--fuel", "4", "--", "add.py"], 4, "add.py"),
-        (&["--fuel", "4", "--", "-v.py"], 4, "-v.py"),
-        (&["--fuel", "1", "--", "--fuel"], 1, "--fuel"),
-        (&["--fuel", "1", "--", "--"], 1, "--"),
-        (&["--fuel", "1", "--", "--help"], 1, "--help"),
-    ];
-    for (words, fuel, file) in cases {
-        let asked = options(rt.alloc(), words)?;
-        assert_eq!(rt; asked.fuel, fuel, "at {words:?}");
-        assert_eq!(rt; asked.file.as_str(), file);
+    for row in RUNS.lines() {
+        let (words, want) = row.split_once(" ⇒ ").ok_or("no run")?;
+        let words = words_of(rt.alloc(), words)?;
+        let asked = options(rt.alloc(), words.as_slice())?;
+        let got = format!(in rt.alloc(); "{}|{}", asked.fuel, asked.file.as_str())?;
+        assert_eq!(rt; got.as_str(), want, "at {row}");
     }
     Ok(())
 }
 
+/// Words that ask for nothing.
+const MISTAKEN: &str = "\
+|
+
+|--
+|add.py
+|--fuel
+|--fuel|4
+|--fuel|4|--
+|--fuel|--|add.py
+|--fuel|4|add.py|more.py
+|--fuel|4|--|add.py|more.py
+|--fuel|4|--fuel|4|add.py
+|--fuel|4|--fuel
+|4|--fuel|add.py
+|--fuel=|add.py
+|-fuel|4|add.py
+|--FUEL|4|add.py
+|--fue|4|add.py
+|-f|4|add.py
+|--fuel|4|-add.py
+|--|--fuel|4|add.py";
+
 #[test]
-fn mistaken_words(rt: HostRuntime) {
-    let cases: [&[&str]; 20] = [
-        &[],
-        &[""],
-        &["--"],
-        &["add.py"],
-        &["--fuel"],
-        &["--fuel", "4"],
-        &["--fuel", "4", "--"],
-        &["--fuel", "--", "add.py"],
-        &["--fuel", "4", "add.py", "more.py"],
-        &["--fuel", "4", "--", "add.py", "more.py"],
-        &["--fuel", "4", "--fuel", "4", "add.py"],
-        &["--fuel", "4", "--fuel"],
-        &["4", "--fuel", "add.py"],
-        &["--fuel=", "add.py"],
-        &["-fuel", "4", "add.py"],
-        &["--FUEL", "4", "add.py"],
-        &["--fue", "4", "add.py"],
-        &["-f", "4", "add.py"],
-        &["--fuel", "4", "-add.py"],
-        &["--", "--fuel", "4", "add.py"],
-    ];
-    for words in cases {
-        let got = options(rt.alloc(), words);
-        assert!(rt; matches!(got, Err(OptionFault::Usage(_))), "at {words:?}");
+fn mistaken_words(rt: HostRuntime) -> Result<(), Fail> {
+    for row in MISTAKEN.split('\n') {
+        let words = words_of(rt.alloc(), row)?;
+        let got = options(rt.alloc(), words.as_slice());
+        assert!(rt; matches!(got, Err(OptionFault::Usage(_))), "at {row}");
     }
+    Ok(())
 }
+
+/// Texts that are no fuel.
+const NO_NUMBERS: &str = "\
++4
+
+-1
+4.0
+\u{20}4
+4\u{20}
+1_000
+0x10
+four
+4a
+1e3
+\u{664}
+18446744073709551616
+99999999999999999999999999";
 
 #[test]
 fn numbers_that_are_none(rt: HostRuntime) {
-    let cases: [&str; 14] = [
-        "",
-        "+4",
-        "-1",
-        "4.0",
-        " 4",
-        "4 ",
-        "1_000",
-        "0x10",
-        "four",
-        "4a",
-        "1e3",
-        "\u{664}",
-        "18446744073709551616",
-        "99999999999999999999999999",
-    ];
-    for number in cases {
+    for number in NO_NUMBERS.split('\n') {
         let got = options(rt.alloc(), &["--fuel", number, "add.py"]);
         assert!(rt; matches!(got, Err(OptionFault::Usage(_))), "at {number}");
     }
 }
 
+/// Words that ask for the version.
+const VERSIONS: &str = "\
+|--version
+|-V
+|add.py|--version|--fuel";
+
+/// Words that ask for help.
+const HELPS: &str = "\
+|--help
+|-h
+|--fuel|four|--help";
+
 #[test]
 fn words_for_help(rt: HostRuntime) -> Result<(), Fail> {
-    let cases: [(&[&str], &str); 6] = [
-        (&["--version"], "pyrun 0.1.0\n"),
-        (&["-V"], "pyrun 0.1.0\n"),
-        (&["add.py", "--version", "--fuel"], "pyrun 0.1.0\n"),
-        (&["--help"], HELP),
-        (&["-h"], HELP),
-        (&["--fuel", "four", "--help"], HELP),
-    ];
-    for (words, text) in cases {
-        let got = options(rt.alloc(), words);
-        match &got {
-            Err(OptionFault::Help(shown)) => assert_eq!(rt; shown.as_str(), text, "at {words:?}"),
-            _ => assert!(rt; false, "no help at {words:?}"),
+    for (table, text) in [(VERSIONS, "pyrun 0.1.0\n"), (HELPS, HELP)] {
+        for row in table.lines() {
+            let words = words_of(rt.alloc(), row)?;
+            match &options(rt.alloc(), words.as_slice()) {
+                Err(OptionFault::Help(shown)) => assert_eq!(rt; shown.as_str(), text, "at {row}"),
+                _ => assert!(rt; false, "no help at {row}"),
+            }
         }
     }
     Ok(())

@@ -3,6 +3,7 @@ use Rattle.pc_scope.specs.declared.resolution.Res.{Res}
 use Rattle.pc_tree.specs.Tree.{ann_of, name_of, module_of}
 use Rattle.pc_types.specs.Annotations.{read_ann}
 use Rattle.pc_flow.specs.Stored.{env_of}
+use Rattle.pc_notes.specs.Notes.{notes_of}
 use Rattle.pc_check.specs.ComputedStatements.{annotation_finds, bound_name, declared_alone}
 use Rattle.pc_check.specs.Walking.{frame_with, declared_by, GivesBound}
 use Rattle.pc_check.proofs.Bound.{alone_gives}
@@ -29,10 +30,10 @@ returns-in-None-clause-bound g c =
     let t = read_ann (module_of frame.tree.now) bases (ann_of c.args.annotation.now) in
     let e : c.resolve-meaning.result ≡ g.R.Resolver.meaning frame.names.now (name_of c.args.name.now).text = c.resolve-meaning.ensures ∙ ap (g.R.Resolver.meaning frame.names.now) c.as_str.ensures.value in
     rw (c.in-None.is, c.declare_alone.ensures)
-    (subst (λ (r : Res). GivesBound g.S.TypeStore.has tree bases c.annotated_type.new.store (declared_by c.args.declared.now c.resolve-meaning.result c.in_ok-ty.ty) c.args.env c.annotated_type.new.found.items (record {
+    (subst (λ (r : Res). GivesBound g.S.TypeStore.has tree bases c.annotated_type.new.store (declared_by c.args.declared.now c.resolve-meaning.result c.in_ok-ty.ty) c.args.env (notes_of c.annotated_type.new.found) (record {
       table = declared_alone (frame_with tree g.R.Resolver.meaning frame) table r t;
       env = env_of tree c.args.env;
-      found = c.args.found.now.items ++ annotation_finds (frame_with tree g.R.Resolver.meaning frame) (bound_name (frame_with tree g.R.Resolver.meaning frame) table r) (name_of c.args.name.now) (ann_of c.args.annotation.now);
+      found = (notes_of c.args.found.now) ++ annotation_finds (frame_with tree g.R.Resolver.meaning frame) (bound_name (frame_with tree g.R.Resolver.meaning frame) table r) (name_of c.args.name.now) (ann_of c.args.annotation.now);
     })) e (record {
       declared_holds = alone.holds;
       env_holds = types_kept g.S.TypeStore.has tree bases _ _ k c.args.env c.requires.env;

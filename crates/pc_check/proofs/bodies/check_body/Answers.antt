@@ -8,6 +8,7 @@ use Rattle.pc_types.specs.WellFormed.{IsWellFormed}
 use Rattle.pc_class.specs.Bases.{bases_of}
 use Rattle.pc_class.proofs.WellFormed.{returned_well_formed}
 use Rattle.pc_flow.specs.WellFormed.{AreWellFormed}
+use Rattle.pc_notes.specs.Notes.{notes_of}
 use Rattle.pc_expr.specs.Context.{Signature}
 use Rattle.pc_expr.specs.SignaturesFound.{constants_of}
 use Rattle.pc_expr.specs.Standing.{HasSignature, signature_with}
@@ -56,4 +57,4 @@ returns-clause-pushed g c =
     let tree = g.S.TypeStore.tree in
     let m = module_in c.args.setting.now in
     let same : map tree c.constants.result.now ≡ constants_of m = ap (map tree) c.constants.ensures ∙ c.requires.setting.constants in
-    subst (λ cs. OnOk c.check_function.result (c.check_function.new.found.items ≡ function_finds m cs c.args.owner (func_of c.args.def.now) c.args.found.now.items)) same c.check_function.ensures.pushed
+    subst (λ cs. OnOk c.check_function.result ((notes_of c.check_function.new.found) ≡ function_finds m cs c.args.owner (func_of c.args.def.now) (notes_of c.args.found.now))) same c.check_function.ensures.pushed

@@ -8,6 +8,7 @@ use Rattle.pc_class.specs.WellFormed.{ParametersWellFormed}
 use Rattle.pc_class.proofs.WellFormed.{params_well_formed}
 use Rattle.pc_flow.specs.Environment.{Env}
 use Rattle.pc_flow.specs.Stored.{env_of}
+use Rattle.pc_notes.specs.Notes.{notes_of}
 use Rattle.pc_check.specs.ComputedStatements.{Frame, Table, Walk, enter, walk_suite}
 use Rattle.pc_check.specs.Modules.{receiver_parameter}
 use Rattle.pc_check.specs.Walking.{frame_with, walk_with}
@@ -47,10 +48,10 @@ returns-clause-pushed g c =
     let env = ap (env_of tree) c.in_ok-env.ensures ∙ none_is tree c.args.count in
     let middle : Table × Env = (env_of tree c.enter_receiver.new.declared, env_of tree c.enter_receiver.new.env) in
     let start : Table × Env = (env_of tree c.enter.new.declared, env_of tree c.enter.new.env) in
-    let body : Walk = walk_with tree c.check_suite.new.declared c.in_ok-out.out c.check_suite.new.broken c.check_suite.new.found.items in
-    let found = function_found m (map tree f.constants.now) c.args.owner def frame c.args.found.now.items c.args.count middle start body
+    let body : Walk = walk_with tree c.check_suite.new.declared c.in_ok-out.out c.check_suite.new.broken (notes_of c.check_suite.new.found) in
+    let found = function_found m (map tree f.constants.now) c.args.owner def frame (notes_of c.args.found.now) c.args.count middle start body
     c.requires.body c.requires.count
     (c.in_ok-enter_receiver.ensures.entered.is ∙ (λ i. enter resolve (declared i) (env i) (receiver_parameter c.args.owner)))
     (c.in_ok-enter.ensures.is ∙ ap (enter resolve (env_of tree c.enter_receiver.new.declared) (env_of tree c.enter_receiver.new.env)) c.requires.params)
-    (c.in_ok-out.ensures.walked.is ∙ ap (λ b. walk_suite frame (walk_with tree c.enter.new.declared (Some c.enter.new.env) None c.args.found.now.items) (stmts_of_list b)) c.deref.ensures.value) in
-    subst (λ fs. OnOk c.find_end.result (c.find_end.new.found.items ≡ fs)) found c.find_end.ensures.pushed
+    (c.in_ok-out.ensures.walked.is ∙ ap (λ b. walk_suite frame (walk_with tree c.enter.new.declared (Some c.enter.new.env) None (notes_of c.args.found.now)) (stmts_of_list b)) c.deref.ensures.value) in
+    subst (λ fs. OnOk c.find_end.result ((notes_of c.find_end.new.found) ≡ fs)) found c.find_end.ensures.pushed

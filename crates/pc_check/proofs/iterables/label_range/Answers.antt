@@ -1,18 +1,18 @@
 use Rattle.std.proofs.Common.{◌≡◌, ◌++◌, [], List, sym, ap, subst}
 use Rattle.std.specs.Prelude.{OnOk}
 use Rattle.std.proofs.lemmas.Result.{IfOk-weaker}
-use Rattle.pc_tree.specs.declared.code.Finding.{Finding}
 use Rattle.pc_tree.specs.Tree.{expr_of, call}
 use Rattle.pc_tree.specs.Lists.{exprs_of_list, keywords_of_list}
 use Rattle.pc_scope.specs.Expressions.{is_instance_test}
 use Rattle.pc_types.specs.Tree.{Tree}
 use Rattle.pc_types.specs.WellFormed.{IsWellFormed}
 use Rattle.pc_flow.specs.Stored.{env_of}
+use Rattle.pc_notes.specs.Notes.{Note, notes_of}
 use Rattle.pc_expr.specs.Operations.{Mark}
 use Rattle.pc_expr.specs.Calls.{given, range_item, range_offers, positional_seat, named_seat, call_mark}
 use Rattle.pc_expr.specs.Found.{codes_at}
 use Rattle.pc_expr.specs.Standing.{Standing, IsMark, arguments_find, keywords_find}
-use Rattle.pc_check.specs.ComputedStatements.{at, item_of, iterable_finds}
+use Rattle.pc_check.specs.ComputedStatements.{at, item_of}
 use Rattle.pc_check.specs.Walking.{frame_with, context_in, GivesLabel}
 use Rattle.pc_check.proofs.Held.{declared_is, declared_well_formed}
 use Rattle.pc_check.proofs.Iterating.{range_items, range_found, range_well_formed}
@@ -56,9 +56,9 @@ returns-clause-pushed g c =
     let r = c.args.iterable.now in
     let arguments = exprs_of_list r.arguments.now in
     let keywords = keywords_of_list r.by_name.now in
-    let old = c.args.found.now.items in
+    let old = (notes_of c.args.found.now) in
     let offers = range_offers (given arguments keywords) in
-    subst (λ (fs : List Finding). OnOk c.type_range.result (c.type_range.new.found.items ≡ old ++ fs)) (sym (range_found frame k r.place (expr_of r.callee.now) arguments keywords c.requires.range))
+    subst (λ (fs : List Note). OnOk c.type_range.result ((notes_of c.type_range.new.found) ≡ old ++ fs)) (sym (range_found frame k r.place (expr_of r.callee.now) arguments keywords c.requires.range))
     (subst (λ (ds : List Tree). let s : Standing = record { context = context_in tree g.R.Resolver.meaning c.args.frame.now; declared = ds; env = env_of tree c.args.env.now } in
-    OnOk c.type_range.result (c.type_range.new.found.items ≡ old ++ (arguments_find s (is_instance_test (expr_of r.callee.now) arguments keywords) (positional_seat offers) arguments ++ (keywords_find s (named_seat offers) [] keywords ++ codes_at r.place (call_mark bases offers).codes))))
+    OnOk c.type_range.result ((notes_of c.type_range.new.found) ≡ old ++ (arguments_find s (is_instance_test (expr_of r.callee.now) arguments keywords) (positional_seat offers) arguments ++ (keywords_find s (named_seat offers) [] keywords ++ codes_at r.place (call_mark bases offers).codes))))
     (declared_is tree c.args.declared.now) c.type_range.ensures.pushed)

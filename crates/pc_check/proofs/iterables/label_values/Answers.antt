@@ -1,4 +1,4 @@
-use Rattle.std.proofs.Common.{None, map, sym, ap, subst}
+use Rattle.std.proofs.Common.{map, sym, ap, subst}
 use Rattle.std.proofs.lemmas.Result.{IfOk-weaker}
 use Rattle.pc_tree.specs.Tree.{expr_of}
 use Rattle.pc_types.specs.Tree.{Tree}

@@ -6,6 +6,7 @@ use Rattle.pc_scope.specs.declared.resolution.Res.{Res}
 use Rattle.pc_scope.specs.declared.resolution.Res.TheVariants as res
 use Rattle.pc_types.specs.Tree.{Tree}
 use Rattle.pc_flow.specs.Stored.{env_of}
+use Rattle.pc_notes.specs.Notes.{notes_of}
 use Rattle.pc_expr.specs.Operations.{clean}
 use Rattle.pc_check.specs.ComputedStatements.{bind_item, bind_label, bound_type}
 use Rattle.pc_check.specs.Walking.{frame_with, GivesBound}
@@ -23,5 +24,5 @@ returns-in_ok-want-in-Local-clause-bound g c =
     let want : option_map tree c.in_ok-want-in-Local.want ≡ bound_type table c.in-Local.local = c.in_ok-want-in-Local.ensures.is ∙ known_bound (bound_type table c.in-Local.local) in
     let local : g.R.Resolver.meaning frame.names.now (name_of c.args.target.now).text ≡ res.Local c.in-Local.local = sym (c.resolve.ensures ∙ ap (g.R.Resolver.meaning frame.names.now) c.as_str.ensures.value) ∙ c.in-Local.is in
     let bound = c.bind_label.ensures.bound (clean (tree c.args.item)) (λ i. record { type = tree c.args.item; codes = c.new.ensures.items i }) in
-    subst (λ (r : Res). IfOk c.bind_label.result (λ e. GivesBound g.S.TypeStore.has tree frame.parents.now c.bind_label.new.store c.bind_label.new.declared e c.bind_label.new.found.items (bind_item (frame_with tree g.R.Resolver.meaning frame) table (env_of tree c.args.head) r c.args.place (tree c.args.item) c.args.found.now.items))) (sym local)
-    (subst (λ (o : Option Tree). IfOk c.bind_label.result (λ e. GivesBound g.S.TypeStore.has tree frame.parents.now c.bind_label.new.store c.bind_label.new.declared e c.bind_label.new.found.items (bind_label (frame_with tree g.R.Resolver.meaning frame) table (env_of tree c.args.head) c.in-Local.local o c.args.place (clean (tree c.args.item)) c.args.found.now.items))) want bound)
+    subst (λ (r : Res). IfOk c.bind_label.result (λ e. GivesBound g.S.TypeStore.has tree frame.parents.now c.bind_label.new.store c.bind_label.new.declared e (notes_of c.bind_label.new.found) (bind_item (frame_with tree g.R.Resolver.meaning frame) table (env_of tree c.args.head) r c.args.place (tree c.args.item) (notes_of c.args.found.now)))) (sym local)
+    (subst (λ (o : Option Tree). IfOk c.bind_label.result (λ e. GivesBound g.S.TypeStore.has tree frame.parents.now c.bind_label.new.store c.bind_label.new.declared e (notes_of c.bind_label.new.found) (bind_label (frame_with tree g.R.Resolver.meaning frame) table (env_of tree c.args.head) c.in-Local.local o c.args.place (clean (tree c.args.item)) (notes_of c.args.found.now)))) want bound)

@@ -1,6 +1,7 @@
-use Rattle.std.proofs.Common.{◌≡◌, ◌≤◌, ◌+◌, ◌∷◌, map, drop, sym, ap, ◌∙◌, subst, arith}
+use Rattle.std.proofs.Common.{◌+◌, ◌∷◌, map, drop, sym, ap, ◌∙◌, subst, arith}
 use Rattle.pc_tree.specs.Tree.{class_of, constant_of, func_of, item_of, item_of_kind}
 use Rattle.pc_scope.specs.Bindings.{classes_in, functions_in}
+use Rattle.pc_notes.specs.Notes.{notes_of}
 use Rattle.pc_expr.specs.SignaturesFound.{constants_of}
 use Rattle.pc_check.specs.Checking.{module_in, IsModuleSetting}
 use Rattle.pc_check.specs.ComputedModules.{bodies_find}
@@ -46,16 +47,16 @@ loop-item-preserved g c =
     let functions = functions_in m.items in
     let n = c.loop-item.classes in
     let k = c.loop-item.functions in
-    let old = c.loop-item.found.items in
-    let new = c.match-item.found.items in
-    let total = bodies_find m cs 0 0 (map item_of items) c.args.found.now.items in
+    let old = (notes_of c.loop-item.found) in
+    let new = (notes_of c.match-item.found) in
+    let total = bodies_find m cs 0 0 (map item_of items) (notes_of c.args.found.now) in
     let here : ItemsAt m cs classes functions total before rest n k c.match-item.classes c.match-item.functions old new = elim c.match-item.branch [
       | in-Constant w ↦ constant_passed m cs classes functions total before rest n k c.match-item.classes c.match-item.functions old new v.classes_stand v.functions_stand v.found
-          x.first (constant_of w.in-Constant.field-0) (step ∙ ap (λ q. item_of_kind x.first q ∷ rest) w.in-Constant.is) w.classes-is w.functions-is (λ j. (w.found-is j).items)
+          x.first (constant_of w.in-Constant.field-0) (step ∙ ap (λ q. item_of_kind x.first q ∷ rest) w.in-Constant.is) w.classes-is w.functions-is (λ j. notes_of (w.found-is j))
       | in-Class+in_ok-check_methods-in-Class w ↦ class_passed m cs classes functions total before rest n k c.match-item.classes c.match-item.functions old new v.classes_stand v.functions_stand v.found
-          x.first (class_of w.in-Class.class) (step ∙ ap (λ q. item_of_kind x.first q ∷ rest) w.in-Class.is) w.classes-is w.functions-is ((λ j. (w.found-is j).items) ∙ w.in_ok-check_methods-in-Class.ensures.pushed)
+          x.first (class_of w.in-Class.class) (step ∙ ap (λ q. item_of_kind x.first q ∷ rest) w.in-Class.is) w.classes-is w.functions-is ((λ j. notes_of (w.found-is j)) ∙ w.in_ok-check_methods-in-Class.ensures.pushed)
       | in-Def+in_ok-check_owned-in-Def w ↦ def_passed m cs classes functions total before rest n k c.match-item.classes c.match-item.functions old new v.classes_stand v.functions_stand v.found
-          x.first (func_of w.in-Def.def) (step ∙ ap (λ q. item_of_kind x.first q ∷ rest) w.in-Def.is) w.classes-is w.functions-is ((λ j. (w.found-is j).items) ∙ w.in_ok-check_owned-in-Def.ensures.pushed)
+          x.first (func_of w.in-Def.def) (step ∙ ap (λ q. item_of_kind x.first q ∷ rest) w.in-Def.is) w.classes-is w.functions-is ((λ j. notes_of (w.found-is j)) ∙ w.in_ok-check_owned-in-Def.ensures.pushed)
     ] in
     record {
       setting = elim c.match-item.branch [

@@ -2,6 +2,7 @@ use Rattle.std.proofs.Common.{◌≡◌, ◌≤◌, map, drop}
 use Rattle.pc_tree.specs.Tree.{item_of}
 use Rattle.pc_scope.specs.Bindings.{classes_in, functions_in}
 use Rattle.pc_types.specs.Store.{Keeps}
+use Rattle.pc_notes.specs.Notes.{notes_of}
 use Rattle.pc_expr.specs.SignaturesFound.{constants_of}
 use Rattle.pc_check.specs.Checking.{module_in, IsModuleSetting}
 use Rattle.pc_check.specs.ComputedModules.{bodies_find}
@@ -15,6 +16,6 @@ invariant-loop-item g l = record {
   functions_counted : l.functions ≤ l.item-index;
   classes_stand : StandsFrom (classes_in (module_in l.setting).items) l.classes (classes_in (map item_of (drop l.item-index l.items)));
   functions_stand : StandsFrom (functions_in (module_in l.setting).items) l.functions (functions_in (map item_of (drop l.item-index l.items)));
-  found : bodies_find (module_in l.setting) (constants_of (module_in l.setting)) l.classes l.functions (map item_of (drop l.item-index l.items)) l.found.items ≡ bodies_find (module_in l.setting) (constants_of (module_in l.setting)) 0 0 (map item_of l.items) l.fn.found.items;
+  found : bodies_find (module_in l.setting) (constants_of (module_in l.setting)) l.classes l.functions (map item_of (drop l.item-index l.items)) (notes_of l.found) ≡ bodies_find (module_in l.setting) (constants_of (module_in l.setting)) 0 0 (map item_of l.items) (notes_of l.fn.found);
   kept : Keeps g.S.TypeStore.has l.fn.store l.store;
 }

@@ -1,7 +1,8 @@
-use Rattle.std.proofs.Common.{◌≡◌, ◌≤◌, ◌+◌, ◌∷◌, map, drop, sym, ap, ◌∙◌, subst, arith}
+use Rattle.std.proofs.Common.{◌+◌, ◌∷◌, map, drop, sym, ap, ◌∙◌, subst, arith}
 use Rattle.pc_tree.specs.Tree.{class_of, func_of, field_of, member_of}
 use Rattle.pc_scope.specs.Bindings.{methods_in}
 use Rattle.pc_scope.specs.Resolution.{method_at}
+use Rattle.pc_notes.specs.Notes.{notes_of}
 use Rattle.pc_expr.specs.SignaturesFound.{constants_of}
 use Rattle.pc_check.specs.Checking.{module_in, IsModuleSetting}
 use Rattle.pc_check.specs.ComputedModules.{methods_find}
@@ -32,12 +33,12 @@ loop-member-preserved g c =
     let before = map member_of (drop i ms) in
     let rest = map member_of (drop (i + 1) ms) in
     let step = members_next ms i c.member-item.result c.loop-member-test.true c.member-item.is in
-    let total = methods_find m (constants_of m) c.args.class 0 (map member_of ms) c.args.found.now.items in
-    let here : MembersAt m (constants_of m) c.args.class all total before rest n c.match-member.methods c.loop-member.found.items c.match-member.found.items = elim c.match-member.branch [
-      | in-Field w ↦ field_passed m (constants_of m) c.args.class all total before rest n c.match-member.methods c.loop-member.found.items c.match-member.found.items v.stand v.found
-          (field_of w.in-Field.field-0) (step ∙ ap (λ y. member_of y ∷ rest) w.in-Field.is) w.methods-is (λ j. (w.found-is j).items)
-      | in-Method+in_ok-check_owned-in-Method w ↦ method_passed m (constants_of m) c.args.class all total before rest n c.match-member.methods c.loop-member.found.items c.match-member.found.items v.stand v.found
-          (func_of w.in-Method.method) (step ∙ ap (λ y. member_of y ∷ rest) w.in-Method.is) w.methods-is ((λ j. (w.found-is j).items) ∙ w.in_ok-check_owned-in-Method.ensures.pushed)
+    let total = methods_find m (constants_of m) c.args.class 0 (map member_of ms) (notes_of c.args.found.now) in
+    let here : MembersAt m (constants_of m) c.args.class all total before rest n c.match-member.methods (notes_of c.loop-member.found) (notes_of c.match-member.found) = elim c.match-member.branch [
+      | in-Field w ↦ field_passed m (constants_of m) c.args.class all total before rest n c.match-member.methods (notes_of c.loop-member.found) (notes_of c.match-member.found) v.stand v.found
+          (field_of w.in-Field.field-0) (step ∙ ap (λ y. member_of y ∷ rest) w.in-Field.is) w.methods-is (λ j. notes_of (w.found-is j))
+      | in-Method+in_ok-check_owned-in-Method w ↦ method_passed m (constants_of m) c.args.class all total before rest n c.match-member.methods (notes_of c.loop-member.found) (notes_of c.match-member.found) v.stand v.found
+          (func_of w.in-Method.method) (step ∙ ap (λ y. member_of y ∷ rest) w.in-Method.is) w.methods-is ((λ j. notes_of (w.found-is j)) ∙ w.in_ok-check_owned-in-Method.ensures.pushed)
     ] in
     record {
       setting = elim c.match-member.branch [

@@ -2,6 +2,7 @@ use Rattle.std.proofs.Common.{◌≡◌, ◌≤◌, map, drop}
 use Rattle.pc_tree.specs.Tree.{class_of, member_of}
 use Rattle.pc_scope.specs.Bindings.{methods_in}
 use Rattle.pc_types.specs.Store.{Keeps}
+use Rattle.pc_notes.specs.Notes.{notes_of}
 use Rattle.pc_expr.specs.SignaturesFound.{constants_of}
 use Rattle.pc_check.specs.Checking.{module_in, IsModuleSetting}
 use Rattle.pc_check.specs.ComputedModules.{methods_find}
@@ -13,6 +14,6 @@ invariant-loop-member g l = record {
   setting : IsModuleSetting (g.S.TypeStore.has l.store) g.S.TypeStore.tree l.setting;
   counted : l.methods ≤ l.member-index;
   stand : StandsFrom (methods_in (class_of l.def).members) l.methods (methods_in (map member_of (drop l.member-index l.members)));
-  found : methods_find (module_in l.setting) (constants_of (module_in l.setting)) l.class l.methods (map member_of (drop l.member-index l.members)) l.found.items ≡ methods_find (module_in l.setting) (constants_of (module_in l.setting)) l.class 0 (map member_of l.members) l.fn.found.items;
+  found : methods_find (module_in l.setting) (constants_of (module_in l.setting)) l.class l.methods (map member_of (drop l.member-index l.members)) (notes_of l.found) ≡ methods_find (module_in l.setting) (constants_of (module_in l.setting)) l.class 0 (map member_of l.members) (notes_of l.fn.found);
   kept : Keeps g.S.TypeStore.has l.fn.store l.store;
 }

@@ -1,15 +1,16 @@
-use Rattle.std.proofs.Common.{◌≡◌, ◌∙◌, ◌++◌, ◌+◌, List, Option, Some, None, refl, sym, ap, subst, arith, rules, drop}
+use Rattle.std.proofs.Common.{◌∙◌, ◌+◌, Some, None, sym, ap, subst, arith, rules, drop}
 use Rattle.std.specs.Prelude.{IfOk}
 use Rattle.std.specs.Option.{option_map}
 use Rattle.std.proofs.lemmas.Result.{IfOk-weaker}
-use Rattle.pc_tree.specs.Tree.{Stmt, Stmts, Branches, expr_of, stmt_of, stmt_of_kind, stmts_of_list, no_branches, more_branches, conditional, for_loop, while_loop, name_of}
-use Rattle.pc_tree.specs.Lists.{branches_of_list, with_branch}
+use Rattle.pc_tree.specs.Tree.{Stmt, expr_of, stmt_of_kind, stmts_of_list, no_branches, conditional, for_loop, while_loop, name_of}
+use Rattle.pc_tree.specs.Lists.{branches_of_list}
 use Rattle.pc_tree.specs.declared.tree.Branch.{out-Branch}
 use Rattle.pc_tree.proofs.Trees.{while_tree, for_tree, if_tree, branch_tree, branches_next, stmts_next}
 use Rattle.pc_flow.specs.Stored.{env_of}
 use Rattle.pc_flow.proofs.Given.{keeps_both}
+use Rattle.pc_notes.specs.Notes.{notes_of}
 use Rattle.pc_check.specs.ComputedStatements.{Walk, step, walk_suite, walk_branches, with_way, behind_branches}
-use Rattle.pc_check.specs.Walking.{frame_with, walk_with, forked_with, GivesWalk, GivesForked, GivesTypesIfAny}
+use Rattle.pc_check.specs.Walking.{frame_with, walk_with, forked_with, GivesWalk, GivesTypesIfAny}
 use Rattle.pc_check.proofs.Held.{gives_types, types_kept, types_kept_if_any, frame_kept}
 use Rattle.pc_check.proofs.Walked.{no_statement_left, no_branch_left, found_by, branch_walked, branches_from, otherwise_walked, binding_walked}
 use Rattle.pc_tree.proofs.tree.Stmt.TheLaws.{the_size}
@@ -48,13 +49,13 @@ check_branch-returns-clause-walked g t c =
       last_holds = types_kept g.S.TypeStore.has g.S.TypeStore.tree c.args.frame.now.parents.now _ _ (keeps_both g.S.TypeStore.has _ _ _ c.check_suite.ensures.kept c.meet.ensures.kept) _ lf.holds;
       ways_holds = j.holds;
       broken_holds = types_kept_if_any g.S.TypeStore.has g.S.TypeStore.tree c.args.frame.now.parents.now _ _ c.meet.ensures.kept _ w.broken_holds;
-      is = branch_walked (frame_with g.S.TypeStore.tree g.R.Resolver.meaning c.args.frame.now) (env_of g.S.TypeStore.tree c.args.declared.now) (env_of g.S.TypeStore.tree c.args.fork.last) (option_map (env_of g.S.TypeStore.tree) c.args.fork.ways) (option_map (env_of g.S.TypeStore.tree) c.args.broken.now) c.args.found.now.items (expr_of (out-Branch c.args.branch.now).condition) (stmts_of_list (out-Branch c.args.branch.now).body.items)
-          (walk_with g.S.TypeStore.tree c.args.declared.now (Some c.in_ok-where_true.field-0.where_true) c.args.broken.now c.type_in.new.found.items)
-          (walk_with g.S.TypeStore.tree c.check_suite.new.declared c.in_ok-out.out c.check_suite.new.broken c.check_suite.new.found.items)
+      is = branch_walked (frame_with g.S.TypeStore.tree g.R.Resolver.meaning c.args.frame.now) (env_of g.S.TypeStore.tree c.args.declared.now) (env_of g.S.TypeStore.tree c.args.fork.last) (option_map (env_of g.S.TypeStore.tree) c.args.fork.ways) (option_map (env_of g.S.TypeStore.tree) c.args.broken.now) (notes_of c.args.found.now) (expr_of (out-Branch c.args.branch.now).condition) (stmts_of_list (out-Branch c.args.branch.now).body.items)
+          (walk_with g.S.TypeStore.tree c.args.declared.now (Some c.in_ok-where_true.field-0.where_true) c.args.broken.now (notes_of c.type_in.new.found))
+          (walk_with g.S.TypeStore.tree c.check_suite.new.declared c.in_ok-out.out c.check_suite.new.broken (notes_of c.check_suite.new.found))
           (env_of g.S.TypeStore.tree c.in_ok-where_true.field-0.where_false) (option_map (env_of g.S.TypeStore.tree) c.in_ok-ways.ways)
           (λ i. record { table = (env_of g.S.TypeStore.tree c.args.declared.now); env = Some (lt.is i); broken = (option_map (env_of g.S.TypeStore.tree) c.args.broken.now); found = c.in_ok-type_in.ensures.pushed i })
           (rw c.deref.ensures.value at w.is) lf.is j.is
-          ∙ sym (ap (walk_branches (frame_with g.S.TypeStore.tree g.R.Resolver.meaning c.args.frame.now) (forked_with g.S.TypeStore.tree c.args.declared.now c.args.fork.last c.args.fork.ways c.args.broken.now c.args.found.now.items)) (branch_tree c.args.branch.now no_branches));
+          ∙ sym (ap (walk_branches (frame_with g.S.TypeStore.tree g.R.Resolver.meaning c.args.frame.now) (forked_with g.S.TypeStore.tree c.args.declared.now c.args.fork.last c.args.fork.ways c.args.broken.now (notes_of c.args.found.now))) (branch_tree c.args.branch.now no_branches));
     }
 
 pub check_branches-check_branch-requires : goal.check_branches-check_branch-requires
@@ -67,7 +68,7 @@ pub check_branches-loop-branch-preserved : goal.check_branches-loop-branch-prese
 check_branches-loop-branch-preserved g t c =
     let w = c.in_ok-fork.ensures.walked in
     let rest = branches_of_list (drop (c.loop-branch.branch-index + 1) c.args.branches.now) in
-    let before = forked_with g.S.TypeStore.tree c.loop-branch.declared c.loop-branch.fork.last c.loop-branch.fork.ways c.loop-branch.broken c.loop-branch.found.items in (
+    let before = forked_with g.S.TypeStore.tree c.loop-branch.declared c.loop-branch.fork.last c.loop-branch.fork.ways c.loop-branch.broken (notes_of c.loop-branch.found) in (
       keeps_both g.S.TypeStore.has _ _ _ c.loop-branch.invariant.0 c.check_branch.ensures.kept,
       w.declared_holds,
       w.last_holds,
@@ -82,7 +83,7 @@ check_branches-returns-clause-walked g t c = record {
   last_holds = c.loop-branch.invariant.2;
   ways_holds = c.loop-branch.invariant.3;
   broken_holds = c.loop-branch.invariant.4;
-  is = sym (ap (walk_branches (frame_with g.S.TypeStore.tree g.R.Resolver.meaning c.args.frame.now) (forked_with g.S.TypeStore.tree c.loop-branch.declared c.loop-branch.fork.last c.loop-branch.fork.ways c.loop-branch.broken c.loop-branch.found.items)) (no_branch_left c.args.branches.now c.loop-branch.branch-index (omega arith))) ∙ c.loop-branch.invariant.5;
+  is = sym (ap (walk_branches (frame_with g.S.TypeStore.tree g.R.Resolver.meaning c.args.frame.now) (forked_with g.S.TypeStore.tree c.loop-branch.declared c.loop-branch.fork.last c.loop-branch.fork.ways c.loop-branch.broken (notes_of c.loop-branch.found))) (no_branch_left c.args.branches.now c.loop-branch.branch-index (omega arith))) ∙ c.loop-branch.invariant.5;
 }
 
 pub check_for-check_suite-requires : goal.check_for-check_suite-requires
@@ -102,7 +103,7 @@ check_next-returns-in_ok-declare_unreached-in-None-clause-walked g t c =
       declared_holds = d.holds;
       env_holds = tt;
       broken_holds = types_kept_if_any g.S.TypeStore.has tree c.args.frame.now.parents.now _ _ c.declare_unreached.ensures.kept c.args.broken.now c.requires.broken;
-      is = λ i. record { table = d.is i; env = None; broken = option_map (env_of tree) c.args.broken.now; found = c.args.found.now.items };
+      is = λ i. record { table = d.is i; env = None; broken = option_map (env_of tree) c.args.broken.now; found = (notes_of c.args.found.now) };
     })
 
 pub check_stmt-returns-in_ok-env-in-Annotated-clause-walked : goal.check_stmt-returns-in_ok-env-in-Annotated-clause-walked
@@ -145,7 +146,7 @@ pub check_suite-loop-statement-preserved : goal.check_suite-loop-statement-prese
 check_suite-loop-statement-preserved g t c =
     let w = c.in_ok-env.ensures.walked in
     let rest = stmts_of_list (drop (c.loop-statement.statement-index + 1) c.args.body.now) in
-    let before = walk_with g.S.TypeStore.tree c.loop-statement.declared c.loop-statement.env c.loop-statement.broken c.loop-statement.found.items in (
+    let before = walk_with g.S.TypeStore.tree c.loop-statement.declared c.loop-statement.env c.loop-statement.broken (notes_of c.loop-statement.found) in (
       keeps_both g.S.TypeStore.has _ _ _ c.loop-statement.invariant.0 c.check_next.ensures.kept,
       w.declared_holds,
       w.env_holds,
@@ -158,7 +159,7 @@ check_suite-returns-clause-walked g t c = record {
   declared_holds = c.loop-statement.invariant.1;
   env_holds = c.loop-statement.invariant.2;
   broken_holds = c.loop-statement.invariant.3;
-  is = sym (ap (walk_suite (frame_with g.S.TypeStore.tree g.R.Resolver.meaning c.args.frame.now) (walk_with g.S.TypeStore.tree c.loop-statement.declared c.loop-statement.env c.loop-statement.broken c.loop-statement.found.items)) (no_statement_left c.args.body.now c.loop-statement.statement-index (omega arith))) ∙ c.loop-statement.invariant.4;
+  is = sym (ap (walk_suite (frame_with g.S.TypeStore.tree g.R.Resolver.meaning c.args.frame.now) (walk_with g.S.TypeStore.tree c.loop-statement.declared c.loop-statement.env c.loop-statement.broken (notes_of c.loop-statement.found))) (no_statement_left c.args.body.now c.loop-statement.statement-index (omega arith))) ∙ c.loop-statement.invariant.4;
 }
 
 pub check_while-check_suite-requires : goal.check_while-check_suite-requires
@@ -185,7 +186,7 @@ check_stmt-returns-in-While-clause-walked g t c =
     let tree = g.S.TypeStore.tree in
     let bases = c.args.frame.now.parents.now in
     let frame = frame_with tree g.R.Resolver.meaning c.args.frame.now in
-    subst (λ (s : Stmt). IfOk c.check_while.result (λ out. GivesWalk has tree bases c.check_while.new.store c.check_while.new.declared out c.args.broken.now c.check_while.new.found.items (step frame (env_of tree c.args.declared.now) (Some (env_of tree c.args.env)) (option_map (env_of tree) c.args.broken.now) c.args.found.now.items s)))
+    subst (λ (s : Stmt). IfOk c.check_while.result (λ out. GivesWalk has tree bases c.check_while.new.store c.check_while.new.declared out c.args.broken.now (notes_of c.check_while.new.found) (step frame (env_of tree c.args.declared.now) (Some (env_of tree c.args.env)) (option_map (env_of tree) c.args.broken.now) (notes_of c.args.found.now) s)))
     (ap (λ ss. while_loop c.args.first (expr_of c.in-While.condition) (stmts_of_list ss)) c.deref.ensures.value ∙ sym (while_tree c.args.first c.in-While.condition c.in-While.body) ∙ sym (ap (stmt_of_kind c.args.first) c.in-While.is))
     (c.check_while.ensures.walked c.args.first c.args.broken.now (types_kept_if_any has tree bases _ _ c.check_while.ensures.kept c.args.broken.now c.requires.broken))
 
@@ -195,7 +196,7 @@ check_stmt-returns-in-For-clause-walked g t c =
     let tree = g.S.TypeStore.tree in
     let bases = c.args.frame.now.parents.now in
     let frame = frame_with tree g.R.Resolver.meaning c.args.frame.now in
-    subst (λ (s : Stmt). IfOk c.check_for.result (λ out. GivesWalk has tree bases c.check_for.new.store c.check_for.new.declared out c.args.broken.now c.check_for.new.found.items (step frame (env_of tree c.args.declared.now) (Some (env_of tree c.args.env)) (option_map (env_of tree) c.args.broken.now) c.args.found.now.items s)))
+    subst (λ (s : Stmt). IfOk c.check_for.result (λ out. GivesWalk has tree bases c.check_for.new.store c.check_for.new.declared out c.args.broken.now (notes_of c.check_for.new.found) (step frame (env_of tree c.args.declared.now) (Some (env_of tree c.args.env)) (option_map (env_of tree) c.args.broken.now) (notes_of c.args.found.now) s)))
     (ap (λ ss. for_loop c.args.first (name_of c.in-For.name) (expr_of c.in-For.iterable) (stmts_of_list ss)) c.deref-in-For.ensures.value ∙ sym (for_tree c.args.first c.in-For.name c.in-For.iterable c.in-For.body) ∙ sym (ap (stmt_of_kind c.args.first) c.in-For.is))
     (c.check_for.ensures.walked c.args.first c.args.broken.now (types_kept_if_any has tree bases _ _ c.check_for.ensures.kept c.args.broken.now c.requires.broken))
 
@@ -213,9 +214,9 @@ check_stmt-returns-in_ok-fork-in-If-clause-walked g t c =
     let bases = c.args.frame.now.parents.now in
     let frame = frame_with tree g.R.Resolver.meaning c.args.frame.now in
     let f = c.in_ok-fork-in-If.ensures.walked in
-    let stepped : Stmt → Walk = step frame (env_of tree c.args.declared.now) (Some (env_of tree c.args.env)) (option_map (env_of tree) c.args.broken.now) c.args.found.now.items in
-    subst (λ (w : Walk). IfOk c.check_otherwise.result (λ out. GivesWalk has tree bases c.check_otherwise.new.store c.check_otherwise.new.declared out c.check_otherwise.new.broken c.check_otherwise.new.found.items w))
-    (branches_from frame (forked_with tree c.check_branches.new.declared c.in_ok-fork-in-If.fork.last c.in_ok-fork-in-If.fork.ways c.check_branches.new.broken c.check_branches.new.found.items) _ (stmts_of_list c.deref-in-If-2.result.now) f.is
+    let stepped : Stmt → Walk = step frame (env_of tree c.args.declared.now) (Some (env_of tree c.args.env)) (option_map (env_of tree) c.args.broken.now) (notes_of c.args.found.now) in
+    subst (λ (w : Walk). IfOk c.check_otherwise.result (λ out. GivesWalk has tree bases c.check_otherwise.new.store c.check_otherwise.new.declared out c.check_otherwise.new.broken (notes_of c.check_otherwise.new.found) w))
+    (branches_from frame (forked_with tree c.check_branches.new.declared c.in_ok-fork-in-If.fork.last c.in_ok-fork-in-If.fork.ways c.check_branches.new.broken (notes_of c.check_branches.new.found)) _ (stmts_of_list c.deref-in-If-2.result.now) f.is
     ∙ ap stepped (ap (λ bs. conditional c.args.first (branches_of_list bs) (stmts_of_list c.deref-in-If-2.result.now)) c.deref-in-If.ensures.value ∙ ap (λ ss. conditional c.args.first (branches_of_list c.in-If.branches.items) (stmts_of_list ss)) c.deref-in-If-2.ensures.value ∙ sym (if_tree c.args.first c.in-If.branches c.in-If.otherwise) ∙ sym (ap (stmt_of_kind c.args.first) c.in-If.is)))
     c.check_otherwise.ensures.walked
 
@@ -233,15 +234,15 @@ check_otherwise-returns-clause-walked g t c =
     let frame = frame_with tree g.R.Resolver.meaning c.args.frame.now in
     let w = c.in_ok-out.ensures.walked in
     let table = env_of tree c.check_suite.new.declared in
-    let behind : Walk = behind_branches frame (option_map (env_of tree) c.args.fork.ways) (walk_suite frame (walk_with tree c.args.declared.now (Some c.args.fork.last) c.args.broken.now c.args.found.now.items) (stmts_of_list c.args.otherwise.now)) in
+    let behind : Walk = behind_branches frame (option_map (env_of tree) c.args.fork.ways) (walk_suite frame (walk_with tree c.args.declared.now (Some c.args.fork.last) c.args.broken.now (notes_of c.args.found.now)) (stmts_of_list c.args.otherwise.now)) in
     IfOk-weaker c.meet.result
     (λ ways. GivesTypesIfAny has tree bases c.meet.new.store ways (with_way bases table (option_map (env_of tree) c.args.fork.ways) (option_map (env_of tree) c.in_ok-out.out)))
-    (λ ways. GivesWalk has tree bases c.meet.new.store c.check_suite.new.declared ways c.check_suite.new.broken c.check_suite.new.found.items behind)
+    (λ ways. GivesWalk has tree bases c.meet.new.store c.check_suite.new.declared ways c.check_suite.new.broken (notes_of c.check_suite.new.found) behind)
     (λ ways j. record {
       declared_holds = types_kept has tree bases _ _ c.meet.ensures.kept _ w.declared_holds;
       env_holds = j.holds;
       broken_holds = types_kept_if_any has tree bases _ _ c.meet.ensures.kept _ w.broken_holds;
-      is = otherwise_walked frame (option_map (env_of tree) c.args.fork.ways) (walk_with tree c.check_suite.new.declared c.in_ok-out.out c.check_suite.new.broken c.check_suite.new.found.items) _ (option_map (env_of tree) ways) w.is j.is;
+      is = otherwise_walked frame (option_map (env_of tree) c.args.fork.ways) (walk_with tree c.check_suite.new.declared c.in_ok-out.out c.check_suite.new.broken (notes_of c.check_suite.new.found)) _ (option_map (env_of tree) ways) w.is j.is;
     })
     c.meet.ensures.joined
 

@@ -2,6 +2,7 @@ use Rattle.std.proofs.Common.{◌≡◌, drop}
 use Rattle.pc_tree.specs.Tree.{stmts_of_list}
 use Rattle.pc_tree.specs.Lists.{branches_of_list}
 use Rattle.pc_types.specs.Store.{Keeps}
+use Rattle.pc_notes.specs.Notes.{notes_of}
 use Rattle.pc_check.specs.ComputedStatements.{walk_suite, walk_branches}
 use Rattle.std.specs.Prelude.{None}
 use Rattle.pc_check.specs.Walking.{frame_with, walk_with, forked_with, HoldsTypes, HoldsTypesIfAny}
@@ -13,7 +14,7 @@ invariant-check_suite-loop-statement g l =
     × HoldsTypes (g.S.TypeStore.has l.store) g.S.TypeStore.tree l.frame.parents.now l.declared
     × HoldsTypesIfAny (g.S.TypeStore.has l.store) g.S.TypeStore.tree l.frame.parents.now l.env
     × HoldsTypesIfAny (g.S.TypeStore.has l.store) g.S.TypeStore.tree l.frame.parents.now l.broken
-    × (walk_suite (frame_with g.S.TypeStore.tree g.R.Resolver.meaning l.frame) (walk_with g.S.TypeStore.tree l.declared l.env l.broken l.found.items) (stmts_of_list (drop l.statement-index l.body)) ≡ walk_suite (frame_with g.S.TypeStore.tree g.R.Resolver.meaning l.frame) (walk_with g.S.TypeStore.tree l.fn.declared l.fn.env l.fn.broken l.fn.found.items) (stmts_of_list l.body))
+    × (walk_suite (frame_with g.S.TypeStore.tree g.R.Resolver.meaning l.frame) (walk_with g.S.TypeStore.tree l.declared l.env l.broken (notes_of l.found)) (stmts_of_list (drop l.statement-index l.body)) ≡ walk_suite (frame_with g.S.TypeStore.tree g.R.Resolver.meaning l.frame) (walk_with g.S.TypeStore.tree l.fn.declared l.fn.env l.fn.broken (notes_of l.fn.found)) (stmts_of_list l.body))
 
 abbrev pub invariant-check_branches-loop-branch : goal.invariant-check_branches-loop-branch
 invariant-check_branches-loop-branch g l =
@@ -22,4 +23,4 @@ invariant-check_branches-loop-branch g l =
     × HoldsTypes (g.S.TypeStore.has l.store) g.S.TypeStore.tree l.frame.parents.now l.fork.last
     × HoldsTypesIfAny (g.S.TypeStore.has l.store) g.S.TypeStore.tree l.frame.parents.now l.fork.ways
     × HoldsTypesIfAny (g.S.TypeStore.has l.store) g.S.TypeStore.tree l.frame.parents.now l.broken
-    × (walk_branches (frame_with g.S.TypeStore.tree g.R.Resolver.meaning l.frame) (forked_with g.S.TypeStore.tree l.declared l.fork.last l.fork.ways l.broken l.found.items) (branches_of_list (drop l.branch-index l.branches)) ≡ walk_branches (frame_with g.S.TypeStore.tree g.R.Resolver.meaning l.frame) (forked_with g.S.TypeStore.tree l.fn.declared l.fn.env None l.fn.broken l.fn.found.items) (branches_of_list l.branches))
+    × (walk_branches (frame_with g.S.TypeStore.tree g.R.Resolver.meaning l.frame) (forked_with g.S.TypeStore.tree l.declared l.fork.last l.fork.ways l.broken (notes_of l.found)) (branches_of_list (drop l.branch-index l.branches)) ≡ walk_branches (frame_with g.S.TypeStore.tree g.R.Resolver.meaning l.frame) (forked_with g.S.TypeStore.tree l.fn.declared l.fn.env None l.fn.broken (notes_of l.fn.found)) (branches_of_list l.branches))

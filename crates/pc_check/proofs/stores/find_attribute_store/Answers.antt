@@ -1,25 +1,19 @@
 use Rattle.std.proofs.Common.{◌≡◌, ◌∙◌, ◌++◌, List, map, None, sym, ap, subst, append_assoc}
 use Rattle.std.specs.Prelude.{All, OnOk, string_bytes}
-use Rattle.pc_tree.specs.declared.code.Finding.{Finding}
-use Rattle.pc_tree.specs.Tree.{Target, Expr, expr_of, target_of}
-use Rattle.pc_tree.specs.Depth.{place_of}
-use Rattle.pc_types.specs.Shape.{members}
+use Rattle.pc_tree.specs.Tree.{expr_of}
 use Rattle.pc_class.specs.Tables.{classes_with}
 use Rattle.pc_flow.specs.WellFormed.{AreWellFormed}
 use Rattle.pc_flow.specs.Stored.{env_of}
-use Rattle.pc_flow.proofs.Given.{keeps_both, all_kept}
-use Rattle.pc_expr.specs.Operations.{Mark, StoreOffer, store_attribute_member, stored_types, store_index_types}
-use Rattle.pc_expr.specs.Found.{flows_at}
-use Rattle.pc_expr.specs.Computed.{flows_of}
-use Rattle.pc_expr.specs.Standing.{Standing, mark_in, finds_in}
+use Rattle.pc_flow.proofs.Given.{keeps_both}
+use Rattle.pc_notes.specs.Notes.{Note, notes_of}
+use Rattle.pc_expr.specs.Operations.{Mark, StoreOffer, stored_types}
+use Rattle.pc_expr.specs.Standing.{mark_in, finds_in}
 use Rattle.pc_expr.specs.Storing.{HasStoreOffer, store_offer_with}
 use Rattle.pc_expr.proofs.Offering.{entries_kept}
-use Rattle.pc_expr.proofs.Storing.{all_stores_kept}
-use Rattle.pc_check.specs.ComputedStatements.{Frame, at, store_finds, stored_finds, attribute_stores, index_stores}
+use Rattle.pc_check.specs.ComputedStatements.{at, stored_finds, attribute_stores}
 use Rattle.pc_check.specs.Walking.{frame_with}
 use Rattle.pc_check.proofs.Held.{types_kept, frame_kept}
-use Rattle.pc_check.proofs.StoredTypes.{fields_stored, items_stored}
-use Rattle.pc_check.proofs.FoundStores.{want_holds, pushed_along}
+use Rattle.pc_check.proofs.StoredTypes.{fields_stored}
 use Rattle.pc_check.proofs.stores.find_attribute_store.Goals as goal
 
 pub store_offers-requires-clause-classes : goal.store_offers-requires-clause-classes
@@ -48,13 +42,13 @@ returns-clause-pushed g c =
     let tree = g.S.TypeStore.tree in
     let frame = frame_with tree g.R.Resolver.meaning c.args.frame.now in
     let k = at frame (env_of tree c.args.declared.now) (env_of tree c.args.env.now) in
-    let old = c.args.found.now.items in
+    let old = (notes_of c.args.found.now) in
     let first = finds_in k None (expr_of c.args.object.now) in
-    let stored : List StoreOffer → List Finding = λ os. stored_finds frame k os c.args.place (expr_of c.args.value.now) in
+    let stored : List StoreOffer → List Note = λ os. stored_finds frame k os c.args.place (expr_of c.args.value.now) in
     let object = mark_in k None (expr_of c.args.object.now) in
     let field = string_bytes c.args.field.now.text in
     let is : map (store_offer_with tree) c.deref.result.now ≡ attribute_stores frame field object.type =
     ap (map (store_offer_with tree)) c.deref.ensures.value ∙ c.in_ok-offers.ensures.value ∙ ap (λ w. attribute_stores frame w (tree c.in_ok-label.label.ty)) c.as_str.ensures.value ∙ ap (λ (m : Mark). attribute_stores frame field m.type) c.in_ok-label.ensures.labelled.mark.is in
-    subst (λ (fs : List Finding). OnOk c.find_stored.result (c.find_stored.new.found.items ≡ fs))
+    subst (λ (fs : List Note). OnOk c.find_stored.result ((notes_of c.find_stored.new.found) ≡ fs))
     (ap (λ fs. fs ++ stored (map (store_offer_with tree) c.deref.result.now)) c.in_ok-label.ensures.pushed ∙ append_assoc old first (stored (map (store_offer_with tree) c.deref.result.now)) ∙ ap (λ os. old ++ (first ++ stored os)) is)
     c.find_stored.ensures.pushed

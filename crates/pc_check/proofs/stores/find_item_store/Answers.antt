@@ -1,25 +1,23 @@
-use Rattle.std.proofs.Common.{◌≡◌, ◌∙◌, ◌++◌, List, map, None, sym, ap, subst, append_assoc}
-use Rattle.std.specs.Prelude.{All, OnOk, string_bytes}
-use Rattle.pc_tree.specs.declared.code.Finding.{Finding}
-use Rattle.pc_tree.specs.Tree.{Target, Expr, expr_of, target_of}
+use Rattle.std.proofs.Common.{◌≡◌, ◌∙◌, ◌++◌, List, map, None, sym, ap, subst}
+use Rattle.std.specs.Prelude.{All, OnOk}
+use Rattle.pc_tree.specs.Tree.{expr_of}
 use Rattle.pc_tree.specs.Depth.{place_of}
-use Rattle.pc_types.specs.Shape.{members}
-use Rattle.pc_class.specs.Tables.{classes_with}
 use Rattle.pc_flow.specs.WellFormed.{AreWellFormed}
 use Rattle.pc_flow.specs.Stored.{env_of}
-use Rattle.pc_flow.proofs.Given.{keeps_both, all_kept}
-use Rattle.pc_expr.specs.Operations.{Mark, StoreOffer, store_attribute_member, stored_types, store_index_types}
+use Rattle.pc_flow.proofs.Given.{keeps_both}
+use Rattle.pc_notes.specs.Notes.{Note, notes_of}
+use Rattle.pc_expr.specs.Operations.{Mark, StoreOffer, stored_types, store_index_types}
 use Rattle.pc_expr.specs.Found.{flows_at}
 use Rattle.pc_expr.specs.Computed.{flows_of}
-use Rattle.pc_expr.specs.Standing.{Standing, mark_in, finds_in}
+use Rattle.pc_expr.specs.Standing.{mark_in, finds_in}
 use Rattle.pc_expr.specs.Storing.{HasStoreOffer, store_offer_with}
 use Rattle.pc_expr.proofs.Offering.{entries_kept}
 use Rattle.pc_expr.proofs.Storing.{all_stores_kept}
-use Rattle.pc_check.specs.ComputedStatements.{Frame, at, store_finds, stored_finds, attribute_stores, index_stores}
+use Rattle.pc_check.specs.ComputedStatements.{at, stored_finds, index_stores}
 use Rattle.pc_check.specs.Walking.{frame_with}
 use Rattle.pc_check.proofs.Held.{types_kept, frame_kept}
-use Rattle.pc_check.proofs.StoredTypes.{fields_stored, items_stored}
-use Rattle.pc_check.proofs.FoundStores.{want_holds, pushed_along}
+use Rattle.pc_check.proofs.StoredTypes.{items_stored}
+use Rattle.pc_check.proofs.FoundStores.{pushed_along}
 use Rattle.pc_check.proofs.stores.find_item_store.Goals as goal
 
 pub store_offers-requires-clause-classes : goal.store_offers-requires-clause-classes
@@ -61,21 +59,21 @@ returns-clause-pushed g c =
     let bases = c.args.frame.now.parents.now in
     let frame = frame_with tree g.R.Resolver.meaning c.args.frame.now in
     let k = at frame (env_of tree c.args.declared.now) (env_of tree c.args.env.now) in
-    let old = c.args.found.now.items in
+    let old = (notes_of c.args.found.now) in
     let first = finds_in k None (expr_of c.args.object.now) in
     let second = finds_in k None (expr_of c.args.index.now) in
     let key = mark_in k None (expr_of c.args.index.now) in
     let object = mark_in k None (expr_of c.args.object.now) in
-    let third : List StoreOffer → List Finding = λ os. flows_at (place_of (expr_of c.args.index.now)) (flows_of bases key (store_index_types os)) in
-    let stored : List StoreOffer → List Finding = λ os. stored_finds frame k os c.args.place (expr_of c.args.value.now) in
+    let third : List StoreOffer → List Note = λ os. flows_at (place_of (expr_of c.args.index.now)) (flows_of bases key (store_index_types os)) in
+    let stored : List StoreOffer → List Note = λ os. stored_finds frame k os c.args.place (expr_of c.args.value.now) in
     let offers = map (store_offer_with tree) c.in_ok-offers.offers.items in
     let is : offers ≡ index_stores frame object.type = c.in_ok-offers.ensures.value ∙ ap (λ (m : Mark). index_stores frame m.type) c.in_ok-label.ensures.labelled.mark.is in
     let types : map tree c.deref-2.result.now ≡ store_index_types offers = ap (map tree) c.deref-2.ensures.value ∙ c.in_ok-types.ensures.value ∙ ap (λ os. store_index_types (map (store_offer_with tree) os)) c.deref.ensures.value in
-    let flowed : c.find_flows.new.found.items ≡ c.type_in-2.new.found.items ++ third offers =
-    c.in_ok-find_flows.ensures.found key c.in_ok-at.ensures.labelled.mark.is ∙ ap (λ p. c.type_in-2.new.found.items ++ flows_at p (flows_of bases key (map tree c.deref-2.result.now))) c.place.ensures ∙ ap (λ ts. c.type_in-2.new.found.items ++ flows_at (place_of (expr_of c.args.index.now)) (flows_of bases key ts)) types in
-    subst (λ (fs : List Finding). OnOk c.find_stored.result (c.find_stored.new.found.items ≡ fs))
-    (ap (λ os. c.find_flows.new.found.items ++ stored (map (store_offer_with tree) os)) c.deref-3.ensures.value
-    ∙ pushed_along old first second (third offers) (stored offers) c.type_in.new.found.items c.type_in-2.new.found.items c.find_flows.new.found.items c.in_ok-label.ensures.pushed c.in_ok-at.ensures.pushed flowed
+    let flowed : (notes_of c.find_flows.new.found) ≡ (notes_of c.type_in-2.new.found) ++ third offers =
+    c.in_ok-find_flows.ensures.found key c.in_ok-at.ensures.labelled.mark.is ∙ ap (λ p. (notes_of c.type_in-2.new.found) ++ flows_at p (flows_of bases key (map tree c.deref-2.result.now))) c.place.ensures ∙ ap (λ ts. (notes_of c.type_in-2.new.found) ++ flows_at (place_of (expr_of c.args.index.now)) (flows_of bases key ts)) types in
+    subst (λ (fs : List Note). OnOk c.find_stored.result ((notes_of c.find_stored.new.found) ≡ fs))
+    (ap (λ os. (notes_of c.find_flows.new.found) ++ stored (map (store_offer_with tree) os)) c.deref-3.ensures.value
+    ∙ pushed_along old first second (third offers) (stored offers) (notes_of c.type_in.new.found) (notes_of c.type_in-2.new.found) (notes_of c.find_flows.new.found) c.in_ok-label.ensures.pushed c.in_ok-at.ensures.pushed flowed
     ∙ ap (λ os. old ++ (first ++ (second ++ (third os ++ stored os)))) is)
     c.find_stored.ensures.pushed
 

@@ -1,6 +1,9 @@
-use Rattle.std.proofs.Common.{◌∙◌, ◌++◌, ap}
-use Rattle.pc_expr.specs.Found.{codes_at}
-use Rattle.pc_check.proofs.Bound.{code_alike, flow_listed}
+use Rattle.std.proofs.Common.{◌∙◌, ◌++◌, [], List, ap}
+use Rattle.pc_notes.specs.Notes.{Note, notes_of}
+use Rattle.pc_expr.specs.Operations.{Mark}
+use Rattle.pc_expr.specs.Found.{flow_then}
+use Rattle.pc_expr.proofs.Flowing.{one_flow}
+use Rattle.pc_check.proofs.Bound.{code_alike}
 use Rattle.pc_check.proofs.typing.flow_in.Goals as goal
 
 pub returns-clause-pushed : goal.returns-clause-pushed
@@ -8,4 +11,7 @@ returns-clause-pushed g c = λ m e.
     let tree = g.S.TypeStore.tree in
     let bases = c.args.parents.now in
     let into = tree c.args.into.now in
-    c.in_ok-code.ensures.found ∙ ap (λ cs. c.args.found.now.items ++ codes_at c.args.place cs) (flow_listed bases m into c.in_ok-code.code (c.in_ok-code.ensures.value ∙ code_alike tree bases c.args.label.now m into e))
+    let types = ap (λ (x : Mark). x.type) e in
+    let codes = c.in_ok-code.ensures.value ∙ code_alike tree bases c.args.label.now m into e in
+    c.in_ok-code.ensures.found ∙ ap (λ (ns : List Note). notes_of c.args.found.now ++ ns)
+    (one_flow c.args.place (tree c.args.label.now.ty) into c.in_ok-code.code ∙ (λ i. flow_then c.args.place [] (types i) into (codes i) (λ cs. [])))

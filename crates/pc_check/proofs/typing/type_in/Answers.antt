@@ -5,6 +5,7 @@ use Rattle.std.proofs.lemmas.Result.{IfOk-weaker}
 use Rattle.pc_tree.specs.Tree.{expr_of}
 use Rattle.pc_types.specs.Tree.{Tree}
 use Rattle.pc_flow.specs.Stored.{env_of}
+use Rattle.pc_notes.specs.Notes.{notes_of}
 use Rattle.pc_expr.specs.Standing.{IsMark, mark_in, finds_in}
 use Rattle.pc_check.specs.ComputedStatements.{at}
 use Rattle.pc_check.specs.Walking.{frame_with, context_in, GivesLabel}
@@ -39,4 +40,4 @@ returns-clause-labelled g c =
 pub returns-clause-pushed : goal.returns-clause-pushed
 returns-clause-pushed g c =
     let tree = g.S.TypeStore.tree in
-    subst (λ (ds : List Tree). OnOk c.type_expr.result (c.type_expr.new.found.items ≡ c.args.found.now.items ++ finds_in (record { context = context_in tree g.R.Resolver.meaning c.args.frame.now; declared = ds; env = env_of tree c.args.env.now }) (option_map tree c.args.want.now) (expr_of c.args.e.now))) (declared_is tree c.args.declared.now) c.type_expr.ensures.pushed
+    subst (λ (ds : List Tree). OnOk c.type_expr.result ((notes_of c.type_expr.new.found) ≡ (notes_of c.args.found.now) ++ finds_in (record { context = context_in tree g.R.Resolver.meaning c.args.frame.now; declared = ds; env = env_of tree c.args.env.now }) (option_map tree c.args.want.now) (expr_of c.args.e.now))) (declared_is tree c.args.declared.now) c.type_expr.ensures.pushed

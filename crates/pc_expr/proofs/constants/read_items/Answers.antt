@@ -1,4 +1,5 @@
 use Rattle.std.proofs.Common.{◌∙◌, map}
+use Rattle.pc_notes.specs.Notes.{notes_of}
 use Rattle.pc_expr.specs.SignaturesRead.{module_in, methods_with, reached_with}
 use Rattle.pc_expr.proofs.HeldSignatures.{globals_kept}
 use Rattle.pc_expr.proofs.SignatureWalks.{stepped, classes_apart, reached_next, items_found}
@@ -22,6 +23,6 @@ loop-item-preserved g c =
       held = c.in_ok-add_item.ensures.held;
       reached = reached_next m old new items i x less is c.in_ok-add_item.ensures.reached ∙ v.reached;
       methods = stepped (map (methods_with tree) c.loop-item.walk.methods.items) (map (methods_with tree) c.add_item.new.walk.methods.items) _ _ _ _ v.methods (classes_apart m items i x less is) c.in_ok-add_item.ensures.methods;
-      found = stepped c.loop-item.found.items c.add_item.new.found.items _ _ _ _ v.found (items_found m old new items i x less is c.in_ok-add_item.ensures.reached) c.in_ok-add_item.ensures.pushed;
+      found = stepped (notes_of c.loop-item.found) (notes_of c.add_item.new.found) _ _ _ _ v.found (items_found m old new items i x less is c.in_ok-add_item.ensures.reached) c.in_ok-add_item.ensures.pushed;
       kept = λ ty h. c.add_item.ensures.kept ty (v.kept ty h);
     }

@@ -1,6 +1,7 @@
 use Rattle.std.proofs.Common.{◌∙◌, ap, arith}
 use Rattle.pc_tree.specs.Tree.{Name}
 use Rattle.pc_class.specs.Facts.{inherited, classes_of}
+use Rattle.pc_notes.specs.Notes.{notes_of}
 use Rattle.pc_expr.specs.SignaturesFound.{bound_in, with_name}
 use Rattle.pc_expr.specs.SignaturesRead.{module_in, signatures_with}
 use Rattle.pc_expr.proofs.HeldSignatures.{globals_kept}
@@ -24,7 +25,7 @@ loop-member-preserved g c =
       globals = globals_kept has tree c.loop-member.store c.add_member.new.store c.args.globals.now c.add_member.ensures.kept v.globals;
       held = c.in_ok-add_member.ensures.held;
       are = stepped (signatures_with tree c.loop-member.methods.items) (signatures_with tree c.add_member.new.methods.items) _ _ _ _ v.are (methods_apart m ms i x less is) c.in_ok-add_member.ensures.typed;
-      found = stepped c.loop-member.found.items c.add_member.new.found.items _ _ _ _ v.found (members_found m base (bound_in c.loop-member.bound) (bound_in c.bind.new.bound) ms i x less is (c.in_ok-bind.ensures ∙ ap (with_name (bound_in c.loop-member.bound)) text)) c.in_ok-add_member.ensures.pushed;
+      found = stepped (notes_of c.loop-member.found) (notes_of c.add_member.new.found) _ _ _ _ v.found (members_found m base (bound_in c.loop-member.bound) (bound_in c.bind.new.bound) ms i x less is (c.in_ok-bind.ensures ∙ ap (with_name (bound_in c.loop-member.bound)) text)) c.in_ok-add_member.ensures.pushed;
       kept = λ ty h. c.add_member.ensures.kept ty (v.kept ty h);
     }
 

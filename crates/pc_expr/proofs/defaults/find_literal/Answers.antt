@@ -1,4 +1,5 @@
 use Rattle.pc_tree.specs.Tree.{literal_of}
+use Rattle.pc_notes.specs.Notes.{notes_of}
 use Rattle.pc_expr.specs.Operations.{clean}
 use Rattle.pc_expr.specs.Signatures.{literal_type}
 use Rattle.std.proofs.Common.{◌≡◌, ◌++◌, ◌∷◌, [], OnOk, subst}
@@ -13,5 +14,5 @@ returns-clause-pushed g c =
     let l = c.args.literal.now in
     let bases = c.args.parents.now in
     let t = g.S.TypeStore.tree c.args.into.now in
-    subst (λ (p : Place). OnOk c.find_into.result (c.find_into.new.found.items ≡ c.args.found.now.items ++ flows_at p (flows_of bases (clean (literal_type (literal_of l))) (t ∷ [])))) (place_is l)
+    subst (λ (p : Place). OnOk c.find_into.result ((notes_of c.find_into.new.found) ≡ (notes_of c.args.found.now) ++ flows_at p (flows_of bases (clean (literal_type (literal_of l))) (t ∷ [])))) (place_is l)
     (c.find_into.ensures.pushed (clean (literal_type (literal_of l))) c.in_ok-label.ensures.marked.is)

@@ -2,6 +2,7 @@ use Rattle.std.proofs.Common.{◌≡◌, ◌++◌, ap, ◌∙◌, map}
 use Rattle.pc_tree.specs.Tree.{expr_of}
 use Rattle.pc_tree.specs.Depth.{place_of}
 use Rattle.pc_types.specs.Shape.{members}
+use Rattle.pc_notes.specs.Notes.{notes_of}
 use Rattle.pc_expr.specs.Operations.{offers_mark, operand_types, index_member}
 use Rattle.pc_expr.specs.Lawful.{int_literal}
 use Rattle.pc_expr.specs.Computed.{flows_of}
@@ -20,4 +21,4 @@ pub returns-clause-pushed : goal.returns-clause-pushed
 returns-clause-pushed g c = λ m is.
     let served = c.in_ok-offers.ensures.value ∙ members_served c.args.setting.now.parents.now c.literal_index.result (int_literal (expr_of c.args.key.now)) c.literal_index.ensures (g.S.TypeStore.tree c.args.object.now) (g.met.S.TypeStore.small _ _ c.requires.object) in
     let types = (rw c.deref.ensures.value at c.in_ok-types.ensures.value) ∙ ap operand_types served in
-    on_ok c.offers_label.result (rw (c.place.ensures, c.deref-2.ensures.value) at (c.in_ok-find_flows.ensures.found m is) ∙ ap (λ ts. c.args.found.now.items ++ flows_at (place_of (expr_of c.args.key.now)) (flows_of c.args.setting.now.parents.now m ts)) types)
+    on_ok c.offers_label.result (rw (c.place.ensures, c.deref-2.ensures.value) at (c.in_ok-find_flows.ensures.found m is) ∙ ap (λ ts. (notes_of c.args.found.now) ++ flows_at (place_of (expr_of c.args.key.now)) (flows_of c.args.setting.now.parents.now m ts)) types)

@@ -1,6 +1,7 @@
 use Rattle.std.proofs.Common.{◌≡◌, ◌++◌, ◌∙◌, map, length, sym, ap, subst, List}
 use Rattle.pc_tree.specs.Tree.{expr_of}
 use Rattle.pc_tree.specs.Lists.{exprs_of_list, keywords_of_list}
+use Rattle.pc_notes.specs.Notes.{notes_of}
 use Rattle.pc_expr.specs.Standing.{standing}
 use Rattle.pc_expr.specs.Calling.{given_with, offer_called}
 use Rattle.pc_expr.proofs.Kept.{stands_kept}
@@ -34,7 +35,7 @@ returns-clause-pushed g c =
     if_ok c.find_codes.result
     (λ i. range_found (standing tree g.R.Resolver.meaning c.args.setting.now c.args.env.now) c.args.place (expr_of c.args.callee.now) (exprs_of_list c.args.arguments.now) (keywords_of_list c.args.by_name.now)
     (given_with c.in_ok-given.given) c.in_ok-given.ensures (map (offer_called tree) c.in_ok-offers.offers.items) c.in_ok-offers.ensures.offers.is
-    c.args.found.now.items c.type_arguments.new.found.items c.type_keywords.new.found.items c.find_codes.new.found.items c.in_ok-codes.codes.items c.is_instance_test-is_test.result
+    (notes_of c.args.found.now) (notes_of c.type_arguments.new.found) (notes_of c.type_keywords.new.found) (notes_of c.find_codes.new.found) c.in_ok-codes.codes.items c.is_instance_test-is_test.result
     (rw c.deref-3.ensures.value at (c.in_ok-codes.ensures tree)) c.is_instance_test-is_test.ensures
     (rw c.deref.ensures.value at c.in_ok-type_arguments.ensures.pushed)
     (rw c.deref-2.ensures.value at c.in_ok-type_keywords.ensures.pushed)

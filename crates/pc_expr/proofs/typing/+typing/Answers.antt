@@ -5,6 +5,7 @@ use Rattle.std.proofs.lemmas.List.{append-nil}
 use Rattle.pc_tree.specs.Tree.{Expr, expr_of, name_of}
 use Rattle.pc_tree.specs.Lists.{exprs_of_list, entries_of_list, keywords_of_list}
 use Rattle.pc_tree.proofs.Trees.{tuple_tree, list_tree, dict_tree, call_tree}
+use Rattle.pc_notes.specs.Notes.{notes_of}
 use Rattle.pc_expr.specs.Standing.{standing, mark_in, parts_find}
 use Rattle.pc_expr.proofs.Forms.{mark_name, parts_name, mark_number, parts_number, mark_text, parts_text, mark_truth, parts_truth, mark_nothing, parts_nothing, parts_negative, mark_negation, parts_negation, mark_is_none, parts_is_none, mark_is_not_none, parts_is_not_none, parts_attribute, callee_name, callee_attribute, callee_other, callee_early, arguments_all}
 use Rattle.pc_expr.proofs.Typed.{marked_by, pushed_by, on_ok, if_ok, whole_found, negative_is, attribute_is, binary_is, binary_found, compare_is, compare_found, index_is, index_found, and_is, and_found, or_is, or_found, standing_after, codes_are, list_is, list_found, tuple_is, tuple_found, dict_is, dict_found, counted, type_is}
@@ -39,7 +40,7 @@ label_expr-returns-in-Name-clause-marked g t c =
 
 pub label_expr-returns-in-Name-clause-pushed : goal.label_expr-returns-in-Name-clause-pushed
 label_expr-returns-in-Name-clause-pushed g t c =
-    rw c.in-Name.is (on_ok c.name_label.result (sym (append-nil c.args.found.now.items) ∙ ap (λ fs. c.args.found.now.items ++ fs) (sym (parts_name (standing g.S.TypeStore.tree g.R.Resolver.meaning c.args.setting.now c.args.env.now) (option_map g.S.TypeStore.tree c.args.want.now) (name_of c.in-Name.name)))))
+    rw c.in-Name.is (on_ok c.name_label.result (sym (append-nil (notes_of c.args.found.now)) ∙ ap (λ fs. (notes_of c.args.found.now) ++ fs) (sym (parts_name (standing g.S.TypeStore.tree g.R.Resolver.meaning c.args.setting.now c.args.env.now) (option_map g.S.TypeStore.tree c.args.want.now) (name_of c.in-Name.name)))))
 
 pub label_expr-returns-in-Int-clause-marked : goal.label_expr-returns-in-Int-clause-marked
 label_expr-returns-in-Int-clause-marked g t c =
@@ -47,7 +48,7 @@ label_expr-returns-in-Int-clause-marked g t c =
 
 pub label_expr-returns-in-Int-clause-pushed : goal.label_expr-returns-in-Int-clause-pushed
 label_expr-returns-in-Int-clause-pushed g t c =
-    rw c.in-Int.is (on_ok c.label_int.result (sym (append-nil c.args.found.now.items) ∙ ap (λ fs. c.args.found.now.items ++ fs) (sym (parts_number (standing g.S.TypeStore.tree g.R.Resolver.meaning c.args.setting.now c.args.env.now) (option_map g.S.TypeStore.tree c.args.want.now) c.in-Int.field-0 (string_bytes c.in-Int.field-1)))))
+    rw c.in-Int.is (on_ok c.label_int.result (sym (append-nil (notes_of c.args.found.now)) ∙ ap (λ fs. (notes_of c.args.found.now) ++ fs) (sym (parts_number (standing g.S.TypeStore.tree g.R.Resolver.meaning c.args.setting.now c.args.env.now) (option_map g.S.TypeStore.tree c.args.want.now) c.in-Int.field-0 (string_bytes c.in-Int.field-1)))))
 
 pub label_expr-returns-in-Str-clause-marked : goal.label_expr-returns-in-Str-clause-marked
 label_expr-returns-in-Str-clause-marked g t c =
@@ -55,7 +56,7 @@ label_expr-returns-in-Str-clause-marked g t c =
 
 pub label_expr-returns-in-Str-clause-pushed : goal.label_expr-returns-in-Str-clause-pushed
 label_expr-returns-in-Str-clause-pushed g t c =
-    rw c.in-Str.is (on_ok c.label_str.result (sym (append-nil c.args.found.now.items) ∙ ap (λ fs. c.args.found.now.items ++ fs) (sym (parts_text (standing g.S.TypeStore.tree g.R.Resolver.meaning c.args.setting.now c.args.env.now) (option_map g.S.TypeStore.tree c.args.want.now) c.in-Str.field-0 (string_bytes c.in-Str.field-1)))))
+    rw c.in-Str.is (on_ok c.label_str.result (sym (append-nil (notes_of c.args.found.now)) ∙ ap (λ fs. (notes_of c.args.found.now) ++ fs) (sym (parts_text (standing g.S.TypeStore.tree g.R.Resolver.meaning c.args.setting.now c.args.env.now) (option_map g.S.TypeStore.tree c.args.want.now) c.in-Str.field-0 (string_bytes c.in-Str.field-1)))))
 
 pub label_expr-returns-in-True-clause-marked : goal.label_expr-returns-in-True-clause-marked
 label_expr-returns-in-True-clause-marked g t c =
@@ -63,7 +64,7 @@ label_expr-returns-in-True-clause-marked g t c =
 
 pub label_expr-returns-in-True-clause-pushed : goal.label_expr-returns-in-True-clause-pushed
 label_expr-returns-in-True-clause-pushed g t c =
-    rw c.in-True.is (on_ok c.label_bool.result (sym (append-nil c.args.found.now.items) ∙ ap (λ fs. c.args.found.now.items ++ fs) (sym (parts_truth (standing g.S.TypeStore.tree g.R.Resolver.meaning c.args.setting.now c.args.env.now) (option_map g.S.TypeStore.tree c.args.want.now) c.in-True.field-0 true))))
+    rw c.in-True.is (on_ok c.label_bool.result (sym (append-nil (notes_of c.args.found.now)) ∙ ap (λ fs. (notes_of c.args.found.now) ++ fs) (sym (parts_truth (standing g.S.TypeStore.tree g.R.Resolver.meaning c.args.setting.now c.args.env.now) (option_map g.S.TypeStore.tree c.args.want.now) c.in-True.field-0 true))))
 
 pub label_expr-returns-in-False-clause-marked : goal.label_expr-returns-in-False-clause-marked
 label_expr-returns-in-False-clause-marked g t c =
@@ -71,7 +72,7 @@ label_expr-returns-in-False-clause-marked g t c =
 
 pub label_expr-returns-in-False-clause-pushed : goal.label_expr-returns-in-False-clause-pushed
 label_expr-returns-in-False-clause-pushed g t c =
-    rw c.in-False.is (on_ok c.label_bool-in-False.result (sym (append-nil c.args.found.now.items) ∙ ap (λ fs. c.args.found.now.items ++ fs) (sym (parts_truth (standing g.S.TypeStore.tree g.R.Resolver.meaning c.args.setting.now c.args.env.now) (option_map g.S.TypeStore.tree c.args.want.now) c.in-False.field-0 false))))
+    rw c.in-False.is (on_ok c.label_bool-in-False.result (sym (append-nil (notes_of c.args.found.now)) ∙ ap (λ fs. (notes_of c.args.found.now) ++ fs) (sym (parts_truth (standing g.S.TypeStore.tree g.R.Resolver.meaning c.args.setting.now c.args.env.now) (option_map g.S.TypeStore.tree c.args.want.now) c.in-False.field-0 false))))
 
 pub label_expr-returns-in-NoneValue-clause-marked : goal.label_expr-returns-in-NoneValue-clause-marked
 label_expr-returns-in-NoneValue-clause-marked g t c =
@@ -79,11 +80,11 @@ label_expr-returns-in-NoneValue-clause-marked g t c =
 
 pub label_expr-returns-in-NoneValue-clause-pushed : goal.label_expr-returns-in-NoneValue-clause-pushed
 label_expr-returns-in-NoneValue-clause-pushed g t c =
-    rw c.in-NoneValue.is (on_ok c.label_none.result (sym (append-nil c.args.found.now.items) ∙ ap (λ fs. c.args.found.now.items ++ fs) (sym (parts_nothing (standing g.S.TypeStore.tree g.R.Resolver.meaning c.args.setting.now c.args.env.now) (option_map g.S.TypeStore.tree c.args.want.now) c.in-NoneValue.field-0))))
+    rw c.in-NoneValue.is (on_ok c.label_none.result (sym (append-nil (notes_of c.args.found.now)) ∙ ap (λ fs. (notes_of c.args.found.now) ++ fs) (sym (parts_nothing (standing g.S.TypeStore.tree g.R.Resolver.meaning c.args.setting.now c.args.env.now) (option_map g.S.TypeStore.tree c.args.want.now) c.in-NoneValue.field-0))))
 
 pub label_expr-returns-in_ok-operand-in-Negative-clause-pushed : goal.label_expr-returns-in_ok-operand-in-Negative-clause-pushed
 label_expr-returns-in_ok-operand-in-Negative-clause-pushed g t c =
-    rw c.in-Negative.is (on_ok c.label_negative.result ((rw c.deref-in-Negative.ensures at c.in_ok-operand-in-Negative.ensures.pushed) ∙ ap (λ fs. c.args.found.now.items ++ fs) (sym (parts_negative (standing g.S.TypeStore.tree g.R.Resolver.meaning c.args.setting.now c.args.env.now) (option_map g.S.TypeStore.tree c.args.want.now) c.in-Negative.field-0 (expr_of c.in-Negative.operand.value)))))
+    rw c.in-Negative.is (on_ok c.label_negative.result ((rw c.deref-in-Negative.ensures at c.in_ok-operand-in-Negative.ensures.pushed) ∙ ap (λ fs. (notes_of c.args.found.now) ++ fs) (sym (parts_negative (standing g.S.TypeStore.tree g.R.Resolver.meaning c.args.setting.now c.args.env.now) (option_map g.S.TypeStore.tree c.args.want.now) c.in-Negative.field-0 (expr_of c.in-Negative.operand.value)))))
 
 pub label_expr-returns-in_ok-operand-in-Negative-clause-marked : goal.label_expr-returns-in_ok-operand-in-Negative-clause-marked
 label_expr-returns-in_ok-operand-in-Negative-clause-marked g t c =
@@ -91,7 +92,7 @@ label_expr-returns-in_ok-operand-in-Negative-clause-marked g t c =
 
 pub label_expr-returns-in_ok-type_expr-in-Not-clause-pushed : goal.label_expr-returns-in_ok-type_expr-in-Not-clause-pushed
 label_expr-returns-in_ok-type_expr-in-Not-clause-pushed g t c =
-    rw c.in-Not.is (on_ok c.label_bool-in-Not.result ((rw c.deref-in-Not.ensures at c.in_ok-type_expr-in-Not.ensures.pushed) ∙ ap (λ fs. c.args.found.now.items ++ fs) (sym (parts_negation (standing g.S.TypeStore.tree g.R.Resolver.meaning c.args.setting.now c.args.env.now) (option_map g.S.TypeStore.tree c.args.want.now) c.in-Not.field-0 (expr_of c.in-Not.operand.value)))))
+    rw c.in-Not.is (on_ok c.label_bool-in-Not.result ((rw c.deref-in-Not.ensures at c.in_ok-type_expr-in-Not.ensures.pushed) ∙ ap (λ fs. (notes_of c.args.found.now) ++ fs) (sym (parts_negation (standing g.S.TypeStore.tree g.R.Resolver.meaning c.args.setting.now c.args.env.now) (option_map g.S.TypeStore.tree c.args.want.now) c.in-Not.field-0 (expr_of c.in-Not.operand.value)))))
 
 pub label_expr-returns-in_ok-type_expr-in-Not-clause-marked : goal.label_expr-returns-in_ok-type_expr-in-Not-clause-marked
 label_expr-returns-in_ok-type_expr-in-Not-clause-marked g t c =
@@ -99,7 +100,7 @@ label_expr-returns-in_ok-type_expr-in-Not-clause-marked g t c =
 
 pub label_expr-returns-in_ok-type_expr-in-IsNone-clause-pushed : goal.label_expr-returns-in_ok-type_expr-in-IsNone-clause-pushed
 label_expr-returns-in_ok-type_expr-in-IsNone-clause-pushed g t c =
-    rw c.in-IsNone.is (on_ok c.label_bool-in-IsNone.result ((rw c.deref-in-IsNone.ensures at c.in_ok-type_expr-in-IsNone.ensures.pushed) ∙ ap (λ fs. c.args.found.now.items ++ fs) (sym (parts_is_none (standing g.S.TypeStore.tree g.R.Resolver.meaning c.args.setting.now c.args.env.now) (option_map g.S.TypeStore.tree c.args.want.now) c.in-IsNone.field-0 (expr_of c.in-IsNone.operand.value)))))
+    rw c.in-IsNone.is (on_ok c.label_bool-in-IsNone.result ((rw c.deref-in-IsNone.ensures at c.in_ok-type_expr-in-IsNone.ensures.pushed) ∙ ap (λ fs. (notes_of c.args.found.now) ++ fs) (sym (parts_is_none (standing g.S.TypeStore.tree g.R.Resolver.meaning c.args.setting.now c.args.env.now) (option_map g.S.TypeStore.tree c.args.want.now) c.in-IsNone.field-0 (expr_of c.in-IsNone.operand.value)))))
 
 pub label_expr-returns-in_ok-type_expr-in-IsNone-clause-marked : goal.label_expr-returns-in_ok-type_expr-in-IsNone-clause-marked
 label_expr-returns-in_ok-type_expr-in-IsNone-clause-marked g t c =
@@ -107,7 +108,7 @@ label_expr-returns-in_ok-type_expr-in-IsNone-clause-marked g t c =
 
 pub label_expr-returns-in_ok-type_expr-in-IsNotNone-clause-pushed : goal.label_expr-returns-in_ok-type_expr-in-IsNotNone-clause-pushed
 label_expr-returns-in_ok-type_expr-in-IsNotNone-clause-pushed g t c =
-    rw c.in-IsNotNone.is (on_ok c.label_bool-in-IsNotNone.result ((rw c.deref-in-IsNotNone.ensures at c.in_ok-type_expr-in-IsNotNone.ensures.pushed) ∙ ap (λ fs. c.args.found.now.items ++ fs) (sym (parts_is_not_none (standing g.S.TypeStore.tree g.R.Resolver.meaning c.args.setting.now c.args.env.now) (option_map g.S.TypeStore.tree c.args.want.now) c.in-IsNotNone.field-0 (expr_of c.in-IsNotNone.operand.value)))))
+    rw c.in-IsNotNone.is (on_ok c.label_bool-in-IsNotNone.result ((rw c.deref-in-IsNotNone.ensures at c.in_ok-type_expr-in-IsNotNone.ensures.pushed) ∙ ap (λ fs. (notes_of c.args.found.now) ++ fs) (sym (parts_is_not_none (standing g.S.TypeStore.tree g.R.Resolver.meaning c.args.setting.now c.args.env.now) (option_map g.S.TypeStore.tree c.args.want.now) c.in-IsNotNone.field-0 (expr_of c.in-IsNotNone.operand.value)))))
 
 pub label_expr-returns-in_ok-type_expr-in-IsNotNone-clause-marked : goal.label_expr-returns-in_ok-type_expr-in-IsNotNone-clause-marked
 label_expr-returns-in_ok-type_expr-in-IsNotNone-clause-marked g t c =
@@ -119,7 +120,7 @@ label_expr-returns-in_ok-object-in-Attribute-clause-marked g t c =
 
 pub label_expr-returns-in_ok-object-in-Attribute-clause-pushed : goal.label_expr-returns-in_ok-object-in-Attribute-clause-pushed
 label_expr-returns-in_ok-object-in-Attribute-clause-pushed g t c =
-    rw c.in-Attribute.is (on_ok c.label_attribute.result ((rw c.deref-in-Attribute.ensures at c.in_ok-object-in-Attribute.ensures.pushed) ∙ ap (λ fs. c.args.found.now.items ++ fs) (sym (parts_attribute (standing g.S.TypeStore.tree g.R.Resolver.meaning c.args.setting.now c.args.env.now) (option_map g.S.TypeStore.tree c.args.want.now) c.in-Attribute.field-0 (expr_of c.in-Attribute.object.value) (name_of c.in-Attribute.field)))))
+    rw c.in-Attribute.is (on_ok c.label_attribute.result ((rw c.deref-in-Attribute.ensures at c.in_ok-object-in-Attribute.ensures.pushed) ∙ ap (λ fs. (notes_of c.args.found.now) ++ fs) (sym (parts_attribute (standing g.S.TypeStore.tree g.R.Resolver.meaning c.args.setting.now c.args.env.now) (option_map g.S.TypeStore.tree c.args.want.now) c.in-Attribute.field-0 (expr_of c.in-Attribute.object.value) (name_of c.in-Attribute.field)))))
 
 pub label_expr-returns-in_ok-second-in-Binary-clause-marked : goal.label_expr-returns-in_ok-second-in-Binary-clause-marked
 label_expr-returns-in_ok-second-in-Binary-clause-marked g t c =
@@ -274,13 +275,13 @@ pub label_callee-returns-then-setting-clause-called : goal.label_callee-returns-
 label_callee-returns-then-setting-clause-called g t c = rw c.in-Attribute.is (callee_as g.S.TypeStore.has g.S.TypeStore.tree _ c.callee_of_method.result _ _ (ap (λ t. method_callee (standing g.S.TypeStore.tree g.R.Resolver.meaning c.args.setting.now c.args.env.now).context (given_with c.args.given.now) (name_of c.in-Attribute.field).text t) (type_is g.S.TypeStore.tree c.in_ok-label-in-Attribute.label (mark_in (standing g.S.TypeStore.tree g.R.Resolver.meaning c.args.setting.now c.args.env.now) None (expr_of c.in-Attribute.object.value)) (rw c.deref.ensures at c.in_ok-label-in-Attribute.ensures.marked.is)) ∙ sym (callee_attribute (standing g.S.TypeStore.tree g.R.Resolver.meaning c.args.setting.now c.args.env.now) (given_with c.args.given.now) c.in-Attribute.field-0 (expr_of c.in-Attribute.object.value) (name_of c.in-Attribute.field) c.if-setting.true)) c.callee_of_method.ensures.callee)
 
 pub label_callee-returns-then-setting-clause-pushed : goal.label_callee-returns-then-setting-clause-pushed
-label_callee-returns-then-setting-clause-pushed g t c = rw c.in-Attribute.is (on_ok c.callee_of_method.result ((rw c.deref.ensures at c.in_ok-label-in-Attribute.ensures.pushed) ∙ ap (λ fs. c.args.found.now.items ++ fs) (sym (parts_attribute (standing g.S.TypeStore.tree g.R.Resolver.meaning c.args.setting.now c.args.env.now) None c.in-Attribute.field-0 (expr_of c.in-Attribute.object.value) (name_of c.in-Attribute.field)))))
+label_callee-returns-then-setting-clause-pushed g t c = rw c.in-Attribute.is (on_ok c.callee_of_method.result ((rw c.deref.ensures at c.in_ok-label-in-Attribute.ensures.pushed) ∙ ap (λ fs. (notes_of c.args.found.now) ++ fs) (sym (parts_attribute (standing g.S.TypeStore.tree g.R.Resolver.meaning c.args.setting.now c.args.env.now) None c.in-Attribute.field-0 (expr_of c.in-Attribute.object.value) (name_of c.in-Attribute.field)))))
 
 pub label_callee-returns-in-Name-clause-called : goal.label_callee-returns-in-Name-clause-called
 label_callee-returns-in-Name-clause-called g t c = rw c.in-Name.is (callee_as g.S.TypeStore.has g.S.TypeStore.tree _ c.callee_of_name.result _ _ (sym (callee_name (standing g.S.TypeStore.tree g.R.Resolver.meaning c.args.setting.now c.args.env.now) (given_with c.args.given.now) (name_of c.in-Name.name))) c.callee_of_name.ensures.callee)
 
 pub label_callee-returns-in-Name-clause-pushed : goal.label_callee-returns-in-Name-clause-pushed
-label_callee-returns-in-Name-clause-pushed g t c = rw c.in-Name.is (on_ok c.callee_of_name.result (sym (append-nil c.args.found.now.items) ∙ ap (λ fs. c.args.found.now.items ++ fs) (sym (parts_name (standing g.S.TypeStore.tree g.R.Resolver.meaning c.args.setting.now c.args.env.now) None (name_of c.in-Name.name)))))
+label_callee-returns-in-Name-clause-pushed g t c = rw c.in-Name.is (on_ok c.callee_of_name.result (sym (append-nil (notes_of c.args.found.now)) ∙ ap (λ fs. (notes_of c.args.found.now) ++ fs) (sym (parts_name (standing g.S.TypeStore.tree g.R.Resolver.meaning c.args.setting.now c.args.env.now) None (name_of c.in-Name.name)))))
 
 pub label_callee-returns-in_ok-label-in-Attribute-2-clause-called : goal.label_callee-returns-in_ok-label-in-Attribute-2-clause-called
 label_callee-returns-in_ok-label-in-Attribute-2-clause-called g t c = callee_as g.S.TypeStore.has g.S.TypeStore.tree _ c.callee_of_other.result _ _ (sym (rw c.in-Attribute.is (callee_early (standing g.S.TypeStore.tree g.R.Resolver.meaning c.args.setting.now c.args.env.now) (given_with c.args.given.now) c.in-Attribute.field-0 (expr_of c.in-Attribute.object.value) (name_of c.in-Attribute.field) c.if-setting.false))) (c.callee_of_other.ensures.callee (mark_in (standing g.S.TypeStore.tree g.R.Resolver.meaning c.args.setting.now c.args.env.now) None (expr_of c.args.callee.now)) c.in_ok-label-in-Attribute-2.ensures.marked.is)
@@ -325,7 +326,7 @@ label_expr-returns-in_ok-type_keywords-in-Call-clause-marked g t c =
 
 pub label_expr-returns-in_ok-type_keywords-in-Call-clause-pushed : goal.label_expr-returns-in_ok-type_keywords-in-Call-clause-pushed
 label_expr-returns-in_ok-type_keywords-in-Call-clause-pushed g t c =
-    rw c.in-Call.is (if_ok c.label_call.result (λ i. call_parts_found (standing g.S.TypeStore.tree g.R.Resolver.meaning c.args.setting.now c.args.env.now) (option_map g.S.TypeStore.tree c.args.want.now) c.in-Call.place (expr_of c.in-Call.callee.value) (exprs_of_list c.in-Call.arguments.items) (keywords_of_list c.in-Call.by_name.items) (given_with c.in_ok-given-in-Call.given) (rw (c.deref-in-Call.ensures.value, c.deref-in-Call-2.ensures.value) at c.in_ok-given-in-Call.ensures) (rule_of c.in_ok-called-in-Call.called.rule) (map (offer_called g.S.TypeStore.tree) c.in_ok-called-in-Call.called.offers.items) (rw c.deref-in-Call-3.ensures at c.in_ok-called-in-Call.ensures.called.rule) (rw c.deref-in-Call-3.ensures at c.in_ok-called-in-Call.ensures.called.offers) _ _ _ _ _ _ c.in_ok-called-in-Call.called.label.codes.items _ _ (codes_are g.S.TypeStore.tree c.in_ok-called-in-Call.called.label (callee_in (standing g.S.TypeStore.tree g.R.Resolver.meaning c.args.setting.now c.args.env.now) (given_with c.in_ok-given-in-Call.given) (expr_of c.in-Call.callee.value)).mark (rw c.deref-in-Call-3.ensures at c.in_ok-called-in-Call.ensures.called.mark)) (rw (c.deref-in-Call-6.ensures, c.deref-in-Call-7.ensures.value, c.deref-in-Call-8.ensures.value) at c.is_test-is_test.ensures.value) (rw (c.deref-in-Call-10.ensures.value, c.deref-in-Call-11.ensures.value) at c.in_ok-typed-in-Call.ensures.typed.early) (rw c.deref-in-Call-3.ensures at c.in_ok-called-in-Call.ensures.pushed) (rw (c.place.ensures, c.deref-in-Call-4.ensures, c.deref-in-Call-5.ensures.value) at c.in_ok-find_codes-in-Call.ensures) (rw (c.deref-in-Call-10.ensures.value, c.deref-in-Call-11.ensures.value) at c.in_ok-typed-in-Call.ensures.pushed) (rw (c.deref-in-Call-13.ensures.value, c.deref-in-Call-14.ensures.value) at c.in_ok-type_keywords-in-Call.ensures.pushed) i ∙ ap (λ x. c.args.found.now.items ++ parts_find (standing g.S.TypeStore.tree g.R.Resolver.meaning c.args.setting.now c.args.env.now) (option_map g.S.TypeStore.tree c.args.want.now) x) (sym (call_tree c.in-Call.place c.in-Call.callee c.in-Call.arguments c.in-Call.by_name))) (rw c.deref-in-Call-15.ensures.value at c.label_call.ensures.pushed))
+    rw c.in-Call.is (if_ok c.label_call.result (λ i. call_parts_found (standing g.S.TypeStore.tree g.R.Resolver.meaning c.args.setting.now c.args.env.now) (option_map g.S.TypeStore.tree c.args.want.now) c.in-Call.place (expr_of c.in-Call.callee.value) (exprs_of_list c.in-Call.arguments.items) (keywords_of_list c.in-Call.by_name.items) (given_with c.in_ok-given-in-Call.given) (rw (c.deref-in-Call.ensures.value, c.deref-in-Call-2.ensures.value) at c.in_ok-given-in-Call.ensures) (rule_of c.in_ok-called-in-Call.called.rule) (map (offer_called g.S.TypeStore.tree) c.in_ok-called-in-Call.called.offers.items) (rw c.deref-in-Call-3.ensures at c.in_ok-called-in-Call.ensures.called.rule) (rw c.deref-in-Call-3.ensures at c.in_ok-called-in-Call.ensures.called.offers) _ _ _ _ _ _ c.in_ok-called-in-Call.called.label.codes.items _ _ (codes_are g.S.TypeStore.tree c.in_ok-called-in-Call.called.label (callee_in (standing g.S.TypeStore.tree g.R.Resolver.meaning c.args.setting.now c.args.env.now) (given_with c.in_ok-given-in-Call.given) (expr_of c.in-Call.callee.value)).mark (rw c.deref-in-Call-3.ensures at c.in_ok-called-in-Call.ensures.called.mark)) (rw (c.deref-in-Call-6.ensures, c.deref-in-Call-7.ensures.value, c.deref-in-Call-8.ensures.value) at c.is_test-is_test.ensures.value) (rw (c.deref-in-Call-10.ensures.value, c.deref-in-Call-11.ensures.value) at c.in_ok-typed-in-Call.ensures.typed.early) (rw c.deref-in-Call-3.ensures at c.in_ok-called-in-Call.ensures.pushed) (rw (c.place.ensures, c.deref-in-Call-4.ensures, c.deref-in-Call-5.ensures.value) at c.in_ok-find_codes-in-Call.ensures) (rw (c.deref-in-Call-10.ensures.value, c.deref-in-Call-11.ensures.value) at c.in_ok-typed-in-Call.ensures.pushed) (rw (c.deref-in-Call-13.ensures.value, c.deref-in-Call-14.ensures.value) at c.in_ok-type_keywords-in-Call.ensures.pushed) i ∙ ap (λ x. (notes_of c.args.found.now) ++ parts_find (standing g.S.TypeStore.tree g.R.Resolver.meaning c.args.setting.now c.args.env.now) (option_map g.S.TypeStore.tree c.args.want.now) x) (sym (call_tree c.in-Call.place c.in-Call.callee c.in-Call.arguments c.in-Call.by_name))) (rw c.deref-in-Call-15.ensures.value at c.label_call.ensures.pushed))
 
 pub type_arguments-loop-argument-preserved : goal.type_arguments-loop-argument-preserved
 type_arguments-loop-argument-preserved g t c =
@@ -354,7 +355,7 @@ type_arguments-returns-clause-typed g t c = record {
 }
 
 pub type_arguments-returns-clause-pushed : goal.type_arguments-returns-clause-pushed
-type_arguments-returns-clause-pushed g t c = rw c.if-is_test.false (finds_end (standing g.S.TypeStore.tree g.R.Resolver.meaning c.args.setting.now c.args.env.now) (positional_seat (map (offer_called g.S.TypeStore.tree) c.args.offers.now)) c.args.arguments.now c.loop-argument.argument-index (omega arith) _ _ c.loop-argument.invariant.found ∙ ap (λ fs. c.args.found.now.items ++ fs) (sym (arguments_all (standing g.S.TypeStore.tree g.R.Resolver.meaning c.args.setting.now c.args.env.now) (positional_seat (map (offer_called g.S.TypeStore.tree) c.args.offers.now)) (exprs_of_list c.args.arguments.now))))
+type_arguments-returns-clause-pushed g t c = rw c.if-is_test.false (finds_end (standing g.S.TypeStore.tree g.R.Resolver.meaning c.args.setting.now c.args.env.now) (positional_seat (map (offer_called g.S.TypeStore.tree) c.args.offers.now)) c.args.arguments.now c.loop-argument.argument-index (omega arith) _ _ c.loop-argument.invariant.found ∙ ap (λ fs. (notes_of c.args.found.now) ++ fs) (sym (arguments_all (standing g.S.TypeStore.tree g.R.Resolver.meaning c.args.setting.now c.args.env.now) (positional_seat (map (offer_called g.S.TypeStore.tree) c.args.offers.now)) (exprs_of_list c.args.arguments.now))))
 
 pub type_keywords-loop-argument-preserved : goal.type_keywords-loop-argument-preserved
 type_keywords-loop-argument-preserved g t c =

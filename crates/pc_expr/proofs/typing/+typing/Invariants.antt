@@ -2,6 +2,7 @@ use Rattle.std.proofs.Common.{◌≡◌, ◌++◌, drop, map, All, []}
 use Rattle.std.specs.Prelude.{◌||◌, vec_len}
 use Rattle.pc_tree.specs.Lists.{exprs_of_list, entries_of_list, keywords_of_list}
 use Rattle.pc_types.specs.Store.{Keeps}
+use Rattle.pc_notes.specs.Notes.{notes_of}
 use Rattle.pc_expr.specs.Calls.{positional_seat, named_seat}
 use Rattle.pc_expr.specs.Standing.{standing, types_in, items_find, keys_in, values_in, entries_find, Stands, keywords_find}
 use Rattle.pc_expr.specs.Calling.{offer_called, HasCallOffer, names_in}
@@ -18,7 +19,7 @@ invariant-type_items-loop-item g l = record {
   seats : HasSeats (g.S.TypeStore.has l.store) l.seats;
   held : All (g.S.TypeStore.has l.store) l.types.items;
   types : map g.S.TypeStore.tree l.types.items ++ types_from (standing g.S.TypeStore.tree g.R.Resolver.meaning l.setting l.env) (seats_of g.S.TypeStore.tree l.seats) l.items l.item-index ≡ types_in (standing g.S.TypeStore.tree g.R.Resolver.meaning l.setting l.env) (seats_of g.S.TypeStore.tree l.seats) (exprs_of_list l.items);
-  found : l.found.items ++ finds_from (standing g.S.TypeStore.tree g.R.Resolver.meaning l.setting l.env) (seats_of g.S.TypeStore.tree l.seats) l.items l.item-index ≡ l.fn.found.items ++ items_find (standing g.S.TypeStore.tree g.R.Resolver.meaning l.setting l.env) (seats_of g.S.TypeStore.tree l.seats) (exprs_of_list l.items);
+  found : (notes_of l.found) ++ finds_from (standing g.S.TypeStore.tree g.R.Resolver.meaning l.setting l.env) (seats_of g.S.TypeStore.tree l.seats) l.items l.item-index ≡ (notes_of l.fn.found) ++ items_find (standing g.S.TypeStore.tree g.R.Resolver.meaning l.setting l.env) (seats_of g.S.TypeStore.tree l.seats) (exprs_of_list l.items);
   kept : Keeps g.S.TypeStore.has l.fn.store l.store;
 }
 
@@ -30,7 +31,7 @@ invariant-type_entries-loop-entry g l = record {
   held_values : All (g.S.TypeStore.has l.store) l.values.items;
   keys : map g.S.TypeStore.tree l.keys.items ++ keys_from (standing g.S.TypeStore.tree g.R.Resolver.meaning l.setting l.env) (seat_with g.S.TypeStore.tree l.seats.key) (seat_with g.S.TypeStore.tree l.seats.value) l.entries l.entry-index ≡ keys_in (standing g.S.TypeStore.tree g.R.Resolver.meaning l.setting l.env) (seat_with g.S.TypeStore.tree l.seats.key) (seat_with g.S.TypeStore.tree l.seats.value) (entries_of_list l.entries);
   values : map g.S.TypeStore.tree l.values.items ++ values_from (standing g.S.TypeStore.tree g.R.Resolver.meaning l.setting l.env) (seat_with g.S.TypeStore.tree l.seats.key) (seat_with g.S.TypeStore.tree l.seats.value) l.entries l.entry-index ≡ values_in (standing g.S.TypeStore.tree g.R.Resolver.meaning l.setting l.env) (seat_with g.S.TypeStore.tree l.seats.key) (seat_with g.S.TypeStore.tree l.seats.value) (entries_of_list l.entries);
-  found : l.found.items ++ entries_from (standing g.S.TypeStore.tree g.R.Resolver.meaning l.setting l.env) (seat_with g.S.TypeStore.tree l.seats.key) (seat_with g.S.TypeStore.tree l.seats.value) l.entries l.entry-index ≡ l.fn.found.items ++ entries_find (standing g.S.TypeStore.tree g.R.Resolver.meaning l.setting l.env) (seat_with g.S.TypeStore.tree l.seats.key) (seat_with g.S.TypeStore.tree l.seats.value) (entries_of_list l.entries);
+  found : (notes_of l.found) ++ entries_from (standing g.S.TypeStore.tree g.R.Resolver.meaning l.setting l.env) (seat_with g.S.TypeStore.tree l.seats.key) (seat_with g.S.TypeStore.tree l.seats.value) l.entries l.entry-index ≡ (notes_of l.fn.found) ++ entries_find (standing g.S.TypeStore.tree g.R.Resolver.meaning l.setting l.env) (seat_with g.S.TypeStore.tree l.seats.key) (seat_with g.S.TypeStore.tree l.seats.value) (entries_of_list l.entries);
   kept : Keeps g.S.TypeStore.has l.fn.store l.store;
 }
 
@@ -42,7 +43,7 @@ invariant-type_arguments-loop-argument g l = record {
   held : All (g.S.TypeStore.has l.store) l.types.items;
   types : map g.S.TypeStore.tree l.types.items ++ types_from (standing g.S.TypeStore.tree g.R.Resolver.meaning l.setting l.env) (positional_seat (map (offer_called g.S.TypeStore.tree) l.offers)) l.arguments l.argument-index ≡ types_in (standing g.S.TypeStore.tree g.R.Resolver.meaning l.setting l.env) (positional_seat (map (offer_called g.S.TypeStore.tree) l.offers)) (exprs_of_list l.arguments);
   early : (l.early || early_from l.argument-index (standing g.S.TypeStore.tree g.R.Resolver.meaning l.setting l.env) (seats_from l.argument-index (positional_seat (map (offer_called g.S.TypeStore.tree) l.offers))) (exprs_of_list (drop l.argument-index l.arguments))) ≡ early_in (standing g.S.TypeStore.tree g.R.Resolver.meaning l.setting l.env) (positional_seat (map (offer_called g.S.TypeStore.tree) l.offers)) (exprs_of_list l.arguments);
-  found : l.found.items ++ finds_from (standing g.S.TypeStore.tree g.R.Resolver.meaning l.setting l.env) (positional_seat (map (offer_called g.S.TypeStore.tree) l.offers)) l.arguments l.argument-index ≡ l.fn.found.items ++ items_find (standing g.S.TypeStore.tree g.R.Resolver.meaning l.setting l.env) (positional_seat (map (offer_called g.S.TypeStore.tree) l.offers)) (exprs_of_list l.arguments);
+  found : (notes_of l.found) ++ finds_from (standing g.S.TypeStore.tree g.R.Resolver.meaning l.setting l.env) (positional_seat (map (offer_called g.S.TypeStore.tree) l.offers)) l.arguments l.argument-index ≡ (notes_of l.fn.found) ++ items_find (standing g.S.TypeStore.tree g.R.Resolver.meaning l.setting l.env) (positional_seat (map (offer_called g.S.TypeStore.tree) l.offers)) (exprs_of_list l.arguments);
   kept : Keeps g.S.TypeStore.has l.fn.store l.store;
 }
 
@@ -50,6 +51,6 @@ abbrev pub invariant-type_keywords-loop-argument : goal.invariant-type_keywords-
 invariant-type_keywords-loop-argument g l = record {
   given : Stands (g.S.TypeStore.has l.store) g.S.TypeStore.tree l.setting l.env;
   offers : All (HasCallOffer (g.S.TypeStore.has l.store)) l.offers;
-  found : l.found.items ++ keywords_find (standing g.S.TypeStore.tree g.R.Resolver.meaning l.setting l.env) (named_seat (map (offer_called g.S.TypeStore.tree) l.offers)) (names_in l.before) (keywords_of_list (drop l.argument-index l.by_name)) ≡ l.fn.found.items ++ keywords_find (standing g.S.TypeStore.tree g.R.Resolver.meaning l.setting l.env) (named_seat (map (offer_called g.S.TypeStore.tree) l.offers)) [] (keywords_of_list l.by_name);
+  found : (notes_of l.found) ++ keywords_find (standing g.S.TypeStore.tree g.R.Resolver.meaning l.setting l.env) (named_seat (map (offer_called g.S.TypeStore.tree) l.offers)) (names_in l.before) (keywords_of_list (drop l.argument-index l.by_name)) ≡ (notes_of l.fn.found) ++ keywords_find (standing g.S.TypeStore.tree g.R.Resolver.meaning l.setting l.env) (named_seat (map (offer_called g.S.TypeStore.tree) l.offers)) [] (keywords_of_list l.by_name);
   kept : Keeps g.S.TypeStore.has l.fn.store l.store;
 }

@@ -20,7 +20,7 @@ returns-in_err-write_report-clause-begun g c =
     let told = g.R.Read.remaining c.args.reader.now.device in
     let rows = c.in_ok-report.report in
     let headline : Headline c.in_ok-bytes.bytes.items rows = subst (λ (l : List ℕ). Headline l rows) c.as_slice.ensures.value c.in_ok-report.ensures.headline in
-    rw (p.1, p.2) (begun_stream told _ c.in_ok-bytes.bytes.items read.given read.whole g.W.Write.contents c.args.json c.args.writer.now c.write_report.new.writer rows headline
+    rw (p.1, p.2) (begun_stream told _ c.in_ok-bytes.bytes.items read.given read.whole g.W.Write.contents c.args.json c.args.format c.args.writer.now c.write_report.new.writer rows headline
     c.in_err-write_report.field-0.0 c.in_err-write_report.ensures)
 
 pub returns-clause-reported : goal.returns-clause-reported
@@ -29,5 +29,5 @@ returns-clause-reported g c =
     let told = g.R.Read.remaining c.args.reader.now.device in
     let rows = c.in_ok-report.report in
     let headline : Headline c.in_ok-bytes.bytes.items rows = subst (λ (l : List ℕ). Headline l rows) c.as_slice.ensures.value c.in_ok-report.ensures.headline in
-    reported_stream told _ c.in_ok-bytes.bytes.items read.given read.whole g.W.Write.contents c.args.json c.args.writer.now c.write_report.new.writer rows headline
+    reported_stream told _ c.in_ok-bytes.bytes.items read.given read.whole g.W.Write.contents c.args.json c.args.format c.args.writer.now c.write_report.new.writer rows headline
     _ _ c.errors.ensures c.dynamic.ensures c.in_ok-write_report.ensures

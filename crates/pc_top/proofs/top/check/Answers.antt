@@ -1,10 +1,14 @@
-use Rattle.std.proofs.Common.{◌≡◌, ◌∙◌, subst, List, ℕ, Contains}
+use Rattle.std.proofs.Common.{◌≡◌, ◌∙◌, ◌↔◌, subst, sym, List, ℕ, Contains}
 use Rattle.std.proofs.lemmas.Result.{err_from_is_err_and}
 use Rattle.pc_source.specs.Answers.{OnRefusal}
 use Rattle.pc_tree.specs.declared.code.Finding.{Finding}
 use Rattle.pc_tree.specs.Tree.{module_of}
 use Rattle.pc_front.specs.Bytes.{IsModuleOf, IsRefusalOf}
-use Rattle.pc_report.specs.Report.{Lists}
+use Rattle.pc_notes.specs.Notes.{notes_of}
+use Rattle.pc_check.specs.Modules.{IsFinding}
+use Rattle.pc_report.specs.Flows.{Flow}
+use Rattle.pc_report.specs.Report.{Lists, Explains}
+use Rattle.pc_top.proofs.ExplainedRows.{rows_explained}
 use Rattle.pc_top.proofs.Main.{headline_from, refused_bytes}
 use Rattle.pc_top.proofs.WithinBytes.{answer_within}
 use Rattle.pc_top.proofs.top.check.Goals as goal
@@ -16,10 +20,15 @@ returns-in_err-module-clause-refused c =
 
 pub returns-clause-headline : goal.returns-clause-headline
 returns-clause-headline c =
-    let lists : Lists c.args.bytes.now (Contains c.in_ok-found.found.items) c.in_ok-report.report = subst (λ (l : List ℕ). Lists l (Contains c.in_ok-found.found.items) c.in_ok-report.report) c.in_ok-source.ensures.text (subst (λ (l : List Finding). Lists c.in_ok-source.source (Contains l) c.in_ok-report.report) c.deref.ensures.value c.in_ok-report.ensures.lists) in
-    headline_from c.args.bytes.now (module_of c.in_ok-module.module)
-    (subst (λ (l : List ℕ). IsModuleOf l (module_of c.in_ok-module.module)) c.in_ok-source.ensures.text c.in_ok-module.ensures.read)
-    c.in_ok-found.found.items c.in_ok-report.report c.in_ok-found.ensures lists
+    let m = module_of c.in_ok-module.module in
+    let notes = notes_of c.in_ok-notes.notes in
+    let found : List Finding = c.in_ok-found.found.items in
+    let rows = c.in_ok-report.report in
+    let exactly : (f : Finding) → Contains found f ↔ IsFinding m f = λ f. subst (λ (l : List Finding). Contains l f ↔ IsFinding m f) (sym c.in_ok-found.ensures) (c.in_ok-notes.ensures.found f) in
+    let lists : Lists c.args.bytes.now (Contains found) rows = subst (λ (l : List ℕ). Lists l (Contains found) rows) c.in_ok-source.ensures.text (subst (λ (l : List Finding). Lists c.in_ok-source.source (Contains l) rows) c.deref.ensures.value c.in_ok-report.ensures.lists) in
+    let explains : Explains c.in_ok-flows.flows.items rows = subst (λ (l : List Flow). Explains l rows) c.deref-2.ensures.value c.in_ok-report.ensures.explains in
+    headline_from c.args.bytes.now m (subst (λ (l : List ℕ). IsModuleOf l m) c.in_ok-source.ensures.text c.in_ok-module.ensures.read) found rows exactly lists
+    (λ given. rows_explained m notes c.in_ok-flows.flows.items c.in_ok-flows.ensures c.in_ok-notes.ensures.flows rows given explains)
 
 pub returns-in_err-module-clause-within : goal.returns-in_err-module-clause-within
 returns-in_err-module-clause-within c = answer_within c.args.bytes.now _ (returns-in_err-module-clause-refused c)

@@ -1,9 +1,9 @@
 -- The data of the command, by what each builder says.
-use Rattle.std.proofs.Common.{◌≡◌, ◌∙◌, rules, ap₂, Some, None, codes, true, []}
+use Rattle.std.proofs.Common.{◌≡◌, ◌∙◌, rules, ap₂, codes, true, []}
 use Rattle.std.proofs.lemmas.Result.{IfOk-weaker}
-use Rattle.clap.specs.Words.{App, app_of, rule_of, with_rule}
+use Rattle.clap.specs.Words.{App, app_of, with_rule}
 use Rattle.clap.specs.Simple.{new_shape}
-use Rattle.pycheck.specs.Words.{file_rule, json_rule}
+use Rattle.pycheck.specs.Words.{format_rule, json_rule}
 use Rattle.pycheck.proofs.command_line.command.Goals as goal
 
 abbrev bare : App
@@ -11,8 +11,9 @@ bare = record { top = record (new_shape (codes "pycheck")) { no_binary_name = tr
 
 pub returns : goal.returns
 returns c =
-    let json_is : rule_of c.help-json.result ≡ json_rule = search rules in
-    let file_is : rule_of c.help-file.result ≡ file_rule = search rules in
     let bare_is : app_of c.no_binary_name.result ≡ bare = search rules in
-    let with_json : app_of c.in_ok-arg.field-0 ≡ with_rule bare json_rule = c.in_ok-arg.ensures.shape (search rules) ∙ ap₂ with_rule bare_is json_is in
-    IfOk-weaker c.arg-2.result _ _ (λ r h. h.shape (search rules) ∙ ap₂ with_rule with_json file_is) c.arg-2.ensures
+    let with_json : app_of c.in_ok-arg.field-0 ≡ with_rule bare json_rule =
+    c.in_ok-arg.ensures.shape c.json_argument.ensures.local ∙ ap₂ with_rule bare_is c.json_argument.ensures.rule in
+    let with_format : app_of c.in_ok-arg-2.field-0 ≡ with_rule (with_rule bare json_rule) format_rule =
+    c.in_ok-arg-2.ensures.shape c.format_argument.ensures.local ∙ ap₂ with_rule with_json c.format_argument.ensures.rule in
+    IfOk-weaker c.arg-3.result _ _ (λ r h. h.shape c.file_argument.ensures.local ∙ ap₂ with_rule with_format c.file_argument.ensures.rule) c.arg-3.ensures

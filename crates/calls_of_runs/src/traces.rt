@@ -1,0 +1,30 @@
+//! What the tests of runs share.
+use pc_front::read_module;
+use pc_run::{End, Trace, run, trace_text};
+use std::alloc::Global;
+use std::test::Fail;
+
+/// More fuel than any of the tests needs.
+pub const AMPLE: u64 = 1_000_000;
+
+/// The trace of a module.
+pub fn traced(alloc: Global, text: &str, fuel: u64, choices: &[u8]) -> Result<Trace, Fail> {
+    let program = read_module(alloc, text.as_bytes())?;
+    Ok(run(alloc, &program, fuel, choices)?)
+}
+
+/// The text of the trace of a module.
+pub fn trace_of(alloc: Global, text: &str, fuel: u64, choices: &[u8]) -> Result<String, Fail> {
+    let trace = traced(alloc, text, fuel, choices)?;
+    Ok(trace_text(alloc, &trace)?)
+}
+
+/// How a module ends.
+pub fn ended(alloc: Global, text: &str, fuel: u64, choices: &[u8]) -> Result<End, Fail> {
+    Ok(traced(alloc, text, fuel, choices)?.end)
+}
+
+/// How many lines of a trace are this one.
+pub fn count_of(trace: &str, line: &str) -> usize {
+    trace.split('\n').filter(|each| *each == line).count()
+}

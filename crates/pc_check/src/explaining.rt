@@ -1,0 +1,49 @@
+// The types of a dynamic flow.
+
+ghost use Rattle.std.specs.Prelude.{◌≡◌, IfOk};
+ghost use Rattle.pc_tree.specs.Tree.{module_of};
+ghost use Rattle.pc_scope.specs.Scoped.{AreScopes};
+ghost use Rattle.pc_types.specs.Store.{Keeps};
+ghost use Rattle.pc_class.specs.Bases.{bases_of};
+ghost use Rattle.pc_class.specs.Facts.{classes_of};
+ghost use Rattle.pc_class.specs.Tables.{HasEntries, classes_with};
+ghost use Rattle.pc_notes.specs.Notes.{Explains};
+ghost use Rattle.pc_check.specs.DynamicFlows.{dynamic_flow};
+
+use crate::modules::check_module;
+use pc_class::ClassTable;
+use pc_notes::Notes;
+use pc_scope::Scopes;
+use pc_source::{OutOfMemory, Place};
+use pc_tree::Module;
+use pc_types::{Parents, TypeStore};
+use std::alloc::Global;
+
+/// The two types of the dynamic flow at a place of a module: the type that flows, and the one that it flows into. Where several flow
+/// dynamically at one place, those of the first; none where none does. It types the whole module anew.
+///
+/// Typing specification, "Type system concepts", on gradual types; own rule of the profile.
+///
+/// # Errors
+///
+/// `OutOfMemory` only when an allocation failed.
+pub fn explain_flow<S: TypeStore>(
+    store: &mut S,
+    alloc: Global,
+    parents: &Parents,
+    tree: &Module,
+    scopes: &Scopes,
+    classes: &ClassTable<S::Ty>,
+    place: Place,
+) -> Result<Option<(S::Ty, S::Ty)>, OutOfMemory>
+    requires scopes { AreScopes (module_of tree.now) scopes.now }
+    requires parents { parents.now ≡ bases_of (module_of tree.now) }
+    requires classes { classes_with S.tree classes.now ≡ classes_of (module_of tree.now) }
+    requires entries { HasEntries (S.has store.old) classes.now }
+    ensures explained { IfOk result (λ found. Explains S.has S.tree store.new found (dynamic_flow (module_of tree.now) place)) }
+    ensures kept { Keeps S.has store.old store.new }
+{
+    let mut found = Notes::new(alloc);
+    check_module(store, alloc, parents, tree, scopes, classes, &mut found)?;
+    Ok(found.explain(store, alloc, place)?)
+}

@@ -1,0 +1,8 @@
+use Rattle.pc_dynamic.proofs.RightFlows.{flows_dynamic, flows_well_formed}
+use Rattle.pc_dynamic.proofs.laws.dynamic_flows_are_dynamic.Goals as goal
+
+pub returns : goal.returns
+returns c = record {
+  flows = flows_dynamic;
+  types = flows_well_formed;
+}

@@ -1,0 +1,6 @@
+//! Laws on the dynamic flows of a module.
+#![tactic(auto)]
+
+mod laws;
+
+pub use laws::{dynamic_flows_are_dynamic, dynamic_flows_are_found};

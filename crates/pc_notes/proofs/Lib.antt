@@ -1,0 +1,3 @@
+pub mod FirstFlows
+pub mod Noted
+pub mod Taken

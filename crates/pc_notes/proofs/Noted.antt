@@ -1,0 +1,36 @@
+-- The first flow that is noted at a place, entry by entry.
+use Rattle.std.proofs.Common.{◌≡◌, ℕ, ◌<◌, ◌≤◌, ◌+◌, List, ◌∷◌, Option, Some, None, refl, ap, ◌∙◌, length, get_or, drop}
+use Rattle.std.specs.Prelude.{Bool as Test, true, false, if◌then◌else◌, option_map}
+use Rattle.std.proofs.lemmas.List.{drop_all}
+use Rattle.pc_source.specs.declared.place.Place.{Place}
+use Rattle.pc_tree.proofs.Stops.{cons_at}
+use Rattle.pc_types.specs.Tree.{Tree}
+use Rattle.pc_notes.specs.declared.notes.Flow.{Flow}
+use Rattle.pc_notes.specs.declared.notes.Entry.{Entry}
+use Rattle.pc_notes.specs.Notes.{is_same_place, or_else, flow_of, flow_noted, notes_of}
+
+none_test : (b : Test) (o : Option Flow) (rest : Option (Tree × Tree)) → (if b then o else None) ≡ None → (if b then or_else (option_map flow_of o) rest else rest) ≡ rest
+none_test true None rest e = refl
+none_test true (Some f) rest e = absurd (cc e)
+none_test false o rest e = refl
+
+some_test : (b : Test) (o : Option Flow) (f : Flow) (rest : Option (Tree × Tree)) → (if b then o else None) ≡ Some f → (if b then or_else (option_map flow_of o) rest else rest) ≡ Some (flow_of f)
+some_test true None f rest e = absurd (cc e)
+some_test true (Some g) f rest e = let q : g ≡ f = cc in ap (λ x. Some (flow_of x)) q
+some_test false o f rest e = absurd (cc e)
+
+module _ (p : Place) (es : List Entry) (i : ℕ) (e : Entry) (lt : i < length es) (is : e ≡ get_or es i e) where
+  next : flow_noted p (notes_of (drop i es)) ≡ flow_noted p (notes_of (e ∷ drop (i + 1) es))
+  next = ap (λ l. flow_noted p (notes_of l)) (cons_at es i e lt is)
+
+  -- no flow is noted at the next entry
+  pub later_flow : (if is_same_place p e.finding.place then e.flow else None) ≡ None → flow_noted p (notes_of (drop i es)) ≡ flow_noted p (notes_of (drop (i + 1) es))
+  later_flow n = next ∙ none_test (is_same_place p e.finding.place) e.flow (flow_noted p (notes_of (drop (i + 1) es))) n
+
+  -- this one is
+  pub this_flow : (f : Flow) → (if is_same_place p e.finding.place then e.flow else None) ≡ Some f → flow_noted p (notes_of (drop i es)) ≡ Some (flow_of f)
+  this_flow f s = next ∙ some_test (is_same_place p e.finding.place) e.flow f (flow_noted p (notes_of (drop (i + 1) es))) s
+
+-- nothing is left
+pub no_flow : (p : Place) (es : List Entry) (i : ℕ) → length es ≤ i → flow_noted p (notes_of (drop i es)) ≡ None
+no_flow p es i le = ap (λ l. flow_noted p (notes_of l)) (drop_all i es le)

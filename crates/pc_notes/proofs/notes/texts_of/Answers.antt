@@ -1,0 +1,52 @@
+use Rattle.std.proofs.Common.{rules, ◌≡◌, ◌++◌, ◌∷◌, [], List, map, refl, sym, ap, ◌∙◌, subst, Contains}
+use Rattle.std.specs.List.{AllByRecursion}
+use Rattle.std.specs.List.Sorted.{IsStrictlySortedBy}
+use Rattle.std.specs.Borrow.{Bor}
+use Rattle.pc_source.specs.declared.place.Place.{Place}
+use Rattle.pc_tree.specs.Tree.{module_of}
+use Rattle.pc_notes.specs.declared.notes.Flow.{Flow}
+use Rattle.pc_notes.specs.Texts.{FlowText, IsFlowText, place_cmp, places_of}
+use Rattle.pc_notes.proofs.FirstFlows.{IsPairOf, text_of_pair, all_more, places_more, pairs_found, place_found}
+use Rattle.pc_notes.proofs.notes.texts_of.Goals as goal
+
+abbrev Pair : Type 0
+Pair = Place × Bor Flow
+
+pub loop-entry-init : goal.loop-entry-init
+loop-entry-init c =
+    let all : c.into_iter-entry-iterator.result ≡ c.args.flows.now.entries = c.into_iter-entry-iterator.ensures.into_iter_gives ∙ c.iter-entry-items.ensures.rest in
+    record {
+      places = ap (λ (l : List FlowText). places_of l ++ map (λ (e : Pair). e.0) c.into_iter-entry-iterator.result) c.new-texts.ensures.items ∙ ap (map (λ (e : Pair). e.0)) all;
+      each = λ notes has. subst (AllByRecursion (IsFlowText (module_of c.args.tree.now) notes)) (sym c.new-texts.ensures.items) tt;
+      left = subst (AllByRecursion (IsPairOf c.args.flows.now)) (sym all) (pairs_found c.args.flows.now c.args.flows.now.entries c.iter-entry-items.ensures.found);
+      given = c.requires;
+    }
+
+pub loop-entry-preserved : goal.loop-entry-preserved
+loop-entry-preserved c =
+    let flows = c.args.flows.now in
+    let before = c.loop-entry.texts.items in
+    let rest : List Pair = c.next.new.self in
+    let pair : Pair = (c.in-Some.entry.0.now, c.in-Some.entry.1.now) in
+    let text : FlowText = (c.in-Some.entry.0.now, c.in_ok-from.from, c.in_ok-into.into) in
+    let after : c.push.new.self.items ≡ before ++ text ∷ [] = c.in_ok-push.ensures.items in
+    let left : c.loop-entry.entry-iterator ≡ pair ∷ rest = search rules in
+    let pairs : AllByRecursion (IsPairOf flows) (pair ∷ rest) = subst (AllByRecursion (IsPairOf flows)) left c.loop-entry.invariant.left in
+    record {
+      places = ap (λ (l : List FlowText). places_of l ++ map (λ (e : Pair). e.0) rest) after ∙ places_more before text (map (λ (e : Pair). e.0) rest) ∙ ap (λ (l : List Pair). places_of before ++ map (λ (e : Pair). e.0) l) (sym left) ∙ c.loop-entry.invariant.places;
+      each = λ notes has. subst (AllByRecursion (IsFlowText (module_of c.args.tree.now) notes)) (sym after)
+          (all_more (IsFlowText (module_of c.args.tree.now) notes) before text (c.loop-entry.invariant.each notes has)
+          (text_of_pair (module_of c.args.tree.now) flows notes has pair pairs.0 text refl c.in_ok-from.ensures c.in_ok-into.ensures));
+      left = pairs.1;
+      given = c.requires;
+    }
+
+pub returns : goal.returns
+returns c =
+    let flows = c.args.flows.now in
+    let places : places_of c.loop-entry.texts.items ≡ map (λ (e : Pair). e.0) flows.entries = search rules in
+    λ notes has. record {
+      each = c.loop-entry.invariant.each notes has;
+      all = λ p some. subst (λ (l : List Place). Contains l p) (sym places) (place_found flows notes has p some);
+      ordered = subst (IsStrictlySortedBy place_cmp) (sym places) c.iter-entry-items.ensures.ordered;
+    }

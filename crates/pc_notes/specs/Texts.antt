@@ -1,0 +1,46 @@
+-- The dynamic flows that are noted, each place once, with the texts of their types.
+-- Own rule of the profile.
+use denote.Bor.{Bor}
+use Rattle.std.specs.Prelude.{◌≡◌, List, Contains, IsSome, IfSome, MatchOption, String, string_bytes, map, option_map}
+use Rattle.std.specs.declared.alloc.Global.{Global}
+use Rattle.std.specs.declared.cmp.Ordering.{Ordering}
+use Rattle.std.specs.Ordering.{ordering_then, nat_cmp}
+use Rattle.std.specs.BTreeMap.{BTreeMap, get}
+use Rattle.std.specs.List.{AllByRecursion}
+use Rattle.std.specs.List.Sorted.{IsStrictlySortedBy}
+use Rattle.pc_source.specs.declared.place.Place.{Place}
+use Rattle.pc_tree.specs.Tree.{Module}
+use Rattle.pc_ann.specs.Text.{type_text}
+use Rattle.pc_notes.specs.declared.notes.Flow.{Flow}
+use Rattle.pc_notes.specs.Notes.{Note, flow_of, flow_noted, IsGivenFlow}
+
+-- a place, with the texts of the type that flows there and of the type that it flows into
+abbrev pub FlowText : Type 0
+FlowText = Place × String Global × String Global
+
+-- the texts are those of the types of the first flow that is noted at the place
+abbrev pub IsFlowText : Module → List Note → FlowText → Type 0
+IsFlowText m notes text = MatchOption (flow_noted text.0 notes) ⊥ (λ f. (string_bytes text.1 ≡ type_text m f.0) × (string_bytes text.2 ≡ type_text m f.1))
+
+-- the order of places
+abbrev pub place_cmp : Place → Place → Ordering
+place_cmp p q = ordering_then (nat_cmp p.start q.start) (nat_cmp p.end q.end)
+
+-- the places of texts
+abbrev pub places_of : List FlowText → List Place
+places_of texts = map (λ t. t.0) texts
+
+-- each text is that of the flow noted at its place; each place where a flow is noted has one; the places ascend, so none has two
+pub record AreFlowTexts (m : Module) (notes : List Note) (texts : List FlowText) : Type 0 where
+  pub each : AllByRecursion (IsFlowText m notes) texts
+  pub all : (p : Place) → IsSome (flow_noted p notes) → Contains (places_of texts) p
+  pub ordered : IsStrictlySortedBy place_cmp (places_of texts)
+
+-- the flows of a map are of types that a store of boxes may give
+abbrev pub HasGivenFlows : BTreeMap Place (Bor Flow) → Type 0
+HasGivenFlows flows = (p : Place) → IfSome (get place_cmp flows p) (λ f. IsGivenFlow f.now)
+
+-- a map has at each place the first flow that is noted there
+pub record HasFirstFlows (notes : List Note) (flows : BTreeMap Place (Bor Flow)) : Type 0 where
+  pub first : (p : Place) → option_map (λ f. flow_of f.now) (get place_cmp flows p) ≡ flow_noted p notes
+  pub given : HasGivenFlows flows

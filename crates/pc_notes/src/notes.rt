@@ -1,0 +1,222 @@
+// Findings as they are gathered, each with the two types of the flow that it tells of.
+
+ghost use Rattle.std.specs.Prelude.{◌≡◌, ◌++◌, ◌∷◌, [], map, IfOk, IfSome, List, OnOk, None, option_map, if◌then◌else◌};
+ghost use Rattle.pc_tree.specs.Code.{finding};
+ghost use Rattle.pc_tree.specs.Tree.{module_of};
+ghost use Rattle.pc_types.specs.Store.{Keeps};
+ghost use Rattle.pc_notes.specs.Notes.{IsGivenFlow, Note, note_of, notes_of, plain, dynamic, findings_of, is_same_place, flow_noted, Explains};
+ghost use Rattle.pc_notes.specs.declared.notes.Entry.{Entry as Kept};
+ghost use Rattle.pc_notes.specs.Texts.{AreFlowTexts, HasFirstFlows, HasGivenFlows};
+
+use crate::rebuilding::transfer;
+use pc_ann::type_text;
+use pc_source::{OutOfMemory, Place};
+use pc_tree::{Code, Finding, Findings, Module};
+use pc_types::{BoxStore, BoxType, TypeStore};
+use std::alloc::Global;
+use std::collections::BTreeMap;
+use std::marker::Model;
+
+/// The two types of a dynamic flow: the one that flows, and the one that it flows into.
+#[derive(Drop)]
+pub(crate) struct Flow {
+    pub(crate) from: BoxType,
+    pub(crate) into: BoxType,
+}
+
+/// A finding, and the types of the flow that it tells of, where it tells of one.
+#[derive(Drop)]
+pub(crate) struct Entry {
+    pub(crate) finding: Finding,
+    pub(crate) flow: Option<Flow>,
+}
+
+impl Entry {
+    /// The flow that an entry tells of, if it stands at this place.
+    fn flow_at(&self, place: Place) -> Option<&Flow>
+        ensures { option_map (λ f. f.now) result ≡ (if is_same_place place self.now.finding.place then self.now.flow else None) }
+    {
+        let own = self.finding.place;
+        if place.start == own.start && place.end == own.end {
+            self.flow.as_ref()
+        } else {
+            None
+        }
+    }
+}
+
+/// Findings as they are gathered, in any order, each with the types of the dynamic flow that it tells of.
+/// Contracts see it as that list.
+#[derive(Drop)]
+pub struct Notes {
+    entries: Vec<Entry>,
+}
+
+impl Model for Notes {
+    ghost use Rattle.std.specs.Prelude.{List};
+    ghost use Rattle.std.specs.Coded.{coded_list};
+    ghost use Rattle.pc_notes.specs.Notes.{AreGiven};
+    ghost use Rattle.pc_notes.specs.declared.notes.Entry.{Entry};
+    ghost use Rattle.pc_notes.specs.contracts.notes.Entry as entry;
+
+    ghost Value = { List Entry };
+
+    ghost coded = { coded_list entry.the_row.coded };
+
+    ghost view = { λ n. n.entries.items };
+
+    ghost invariant = { λ n. AreGiven n.entries.items };
+}
+
+impl Notes {
+    /// Nothing noted.
+    pub fn new(alloc: Global) -> Notes
+        ensures { result ≡ [] }
+    {
+        Notes {
+            entries: Vec::new(alloc),
+        }
+    }
+
+    /// Notes a code at a place.
+    pub fn put(&mut self, place: Place, code: Code) -> Result<(), OutOfMemory>
+        ensures { OnOk result (notes_of self.new ≡ notes_of self.old ++ plain (finding place code) ∷ []) }
+    {
+        let finding = Finding { place, code };
+        self.entries.push(Entry {
+            finding,
+            flow: None,
+        })?;
+        Ok(())
+    }
+
+    /// Notes findings that tell of no flow.
+    pub fn put_all(&mut self, findings: &[Finding]) -> Result<(), OutOfMemory>
+        ensures { OnOk result (notes_of self.new ≡ notes_of self.old ++ map plain findings.now) }
+    {
+        for finding in findings {
+            self.put(finding.place, finding.code)?;
+        }
+        Ok(())
+    }
+
+    /// Notes a dynamic flow at a place, of one type of a store into another.
+    pub fn put_flow<S: TypeStore>(
+        &mut self,
+        store: &S,
+        alloc: Global,
+        place: Place,
+        from: &S::Ty,
+        into: &S::Ty,
+    ) -> Result<(), OutOfMemory>
+        requires from { S.has store.now from.now }
+        requires into { S.has store.now into.now }
+        ensures { OnOk result (notes_of self.new ≡ notes_of self.old ++ dynamic place (S.tree from.now) (S.tree into.now) ∷ []) }
+    {
+        let mut boxes = BoxStore::new();
+        let from = transfer(store, &mut boxes, alloc, from)?;
+        let into = transfer(store, &mut boxes, alloc, into)?;
+        let finding = Finding {
+            place,
+            code: Code::A1,
+        };
+        self.entries.push(Entry {
+            finding,
+            flow: Some(Flow { from, into }),
+        })?;
+        Ok(())
+    }
+
+    /// The findings, in their order.
+    pub fn findings(&self, alloc: Global) -> Result<Findings, OutOfMemory>
+        ensures { IfOk result (λ v. v.items ≡ findings_of (notes_of self.now)) }
+    {
+        let mut findings = Vec::new(alloc);
+        for entry in &self.entries {
+            findings.push(entry.finding)?;
+        }
+        Ok(findings)
+    }
+
+    /// The types of the first flow that is noted at a place, as types of a store; none where no flow is noted there.
+    pub fn explain<S: TypeStore>(
+        &self,
+        store: &mut S,
+        alloc: Global,
+        place: Place,
+    ) -> Result<Option<(S::Ty, S::Ty)>, OutOfMemory>
+        ensures value { IfOk result (λ found. Explains S.has S.tree store.new found (flow_noted place (notes_of self.now))) }
+        ensures kept { Keeps S.has store.old store.new }
+    {
+        for entry in &self.entries {
+            if let Some(flow) = entry.flow_at(place) {
+                let from = transfer(&BoxStore::new(), store, alloc, &flow.from)?;
+                let into = transfer(&BoxStore::new(), store, alloc, &flow.into)?;
+                return Ok(Some((from, into)));
+            }
+        }
+        Ok(None)
+    }
+
+    /// The first flow that is noted at each place.
+    fn first_flows(&self, alloc: Global) -> Result<BTreeMap<Place, &Flow>, OutOfMemory>
+        ensures { IfOk result (HasFirstFlows (notes_of self.now)) }
+    {
+        let mut flows = BTreeMap::new(alloc);
+        for entry in &self.entries {
+            keep_first(&mut flows, entry)?;
+        }
+        Ok(flows)
+    }
+
+    /// The flows that are noted, by place, each with the texts of the two types of the first flow noted there: the type that
+    /// flows, and the one that it flows into.
+    pub fn texts(
+        &self,
+        alloc: Global,
+        tree: &Module,
+    ) -> Result<Vec<(Place, String, String)>, OutOfMemory>
+        ensures { IfOk result (λ v. AreFlowTexts (module_of tree.now) (notes_of self.now) v.items) }
+    {
+        let flows = self.first_flows(alloc)?;
+        Ok(texts_of(alloc, tree, &flows)?)
+    }
+}
+
+/// Keeps the flow of an entry, unless one is kept at its place.
+fn keep_first<'n>(
+    flows: &mut BTreeMap<Place, &'n Flow>,
+    entry: &'n Entry,
+) -> Result<(), OutOfMemory>
+    requires { IfSome entry.now.flow IsGivenFlow }
+    ensures { OnOk result ((entries : List Kept) → HasFirstFlows (notes_of entries) flows.old → HasFirstFlows (notes_of entries ++ note_of entry.now ∷ []) flows.new) }
+{
+    let Some(flow) = &entry.flow else {
+        return Ok(());
+    };
+    if flows.contains_key(&entry.finding.place) {
+        return Ok(());
+    }
+    flows.insert(entry.finding.place, flow)?;
+    Ok(())
+}
+
+/// The flows of a map, in the order of their places, with the texts of their types.
+fn texts_of(
+    alloc: Global,
+    tree: &Module,
+    flows: &BTreeMap<Place, &Flow>,
+) -> Result<Vec<(Place, String, String)>, OutOfMemory>
+    requires { HasGivenFlows flows.now }
+    ensures { IfOk result (λ v. (notes : List Note) → HasFirstFlows notes flows.now → AreFlowTexts (module_of tree.now) notes v.items) }
+{
+    let store = BoxStore::new();
+    let mut texts = Vec::new(alloc);
+    for entry in flows.iter() {
+        let (place, flow) = entry;
+        let from = type_text(&store, alloc, tree, &flow.from)?;
+        let into = type_text(&store, alloc, tree, &flow.into)?;
+        texts.push((*place, from, into))?;
+    }
+    Ok(texts)
+}

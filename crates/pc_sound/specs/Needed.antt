@@ -1,0 +1,43 @@
+-- Which flows are needed: those between types of which the first has a value that is not of the second.
+-- Own rule of the profile.
+use Rattle.std.specs.Prelude.{List, [], ◌∷◌}
+use Rattle.pc_types.specs.Tree.{Tree, Trees, Never, ListOf, DictOf, TupleOf, Union, end, more}
+use Rattle.pc_types.specs.Below.{Bases}
+use Rattle.pc_class.specs.Facts as facts
+use Rattle.pc_class.specs.Facts.{Parameter}
+use Rattle.pc_value.specs.Value.{Value, Heap}
+use Rattle.pc_sound.specs.Values.{HeapTyping, HasType, IsWell}
+
+-- the type holds no Never, at whatever depth
+abbrev mutual
+  pub HasNoNever : Tree → Type 0
+  HasNoNever Never = ⊥
+  HasNoNever (ListOf t) = HasNoNever t
+  HasNoNever (DictOf k v) = HasNoNever k × HasNoNever v
+  HasNoNever (TupleOf ts) = HaveNoNever ts
+  HasNoNever (Union a b) = HasNoNever a × HasNoNever b
+  HasNoNever _ = Unit {0}
+
+  -- nor does any of the parts of a tuple
+  pub HaveNoNever : Trees → Type 0
+  HaveNoNever end = Unit {0}
+  HaveNoNever (more t ts) = HasNoNever t × HaveNoNever ts
+
+-- no field's type holds Never
+abbrev pub NoneHasNever : List Parameter → Type 0
+NoneHasNever [] = Unit {0}
+NoneHasNever (f ∷ fs) = HasNoNever f.type × NoneHasNever fs
+
+-- no class has a field whose type holds Never
+abbrev pub FieldsHaveNoNever : List facts.Class → Type 0
+FieldsHaveNoNever [] = Unit {0}
+FieldsHaveNoNever (c ∷ cs) = NoneHasNever c.fields × FieldsHaveNoNever cs
+
+-- under some well-typed heap of the classes, some value of the first type is not of the second
+pub record IsNeeded (bases : Bases) (classes : List facts.Class) (s t : Tree) : Type 0 where
+  pub typing : HeapTyping
+  pub heap : Heap
+  pub value : Value
+  pub well : IsWell bases classes typing heap
+  pub of_first : HasType bases typing s value
+  pub not_second : ¬ (HasType bases typing t value)

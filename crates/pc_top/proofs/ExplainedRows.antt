@@ -1,0 +1,75 @@
+-- The rows of a report, whose flows are those of the notes of a module, are explained.
+use Rattle.std.proofs.Common.{◌≡◌, List, [], ◌∷◌, refl, sym, ap, ◌∙◌, subst, inl, inr, Contains, Option, Some, None}
+use Rattle.std.specs.Prelude.{MatchOption, IsSome, string_bytes, map}
+use Rattle.std.specs.List.{AllByRecursion}
+use Rattle.pc_source.specs.declared.place.Place.{Place}
+use Rattle.pc_tree.specs.declared.code.Code.TheVariants.{A1}
+use Rattle.pc_tree.specs.declared.code.Finding.{Finding}
+use Rattle.pc_tree.specs.Code.{finding}
+use Rattle.pc_tree.specs.Tree.{Module}
+use Rattle.pc_types.specs.Tree.{Tree}
+use Rattle.pc_ann.specs.Text.{type_text}
+use Rattle.pc_notes.specs.Notes.{Note, flow_noted}
+use Rattle.pc_notes.specs.Texts.{FlowText, IsFlowText, places_of, AreFlowTexts}
+use Rattle.pc_check.specs.DynamicFlows.{dynamic_flow}
+use Rattle.pc_check.specs.Modules.{IsFinding}
+use Rattle.pc_dynamic.proofs.RightFlows.{flows_found}
+use Rattle.pc_report.specs.declared.flow.FlowTexts.{FlowTexts}
+use Rattle.pc_report.specs.declared.report.Row.{Row}
+use Rattle.pc_report.specs.Flows.{Flow, IsListed, IsExplained}
+use Rattle.pc_report.specs.Report.{Explains, findings_of}
+use Rattle.pc_report.proofs.Members.{contains_here, contains_later, contains_cases, contains_none}
+use Rattle.pc_top.specs.Headline.{AreTextsOf, IsExplainedRow}
+
+-- what holds of each holds of one of them
+holds_of : {X : Type 0} (P : X → Type 0) (xs : List X) (x : X) → AllByRecursion P xs → Contains xs x → P x
+holds_of P [] x all h = absurd (contains_none x h)
+holds_of P (y ∷ ys) x all h = elim (contains_cases y ys x h) [ inl e ↦ subst P e all.0 | inr r ↦ holds_of P ys x all.1 r ]
+
+-- a place of texts is listed among them
+listed_place : (texts : List FlowText) (p : Place) → Contains (places_of texts) p → IsListed texts p
+listed_place [] p h = absurd (contains_none p h)
+listed_place (t ∷ ts) p h = elim (contains_cases t.0 (places_of ts) p h) [
+  | inl e ↦ (t, contains_here t ts t refl, e)
+  | inr r ↦ let l = listed_place ts p r in (l.0, contains_later t ts l.0 l.1, l.2)
+]
+
+-- a finding with this code
+with_code : (f : Finding) → f.code ≡ A1 → f ≡ finding f.place A1
+with_code f code = λ i. record { place = f.place; code = code i }
+
+-- what holds of each finding of rows holds of each row's
+each_finding : (P : Finding → Type 0) (rows : List Row) → ((f : Finding) → Contains (findings_of rows) f → P f) → AllByRecursion (λ (row : Row). P row.finding) rows
+each_finding P [] h = tt
+each_finding P (row ∷ rows) h = (h row.finding (contains_here row.finding (findings_of rows) row.finding refl), each_finding P rows (λ f c. h f (contains_later row.finding (findings_of rows) f c)))
+
+-- what follows of two for each
+each_of_both : {X : Type 0} (P Q R : X → Type 0) (xs : List X) → ((x : X) → P x → Q x → R x) → AllByRecursion P xs → AllByRecursion Q xs → AllByRecursion R xs
+each_of_both P Q R [] f all others = tt
+each_of_both P Q R (x ∷ xs) f all others = (f x all.0 others.0, each_of_both P Q R xs f all.1 others.1)
+
+module _ (m : Module) (notes : List Note) (texts : List FlowText) (are : AreFlowTexts m notes texts) (flows : (p : Place) → flow_noted p notes ≡ dynamic_flow m p) where
+  read_as : (o : Option (Tree × Tree)) (t : FlowText) (shown : FlowTexts) → string_bytes shown.from ≡ string_bytes t.1 → string_bytes shown.to ≡ string_bytes t.2
+      → MatchOption o ⊥ (λ f. (string_bytes t.1 ≡ type_text m f.0) × (string_bytes t.2 ≡ type_text m f.1)) → AreTextsOf m o shown
+  read_as None t shown from to h = h
+  read_as (Some f) t shown from to h = (from ∙ h.0, to ∙ h.1)
+
+  explained : (f : Finding) (shown : Option FlowTexts) → IsFinding m f → IsExplained texts f shown
+      → MatchOption shown (¬ (f.code ≡ A1)) (λ t. (f.code ≡ A1) × AreTextsOf m (dynamic_flow m f.place) t)
+  explained f None found h = λ code.
+      let dynamic : IsSome (dynamic_flow m f.place) = (flows_found m f.place).0 (subst (IsFinding m) (with_code f code) found) in
+      h code (listed_place texts f.place (are.all f.place (subst IsSome (sym (flows f.place)) dynamic)))
+  explained finding (Some shown) found h =
+      let t = h.1.0 in
+      let own : IsFlowText m notes t = holds_of (IsFlowText m notes) texts t are.each h.1.1 in
+      let here : t.0 ≡ finding.place = h.1.2 in
+      let noted : flow_noted t.0 notes ≡ dynamic_flow m finding.place = ap (λ p. flow_noted p notes) here ∙ flows finding.place in (
+        h.0,
+        read_as (dynamic_flow m finding.place) t shown h.1.3 h.1.4
+            (subst (λ (o : Option (Tree × Tree)). MatchOption o ⊥ (λ f. (string_bytes t.1 ≡ type_text m f.0) × (string_bytes t.2 ≡ type_text m f.1))) noted own),
+      )
+
+  pub rows_explained : (rows : List Row) → ((f : Finding) → Contains (findings_of rows) f → IsFinding m f) → Explains texts rows → AllByRecursion (IsExplainedRow m) rows
+  rows_explained rows found all =
+      each_of_both (λ (row : Row). IsFinding m row.finding) (λ (row : Row). IsExplained texts row.finding row.flow) (IsExplainedRow m) rows (λ row f h. explained row.finding row.flow f h)
+      (each_finding (IsFinding m) rows found) all

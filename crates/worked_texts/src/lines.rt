@@ -1,0 +1,75 @@
+//! Texts, and the lines of tokens of each.
+use crate::parts::fault_text;
+use pc_source::{Fault, read_source};
+use pc_tables::{TableFault, Tally, rows};
+use pc_token::{Line, TokenKind, tokens};
+use std::alloc::{AllocError, Global};
+
+/// The letter of a kind of token.
+fn letter(kind: TokenKind) -> &'static str {
+    match kind {
+        TokenKind::Name => "n",
+        TokenKind::Int => "i",
+        TokenKind::Str => "s",
+        TokenKind::Keyword(_) => "k",
+        TokenKind::Operator(_) => "o",
+        _ => "?",
+    }
+}
+
+/// Adds a line: its column, and then of each token the kind, the text, and where it has one the form.
+fn add_line(out: &mut String, line: &Line<'_>) -> Result<(), AllocError> {
+    let column = line.column;
+    write!(out, "{column}")?;
+    for token in line.tokens.iter() {
+        out.push_str(" ")?;
+        out.push_str(letter(token.kind))?;
+        out.push_str(token.text)?;
+        if let Some(form) = &token.form {
+            out.push_str("=")?;
+            out.push_str(form.as_str())?;
+        }
+    }
+    Ok(())
+}
+
+/// Whether each token of a line is the part of the text at its place.
+fn is_placed(text: &str, line: &Line<'_>) -> bool {
+    for token in line.tokens.iter() {
+        if text.get(token.place.start..token.place.end) != Some(token.text) {
+            return false;
+        }
+    }
+    true
+}
+
+/// Each line of a text.
+fn shown(alloc: Global, text: &str) -> Result<String, Fault> {
+    let source = read_source(alloc, text.as_bytes())?;
+    let mut out = String::new(alloc);
+    for line in &tokens(alloc, &source)? {
+        if !out.is_empty() {
+            out.push_str(" ; ")?;
+        }
+        add_line(&mut out, line)?;
+        if !is_placed(text, line) {
+            out.push_str(" with a token at another place")?;
+        }
+    }
+    if out.is_empty() {
+        out.push_str("no line")?;
+    }
+    Ok(out)
+}
+
+/// Counts the texts of a table.
+pub fn count_lines(alloc: Global, table: &str, tally: &mut Tally) -> Result<(), TableFault> {
+    for row in rows(alloc, table)? {
+        let got = match shown(alloc, row.text.as_str()) {
+            Ok(lines) => lines,
+            Err(fault) => fault_text(alloc, fault, 0)?,
+        };
+        tally.count(row.written.as_str(), row.want.as_str(), got.as_str())?;
+    }
+    Ok(())
+}

@@ -1,0 +1,116 @@
+//! Modules, and texts that are a token away from one.
+use crate::parts::{fault_text, named_part};
+use pc_front::read_module;
+use pc_tables::{TableFault, Tally, rows};
+use std::alloc::{AllocError, Global};
+
+/// What stands before and behind the rows of a part of a table, so that a row is one part of a module.
+type Frame = (&'static str, &'static str);
+
+/// Nothing stands before or behind a whole module.
+const WHOLE: Frame = ("", "");
+
+/// Lines before the last one.
+const TEXT: Frame = ("", "\nmain()\n");
+
+/// Items of a module.
+const ITEM: Frame = ("from __future__ import annotations\n", "\nmain()\n");
+
+/// What stands behind the items.
+const LAST_LINE: Frame = (
+    "from __future__ import annotations\ndef main():\n    pass\n",
+    "",
+);
+
+/// The parameters of a function.
+const PARAMETERS: Frame = (
+    "from __future__ import annotations\ndef f(",
+    "):\n    pass\nmain()\n",
+);
+
+/// The default of a parameter.
+const DEFAULT: Frame = (
+    "from __future__ import annotations\ndef f(x=",
+    "):\n    pass\nmain()\n",
+);
+
+/// Items of a module that may have dataclasses.
+const DECORATED: Frame = (
+    "from __future__ import annotations\nfrom dataclasses import dataclass\n",
+    "\nmain()\n",
+);
+
+/// A class behind its decorator.
+const CLASS: Frame = (
+    "from __future__ import annotations\nfrom dataclasses import dataclass\n@dataclass\n",
+    "\nmain()\n",
+);
+
+/// Members of a class.
+const MEMBER: Frame = (
+    "from __future__ import annotations\nfrom dataclasses import dataclass\n@dataclass\nclass A:\n    ",
+    "\nmain()\n",
+);
+
+/// The annotation of a constant.
+const ANNOTATION: Frame = ("from __future__ import annotations\nx: ", " = 1\nmain()\n");
+
+/// Statements of `main`.
+const STATEMENT: Frame = (
+    "from __future__ import annotations\ndef main():\n    ",
+    "\nmain()\n",
+);
+
+/// What `main` returns.
+const EXPRESSION: Frame = (
+    "from __future__ import annotations\ndef main():\n    return ",
+    "\nmain()\n",
+);
+
+/// What stands around the rows of a part of a table, by its name.
+fn frame_of(name: &str) -> Result<Frame, TableFault> {
+    match name {
+        "WHOLE" => Ok(WHOLE),
+        "TEXT" => Ok(TEXT),
+        "ITEM" => Ok(ITEM),
+        "LAST_LINE" => Ok(LAST_LINE),
+        "PARAMETERS" => Ok(PARAMETERS),
+        "DEFAULT" => Ok(DEFAULT),
+        "DECORATED" => Ok(DECORATED),
+        "CLASS" => Ok(CLASS),
+        "MEMBER" => Ok(MEMBER),
+        "ANNOTATION" => Ok(ANNOTATION),
+        "STATEMENT" => Ok(STATEMENT),
+        "EXPRESSION" => Ok(EXPRESSION),
+        _ => Err(TableFault::Form),
+    }
+}
+
+/// What a row comes to in its frame: a module, or the code of its refusal and the byte, counted from the row's first one.
+fn answer(alloc: Global, frame: Frame, row: &str) -> Result<String, AllocError> {
+    let (before, after) = frame;
+    let text = format!(in alloc; "{before}{row}{after}")?;
+    match read_module(alloc, text.as_bytes()) {
+        Ok(_) => String::from_str(alloc, "module"),
+        Err(fault) => fault_text(alloc, fault, before.len()),
+    }
+}
+
+/// Counts the rows of a part of a table.
+fn count_part(alloc: Global, part: &str, tally: &mut Tally) -> Result<(), TableFault> {
+    let (name, lines) = named_part(part)?;
+    let frame = frame_of(name)?;
+    for row in rows(alloc, lines)? {
+        let got = answer(alloc, frame, row.text.as_str())?;
+        tally.count(row.written.as_str(), row.want.as_str(), got.as_str())?;
+    }
+    Ok(())
+}
+
+/// Counts the rows of a table.
+pub fn count_modules(alloc: Global, table: &str, tally: &mut Tally) -> Result<(), TableFault> {
+    for part in table.split("§ ").skip(1) {
+        count_part(alloc, part, tally)?;
+    }
+    Ok(())
+}
