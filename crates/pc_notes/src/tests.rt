@@ -37,30 +37,17 @@ fn some_notes(alloc: Global) -> Result<Notes, Fail> {
 fn findings_come_in_their_order(rt: HostRuntime) -> Result<(), Fail> {
     let alloc = rt.alloc();
     let mut notes = some_notes(alloc)?;
-    let later = [
-        Finding {
-            place: place(0, 1),
-            code: Code::E02,
-        },
-        Finding {
-            place: place(7, 9),
-            code: Code::E03,
-        },
-    ];
-    notes.put_all(&later)?;
-    let found = notes.findings(alloc)?;
-    let codes = [
-        Code::E13,
-        Code::A1,
-        Code::A1,
-        Code::A1,
-        Code::E02,
-        Code::E03,
-    ];
-    assert_eq!(rt; found.len(), codes.len());
-    for (finding, code) in found.iter().zip(codes) {
-        assert!(rt; finding.code == code, "a code");
+    let later = Finding {
+        place: place(0, 1),
+        code: Code::E02,
+    };
+    notes.put_all(&[later])?;
+    let mut codes = String::new(alloc);
+    for finding in &notes.findings(alloc)? {
+        codes.push_str(finding.code.text())?;
+        codes.push_str(" ")?;
     }
+    assert_eq!(rt; codes.as_str(), "E13 A1 A1 A1 E02 ");
     Ok(())
 }
 
@@ -84,14 +71,14 @@ fn the_first_flow_of_a_place_is_explained(rt: HostRuntime) -> Result<(), Fail> {
 fn texts_come_by_place(rt: HostRuntime) -> Result<(), Fail> {
     let alloc = rt.alloc();
     let notes = some_notes(alloc)?;
-    let texts = notes.texts(alloc, &no_items(alloc))?;
-    let wanted = [(1, "object", "bool"), (5, "Any", "int")];
-    assert_eq!(rt; texts.len(), wanted.len());
-    for (text, (start, from, into)) in texts.iter().zip(wanted) {
-        assert_eq!(rt; text.0.start, start);
-        assert_eq!(rt; text.1.as_str(), from);
-        assert_eq!(rt; text.2.as_str(), into);
+    let mut texts = String::new(alloc);
+    for text in &notes.texts(alloc, &no_items(alloc))? {
+        texts.push_str(text.1.as_str())?;
+        texts.push_str(" into ")?;
+        texts.push_str(text.2.as_str())?;
+        texts.push_str("; ")?;
     }
+    assert_eq!(rt; texts.as_str(), "object into bool; Any into int; ");
     Ok(())
 }
 
