@@ -9,6 +9,8 @@ mod laws;
 mod parents;
 mod shape;
 mod store;
+#[cfg(test)]
+mod tests;
 
 pub use boxed::{BoxStore, BoxType};
 pub use head::Head;

@@ -7,7 +7,7 @@ ghost use Rattle.std.specs.Prelude.{All, IfOk, IfSome};
 ghost use Rattle.pc_types.specs.Normal.{IsKey};
 ghost use Rattle.pc_types.specs.Boxed.{tree_of, IsGiven};
 
-use pc_types::{BoxStore, BoxType, Parents, TypeStore};
+use crate::{BoxStore, BoxType, Parents, TypeStore};
 use std::alloc::Global;
 use std::test::Fail;
 
