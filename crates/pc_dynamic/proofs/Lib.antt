@@ -1,6 +1,13 @@
+pub mod EnteredTables
+pub mod Places
 pub mod PlainCodes
 pub mod RightFlows
 pub mod RightModules
 pub mod RightNotes
 pub mod RightSignatures
 pub mod RightWalks
+pub mod StandingFlows
+pub mod ToldExpressions
+pub mod ToldFlows
+pub mod ToldModules
+pub mod ToldStatements

@@ -1,7 +1,7 @@
 -- The dynamic flows of a module are found, and the other way round; they are dynamic, and of well-formed types.
 use Rattle.std.proofs.Common.{◌≡◌, Bool as Test, true, false, List, [], ◌∷◌, Option, Some, None, refl, sym, ap, ◌∙◌, subst, inl, inr, Contains}
-use Rattle.std.specs.Prelude.{if◌then◌else◌, nat_eq, IsSome}
-use Rattle.std.proofs.lemmas.Bool.{and_parts, and_from, eqb-true, eq-eqb, false≢true}
+use Rattle.std.specs.Prelude.{if◌then◌else◌, IsSome}
+use Rattle.std.proofs.lemmas.Bool.{false≢true}
 use Rattle.pc_source.specs.declared.place.Place.{Place}
 use Rattle.pc_tree.specs.declared.code.Code.{Code}
 use Rattle.pc_tree.specs.declared.code.Code.TheVariants.{A1}
@@ -21,6 +21,7 @@ use Rattle.pc_class.specs.Facts.{Method}
 use Rattle.pc_class.specs.Findings.{ClassFinds, base, member, order, override}
 use Rattle.pc_class.specs.Overrides.{Judges, static, dynamic, wrong}
 use Rattle.pc_notes.specs.Notes.{Note, findings_of, is_same_place, or_else, flow_noted}
+use Rattle.pc_dynamic.proofs.Places.{same_place, own_place}
 use Rattle.pc_dynamic.proofs.PlainCodes.{IsPlain, IsPlainIfAny}
 use Rattle.pc_dynamic.proofs.RightNotes.{IsTestedFlow, IsFormedFlow, AreRight}
 use Rattle.pc_check.specs.ComputedModules.{module_finds}
@@ -60,16 +61,6 @@ class_plain m f (base c class n h) = of_code f _ _ h.is refl
 class_plain m f (member h) = subst IsPlain (sym h.code) refl
 class_plain m f (order c class n h) = of_code f _ _ h.is refl
 class_plain m f (override c class n h) = of_code f _ _ h.is (judged_plain h.judged)
-
--- ---- places
-
-same_place : (p q : Place) → is_same_place p q ≡ true → p ≡ q
-same_place p q h =
-    let e = and_parts (nat_eq p.start q.start) (nat_eq p.end q.end) h in
-    λ i. record { start = eqb-true p.start q.start e.0 i; end = eqb-true p.end q.end e.1 i }
-
-own_place : (p : Place) → is_same_place p p ≡ true
-own_place p = and_from (nat_eq p.start p.start) (nat_eq p.end p.end) (eq-eqb p.start p.start refl) (eq-eqb p.end p.end refl)
 
 -- ---- the first flow that is noted at a place
 

@@ -1,1 +1,4 @@
 pub mod FlowLaw
+pub mod FlowsOfExpressions
+pub mod FlowsOfModules
+pub mod FlowsOfStatements

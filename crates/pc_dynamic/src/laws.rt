@@ -1,6 +1,6 @@
 // The laws, each a function whose contract it is.
 
-ghost use Rattle.pc_dynamic.specs.FlowLaw.{DynamicFlowsAreDynamic, DynamicFlowsAreFound, DynamicFlowsAreWellFormed};
+ghost use Rattle.pc_dynamic.specs.FlowLaw.{DynamicFlowsAreDynamic, DynamicFlowsAreFound, DynamicFlowsAreWellFormed, DynamicFlowsStandUnderLabels};
 
 /// The law that A1 is found at a place of a module exactly where the flow there is dynamic.
 pub fn dynamic_flows_are_found()
@@ -12,4 +12,10 @@ pub fn dynamic_flows_are_found()
 pub fn dynamic_flows_are_dynamic()
     ensures flows { DynamicFlowsAreDynamic }
     ensures types { DynamicFlowsAreWellFormed }
+{}
+
+/// The law that the two types of a dynamic flow of a module are those of a flow under any lawful labelling of it: of the first
+/// dynamic one among the flows of a value at its place. So the pair that is computed is one that the rules themselves speak of.
+pub fn dynamic_flows_stand_under_labels()
+    ensures { DynamicFlowsStandUnderLabels }
 {}

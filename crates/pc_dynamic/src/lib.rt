@@ -3,4 +3,6 @@
 
 mod laws;
 
-pub use laws::{dynamic_flows_are_dynamic, dynamic_flows_are_found};
+pub use laws::{
+    dynamic_flows_are_dynamic, dynamic_flows_are_found, dynamic_flows_stand_under_labels,
+};

@@ -8,5 +8,5 @@ mod tally;
 
 pub use fault::TableFault;
 pub use files::{Judge, judge_files};
-pub use row::{Row, rows};
+pub use row::{Row, rows, written_out};
 pub use tally::Tally;

@@ -18,7 +18,11 @@ fn add_repeated(text: &mut String, alloc: Global, repeated: &str) -> Result<(), 
 }
 
 /// The text of a row, its repeated parts written out.
-fn written_out(alloc: Global, row: &str) -> Result<String, TableFault> {
+///
+/// # Errors
+///
+/// `Form` where a part that is repeated has no number.
+pub fn written_out(alloc: Global, row: &str) -> Result<String, TableFault> {
     let mut text = String::new(alloc);
     for piece in row.split('⟨') {
         match piece.split_once('⟩') {

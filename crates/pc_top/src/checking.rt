@@ -20,9 +20,13 @@ use pc_tree::Module;
 use pc_types::{Parents, TypeStore};
 use std::alloc::Global;
 
-/// What is found in a module, by the types of a store: in its signatures, constants and bodies, each dynamic flow with its types; of its
-/// names; of its classes.
-pub(crate) fn findings_by<S: TypeStore>(
+/// What is found in a module, over any store of types: in its signatures, constants and bodies, each dynamic flow with its types;
+/// of its names; of its classes. It is the same over each store, since the contract names none. Own rule of the profile.
+///
+/// # Errors
+///
+/// `OutOfMemory` only when an allocation failed.
+pub fn findings_by<S: TypeStore>(
     store: &mut S,
     alloc: Global,
     parents: &Parents,

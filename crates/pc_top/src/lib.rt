@@ -7,6 +7,7 @@ mod laws;
 mod stream;
 mod top;
 
+pub use checking::findings_by;
 pub use fault::CheckFault;
 pub use laws::no_needless_flow;
 pub use pc_report::{Format, Report, Row};

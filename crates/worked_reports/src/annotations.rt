@@ -3,13 +3,20 @@ use pc_ann::{read_ann, type_text};
 use pc_front::read_module;
 use pc_scope::scopes;
 use pc_source::Fault;
-use pc_tables::{TableFault, Tally};
+use pc_tables::{TableFault, Tally, written_out};
 use pc_tree::{Ann, Finding, ItemKind, Module};
 use pc_types::{BoxStore, Parents};
 use std::alloc::{AllocError, Global};
 
-/// What stands behind an annotation.
-const TAIL: &str = " = 1\ndef main():\n    pass\nmain()\n";
+/// What stands behind an annotation: a class below another one, and the end of the module.
+const TAIL: &str = " = 1
+@dataclass
+class D(C):
+    y: int
+def main():
+    pass
+main()
+";
 
 /// Each finding, with its places counted from a byte.
 fn push_findings(text: &mut String, from: usize, found: &[Finding]) -> Result<(), AllocError> {
@@ -65,8 +72,9 @@ fn answer_to(alloc: Global, text: &str) -> Result<String, AllocError> {
 /// annotation's start.
 pub fn count_annotations(alloc: Global, table: &str, tally: &mut Tally) -> Result<(), TableFault> {
     let (before, rows) = table.split_once("\n----\n").ok_or(TableFault::Form)?;
-    for row in rows.lines() {
-        let (annotation, want) = row.split_once(" ; ").ok_or(TableFault::Form)?;
+    for line in rows.lines() {
+        let row = written_out(alloc, line)?;
+        let (annotation, want) = row.as_str().split_once(" ; ").ok_or(TableFault::Form)?;
         let text = format!(in alloc; "{before}{annotation}{TAIL}")?;
         let got = answer_to(alloc, text.as_str())?;
         tally.count(annotation, want, got.as_str())?;

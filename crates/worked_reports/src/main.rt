@@ -5,9 +5,12 @@ mod annotations;
 mod forms;
 mod modules;
 mod names;
+mod questions;
 mod scopes;
+mod stores;
 mod tables;
 mod texts;
+mod types;
 
 use crate::tables::Reports;
 use pc_tables::judge_files;

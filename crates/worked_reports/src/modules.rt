@@ -1,6 +1,7 @@
 //! Modules with their reports.
+use crate::stores::answer_to;
 use pc_tables::{TableFault, Tally};
-use pc_top::{Format, check};
+use pc_top::Format;
 use std::alloc::{AllocError, Global};
 
 /// What stands first in each module of a table.
@@ -67,14 +68,6 @@ fn case_of(alloc: Global, lines: &str) -> Result<Case, TableFault> {
         case.text.push_str(TAIL)?;
     }
     Ok(case)
-}
-
-/// What the checker answers to a module: its report in a format, or its refusal.
-pub fn answer_to(alloc: Global, text: &str, format: Format) -> Result<String, AllocError> {
-    match check(alloc, text.as_bytes()) {
-        Ok(report) => report.to_text(alloc, format).map_err(|_| AllocError),
-        Err(fault) => format!(in alloc; "{fault}"),
-    }
 }
 
 /// Counts the modules of a table, whose reports are in this format.

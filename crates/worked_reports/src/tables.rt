@@ -3,7 +3,9 @@ use crate::forms::count_forms;
 use crate::modules::count_modules;
 use crate::names::count_names;
 use crate::scopes::count_findings;
+use crate::stores::count_stores;
 use crate::texts::count_texts;
+use crate::types::count_types;
 use pc_tables::{Judge, TableFault, Tally};
 use pc_top::Format;
 use std::alloc::Global;
@@ -27,6 +29,8 @@ impl Judge for Reports {
             "annotations" => count_annotations(alloc, table, tally),
             "names" => count_names(alloc, table, tally),
             "findings" => count_findings(alloc, table, tally),
+            "stores" => count_stores(alloc, table, tally),
+            "types" => count_types(alloc, table, tally),
             _ => Err(TableFault::Kind),
         }
     }

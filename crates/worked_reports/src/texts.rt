@@ -1,5 +1,5 @@
 //! Whole texts, byte for byte, with their reports or refusals.
-use crate::modules::answer_to;
+use crate::stores::answer_to;
 use pc_tables::{TableFault, Tally, rows};
 use pc_top::Format;
 use std::alloc::{AllocError, Global};

@@ -1,0 +1,181 @@
+-- What a walk finds in an expression, of its flows and in what a `for` goes over tells of dynamic flows that stand under lawful labels.
+use Rattle.std.proofs.Common.{◌≡◌, List, [], ◌∷◌, ◌++◌, Option, Some, None, sym, ap, ◌∙◌, subst, inl, inr, append-nil, append_assoc}
+use Rattle.std.specs.Prelude.{Bool as Test, true, false, if◌then◌else◌}
+use Rattle.pc_source.specs.declared.place.Place.{Place}
+use Rattle.pc_tree.specs.Depth.{place_of}
+use Rattle.pc_tree.specs.Tree.{Name, Expr, Exprs, Keywords, name, call, Target, to_name, to_attribute, to_index}
+use Rattle.pc_scope.specs.Expressions.{is_instance_test}
+use Rattle.pc_types.specs.Tree.{Tree, Any, Int, Object, NoneType}
+use Rattle.pc_types.specs.WellFormed.{IsWellFormed}
+use Rattle.pc_types.specs.Computed.{static_test, assignable_test}
+use Rattle.pc_flow.specs.Environment.{Env}
+use Rattle.pc_flow.specs.WellFormed.{AreWellFormed, IsWellFormedEnv, IsWellFormedIfAny}
+use Rattle.pc_notes.specs.Notes.{Note}
+use Rattle.pc_expr.specs.Operations.{Mark, clean, StoreOffer, store_codes, store_index_types, stored_types, only_type}
+use Rattle.pc_expr.specs.Calls.{CallOffer, given, call_mark, positional_seat, named_seat, is_range, range_item, range_offers, range_signature}
+use Rattle.pc_expr.specs.Context.{FlowsInto}
+use Rattle.pc_expr.specs.Labels.{Flowing, Marks, mark_of, type_of}
+use Rattle.pc_expr.specs.Lawful.{Lawful}
+use Rattle.pc_expr.specs.Computed.{labels_of, flows_of}
+use Rattle.pc_expr.specs.Found.{codes_at, flows_at, found_in}
+use Rattle.pc_expr.specs.Standing.{Standing, mark_in, finds_in, items_in, keywords_in, arguments_find, keywords_find}
+use Rattle.pc_expr.specs.Typing.{range_finds}
+use Rattle.pc_expr.proofs.One.{one, items_one, keywords_one}
+use Rattle.pc_expr.proofs.WellFormed.{int_well_formed, object_well_formed, none_well_formed}
+use Rattle.pc_expr.proofs.Called.{CallsWellFormed, builtin_well_formed, called_well_formed, named_well_formed, positional_well_formed}
+use Rattle.pc_expr.proofs.ComputedFlows.{are_tests}
+use Rattle.pc_expr.proofs.ComputedLawful.{labels_are_lawful, items_lawful, keywords_lawful}
+use Rattle.pc_check.specs.StatementLabels.{OptionMarks, TargetMarks}
+use Rattle.pc_check.specs.Statements.{RangeOrValues, LawfulRange, LawfulValues, LawfulIterable, attribute_offers, index_offers, LawfulStore, LawfulReturn, LawfulOption}
+use Rattle.pc_check.specs.Labelled.{Setting}
+use Rattle.pc_check.specs.ComputedStatements.{Table, type_table, Frame, attribute_stores, index_stores, stored_finds, store_finds, iterable_finds, option_finds, return_finds}
+use Rattle.pc_check.specs.WalkLaw.{EnvFits, frame_in}
+use Rattle.pc_check.proofs.StoredTypes.{fields_stored, items_stored, keys_stored, only_well_formed}
+use Rattle.pc_check.proofs.WalkedTables.{types_well_formed}
+use Rattle.pc_check.proofs.WalkedExpressions.{here, ExpressionTold, told, flows_told}
+use Rattle.pc_dynamic.specs.FlowsOfExpressions.{DynamicFlow, IsDynamicAt, DynamicIn}
+use Rattle.pc_dynamic.specs.FlowsOfStatements.{DynamicInOption, DynamicInValue, DynamicInTarget}
+use Rattle.pc_dynamic.proofs.ToldFlows.{AllTell, tell_then, tell_codes, tell_flows, tell_expression}
+
+module _ (P : DynamicFlow → Type 0) (setting : Setting) (returned : Tree) (kr : IsWellFormed setting.context.bases returned) (declared : List Tree) (table : Table) (kt : IsWellFormedEnv setting.context.bases table) (env : Env) (h : EnvFits setting declared table env) where
+  open setting use {whole as m, context as ctx, context_well_formed as ck}
+
+  abbrev frame : Frame
+  frame = frame_in setting returned
+
+  abbrev at_env : Standing
+  at_env = here setting declared table kt env h
+
+  ds : AreWellFormed ctx.bases (type_table table)
+  ds = types_well_formed ctx.bases table kt
+
+  -- this holds of each flow of which something is said
+  abbrev Covers : (DynamicFlow → Type 0) → Type 0
+  Covers Says = (d : DynamicFlow) → Says d → P d
+
+  -- ---- expressions
+
+  abbrev Reads : (want : Option Tree) (e : Expr) → Marks e → Type 0
+  Reads want e marks = ExpressionTold setting declared table kt env h want e marks
+
+  read : (want : Option Tree) → IsWellFormedIfAny ctx.bases want → (e : Expr) (marks : Marks e) → Lawful ctx declared env want e marks → Reads want e marks
+  read want kw e marks l = told setting declared table kt env h want kw e marks l
+
+  -- what is found in an expression is what stands under its lawful labels
+  found_is : (want : Option Tree) → IsWellFormedIfAny ctx.bases want → (e : Expr) (marks : Marks e) → Lawful ctx declared env want e marks → finds_in at_env want e ≡ found_in e marks
+  unfolding finds_in
+  found_is want kw e marks l =
+      let labels = labels_of ctx (type_table table) env want e in
+      let k = labels_are_lawful ctx (type_table table) env want e ck ds h.well_formed kw in
+      ap (found_in e) (sym (one ctx declared (type_table table) env h.same want e marks labels l k.0))
+
+  pub tell_in : (want : Option Tree) → IsWellFormedIfAny ctx.bases want → (e : Expr) (marks : Marks e) → Lawful ctx declared env want e marks → Covers (DynamicIn e marks) → AllTell P (finds_in at_env want e)
+  tell_in want kw e marks l k = subst (AllTell P) (sym (found_is want kw e marks l)) (tell_expression P e marks k)
+
+  -- its flows into several types
+  pub tell_flowing : (want : Option Tree) (e : Expr) (marks : Marks e) (ts : List Tree) (flows : Flowing) → IsWellFormedIfAny ctx.bases want → Lawful ctx declared env want e marks → AreWellFormed ctx.bases ts → FlowsInto ctx.bases (mark_of e marks) ts flows → Covers (IsDynamicAt (place_of e) flows)
+      → AllTell P (flows_at (place_of e) (flows_of ctx.bases (mark_in at_env want e) ts))
+  tell_flowing want e marks ts flows kw l ks fl k =
+      let v = read want kw e marks l in
+      let is : flows_of ctx.bases (mark_in at_env want e) ts ≡ flows = ap (λ x. flows_of ctx.bases x ts) v.mark ∙ flows_told setting (mark_of e marks) ts flows v.well_formed ks fl in
+      subst (λ fs. AllTell P (flows_at (place_of e) fs)) (sym is) (tell_flows P (place_of e) flows k)
+
+  -- an expression, and then its flows
+  tell_both : (want : Option Tree) (e : Expr) (marks : Marks e) (ts : List Tree) (flows : Flowing) → IsWellFormedIfAny ctx.bases want → Lawful ctx declared env want e marks → AreWellFormed ctx.bases ts → FlowsInto ctx.bases (mark_of e marks) ts flows → Covers (IsDynamicAt (place_of e) flows) → Covers (DynamicIn e marks)
+      → AllTell P (finds_in at_env want e ++ flows_at (place_of e) (flows_of ctx.bases (mark_in at_env want e) ts))
+  tell_both want e marks ts flows kw l ks fl k k' =
+      tell_then P (finds_in at_env want e) (flows_at (place_of e) (flows_of ctx.bases (mark_in at_env want e) ts)) (tell_in want kw e marks l k') (tell_flowing want e marks ts flows kw l ks fl k)
+
+  -- ---- what a `for` goes over
+
+  -- a call of `range`
+  module _ (p : Place) (n : Name) (args : Exprs) (kws : Keywords) where
+    abbrev offers : List CallOffer
+    offers = range_offers (given args kws)
+
+    -- the labels that the walk has for it
+    abbrev range_labels : Marks (call p (name n) args kws)
+    range_labels = record {
+      here = call_mark ctx.bases offers;
+      callee = clean Any;
+      second = None;
+      arguments = items_in at_env (positional_seat offers) args;
+      keywords = keywords_in at_env (named_seat offers) [] kws;
+    }
+
+    moved : (a k c : List Note) → (a ++ (k ++ [])) ++ c ≡ a ++ (k ++ c)
+    moved a k c = append_assoc a (k ++ []) c ∙ ap (λ x. a ++ (x ++ c)) (append-nil k)
+
+    range_listed : found_in (call p (name n) args kws) range_labels ≡ range_finds at_env p (name n) args kws
+    unfolding arguments_find keywords_find
+    range_listed = moved (arguments_find at_env (is_instance_test (name n) args kws) (positional_seat offers) args) (keywords_find at_env (named_seat offers) [] kws) (codes_at p (call_mark ctx.bases offers).codes)
+
+    range_lawful : (marks : Marks (call p (name n) args kws)) → LawfulRange m ctx declared env (name n) args kws p marks → range_labels ≡ marks
+    range_lawful marks l =
+        let calls : CallsWellFormed ctx.bases offers = (called_well_formed ctx.bases (given args kws) range_signature (builtin_well_formed ctx.bases (Int ∷ []) Object (int_well_formed ctx.bases, tt) (object_well_formed ctx.bases)), tt) in
+        let tests = are_tests ctx.bases ck.smaller in
+        let a = items_lawful ctx (type_table table) ck ds (static_test ctx.bases) (assignable_test ctx.bases) tests env h.well_formed (positional_seat offers) (positional_well_formed ctx.bases offers calls) args in
+        let k = keywords_lawful ctx (type_table table) ck ds (static_test ctx.bases) (assignable_test ctx.bases) tests env h.well_formed (named_seat offers) (named_well_formed ctx.bases offers calls) [] kws in
+        let q = items_one ctx declared (type_table table) env h.same (positional_seat offers) args marks.arguments (items_in at_env (positional_seat offers) args) l.arguments a.lawful in
+        let r = keywords_one ctx declared (type_table table) env h.same (named_seat offers) [] kws marks.keywords (keywords_in at_env (named_seat offers) [] kws) l.keywords k.lawful in
+        λ i. record { here = sym l.here i; callee = sym l.callee i; second = sym l.second i; arguments = sym q i; keywords = sym r i }
+
+    tell_call : (b : Test) (marks : Marks (call p (name n) args kws)) (item : Mark)
+        → RangeOrValues m ctx declared b (LawfulRange m ctx declared env (name n) args kws p marks × (item ≡ range_item (given args kws))) (LawfulValues m ctx declared env (call p (name n) args kws) marks item)
+        → Covers (DynamicIn (call p (name n) args kws) marks)
+        → AllTell P (if b then range_finds at_env p (name n) args kws else finds_in at_env None (call p (name n) args kws))
+    tell_call true marks item l k =
+        subst (AllTell P) (sym (ap (found_in (call p (name n) args kws)) (range_lawful marks l.0)) ∙ range_listed) (tell_expression P (call p (name n) args kws) marks k)
+    tell_call false marks item l k = tell_in None tt (call p (name n) args kws) marks l.0 k
+
+  pub tell_iterable : (e : Expr) (marks : Marks e) (item : Mark) → LawfulIterable m ctx declared env e marks item → Covers (DynamicIn e marks) → AllTell P (iterable_finds frame at_env e)
+  tell_iterable (call p (name n) args kws) marks item l k = tell_call p n args kws (is_range (ctx.resolve n.text)) marks item l k
+  tell_iterable e marks item l k = tell_in None tt e marks l.0 k
+
+  -- ---- stores
+
+  -- at the store, and of the value
+  tell_stored : (os : List StoreOffer) → AreWellFormed ctx.bases (stored_types os) → (p : Place) (e : Expr) (marks : Marks e) (flows : Flowing) → Lawful ctx declared env (only_type os (stored_types os)) e marks → FlowsInto ctx.bases (mark_of e marks) (stored_types os) flows
+      → Covers (IsDynamicAt (place_of e) flows) → Covers (DynamicIn e marks) → AllTell P (stored_finds frame at_env os p e)
+  tell_stored os ks p e marks flows l fl k k' =
+      let want = only_type os (stored_types os) in
+      tell_then P (codes_at p (store_codes os)) (finds_in at_env want e ++ flows_at (place_of e) (flows_of ctx.bases (mark_in at_env want e) (stored_types os)))
+      (tell_codes P p (store_codes os))
+      (tell_both want e marks (stored_types os) flows (only_well_formed ctx.bases os (stored_types os) ks) l ks fl k k')
+
+  pub tell_store : (t : Target) (target : TargetMarks t) (e : Expr) (marks : Marks e) (flows : Flowing) → LawfulStore m ctx declared env t target e marks flows
+      → Covers (IsDynamicAt (place_of e) flows) → Covers (DynamicIn e marks) → Covers (DynamicInTarget t target) → AllTell P (store_finds frame at_env t e)
+  tell_store (to_name n) target e marks flows l k k' kt' = absurd l
+  tell_store (to_attribute p o field) target e marks flows l k k' kt' =
+      let v = read None tt o target.object l.object in
+      let os = attribute_offers m ctx declared field.text (type_of o target.object) in
+      let ks : AreWellFormed ctx.bases (stored_types os) = fields_stored ctx.bases ctx.classes ck.classes field.text (type_of o target.object) v.well_formed in
+      let offers : os ≡ attribute_stores frame field.text (mark_in at_env None o).type = ap (λ x. attribute_stores frame field.text x.type) (sym v.mark) in
+      subst (λ q. AllTell P (finds_in at_env None o ++ stored_finds frame at_env q p e)) offers
+      (tell_then P (finds_in at_env None o) (stored_finds frame at_env os p e) (tell_in None tt o target.object l.object kt') (tell_stored os ks p e marks flows l.value l.flow k k'))
+  tell_store (to_index p o i) target e marks flows l k k' kt' =
+      let v = read None tt o target.object l.object in
+      let os = index_offers m ctx declared (type_of o target.object) in
+      let ks : AreWellFormed ctx.bases (stored_types os) = items_stored ctx.bases (type_of o target.object) v.well_formed in
+      let kk = keys_stored ctx.bases (type_of o target.object) v.well_formed in
+      let offers : os ≡ index_stores frame (mark_in at_env None o).type = ap (λ x. index_stores frame x.type) (sym v.mark) in
+      let xs = finds_in at_env None o in
+      let ys = finds_in at_env None i in
+      let zs = flows_at (place_of i) (flows_of ctx.bases (mark_in at_env None i) (store_index_types os)) in
+      subst (λ q. AllTell P (xs ++ (ys ++ (flows_at (place_of i) (flows_of ctx.bases (mark_in at_env None i) (store_index_types q)) ++ stored_finds frame at_env q p e)))) offers
+      (tell_then P xs (ys ++ (zs ++ stored_finds frame at_env os p e)) (tell_in None tt o target.object l.object (λ d x. kt' d (inr (inl x))))
+      (tell_then P ys (zs ++ stored_finds frame at_env os p e) (tell_in None tt i target.key l.key (λ d x. kt' d (inr (inr x))))
+      (tell_then P zs (stored_finds frame at_env os p e) (tell_flowing None i target.key (store_index_types os) target.key_flows tt l.key kk l.key_flow (λ d x. kt' d (inl x)))
+      (tell_stored os ks p e marks flows l.value l.flow k k'))))
+
+  -- ---- what may be missing
+
+  pub tell_option : (e : Option Expr) (marks : OptionMarks e) → LawfulOption m ctx declared returned env e marks → Covers (DynamicInOption e marks) → AllTell P (option_finds frame at_env None e)
+  tell_option None marks l k = tt
+  tell_option (Some e) marks l k = tell_in None tt e marks l k
+
+  pub tell_return : (p : Place) (e : Option Expr) (marks : OptionMarks e) (flows : Flowing) → LawfulReturn m ctx declared returned env e marks flows → Covers (DynamicInValue p e marks flows) → AllTell P (return_finds frame at_env p e)
+  tell_return p None marks flows l k =
+      let is = flows_told setting (clean NoneType) (returned ∷ []) flows (none_well_formed ctx.bases) (kr, tt) l in
+      subst (λ fs. AllTell P (flows_at p fs)) (sym is) (tell_flows P p flows k)
+  tell_return p (Some e) marks flows l k = tell_both (Some returned) e marks (returned ∷ []) flows kr l.0 (kr, tt) l.1 (λ d x. k d (inl x)) (λ d x. k d (inr x))

@@ -1,0 +1,215 @@
+//! What is asked of types, over any store: how two compare, their join, and what one is made of.
+ghost use Rattle.std.specs.Prelude.{◌≡◌, All, IfOk};
+ghost use Rattle.pc_tree.specs.Tree.{module_of};
+ghost use Rattle.pc_scope.specs.Scoped.{AreScopes};
+ghost use Rattle.pc_types.specs.Store.{Keeps};
+
+use pc_ann::{read_ann, type_text};
+use pc_scope::Scopes;
+use pc_source::OutOfMemory;
+use pc_tree::{Ann, Findings, ItemKind, Module};
+use pc_types::{Parents, TypeStore};
+use std::alloc::Global;
+
+/// What is asked of two types, or of the first one.
+#[derive(Clone, Copy)]
+pub enum Question {
+    /// Whether the first is static to the second, and whether it is assignable to it.
+    Flow,
+    /// Their join.
+    Join,
+    /// How many nodes it has.
+    Nodes,
+    /// Its parts, at once and one by one.
+    Parts,
+    /// Its members.
+    Members,
+    /// The type again.
+    Copy,
+}
+
+/// A module whose first two constants are annotated with the types that are asked of.
+#[derive(Drop)]
+pub struct Setting<'a> {
+    pub tree: &'a Module,
+    pub scopes: &'a Scopes,
+    pub parents: &'a Parents,
+}
+
+/// The annotation of the module's constant of this number, if it has one.
+fn annotation(module: &Module, number: usize) -> Option<&Ann> {
+    let mut before = number;
+    for item in &module.items {
+        if let ItemKind::Constant(constant) = &item.kind {
+            if before == 0 {
+                return constant.annotation.as_ref();
+            }
+            before -= 1;
+        }
+    }
+    None
+}
+
+/// The type of the constant of this number: that of its annotation, or `Never`, which no annotation spells.
+fn type_of<S: TypeStore>(
+    store: &mut S,
+    alloc: Global,
+    setting: &Setting,
+    number: usize,
+    found: &mut Findings,
+) -> Result<S::Ty, OutOfMemory>
+    requires { AreScopes (module_of setting.now.tree.now) setting.now.scopes.now }
+    ensures held { IfOk result (S.has store.new) }
+    ensures kept { Keeps S.has store.old store.new }
+{
+    let Setting {
+        tree,
+        scopes,
+        parents,
+    } = setting;
+    match annotation(tree, number) {
+        Some(annotation) => read_ann(store, alloc, parents, tree, scopes, found, annotation),
+        None => store.never(alloc),
+    }
+}
+
+/// A word for an answer.
+fn yes_or_no(answer: bool) -> &'static str {
+    if answer { "yes" } else { "no" }
+}
+
+/// Whether the first type is static to the second, and whether it is assignable to it.
+fn flow<S: TypeStore>(
+    store: &mut S,
+    alloc: Global,
+    parents: &Parents,
+    s: &S::Ty,
+    t: &S::Ty,
+) -> Result<String, OutOfMemory>
+    requires left { S.has store.old s.now }
+    requires right { S.has store.old t.now }
+{
+    let is_static = yes_or_no(store.is_static(parents, s, t));
+    let is_assignable = yes_or_no(store.is_assignable(parents, s, t));
+    Ok(format!(in alloc; "{is_static} {is_assignable}")?)
+}
+
+/// The text of the join of two types.
+fn join<S: TypeStore>(
+    store: &mut S,
+    alloc: Global,
+    setting: &Setting,
+    s: &S::Ty,
+    t: &S::Ty,
+) -> Result<String, OutOfMemory>
+    requires left { S.has store.old s.now }
+    requires right { S.has store.old t.now }
+{
+    match store.join(alloc, setting.parents, s, t)? {
+        Some(joined) => type_text(store, alloc, setting.tree, &joined),
+        None => Ok(String::from_str(alloc, "none")?),
+    }
+}
+
+/// Adds the text of a type behind those of others.
+fn add<S: TypeStore>(
+    store: &S,
+    alloc: Global,
+    tree: &Module,
+    ty: &S::Ty,
+    text: &mut String,
+) -> Result<(), OutOfMemory>
+    requires { S.has store.now ty.now }
+{
+    if !text.is_empty() {
+        text.push_str(", ")?;
+    }
+    text.push_str(type_text(store, alloc, tree, ty)?.as_str())?;
+    Ok(())
+}
+
+/// The texts of types behind one another.
+fn listed<S: TypeStore>(
+    store: &S,
+    alloc: Global,
+    tree: &Module,
+    types: &[S::Ty],
+) -> Result<String, OutOfMemory>
+    requires { All (S.has store.now) types.now }
+{
+    let mut text = String::new(alloc);
+    for ty in types {
+        add(store, alloc, tree, ty, &mut text)?;
+    }
+    Ok(text)
+}
+
+/// The texts of the parts of a type, which are asked for one by one.
+fn one_by_one<S: TypeStore>(
+    store: &S,
+    alloc: Global,
+    tree: &Module,
+    ty: &S::Ty,
+) -> Result<String, OutOfMemory>
+    requires { S.has store.now ty.now }
+{
+    let mut text = String::new(alloc);
+    for number in 0..store.head(ty).part_count() {
+        add(
+            store,
+            alloc,
+            tree,
+            &store.part(alloc, ty, number)?,
+            &mut text,
+        )?;
+    }
+    Ok(text)
+}
+
+/// The texts of the parts of a type, where those that are asked for one by one are the same as those at once.
+fn parts<S: TypeStore>(
+    store: &S,
+    alloc: Global,
+    tree: &Module,
+    ty: &S::Ty,
+) -> Result<String, OutOfMemory>
+    requires { S.has store.now ty.now }
+{
+    let at_once = listed(store, alloc, tree, &store.parts(alloc, ty)?)?;
+    let one_by_one = one_by_one(store, alloc, tree, ty)?;
+    if at_once.as_str() == one_by_one.as_str() {
+        return Ok(at_once);
+    }
+    let (at_once, one_by_one) = (at_once.as_str(), one_by_one.as_str());
+    Ok(format!(in alloc; "{at_once} at once, {one_by_one} one by one")?)
+}
+
+/// The answer of a store.
+pub fn answer<S: TypeStore>(
+    store: &mut S,
+    alloc: Global,
+    setting: &Setting,
+    question: Question,
+) -> Result<String, OutOfMemory>
+    requires { AreScopes (module_of setting.now.tree.now) setting.now.scopes.now }
+{
+    let mut found = Vec::new(alloc);
+    let s = type_of(store, alloc, setting, 0, &mut found)?;
+    let t = type_of(store, alloc, setting, 1, &mut found)?;
+    if !found.is_empty() {
+        return Ok(String::from_str(alloc, "an annotation with findings")?);
+    }
+    let tree = setting.tree;
+    let text = match question {
+        Question::Flow => flow(store, alloc, setting.parents, &s, &t),
+        Question::Join => join(store, alloc, setting, &s, &t),
+        Question::Nodes => Ok(format!(in alloc; "{}", store.nodes(&s))?),
+        Question::Parts => parts(store, alloc, tree, &s),
+        Question::Members => listed(store, alloc, tree, &store.members(alloc, &s)?),
+        Question::Copy => type_text(store, alloc, tree, &store.copy(alloc, &s)?),
+    }?;
+    if text.is_empty() {
+        return Ok(String::from_str(alloc, "nothing")?);
+    }
+    Ok(text)
+}
