@@ -1,5 +1,6 @@
 //! What the tests of runs share.
 use pc_front::read_module;
+use pc_names::fixed_keys;
 use pc_run::{End, Trace, run, trace_text};
 use std::alloc::Global;
 use std::test::Fail;
@@ -10,7 +11,7 @@ pub const AMPLE: u64 = 1_000_000;
 /// The trace of a module.
 pub fn traced(alloc: Global, text: &str, fuel: u64, choices: &[u8]) -> Result<Trace, Fail> {
     let program = read_module(alloc, text.as_bytes())?;
-    Ok(run(alloc, &program, fuel, choices)?)
+    Ok(run(alloc, fixed_keys()?, &program, fuel, choices)?)
 }
 
 /// The text of the trace of a module.

@@ -4,3 +4,5 @@ pub mod Lists
 pub mod Modules
 pub mod Rows
 pub mod Statements
+pub mod FirstPlaces
+pub mod Filling

@@ -1,6 +1,7 @@
 pub mod Calls
 pub mod Evaluation
 pub mod Free
+pub mod Globals
 pub mod Machine
 pub mod Names
 pub mod Performed

@@ -123,7 +123,7 @@ flow_of (rust_flow.Leaves v) = leaves (value_of v)
 
 -- the state of a run that a machine holds
 abbrev pub state_of : Machine → State
-state_of m = record { classes = map class_of m.classes.items; globals = map global_of m.globals.items; frame = map local_of m.frame.items; heap = heap_of m.heap }
+state_of m = record { classes = map class_of m.classes.items; globals = map global_of m.globals.bindings.items; frame = map local_of m.frame.items; heap = heap_of m.heap }
 
 -- the plain run so far that a machine holds
 abbrev pub progress_of : Machine → Progress

@@ -1,16 +1,21 @@
-ghost use Rattle.std.specs.Prelude.{◌≡◌, map, IfOk, chars, string_bytes};
+ghost use Rattle.std.specs.Prelude.{◌≡◌, map, IfOk, List, ℕ, chars, string_bytes};
+ghost use Rattle.std.specs.List.{list_all};
+ghost use Rattle.pc_tree.specs.Stopping.{is_among};
+ghost use Rattle.pc_names.specs.Names.{at_text, texts_in};
 ghost use Rattle.pc_tree.specs.Tree.{literal_of, param_of};
 ghost use Rattle.pc_value.specs.Meaning.{value_of};
 ghost use Rattle.pc_value.specs.Keys.{option_value};
 ghost use Rattle.pc_machine.specs.Calls.{value_named, is_parameter, are_parameters, bound_arguments, taken};
 ghost use Rattle.pc_machine.specs.Machine.{literal_value, parameter_of, parameter_of_param, named_of, item_of, locals_of, default_of};
 
-use crate::names::is_same;
 use crate::state::{Local, NamedValue, Parameter};
+use indexmap::{IndexMap, IndexSet};
+use pc_names::{NameMap, NameSet, bind_first, put};
 use pc_source::OutOfMemory;
 use pc_tree::{Literal, LiteralKind, Param};
 use pc_value::Value;
 use std::alloc::Global;
+use std::hash::RandomState;
 
 /// The value of a literal; a whole number has one where it fits 128 signed bits.
 /// Language Reference 2.4 "Literals".
@@ -59,40 +64,62 @@ pub fn parameters<'m>(alloc: Global, params: &'m [Param]) -> Result<Vec<Paramete
     Ok(parameters)
 }
 
-/// The first argument of a name.
-fn value_named<'a>(name: &str, named: &'a [NamedValue<'_>]) -> Option<&'a Value>
-    ensures { option_value result ≡ value_named name.now (map named_of named.now) }
+/// The value of the first argument of each name.
+fn first_values<'a, 'm>(
+    alloc: Global,
+    keys: RandomState,
+    named: &'a [NamedValue<'m>],
+) -> Result<NameMap<'m, &'a Value>, OutOfMemory>
+    ensures { IfOk result (λ m. (name : List ℕ) → option_value (at_text m name) ≡ value_named name (map named_of named.now)) }
 {
+    let mut values = IndexMap::with_hasher(alloc, keys);
     for argument in named {
-        if is_same(argument.name, name) {
-            return Some(&argument.value);
-        }
+        bind_first(&mut values, argument.name, &argument.value)?;
     }
-    None
+    Ok(values)
 }
 
-/// A name is one of a parameter.
-fn is_parameter(name: &str, parameters: &[Parameter<'_>]) -> bool
-    ensures { result ≡ is_parameter name.now (map parameter_of parameters.now) }
+/// The names of parameters.
+fn parameter_names<'m>(
+    alloc: Global,
+    keys: RandomState,
+    parameters: &[Parameter<'m>],
+) -> Result<NameSet<'m>, OutOfMemory>
+    ensures { IfOk result (λ s. (name : List ℕ) → is_among (texts_in s) name ≡ is_parameter name (map parameter_of parameters.now)) }
 {
+    let mut names = IndexSet::with_hasher(alloc, keys);
     for parameter in parameters {
-        if is_same(parameter.name, name) {
-            return true;
-        }
+        put(&mut names, parameter.name)?;
     }
-    false
+    Ok(names)
 }
 
-/// Each argument by name is for a parameter.
-fn are_parameters(named: &[NamedValue<'_>], parameters: &[Parameter<'_>]) -> bool
-    ensures { result ≡ are_parameters (map named_of named.now) (map parameter_of parameters.now) }
+/// Each argument by name is for a parameter, where these are their names.
+fn are_among(named: &[NamedValue<'_>], names: &NameSet<'_>) -> bool
+    ensures { result ≡ list_all (λ a. is_among (texts_in names.now) a.name.now) named.now }
 {
     for argument in named {
-        if !is_parameter(argument.name, parameters) {
+        if !names.contains(argument.name) {
             return false;
         }
     }
     true
+}
+
+/// Each argument by name is for a parameter.
+fn are_parameters(
+    alloc: Global,
+    keys: RandomState,
+    named: &[NamedValue<'_>],
+    parameters: &[Parameter<'_>],
+) -> Result<bool, OutOfMemory>
+    ensures { IfOk result (λ b. b ≡ are_parameters (map named_of named.now) (map parameter_of parameters.now)) }
+{
+    if named.is_empty() {
+        return Ok(true);
+    }
+    let names = parameter_names(alloc, keys, parameters)?;
+    Ok(are_among(named, &names))
 }
 
 /// The value of a parameter's default, if it has one.
@@ -126,22 +153,24 @@ fn take(
 /// Language Reference 6.3.4 "Calls".
 pub fn bound_arguments<'m>(
     alloc: Global,
+    keys: RandomState,
     parameters: &[Parameter<'m>],
     values: &[Value],
     named: &[NamedValue<'_>],
 ) -> Result<Option<Vec<Local<'m>>>, OutOfMemory>
     ensures { IfOk result (λ o. locals_of o ≡ bound_arguments (map parameter_of parameters.now) (map value_of values.now) (map named_of named.now)) }
 {
-    if !are_parameters(named, parameters) {
+    if !are_parameters(alloc, keys, named, parameters)? {
         return Ok(None);
     }
+    let by_name = first_values(alloc, keys, named)?;
     let mut locals = Vec::new(alloc);
     for (i, parameter) in parameters.iter().enumerate() {
         match take(
             alloc,
             *parameter,
             values.get(i),
-            value_named(parameter.name, named),
+            by_name.get(parameter.name).copied(),
         )? {
             Some(value) => locals.push(Local {
                 name: parameter.name,

@@ -3,6 +3,7 @@
 
 mod calls;
 mod depth;
+mod globals;
 mod halt;
 mod laws;
 mod look_up;
@@ -16,5 +17,6 @@ pub use halt::{Halt, Stop};
 pub use laws::plain_runs_are_runs;
 pub use machine::{Machine, raised};
 pub use state::{
-    Bound, BuiltinMethod, Callee, Class, Flow, Global, Local, Meaning, NamedValue, Parameter, Test,
+    Bound, BuiltinMethod, Callee, Class, Flow, Global, Globals, Local, Meaning, NamedValue,
+    Parameter, Test,
 };

@@ -12,12 +12,13 @@ ghost use Rattle.pc_machine.specs.Machine.{Tells, meaning_seen, state_of, progre
 
 use crate::depth::Depth;
 use crate::halt::{Halt, Stop};
-use crate::names::{find_global, find_local, set_local};
-use crate::state::{Bound, Class, Global, Local, Meaning};
+use crate::names::{find_local, set_local};
+use crate::state::{Bound, Class, Globals, Local, Meaning};
 use pc_source::{OutOfMemory, Place};
 use pc_tree::is_reserved;
 use pc_value::{Action, Exception, Heap, Iteration, Outcome, Value};
 use std::alloc::Global as Allocator;
+use std::hash::RandomState;
 
 /// A plain run so far. Own rule of the profile.
 #[derive(Drop)]
@@ -25,7 +26,7 @@ pub struct Machine<'m> {
     /// The classes made, each under its number.
     pub classes: Vec<Class<'m>>,
     /// The names that the module has bound, in their order.
-    pub globals: Vec<Global<'m>>,
+    pub globals: Globals<'m>,
     /// The locals of the function that runs.
     pub frame: Vec<Local<'m>>,
     /// The lists, dicts and instances.
@@ -38,6 +39,8 @@ pub struct Machine<'m> {
     pub choices: &'m [u8],
     /// The open calls.
     pub depth: Depth,
+    /// The keys of the hashes of names, which no author of a text may know.
+    pub keys: RandomState,
 }
 
 /// The run ends in an exception. Own rule of the profile.
@@ -49,18 +52,19 @@ pub fn raised(exception: Exception) -> Halt
 
 impl<'m> Machine<'m> {
     /// Before the first item: nothing is bound. Own rule of the profile.
-    pub fn begin(alloc: Allocator, fuel: u64, choices: &'m [u8]) -> Machine<'m>
+    pub fn begin(alloc: Allocator, keys: RandomState, fuel: u64, choices: &'m [u8]) -> Machine<'m>
         ensures { progress_of result ≡ begin fuel choices.now }
     {
         Machine {
             classes: Vec::new(alloc),
-            globals: Vec::new(alloc),
+            globals: Globals::new(alloc, keys),
             frame: Vec::new(alloc),
             heap: Heap::new(alloc),
             events: Vec::new(alloc),
             fuel,
             choices,
             depth: Depth { calls: 0 },
+            keys,
         }
     }
 
@@ -75,7 +79,7 @@ impl<'m> Machine<'m> {
                 None => Meaning::Unbound,
             };
         }
-        match find_global(&self.globals, name) {
+        match self.globals.get(name) {
             Some(Bound::Value(value)) => Meaning::Value(value),
             Some(Bound::Function(def)) => Meaning::Function(def),
             Some(Bound::Class(class)) => Meaning::Class(*class),

@@ -3,11 +3,11 @@ ghost use Rattle.pc_tree.specs.Tree.{stmts_of_list, stmt_of_kind, target_of};
 ghost use Rattle.pc_source.specs.declared.place.Place.{Place as PlaceOf};
 ghost use Rattle.pc_value.specs.Meaning.{value_of};
 ghost use Rattle.pc_value.specs.Texts.{same_text};
-ghost use Rattle.pc_machine.specs.Names.{unbound, names_bound, names_bound_by, names_bound_in, target_names, local_of, global_of, with_local};
-ghost use Rattle.pc_machine.specs.Machine.{local_of as local_seen, global_of as global_seen, found_local, found_global};
+ghost use Rattle.pc_machine.specs.Names.{unbound, names_bound, names_bound_by, names_bound_in, target_names, local_of, with_local};
+ghost use Rattle.pc_machine.specs.Machine.{local_of as local_seen, found_local};
 ghost use Rattle.pc_tree.specs.Lists.{branches_of_list};
 
-use crate::state::{Bound, Global, Local};
+use crate::state::Local;
 use pc_source::OutOfMemory;
 use pc_tree::{Branch, Stmt, StmtKind, Target};
 use pc_value::Value;
@@ -26,18 +26,6 @@ pub fn find_local<'a, 'm>(frame: &'a [Local<'m>], name: &str) -> Option<&'a Loca
     for local in frame {
         if is_same(local.name, name) {
             return Some(local);
-        }
-    }
-    None
-}
-
-/// What the module has bound to a name, if anything.
-pub fn find_global<'a, 'm>(globals: &'a [Global<'m>], name: &str) -> Option<&'a Bound<'m>>
-    ensures { found_global result ≡ global_of name.now (map global_seen globals.now) }
-{
-    for global in globals {
-        if is_same(global.name, name) {
-            return Some(&global.bound);
         }
     }
     None

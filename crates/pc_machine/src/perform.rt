@@ -24,6 +24,7 @@ use pc_source::{OutOfMemory, Place};
 use pc_tree::{Expr, FuncDef, Name, Stmt};
 use pc_value::{Action, Exception, Iteration, Slot, Value};
 use std::alloc::Global as Allocator;
+use std::hash::RandomState;
 use std::mem;
 
 /// The fields of a new instance, from the values that its class's fields took.
@@ -65,6 +66,7 @@ fn builtin_action(
 /// The parameters of a def with the values that they take; arguments that do not suit are TypeError.
 fn suited_arguments<'m>(
     alloc: Allocator,
+    keys: RandomState,
     def: &'m FuncDef,
     values: &[Value],
     named: &[NamedValue<'m>],
@@ -72,7 +74,7 @@ fn suited_arguments<'m>(
     ensures { Comes frame_of_vec result (suited (bound_arguments (method_of_def def.entry).parameters (map value_of values.now) (map named_of named.now))) }
 {
     let parameters = parameters(alloc, &def.params)?;
-    match bound_arguments(alloc, &parameters, values, named)? {
+    match bound_arguments(alloc, keys, &parameters, values, named)? {
         Some(locals) => Ok(locals),
         None => Err(raised(Exception::TypeError)),
     }
@@ -204,8 +206,8 @@ impl<'m> Machine<'m> {
         ensures fuel { self.new.fuel ≤ self.old.fuel }
     {
         let fields = match self.classes.get(class) {
-            Some(made) => bound_arguments(alloc, &made.fields, values, named)?,
-            None => bound_arguments(alloc, &[], values, named)?,
+            Some(made) => bound_arguments(alloc, self.keys, &made.fields, values, named)?,
+            None => bound_arguments(alloc, self.keys, &[], values, named)?,
         };
         match fields {
             Some(fields) => {
@@ -284,7 +286,7 @@ impl<'m> Machine<'m> {
         ensures plain { Tells frame_of_vec result self.new (opened (method_of_def def.entry) (item_of object) (map value_of values.now) (map named_of named.now) (progress_of self.old)) }
         ensures fuel { self.new.fuel ≤ self.old.fuel }
     {
-        let arguments = suited_arguments(alloc, def, values, named)?;
+        let arguments = suited_arguments(alloc, self.keys, def, values, named)?;
         let Some(depth) = self.depth.deeper() else {
             return Err(Halt::Stopped(Stop::Cut));
         };

@@ -1,3 +1,7 @@
+ghost use Rattle.std.specs.Prelude.{map};
+ghost use Rattle.pc_machine.specs.Globals.{ArePlaced, name_of_global};
+
+use pc_names::NameMap;
 use pc_tree::{FuncDef, Literal};
 use pc_value::Value;
 
@@ -39,6 +43,17 @@ pub struct Global<'m> {
     pub name: &'m str,
     /// What it is bound to.
     pub bound: Bound<'m>,
+}
+
+/// The names that the module has bound, in their order; a name means what was bound to it first.
+/// Language Reference 4.2.1 "Binding of names".
+#[derive(Drop)]
+pub struct Globals<'m> {
+    /// The names with what they are bound to.
+    pub bindings: Vec<Global<'m>>,
+    /// Where each name is bound first.
+    pub places: NameMap<'m, usize>,
+    ghost placed: { ArePlaced places (map name_of_global bindings.items) },
 }
 
 /// A local of a function. Language Reference 4.2.1 "Binding of names".

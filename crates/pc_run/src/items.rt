@@ -10,7 +10,7 @@ ghost use Rattle.pc_machine.specs.Runs.{plain_module};
 
 use crate::evaluate::eval;
 use crate::running::enter_main;
-use pc_machine::{Bound, Class, Global, Halt, Machine, Meaning, Parameter, Stop, raised};
+use pc_machine::{Bound, Class, Halt, Machine, Meaning, Parameter, Stop, raised};
 use pc_source::OutOfMemory;
 use pc_tree::{
     ClassDef, FuncDef, Item, ItemKind, Literal, LiteralKind, Member, Module, Name, Param,
@@ -234,10 +234,7 @@ fn bind_global<'m>(
     ensures plain { OnOk result (progress_of machine.new ≡ changed (binds_global name.now (bound_of bound.entry)) (progress_of machine.old)) }
     ensures fuel { machine.new.fuel ≡ machine.old.fuel }
 {
-    match machine.globals.push(Global { name, bound }) {
-        Ok(()) => Ok(()),
-        Err(_) => Err(OutOfMemory),
-    }
+    machine.globals.bind(name, bound)
 }
 
 /// The module binds a name to a class that was made.

@@ -13,9 +13,11 @@ use crate::items::run_module;
 use crate::trace::{End, Trace};
 use pc_machine::{Halt, Machine, Stop};
 use pc_source::OutOfMemory;
+use pc_stop::stops;
 use pc_tree::Module;
 use pc_value::{Exception, Value};
 use std::alloc::Global as Allocator;
+use std::hash::RandomState;
 
 /// How a run that was stopped ends.
 fn end_of_stop(stop: Stop) -> End
@@ -59,26 +61,29 @@ fn trace_of(machine: Machine<'_>, ended: Result<Value, Halt>) -> Result<Trace, O
 }
 
 /// Runs a module: the trace is its plain run for this fuel and these choices, each a byte from which one free answer is
-/// taken. A module that a code stops leaves the profile without an event. Own rule of the profile.
+/// taken. A module that a code stops leaves the profile without an event. The keys are those of the hashes of names,
+/// which no author of a text should know. Own rule of the profile.
 ///
 /// # Errors
 ///
 /// `OutOfMemory` where the run or its trace has no room.
 pub fn run(
     alloc: Allocator,
+    keys: RandomState,
     program: &Module,
     fuel: u64,
     choices: &[u8],
 ) -> Result<Trace, OutOfMemory>
     ensures { IfOk result (λ trace. PlainRun (module_of program.now) fuel choices.now trace.events.items (end_of_rust trace.end)) }
 {
-    if !program.is_runnable() {
+    let found = stops(alloc, keys, program)?;
+    if !found.is_empty() {
         return Ok(Trace {
             events: Vec::new(alloc),
             end: End::Outside,
         });
     }
-    let mut machine = Machine::begin(alloc, fuel, choices);
+    let mut machine = Machine::begin(alloc, keys, fuel, choices);
     let ended = run_module(&mut machine, alloc, program);
     trace_of(machine, ended)
 }

@@ -9,8 +9,9 @@ use Rattle.pc_tree.specs.declared.code.Code.TheVariants.{E01, E02, E03, E05, E28
 use Rattle.pc_tree.specs.declared.code.Finding.{Finding}
 use Rattle.pc_tree.specs.Code.{finding}
 use Rattle.pc_tree.specs.Tree.{FuncDef, Constant, Member, field_member, method_member, Item, constant_item, class_item, def_item, Module}
-use Rattle.pc_tree.specs.Stopping.{of_members, of_defs, bound_again, given_in_constants, no_main, reserved_among, reserved_in_classes, name_of_item, IsStopping}
-use Rattle.pc_scope.specs.declared.rules.FunctionRule.TheVariants as rule
+use Rattle.pc_tree.specs.Stopping.{of_members, of_defs, IsStopping}
+use Rattle.pc_stop.specs.Found.{at_code, found_in_scopes}
+use Rattle.pc_stop.proofs.AllStops.{of_scopes, to_twice, to_loose, to_main, to_reserved, to_default}
 use Rattle.pc_scope.specs.declared.resolution.Owner.{Owner}
 use Rattle.pc_scope.specs.declared.resolution.Owner.TheVariants as owners
 use Rattle.pc_scope.specs.declared.resolution.Res.{Res}
@@ -19,10 +20,10 @@ use Rattle.pc_scope.specs.Resolution.{resolve}
 use Rattle.pc_scope.specs.Reach.{unreached}
 use Rattle.pc_scope.specs.Expressions.{parts_in, exprs_in_all}
 use Rattle.pc_scope.specs.Findings.{IsScopeCode, in_constant, in_body, decorator, ScopeFinds, stopping, unknown, early, unreachable}
-use Rattle.pc_scope.specs.Found.{at_code, in_defs, unknown_in, unknown_in_constants, unknown_in_methods, unknown_in_bodies, decorators_in, unknown_decorators, early_among, early_in, again_in, out_of_place_in, reserved_in, names_in, found_in}
+use Rattle.pc_scope.specs.Found.{unreached_in_defs, unknown_in, unknown_in_constants, unknown_in_methods, unknown_in_bodies, decorators_in, unknown_decorators, early_among, early_in, names_in, found_in}
 use Rattle.pc_scope.specs.Tables.{Tables, AreTables, meaning}
 use Rattle.pc_scope.proofs.Meanings.{means}
-use Rattle.pc_scope.proofs.Among.{none_among, either, in_code, to_code}
+use Rattle.pc_stop.proofs.Among.{none_among, either, in_code, to_code}
 use Rattle.pc_scope.proofs.FoundNames.{unknown_of, to_unknown, part_of, to_part, early_of, to_early_name, to_early_callee}
 use Rattle.pc_scope.proofs.FoundItems.{constant_of, to_constant, decorated, to_decorated, over_methods, over_bodies, IsBodyWith, body_of, to_function, to_class}
 use Rattle.pc_scope.proofs.FoundEarly.{early_constant, to_early, moved}
@@ -67,9 +68,6 @@ module _ (g : Owner → FuncDef → List Place) (m : Module) where
 -- ---- what is found is a finding of the scopes
 
 module _ (m : Module) (f : Finding) where
-  stops : (c : Code) (ps : List Place) → IsScopeCode c → (Contains ps f.place → IsStopping m f.place c) → Contains (at_code c ps) f → ScopeFinds m f
-  stops c ps code into h = let r = in_code c ps f h in stopping (subst IsScopeCode (sym r.0) code) (subst (IsStopping m f.place) (sym r.0) (into r.1))
-
   is_finding : (c : Code) → f.code ≡ c → f ≡ finding f.place c
   is_finding c e = ap (finding f.place) e
 
@@ -111,44 +109,11 @@ module _ (m : Module) (f : Finding) where
         ];
       })
 
-  behind : Contains (at_code E30 (in_defs rule.Unreachable m.items)) f → ScopeFinds m f
+  behind : Contains (at_code E30 (unreached_in_defs m.items)) f → ScopeFinds m f
   behind h =
-      let r = in_code E30 (in_defs rule.Unreachable m.items) f h in
+      let r = in_code E30 (unreached_in_defs m.items) f h in
       let b = in_bodies (λ o d. unreached d.body) m f.place (subst (λ ps. Contains ps f.place) (defs_over (λ d. unreached d.body) 0 0 m.items) r.1) in
       unreachable (record { body = b.b; of = b.among; place = f.place; first = b.found; is = is_finding E30 r.0 })
-
-  abbrev items_again : List Finding
-  items_again = at_code E01 (bound_again [] (map name_of_item m.items))
-
-  abbrev parameters_again : List Finding
-  parameters_again = at_code E01 (in_defs rule.ParametersAgain m.items)
-
-  abbrev given_constants : List Finding
-  given_constants = at_code E01 (given_in_constants m.items)
-
-  abbrev given_bodies : List Finding
-  given_bodies = at_code E01 (in_defs rule.GivenAgain m.items)
-
-  abbrev loose : List Finding
-  loose = at_code E05 (in_defs rule.OutsideLoop m.items)
-
-  abbrev main_missing : List Finding
-  main_missing = at_code E28 (no_main m)
-
-  abbrev late_parameters : List Finding
-  late_parameters = at_code E31 (in_defs rule.LatePlain m.items)
-
-  abbrev unreached_statements : List Finding
-  unreached_statements = at_code E30 (in_defs rule.Unreachable m.items)
-
-  abbrev reserved_items : List Finding
-  reserved_items = at_code E29 (reserved_among (map name_of_item m.items))
-
-  abbrev reserved_members : List Finding
-  reserved_members = at_code E29 (reserved_in_classes m.items)
-
-  abbrev reserved_locals : List Finding
-  reserved_locals = at_code E29 (in_defs rule.ReservedName m.items)
 
   abbrev unknown_constants : List Finding
   unknown_constants = at_code E02 (unknown_in_constants (resolve m owners.Module) m.items)
@@ -162,26 +127,8 @@ module _ (m : Module) (f : Finding) where
   abbrev early_names : List Finding
   early_names = at_code E03 (early_in 0 0 (resolve m owners.Module) m.items)
 
-  again : Contains (again_in m) f → ScopeFinds m f
-  again h =
-      let twice1 = bound_again [] (map name_of_item m.items) in
-      let twice2 = in_defs rule.ParametersAgain m.items in
-      let twice3 = given_in_constants m.items in
-      let twice4 = in_defs rule.GivenAgain m.items in
-      let p = f.place in
-      either items_again (parameters_again ++ (given_constants ++ given_bodies)) f h (stops E01 twice1 tt (Contains-append_left twice1 (twice2 ++ (twice3 ++ twice4)) p)) (λ h4. either parameters_again (given_constants ++ given_bodies) f h4 (stops E01 twice2 tt (λ x. Contains-append_right twice1 (twice2 ++ (twice3 ++ twice4)) p (Contains-append_left twice2 (twice3 ++ twice4) p x))) (λ h3. either given_constants (given_bodies) f h3 (stops E01 twice3 tt (λ x. Contains-append_right twice1 (twice2 ++ (twice3 ++ twice4)) p (Contains-append_right twice2 (twice3 ++ twice4) p (Contains-append_left twice3 twice4 p x)))) (λ h2. (stops E01 twice4 tt (λ x. Contains-append_right twice1 (twice2 ++ (twice3 ++ twice4)) p (Contains-append_right twice2 (twice3 ++ twice4) p (Contains-append_right twice3 twice4 p x)))) h2)))
-
-  out_of_place : Contains (out_of_place_in m) f → ScopeFinds m f
-  out_of_place h =
-      either loose (main_missing ++ (late_parameters ++ unreached_statements)) f h (stops E05 (in_defs rule.OutsideLoop m.items) tt (λ x. x)) (λ h4. either main_missing (late_parameters ++ unreached_statements) f h4 (stops E28 (no_main m) tt (λ x. x)) (λ h3. either late_parameters (unreached_statements) f h3 (stops E31 (in_defs rule.LatePlain m.items) tt (λ x. x)) (λ h2. (behind) h2)))
-
-  reserved : Contains (reserved_in m) f → ScopeFinds m f
-  reserved h =
-      let free1 = reserved_among (map name_of_item m.items) in
-      let free2 = reserved_in_classes m.items in
-      let free3 = in_defs rule.ReservedName m.items in
-      let p = f.place in
-      either reserved_items (reserved_members ++ reserved_locals) f h (stops E29 free1 tt (Contains-append_left free1 (free2 ++ free3) p)) (λ h3. either reserved_members (reserved_locals) f h3 (stops E29 free2 tt (λ x. Contains-append_right free1 (free2 ++ free3) p (Contains-append_left free2 free3 p x))) (λ h2. (stops E29 free3 tt (λ x. Contains-append_right free1 (free2 ++ free3) p (Contains-append_right free2 free3 p x))) h2))
+  stops : Contains (found_in_scopes m) f → ScopeFinds m f
+  stops h = let r = of_scopes m f IsScopeCode tt tt tt tt tt h in stopping r.0 r.1
 
   names : Contains (names_in (resolve m) m) f → ScopeFinds m f
   names h =
@@ -189,79 +136,48 @@ module _ (m : Module) (f : Finding) where
 
   -- what the walks find is a finding of the scopes
   pub sound : Contains (found_in (resolve m) m) f → ScopeFinds m f
-  sound h = either (again_in m) (out_of_place_in m ++ (reserved_in m ++ names_in (resolve m) m)) f h again
-      (λ h2. either (out_of_place_in m) (reserved_in m ++ names_in (resolve m) m) f h2 out_of_place
-      (λ h3. either (reserved_in m) (names_in (resolve m) m) f h3 reserved names))
+  sound h = either (found_in_scopes m) (at_code E30 (unreached_in_defs m.items) ++ names_in (resolve m) m) f h stops
+      (λ h2. either (at_code E30 (unreached_in_defs m.items)) (names_in (resolve m) m) f h2 behind names)
 
 -- ---- a finding of the scopes is found
 
 module _ (m : Module) (f : Finding) where
-  in_items_again : Contains (at_code E01 (bound_again [] (map name_of_item m.items))) f → Contains (found_in (resolve m) m) f
-  in_items_again h = Contains-append_left (again_in m) (out_of_place_in m ++ (reserved_in m ++ names_in (resolve m) m)) f (Contains-append_left (at_code E01 (bound_again [] (map name_of_item m.items))) (at_code E01 (in_defs rule.ParametersAgain m.items) ++ (at_code E01 (given_in_constants m.items) ++ at_code E01 (in_defs rule.GivenAgain m.items))) f h)
+  in_stops : Contains (found_in_scopes m) f → Contains (found_in (resolve m) m) f
+  in_stops h = Contains-append_left (found_in_scopes m) (at_code E30 (unreached_in_defs m.items) ++ names_in (resolve m) m) f h
 
-  in_parameters_again : Contains (at_code E01 (in_defs rule.ParametersAgain m.items)) f → Contains (found_in (resolve m) m) f
-  in_parameters_again h = Contains-append_left (again_in m) (out_of_place_in m ++ (reserved_in m ++ names_in (resolve m) m)) f (Contains-append_right (at_code E01 (bound_again [] (map name_of_item m.items))) (at_code E01 (in_defs rule.ParametersAgain m.items) ++ (at_code E01 (given_in_constants m.items) ++ at_code E01 (in_defs rule.GivenAgain m.items))) f (Contains-append_left (at_code E01 (in_defs rule.ParametersAgain m.items)) (at_code E01 (given_in_constants m.items) ++ at_code E01 (in_defs rule.GivenAgain m.items)) f h))
+  behind_stops : Contains (at_code E30 (unreached_in_defs m.items) ++ names_in (resolve m) m) f → Contains (found_in (resolve m) m) f
+  behind_stops h = Contains-append_right (found_in_scopes m) (at_code E30 (unreached_in_defs m.items) ++ names_in (resolve m) m) f h
 
-  in_given_constants : Contains (at_code E01 (given_in_constants m.items)) f → Contains (found_in (resolve m) m) f
-  in_given_constants h = Contains-append_left (again_in m) (out_of_place_in m ++ (reserved_in m ++ names_in (resolve m) m)) f (Contains-append_right (at_code E01 (bound_again [] (map name_of_item m.items))) (at_code E01 (in_defs rule.ParametersAgain m.items) ++ (at_code E01 (given_in_constants m.items) ++ at_code E01 (in_defs rule.GivenAgain m.items))) f (Contains-append_right (at_code E01 (in_defs rule.ParametersAgain m.items)) (at_code E01 (given_in_constants m.items) ++ at_code E01 (in_defs rule.GivenAgain m.items)) f (Contains-append_left (at_code E01 (given_in_constants m.items)) (at_code E01 (in_defs rule.GivenAgain m.items)) f h)))
+  in_unreached_statements : Contains (at_code E30 (unreached_in_defs m.items)) f → Contains (found_in (resolve m) m) f
+  in_unreached_statements h = behind_stops (Contains-append_left (at_code E30 (unreached_in_defs m.items)) (names_in (resolve m) m) f h)
 
-  in_given_bodies : Contains (at_code E01 (in_defs rule.GivenAgain m.items)) f → Contains (found_in (resolve m) m) f
-  in_given_bodies h = Contains-append_left (again_in m) (out_of_place_in m ++ (reserved_in m ++ names_in (resolve m) m)) f (Contains-append_right (at_code E01 (bound_again [] (map name_of_item m.items))) (at_code E01 (in_defs rule.ParametersAgain m.items) ++ (at_code E01 (given_in_constants m.items) ++ at_code E01 (in_defs rule.GivenAgain m.items))) f (Contains-append_right (at_code E01 (in_defs rule.ParametersAgain m.items)) (at_code E01 (given_in_constants m.items) ++ at_code E01 (in_defs rule.GivenAgain m.items)) f (Contains-append_right (at_code E01 (given_in_constants m.items)) (at_code E01 (in_defs rule.GivenAgain m.items)) f (h))))
-
-  in_loose : Contains (at_code E05 (in_defs rule.OutsideLoop m.items)) f → Contains (found_in (resolve m) m) f
-  in_loose h = Contains-append_right (again_in m) (out_of_place_in m ++ (reserved_in m ++ names_in (resolve m) m)) f (Contains-append_left (out_of_place_in m) (reserved_in m ++ names_in (resolve m) m) f (Contains-append_left (at_code E05 (in_defs rule.OutsideLoop m.items)) (at_code E28 (no_main m) ++ (at_code E31 (in_defs rule.LatePlain m.items) ++ at_code E30 (in_defs rule.Unreachable m.items))) f h))
-
-  in_main_missing : Contains (at_code E28 (no_main m)) f → Contains (found_in (resolve m) m) f
-  in_main_missing h = Contains-append_right (again_in m) (out_of_place_in m ++ (reserved_in m ++ names_in (resolve m) m)) f (Contains-append_left (out_of_place_in m) (reserved_in m ++ names_in (resolve m) m) f (Contains-append_right (at_code E05 (in_defs rule.OutsideLoop m.items)) (at_code E28 (no_main m) ++ (at_code E31 (in_defs rule.LatePlain m.items) ++ at_code E30 (in_defs rule.Unreachable m.items))) f (Contains-append_left (at_code E28 (no_main m)) (at_code E31 (in_defs rule.LatePlain m.items) ++ at_code E30 (in_defs rule.Unreachable m.items)) f h)))
-
-  in_late_parameters : Contains (at_code E31 (in_defs rule.LatePlain m.items)) f → Contains (found_in (resolve m) m) f
-  in_late_parameters h = Contains-append_right (again_in m) (out_of_place_in m ++ (reserved_in m ++ names_in (resolve m) m)) f (Contains-append_left (out_of_place_in m) (reserved_in m ++ names_in (resolve m) m) f (Contains-append_right (at_code E05 (in_defs rule.OutsideLoop m.items)) (at_code E28 (no_main m) ++ (at_code E31 (in_defs rule.LatePlain m.items) ++ at_code E30 (in_defs rule.Unreachable m.items))) f (Contains-append_right (at_code E28 (no_main m)) (at_code E31 (in_defs rule.LatePlain m.items) ++ at_code E30 (in_defs rule.Unreachable m.items)) f (Contains-append_left (at_code E31 (in_defs rule.LatePlain m.items)) (at_code E30 (in_defs rule.Unreachable m.items)) f h))))
-
-  in_unreached_statements : Contains (at_code E30 (in_defs rule.Unreachable m.items)) f → Contains (found_in (resolve m) m) f
-  in_unreached_statements h = Contains-append_right (again_in m) (out_of_place_in m ++ (reserved_in m ++ names_in (resolve m) m)) f (Contains-append_left (out_of_place_in m) (reserved_in m ++ names_in (resolve m) m) f (Contains-append_right (at_code E05 (in_defs rule.OutsideLoop m.items)) (at_code E28 (no_main m) ++ (at_code E31 (in_defs rule.LatePlain m.items) ++ at_code E30 (in_defs rule.Unreachable m.items))) f (Contains-append_right (at_code E28 (no_main m)) (at_code E31 (in_defs rule.LatePlain m.items) ++ at_code E30 (in_defs rule.Unreachable m.items)) f (Contains-append_right (at_code E31 (in_defs rule.LatePlain m.items)) (at_code E30 (in_defs rule.Unreachable m.items)) f (h)))))
-
-  in_reserved_items : Contains (at_code E29 (reserved_among (map name_of_item m.items))) f → Contains (found_in (resolve m) m) f
-  in_reserved_items h = Contains-append_right (again_in m) (out_of_place_in m ++ (reserved_in m ++ names_in (resolve m) m)) f (Contains-append_right (out_of_place_in m) (reserved_in m ++ names_in (resolve m) m) f (Contains-append_left (reserved_in m) (names_in (resolve m) m) f (Contains-append_left (at_code E29 (reserved_among (map name_of_item m.items))) (at_code E29 (reserved_in_classes m.items) ++ at_code E29 (in_defs rule.ReservedName m.items)) f h)))
-
-  in_reserved_members : Contains (at_code E29 (reserved_in_classes m.items)) f → Contains (found_in (resolve m) m) f
-  in_reserved_members h = Contains-append_right (again_in m) (out_of_place_in m ++ (reserved_in m ++ names_in (resolve m) m)) f (Contains-append_right (out_of_place_in m) (reserved_in m ++ names_in (resolve m) m) f (Contains-append_left (reserved_in m) (names_in (resolve m) m) f (Contains-append_right (at_code E29 (reserved_among (map name_of_item m.items))) (at_code E29 (reserved_in_classes m.items) ++ at_code E29 (in_defs rule.ReservedName m.items)) f (Contains-append_left (at_code E29 (reserved_in_classes m.items)) (at_code E29 (in_defs rule.ReservedName m.items)) f h))))
-
-  in_reserved_locals : Contains (at_code E29 (in_defs rule.ReservedName m.items)) f → Contains (found_in (resolve m) m) f
-  in_reserved_locals h = Contains-append_right (again_in m) (out_of_place_in m ++ (reserved_in m ++ names_in (resolve m) m)) f (Contains-append_right (out_of_place_in m) (reserved_in m ++ names_in (resolve m) m) f (Contains-append_left (reserved_in m) (names_in (resolve m) m) f (Contains-append_right (at_code E29 (reserved_among (map name_of_item m.items))) (at_code E29 (reserved_in_classes m.items) ++ at_code E29 (in_defs rule.ReservedName m.items)) f (Contains-append_right (at_code E29 (reserved_in_classes m.items)) (at_code E29 (in_defs rule.ReservedName m.items)) f (h)))))
+  in_names : Contains (names_in (resolve m) m) f → Contains (found_in (resolve m) m) f
+  in_names h = behind_stops (Contains-append_right (at_code E30 (unreached_in_defs m.items)) (names_in (resolve m) m) f h)
 
   in_unknown_constants : Contains (at_code E02 (unknown_in_constants (resolve m owners.Module) m.items)) f → Contains (found_in (resolve m) m) f
-  in_unknown_constants h = Contains-append_right (again_in m) (out_of_place_in m ++ (reserved_in m ++ names_in (resolve m) m)) f (Contains-append_right (out_of_place_in m) (reserved_in m ++ names_in (resolve m) m) f (Contains-append_right (reserved_in m) (names_in (resolve m) m) f (Contains-append_left (at_code E02 (unknown_in_constants (resolve m owners.Module) m.items)) (at_code E02 (unknown_in_bodies (resolve m) 0 0 m.items) ++ (at_code E02 (unknown_decorators m.imports_dataclass m.items) ++ at_code E03 (early_in 0 0 (resolve m owners.Module) m.items))) f h)))
+  in_unknown_constants h = in_names (Contains-append_left (at_code E02 (unknown_in_constants (resolve m owners.Module) m.items)) (at_code E02 (unknown_in_bodies (resolve m) 0 0 m.items) ++ (at_code E02 (unknown_decorators m.imports_dataclass m.items) ++ at_code E03 (early_in 0 0 (resolve m owners.Module) m.items))) f h)
+
+  behind_constants : Contains (at_code E02 (unknown_in_bodies (resolve m) 0 0 m.items) ++ (at_code E02 (unknown_decorators m.imports_dataclass m.items) ++ at_code E03 (early_in 0 0 (resolve m owners.Module) m.items))) f → Contains (found_in (resolve m) m) f
+  behind_constants h = in_names (Contains-append_right (at_code E02 (unknown_in_constants (resolve m owners.Module) m.items)) (at_code E02 (unknown_in_bodies (resolve m) 0 0 m.items) ++ (at_code E02 (unknown_decorators m.imports_dataclass m.items) ++ at_code E03 (early_in 0 0 (resolve m owners.Module) m.items))) f h)
 
   in_unknown_bodies : Contains (at_code E02 (unknown_in_bodies (resolve m) 0 0 m.items)) f → Contains (found_in (resolve m) m) f
-  in_unknown_bodies h = Contains-append_right (again_in m) (out_of_place_in m ++ (reserved_in m ++ names_in (resolve m) m)) f (Contains-append_right (out_of_place_in m) (reserved_in m ++ names_in (resolve m) m) f (Contains-append_right (reserved_in m) (names_in (resolve m) m) f (Contains-append_right (at_code E02 (unknown_in_constants (resolve m owners.Module) m.items)) (at_code E02 (unknown_in_bodies (resolve m) 0 0 m.items) ++ (at_code E02 (unknown_decorators m.imports_dataclass m.items) ++ at_code E03 (early_in 0 0 (resolve m owners.Module) m.items))) f (Contains-append_left (at_code E02 (unknown_in_bodies (resolve m) 0 0 m.items)) (at_code E02 (unknown_decorators m.imports_dataclass m.items) ++ at_code E03 (early_in 0 0 (resolve m owners.Module) m.items)) f h))))
+  in_unknown_bodies h = behind_constants (Contains-append_left (at_code E02 (unknown_in_bodies (resolve m) 0 0 m.items)) (at_code E02 (unknown_decorators m.imports_dataclass m.items) ++ at_code E03 (early_in 0 0 (resolve m owners.Module) m.items)) f h)
+
+  behind_bodies : Contains (at_code E02 (unknown_decorators m.imports_dataclass m.items) ++ at_code E03 (early_in 0 0 (resolve m owners.Module) m.items)) f → Contains (found_in (resolve m) m) f
+  behind_bodies h = behind_constants (Contains-append_right (at_code E02 (unknown_in_bodies (resolve m) 0 0 m.items)) (at_code E02 (unknown_decorators m.imports_dataclass m.items) ++ at_code E03 (early_in 0 0 (resolve m owners.Module) m.items)) f h)
 
   in_unknown_classes : Contains (at_code E02 (unknown_decorators m.imports_dataclass m.items)) f → Contains (found_in (resolve m) m) f
-  in_unknown_classes h = Contains-append_right (again_in m) (out_of_place_in m ++ (reserved_in m ++ names_in (resolve m) m)) f (Contains-append_right (out_of_place_in m) (reserved_in m ++ names_in (resolve m) m) f (Contains-append_right (reserved_in m) (names_in (resolve m) m) f (Contains-append_right (at_code E02 (unknown_in_constants (resolve m owners.Module) m.items)) (at_code E02 (unknown_in_bodies (resolve m) 0 0 m.items) ++ (at_code E02 (unknown_decorators m.imports_dataclass m.items) ++ at_code E03 (early_in 0 0 (resolve m owners.Module) m.items))) f (Contains-append_right (at_code E02 (unknown_in_bodies (resolve m) 0 0 m.items)) (at_code E02 (unknown_decorators m.imports_dataclass m.items) ++ at_code E03 (early_in 0 0 (resolve m owners.Module) m.items)) f (Contains-append_left (at_code E02 (unknown_decorators m.imports_dataclass m.items)) (at_code E03 (early_in 0 0 (resolve m owners.Module) m.items)) f h)))))
+  in_unknown_classes h = behind_bodies (Contains-append_left (at_code E02 (unknown_decorators m.imports_dataclass m.items)) (at_code E03 (early_in 0 0 (resolve m owners.Module) m.items)) f h)
 
   in_early_names : Contains (at_code E03 (early_in 0 0 (resolve m owners.Module) m.items)) f → Contains (found_in (resolve m) m) f
-  in_early_names h = Contains-append_right (again_in m) (out_of_place_in m ++ (reserved_in m ++ names_in (resolve m) m)) f (Contains-append_right (out_of_place_in m) (reserved_in m ++ names_in (resolve m) m) f (Contains-append_right (reserved_in m) (names_in (resolve m) m) f (Contains-append_right (at_code E02 (unknown_in_constants (resolve m owners.Module) m.items)) (at_code E02 (unknown_in_bodies (resolve m) 0 0 m.items) ++ (at_code E02 (unknown_decorators m.imports_dataclass m.items) ++ at_code E03 (early_in 0 0 (resolve m owners.Module) m.items))) f (Contains-append_right (at_code E02 (unknown_in_bodies (resolve m) 0 0 m.items)) (at_code E02 (unknown_decorators m.imports_dataclass m.items) ++ at_code E03 (early_in 0 0 (resolve m owners.Module) m.items)) f (Contains-append_right (at_code E02 (unknown_decorators m.imports_dataclass m.items)) (at_code E03 (early_in 0 0 (resolve m owners.Module) m.items)) f (h))))))
-
-  at : (c : Code) (ps : List Place) → f.code ≡ c → Contains ps f.place → Contains (at_code c ps) f
-  at c ps e h = subst (Contains (at_code c ps)) (sym (ap (finding f.place) e)) (to_code c ps f.place h)
+  in_early_names h = behind_bodies (Contains-append_right (at_code E02 (unknown_decorators m.imports_dataclass m.items)) (at_code E03 (early_in 0 0 (resolve m owners.Module) m.items)) f h)
 
   stopped : (c : Code) → f.code ≡ c → IsScopeCode c → IsStopping m f.place c → Contains (found_in (resolve m) m) f
-  stopped E01 e code h =
-      let twice1 = bound_again [] (map name_of_item m.items) in
-      let twice2 = in_defs rule.ParametersAgain m.items in
-      let twice3 = given_in_constants m.items in
-      let twice4 = in_defs rule.GivenAgain m.items in
-      either twice1 (twice2 ++ (twice3 ++ twice4)) f.place h (λ x. in_items_again (at E01 twice1 e x))
-      (λ y. either twice2 (twice3 ++ twice4) f.place y (λ x. in_parameters_again (at E01 twice2 e x))
-      (λ z. either twice3 twice4 f.place z (λ x. in_given_constants (at E01 twice3 e x)) (λ x. in_given_bodies (at E01 twice4 e x))))
-  stopped E05 e code h = in_loose (at E05 (in_defs rule.OutsideLoop m.items) e h)
-  stopped E28 e code h = in_main_missing (at E28 (no_main m) e h)
-  stopped E29 e code h =
-      let free1 = reserved_among (map name_of_item m.items) in
-      let free2 = reserved_in_classes m.items in
-      let free3 = in_defs rule.ReservedName m.items in
-      either free1 (free2 ++ free3) f.place h (λ x. in_reserved_items (at E29 free1 e x))
-      (λ y. either free2 free3 f.place y (λ x. in_reserved_members (at E29 free2 e x)) (λ x. in_reserved_locals (at E29 free3 e x)))
-  stopped E31 e code h = in_late_parameters (at E31 (in_defs rule.LatePlain m.items) e h)
+  stopped E01 e code h = in_stops (to_twice m f e h)
+  stopped E05 e code h = in_stops (to_loose m f e h)
+  stopped E28 e code h = in_stops (to_main m f e h)
+  stopped E29 e code h = in_stops (to_reserved m f e h)
+  stopped E31 e code h = in_stops (to_default m f e h)
   stopped _ e code h = absurd code
 
   placed : (c : Code) (p : Place) (ps : List Place) → f ≡ finding p c → Contains ps p → Contains (at_code c ps) f
@@ -287,7 +203,7 @@ module _ (m : Module) (f : Finding) where
     | inl n ↦ in_early_names (placed E03 n.n.place (early_in 0 0 (resolve m owners.Module) m.items) n.is (counted r.at r.first r.constant r.item n.n.place (to_early_name (length (constants_in (take r.at m.items))) (length (classes_in (take r.at m.items))) (resolve m owners.Module) (parts_in false r.constant.value) n.n n.named n.early)))
     | inr c ↦ in_early_names (placed E03 c.place (early_in 0 0 (resolve m owners.Module) m.items) c.is (counted r.at r.first r.constant r.item c.place (to_early_callee (length (constants_in (take r.at m.items))) (length (classes_in (take r.at m.items))) (resolve m owners.Module) (parts_in false r.constant.value) c.place c.callee)))
   ]
-  complete (unreachable r) = in_unreached_statements (placed E30 r.place (in_defs rule.Unreachable m.items) r.is
+  complete (unreachable r) = in_unreached_statements (placed E30 r.place (unreached_in_defs m.items) r.is
       (subst (λ ps. Contains ps r.place) (sym (defs_over (λ d. unreached d.body) 0 0 m.items)) (to_bodies (λ o d. unreached d.body) m r.body r.place r.of r.first)))
 
 -- ---- where names mean what tables say

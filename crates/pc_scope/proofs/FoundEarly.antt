@@ -8,7 +8,7 @@ use Rattle.pc_scope.specs.declared.resolution.Res.{Res}
 use Rattle.pc_scope.specs.Bindings.{constants_in, classes_in}
 use Rattle.pc_scope.specs.Expressions.{parts_in}
 use Rattle.pc_scope.specs.Found.{early_among, early_in}
-use Rattle.pc_scope.proofs.Among.{none_among, either}
+use Rattle.pc_stop.proofs.Among.{none_among, either}
 
 -- a constant behind so many constants and classes, with something too early in its initializer
 pub record IsEarlyAt (resolve : List ℕ → Res) (k c : ℕ) (items : List Item) (p : Place) : Type 0 where

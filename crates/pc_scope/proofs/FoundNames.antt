@@ -13,7 +13,7 @@ use Rattle.pc_scope.specs.declared.resolution.Res.TheVariants as res
 use Rattle.pc_scope.specs.Expressions.{parts_in, other_callee}
 use Rattle.pc_scope.specs.Findings.{IsEarlyMeaning}
 use Rattle.pc_scope.specs.Found.{is_nothing, unknown_at, unknown_among, unknown_in, is_early, early_at, callee_at, early_among}
-use Rattle.pc_scope.proofs.Among.{none_among, first_among, later_among, among_first, either}
+use Rattle.pc_stop.proofs.Among.{none_among, first_among, later_among, among_first, either}
 
 one : (b : Bool) (p q : Place) → Contains (one_if b p) q → (b ≡ true) × (p ≡ q)
 one true p q h = elim (among_first p [] q h) [ inl e ↦ (refl, e) | inr rest ↦ absurd (none_among q rest) ]

@@ -8,9 +8,7 @@ pub mod FoundItems
 pub mod FoundEarly
 pub mod FoundCodes
 pub mod Finds
-pub mod Again
 pub mod Joints
-pub mod Passed
 pub mod Reached
 pub mod Seeking
 pub mod UnknownIn

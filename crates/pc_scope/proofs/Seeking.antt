@@ -16,11 +16,12 @@ use Rattle.pc_scope.specs.declared.resolution.Owner.{Owner}
 use Rattle.pc_scope.specs.declared.resolution.Owner.TheVariants as owners
 use Rattle.pc_scope.specs.declared.resolution.Res.{Res}
 use Rattle.pc_scope.specs.Expressions.{parts_in, parts_in_all, parts_in_entries, parts_in_keywords, are_two, other_callee}
-use Rattle.pc_scope.specs.Found.{at_code, unknown_at, unknown_among, unknown_in, early_at, early_among, callee_at}
+use Rattle.pc_stop.specs.Found.{at_code}
+use Rattle.pc_scope.specs.Found.{unknown_at, unknown_among, unknown_in, early_at, early_among, callee_at}
 use Rattle.pc_scope.specs.Seeking.{sought_at, sought_among, some_parts}
 use Rattle.pc_scope.specs.Tables.{Tables, meaning}
 use Rattle.pc_tree.proofs.Stops.{cons_at}
-use Rattle.pc_scope.proofs.Finds.{at_both}
+use Rattle.pc_stop.proofs.Finds.{at_both}
 
 pub sought_both : (t : Tables) (s : Sought) (a b : List Expr) → sought_among t s (a ++ b) ≡ sought_among t s a ++ sought_among t s b
 sought_both t s [] b = refl

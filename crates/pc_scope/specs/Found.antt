@@ -2,26 +2,19 @@
 -- Each code is an own rule of the profile.
 use Rattle.std.specs.Prelude.{ℕ, suc, nat_le, Bool, true, false, List, [], ◌∷◌, ◌++◌, map, Option, Some, None}
 use Rattle.pc_source.specs.declared.place.Place.{Place}
-use Rattle.pc_tree.specs.declared.code.Code.{Code}
-use Rattle.pc_tree.specs.declared.code.Code.TheVariants.{E01, E02, E03, E05, E28, E29, E30, E31}
+use Rattle.pc_tree.specs.declared.code.Code.TheVariants.{E02, E03, E30}
 use Rattle.pc_tree.specs.declared.code.Finding.{Finding}
-use Rattle.pc_tree.specs.Code.{finding}
 use Rattle.pc_tree.specs.Tree.{Name, Expr, FuncDef, Member, field_member, method_member, Item, constant_item, class_item, def_item, Module}
 use Rattle.pc_tree.specs.Machine.Finishing.{name_of_tree}
-use Rattle.pc_tree.specs.Runnable.{self_before}
-use Rattle.pc_tree.specs.Stopping.{bound_again, given_in_def, loose_in_def, reserved_in_def, reserved_among, late_plain_in, params_again, name_of_item, no_main, one_if, of_defs, given_in_constants, reserved_in_classes}
-use Rattle.pc_scope.specs.declared.rules.FunctionRule.{FunctionRule}
-use Rattle.pc_scope.specs.declared.rules.FunctionRule.TheVariants as rule
+use Rattle.pc_tree.specs.Stopping.{one_if, of_defs}
+pub use Rattle.pc_stop.specs.Found.{at_code}
+use Rattle.pc_stop.specs.Found.{found_in_scopes}
 use Rattle.pc_scope.specs.declared.resolution.Owner.{Owner}
 use Rattle.pc_scope.specs.declared.resolution.Owner.TheVariants as owners
 use Rattle.pc_scope.specs.declared.resolution.Res.{Res}
 use Rattle.pc_scope.specs.declared.resolution.Res.TheVariants as res
 use Rattle.pc_scope.specs.Expressions.{parts_in, other_callee, exprs_in_all}
 use Rattle.pc_scope.specs.Reach.{unreached}
-
--- a code at each of these places
-abbrev pub at_code : Code → List Place → List Finding
-at_code c places = map (λ p. finding p c) places
 
 -- ---- names that mean nothing
 
@@ -69,29 +62,15 @@ abbrev pub early_among : (constants classes : ℕ) → (List ℕ → Res) → Li
 early_among k c resolve [] = []
 early_among k c resolve (e ∷ es) = (early_at k c resolve (name_of_tree e) ++ callee_at (other_callee e)) ++ early_among k c resolve es
 
--- ---- the rules on one function
+-- ---- statements that no run reaches
 
--- the code of a rule on a function
-abbrev pub code_of : FunctionRule → Code
-code_of rule.ParametersAgain = E01
-code_of rule.GivenAgain = E01
-code_of rule.OutsideLoop = E05
-code_of rule.ReservedName = E29
-code_of rule.LatePlain = E31
-code_of rule.Unreachable = E30
+-- in the body of a function
+abbrev pub unreached_def : FuncDef → List Place
+unreached_def f = unreached f.body
 
--- where a rule on a function finds its code
-abbrev pub places_by : FunctionRule → (is_method : Bool) → FuncDef → List Place
-places_by rule.ParametersAgain b f = params_again (self_before b) f
-places_by rule.GivenAgain b f = given_in_def f
-places_by rule.OutsideLoop b f = loose_in_def f
-places_by rule.ReservedName b f = reserved_in_def f
-places_by rule.LatePlain b f = late_plain_in f
-places_by rule.Unreachable b f = unreached f.body
-
--- where a rule finds its code in the functions and methods of items
-abbrev pub in_defs : FunctionRule → List Item → List Place
-in_defs r items = of_defs (places_by r false) (places_by r true) items
+-- in the functions and methods of items
+abbrev pub unreached_in_defs : List Item → List Place
+unreached_in_defs items = of_defs unreached_def unreached_def items
 
 -- ---- names in items
 
@@ -136,20 +115,6 @@ unknown_in_bodies means i c (def_item p f ∷ is) = unknown_in (means (owners.Fu
 
 -- ---- all of them
 
--- E01: what is bound or given twice
-abbrev pub again_in : Module → List Finding
-again_in m = at_code E01 (bound_again [] (map name_of_item m.items)) ++ (at_code E01 (in_defs rule.ParametersAgain m.items)
-    ++ (at_code E01 (given_in_constants m.items) ++ at_code E01 (in_defs rule.GivenAgain m.items)))
-
--- E05, E28, E31, E30: what stands at a place where it may not
-abbrev pub out_of_place_in : Module → List Finding
-out_of_place_in m = at_code E05 (in_defs rule.OutsideLoop m.items) ++ (at_code E28 (no_main m)
-    ++ (at_code E31 (in_defs rule.LatePlain m.items) ++ at_code E30 (in_defs rule.Unreachable m.items)))
-
--- E29: reserved names that are bound
-abbrev pub reserved_in : Module → List Finding
-reserved_in m = at_code E29 (reserved_among (map name_of_item m.items)) ++ (at_code E29 (reserved_in_classes m.items) ++ at_code E29 (in_defs rule.ReservedName m.items))
-
 -- E02, E03: names that mean nothing or stand too early
 abbrev pub names_in : (Owner → List ℕ → Res) → Module → List Finding
 names_in means m = at_code E02 (unknown_in_constants (means owners.Module) m.items) ++ (at_code E02 (unknown_in_bodies means 0 0 m.items)
@@ -157,4 +122,4 @@ names_in means m = at_code E02 (unknown_in_constants (means owners.Module) m.ite
 
 -- what is found of a module's names and places, where names mean this to their owners
 abbrev pub found_in : (Owner → List ℕ → Res) → Module → List Finding
-found_in means m = again_in m ++ (out_of_place_in m ++ (reserved_in m ++ names_in means m))
+found_in means m = found_in_scopes m ++ (at_code E30 (unreached_in_defs m.items) ++ names_in means m)

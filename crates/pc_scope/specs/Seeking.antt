@@ -8,7 +8,8 @@ use Rattle.pc_scope.specs.declared.parts.Sought.{Sought}
 use Rattle.pc_scope.specs.declared.parts.Sought.TheVariants as sought
 use Rattle.pc_scope.specs.declared.resolution.Owner.TheVariants as owners
 use Rattle.pc_scope.specs.Expressions.{parts_in, parts_in_all, parts_in_first, parts_in_entries, parts_in_keywords, first_or_all, is_instance_test, other_callee}
-use Rattle.pc_scope.specs.Found.{at_code, unknown_at, early_at, callee_at}
+use Rattle.pc_stop.specs.Found.{at_code}
+use Rattle.pc_scope.specs.Found.{unknown_at, early_at, callee_at}
 use Rattle.pc_scope.specs.Tables.{Tables, meaning}
 
 -- the second argument of a test of an instance is passed over

@@ -1,8 +1,7 @@
 -- The tables of the names of a module, and what a name means by them.
 use Rattle.std.specs.Prelude.{ℕ, Bool, List, [], ◌++◌, map, Option, Some, None, true, false, slice_get, ◌≡◌}
 use Rattle.pc_tree.specs.Tree.{FuncDef, ClassDef, Module}
-use Rattle.pc_tree.specs.Runnable.{self_before}
-use Rattle.pc_tree.specs.Stopping.{bound_by}
+use Rattle.pc_tree.specs.Stopping.{bound_by, self_before}
 use Rattle.pc_scope.specs.declared.resolution.Res.{Res}
 use Rattle.pc_scope.specs.Bindings.{texts, param_names, methods_in, functions_in, classes_in}
 use Rattle.pc_scope.specs.declared.resolution.Owner.{Owner}

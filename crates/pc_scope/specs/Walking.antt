@@ -1,19 +1,14 @@
 -- What the walks over a module hold, as the definitions see it.
+pub use Rattle.pc_tree.specs.Lists.{name_seen}
 use Rattle.std.specs.Prelude.{ℕ, List, [], ◌∷◌, ◌++◌, ◌||◌, map, if◌then◌else◌, Option, Some, None, bytes_eq, String, string_bytes, Vec}
 use Rattle.std.specs.Global.{Global}
 use Rattle.indexmap.specs.IndexMap.{IndexMap, get_by}
 use Rattle.indexmap.specs.IndexSet.{IndexSet}
 use Rattle.std.specs.Borrow.{Bor}
-use Rattle.pc_tree.specs.declared.tree.Name.{Name as RustName}
-use Rattle.pc_tree.specs.Tree.{Name, name_of}
 use Rattle.pc_scope.specs.declared.resolution.Res.{Res}
 use Rattle.pc_scope.specs.declared.resolution.Builtin.{Builtin}
 use Rattle.pc_scope.specs.Reserved.{is_reserved}
 use Rattle.pc_scope.specs.Resolution.{is_among}
-
--- a name that is lent by the tree
-abbrev pub name_seen : Bor RustName → Name
-name_seen n = name_of n.now
 
 -- an entry of the table of reserved names, as the program lends it
 abbrev pub entry_seen : Bor (List ℕ) × Builtin → List ℕ × Builtin
@@ -34,15 +29,6 @@ at_text m text = get_by (λ k. bytes_eq text (string_bytes k)) m
 -- an entry of a map, by its text
 abbrev pub text_entry : String Global × Res → List ℕ × Res
 text_entry e = (string_bytes e.0, e.1)
-
--- the first answer if there is one, else the second
-abbrev pub first_res : Option Res → Option Res → Option Res
-first_res (Some r) other = Some r
-first_res None other = other
-
--- what a name means that is bound to this
-abbrev pub bound_as : List ℕ → Res → List ℕ → Option Res
-bound_as name r text = if bytes_eq name text then Some r else None
 
 -- the locals of the methods of a class, as sets hold them
 abbrev pub methods_texts : {S A : Type 0} → Vec (IndexSet (String Global) S) A → List (List (List ℕ))

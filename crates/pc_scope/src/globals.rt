@@ -1,7 +1,8 @@
 ghost use Rattle.std.specs.Prelude.{◌≡◌, map, Option, OnOk, IfOk, List, ℕ};
 ghost use Rattle.pc_tree.specs.Tree.{item_of};
 ghost use Rattle.pc_scope.specs.Resolution.{bound_first};
-ghost use Rattle.pc_scope.specs.Walking.{at_text, first_res, bound_as};
+ghost use Rattle.pc_names.specs.Names.{first_of, bound_as};
+ghost use Rattle.pc_scope.specs.Walking.{at_text};
 
 use crate::resolution::Res;
 use indexmap::IndexMap;
@@ -19,7 +20,7 @@ fn bind_first(
     name: &str,
     meaning: Res,
 ) -> Result<(), OutOfMemory>
-    ensures { OnOk result ((text : List ℕ) → at_text globals.new text ≡ first_res (at_text globals.old text) (bound_as name.now meaning text)) }
+    ensures { OnOk result ((text : List ℕ) → at_text globals.new text ≡ first_of (at_text globals.old text) (bound_as name.now meaning text)) }
 {
     if globals.contains_key(name) {
         return Ok(());

@@ -1,15 +1,15 @@
 ghost use Rattle.std.specs.Prelude.{◌≡◌, map, fold, true, false, OnOk, IfOk, string_bytes};
 ghost use Rattle.pc_tree.specs.Tree.{func_of, param_of, member_of, item_of};
-ghost use Rattle.pc_tree.specs.Runnable.{self_before};
+ghost use Rattle.pc_tree.specs.Lists.{name_seen};
+ghost use Rattle.pc_tree.specs.Stopping.{self_before};
 ghost use Rattle.pc_scope.specs.Bindings.{texts, param_names, methods_in, functions_in, classes_in};
 ghost use Rattle.pc_scope.specs.Tables.{locals_by, methods_locals};
-ghost use Rattle.pc_scope.specs.Walking.{with_local, name_seen, texts_in, methods_texts};
+ghost use Rattle.pc_scope.specs.Walking.{with_local, texts_in, methods_texts};
 
-use crate::bound::add_bound;
 use crate::reserved::builtin;
 use indexmap::IndexSet;
 use pc_source::OutOfMemory;
-use pc_tree::{FuncDef, Item, ItemKind, Member, Name, Param};
+use pc_tree::{FuncDef, Item, ItemKind, Member, Name, Param, add_bound};
 use std::alloc::Global as Allocator;
 
 /// The locals of a function, numbered by their order.
@@ -62,7 +62,7 @@ fn bind_all(locals: &mut Locals, alloc: Allocator, names: &[&Name]) -> Result<()
 
 /// The locals of a function: `self` of a method, the parameters, and the names that its body binds.
 /// Language Reference 4.2.1 "Binding of names".
-pub fn locals(alloc: Allocator, is_method: bool, def: &FuncDef) -> Result<Locals, OutOfMemory>
+fn locals(alloc: Allocator, is_method: bool, def: &FuncDef) -> Result<Locals, OutOfMemory>
     ensures { IfOk result (λ s. texts_in s ≡ locals_by is_method (func_of def.now)) }
 {
     let mut locals = IndexSet::new(alloc);
@@ -75,7 +75,7 @@ pub fn locals(alloc: Allocator, is_method: bool, def: &FuncDef) -> Result<Locals
 }
 
 /// The locals of each method of a class.
-pub fn locals_of_methods(alloc: Allocator, members: &[Member]) -> Result<Vec<Locals>, OutOfMemory>
+fn locals_of_methods(alloc: Allocator, members: &[Member]) -> Result<Vec<Locals>, OutOfMemory>
     ensures { IfOk result (λ ls. map texts_in ls.items ≡ map (locals_by true) (methods_in (map member_of members.now))) }
 {
     let mut all = Vec::new(alloc);

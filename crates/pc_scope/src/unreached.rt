@@ -1,20 +1,25 @@
-ghost use Rattle.std.specs.Prelude.{◌≡◌, ◌++◌, OnOk};
+//! E30: a statement that no run reaches. Own rule of the profile.
+#![tactic(auto, using(crate::proofs::Finds::at_both, crate::proofs::Joints::joined))]
+
+ghost use Rattle.std.specs.Prelude.{◌≡◌, ◌++◌, map, OnOk};
 ghost use Rattle.pc_source.specs.declared.place.Place.{Place as PlaceOf};
 ghost use Rattle.pc_tree.specs.declared.code.Code.TheVariants.{E30};
-ghost use Rattle.pc_tree.specs.Tree.{stmts_of_list, stmt_of_kind};
+ghost use Rattle.pc_tree.specs.Tree.{stmts_of_list, stmt_of_kind, member_of, item_of};
 ghost use Rattle.pc_tree.specs.Lists.{branches_of_list};
-ghost use Rattle.pc_scope.specs.Found.{at_code};
+ghost use Rattle.pc_tree.specs.Stopping.{of_members};
+ghost use Rattle.pc_scope.specs.Found.{unreached_def, unreached_in_defs};
+ghost use Rattle.pc_stop.specs.Found.{at_code};
 ghost use Rattle.pc_scope.specs.Reach.{unreached, unreached_in, unreached_in_branches};
 
 use crate::completing::completes;
-use crate::found::find;
 use pc_source::OutOfMemory;
-use pc_tree::{Branch, Code, Findings, Stmt, StmtKind};
+use pc_stop::find;
+use pc_tree::{Branch, Code, Findings, Item, ItemKind, Member, Stmt, StmtKind};
 
 /// Finds the first statement behind one that cannot complete, in a suite and in the suites that are reached in it. Own
 /// rule of the profile.
 #[cycle(unreached)]
-pub fn find_unreached(found: &mut Findings, body: &[Stmt]) -> Result<(), OutOfMemory>
+fn find_unreached(found: &mut Findings, body: &[Stmt]) -> Result<(), OutOfMemory>
     ensures { OnOk result (found.new.items ≡ found.old.items ++ at_code E30 (unreached (stmts_of_list body.now))) }
 {
     let mut reached = true;
@@ -58,6 +63,33 @@ fn find_unreached_among(found: &mut Findings, branches: &[Branch]) -> Result<(),
 {
     for branch in branches {
         find_unreached(found, &branch.body)?;
+    }
+    Ok(())
+}
+
+/// Finds those in the methods of a class.
+fn find_unreached_in_methods(found: &mut Findings, members: &[Member]) -> Result<(), OutOfMemory>
+    ensures { OnOk result (found.new.items ≡ found.old.items ++ at_code E30 (of_members unreached_def (map member_of members.now))) }
+{
+    for member in members {
+        match member {
+            Member::Field(_) => {}
+            Member::Method(def) => find_unreached(found, &def.body)?,
+        }
+    }
+    Ok(())
+}
+
+/// Finds those in the functions and methods of a module.
+pub fn find_unreached_in_defs(found: &mut Findings, items: &[Item]) -> Result<(), OutOfMemory>
+    ensures { OnOk result (found.new.items ≡ found.old.items ++ at_code E30 (unreached_in_defs (map item_of items.now))) }
+{
+    for item in items {
+        match &item.kind {
+            ItemKind::Constant(_) => {}
+            ItemKind::Class(class) => find_unreached_in_methods(found, &class.members)?,
+            ItemKind::Def(def) => find_unreached(found, &def.body)?,
+        }
     }
     Ok(())
 }

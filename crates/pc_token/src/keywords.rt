@@ -2,6 +2,7 @@
 ghost use Rattle.std.specs.Prelude.{◌≡◌, find, bytes_eq};
 ghost use Rattle.pc_token.specs.Keywords.{keyword_text, keywords, is_keyword, is_reserved};
 
+use crate::bytes::byte_at;
 use crate::token::Keyword;
 
 const KEYWORDS: [Keyword; 35] = [
@@ -87,11 +88,21 @@ impl Keyword {
     }
 }
 
+/// Whether a keyword is spelled so. Most are told by their length or their first byte.
+fn is_spelled(keyword: Keyword, name: &str) -> bool
+    ensures { result ≡ bytes_eq (keyword_text keyword) name.now }
+{
+    let text = keyword.text();
+    text.len() == name.len()
+        && byte_at(text.as_bytes(), 0) == byte_at(name.as_bytes(), 0)
+        && text == name
+}
+
 /// The keyword that is spelled so.
 pub(crate) fn keyword_of(name: &str) -> Option<Keyword>
     ensures { result ≡ find (λ k. bytes_eq (keyword_text k) name.now) keywords }
 {
-    KEYWORDS.iter().copied().find(|k| k.text() == name)
+    KEYWORDS.iter().copied().find(|k| is_spelled(*k, name))
 }
 
 /// Whether a name is a keyword's.

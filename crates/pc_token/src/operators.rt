@@ -3,6 +3,7 @@ ghost use Rattle.std.specs.Prelude.{◌≡◌, find, nat_eq};
 ghost use Rattle.std.specs.List.{starts_with};
 ghost use Rattle.pc_token.specs.Operators.{operator_text, operators, role_of};
 
+use crate::bytes::byte_at;
 use crate::token::Operator;
 
 /// The longer before the shorter.
@@ -113,6 +114,14 @@ impl Operator {
     }
 }
 
+/// Whether an operator stands at the front. Most are told by their first byte.
+fn stands_at(bytes: &[u8], operator: Operator) -> bool
+    ensures { result ≡ starts_with nat_eq bytes.now (operator_text operator) }
+{
+    let text = operator.text().as_bytes();
+    byte_at(bytes, 0) == byte_at(text, 0) && bytes.starts_with(text)
+}
+
 /// The longest operator at the front.
 pub(crate) fn operator_at(bytes: &[u8]) -> Option<Operator>
     ensures { result ≡ find (λ o. starts_with nat_eq bytes.now (operator_text o)) operators }
@@ -120,7 +129,7 @@ pub(crate) fn operator_at(bytes: &[u8]) -> Option<Operator>
     OPERATORS
         .iter()
         .copied()
-        .find(|operator| bytes.starts_with(operator.text().as_bytes()))
+        .find(|operator| stands_at(bytes, *operator))
 }
 
 /// What an operator is as a bracket.

@@ -1,5 +1,5 @@
 //! One logical line after another.
-ghost use Rattle.std.specs.Prelude.{◌≡◌, ◌-◌, List, [], ◌∷◌, map, Result, OnOk, MatchOption, MatchResult};
+ghost use Rattle.std.specs.Prelude.{◌≡◌, ◌-◌, List, [], ◌∷◌, ◌++◌, map, Result, OnOk, MatchOption, MatchResult};
 ghost use Rattle.pc_source.specs.declared.fault.Refusal.{Refusal};
 ghost use Rattle.pc_token.specs.Lexeme.{LogicalLine, line_of, lexeme_of};
 ghost use Rattle.pc_token.specs.Splitting.{close_line};
@@ -12,6 +12,20 @@ use crate::reading::{Found, Next, Reading};
 use crate::token::{Line, Operator, Token, TokenKind};
 use pc_source::{Fault, Place, Refusal, RefusalCode};
 use std::alloc::{AllocError, Global};
+
+/// For how many tokens a line has room from its first one on. Few lines have more.
+const FIRST_ROOM: usize = 16;
+
+/// Puts an item behind others. The first one makes room for as many as most lines have.
+fn put<T: Drop>(items: &mut Vec<T>, item: T) -> Result<(), AllocError>
+    ensures { OnOk result (items.new.items ≡ items.old.items ++ item ∷ []) }
+{
+    if items.is_empty() {
+        items.reserve(FIRST_ROOM)?;
+    }
+    items.push(item)?;
+    Ok(())
+}
 
 /// Opens or closes a bracket.
 fn turn_bracket(brackets: &mut Vec<Operator>, kind: TokenKind) -> Result<(), AllocError>
@@ -68,7 +82,7 @@ impl<'a> Reading<'a> {
             form: found.form,
         };
         turn_bracket(&mut self.brackets, found.kind)?;
-        self.tokens.push(token)?;
+        put(&mut self.tokens, token)?;
         self.at = found.end;
         self.last = Some(found.kind);
         self.ended = found.end;

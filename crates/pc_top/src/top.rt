@@ -29,6 +29,9 @@ pub fn check(alloc: Global, bytes: &[u8]) -> Result<Report, CheckFault>
     let notes = findings(alloc, &module)?;
     let flows = notes.texts(alloc, &module)?;
     let found = notes.findings(alloc)?;
+    // The report is made in the memory that the module and its notes took.
+    drop(notes);
+    drop(module);
     let report = Report::of(alloc, &source, &found, &flows)?;
     Ok(report)
 }

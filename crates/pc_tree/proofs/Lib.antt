@@ -19,7 +19,5 @@ pub mod SoundFinishing
 pub mod SoundLines
 pub mod Starts
 pub mod Stood
-pub mod Apart
-pub mod Runnable
 pub mod Stops
 pub mod Trees

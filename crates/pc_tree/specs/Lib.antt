@@ -5,6 +5,5 @@ pub mod Fronts
 pub mod Grammar
 pub mod Lists
 pub mod Machine
-pub mod Runnable
 pub mod Stopping
 pub mod Tree

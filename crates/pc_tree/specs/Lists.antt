@@ -1,10 +1,12 @@
--- Trees whose parts lie in a list of the program.
+-- Trees whose parts lie in a list of the program, and names that it lends.
 use Rattle.std.specs.Prelude.{List, [], ◌∷◌}
+use Rattle.std.specs.Borrow.{Bor}
+use Rattle.pc_tree.specs.declared.tree.Name.{Name as RustName}
 use Rattle.pc_tree.specs.declared.tree.Expr.{Expr as RustExpr}
 use Rattle.pc_tree.specs.declared.tree.Entry.{Entry as RustEntry}
 use Rattle.pc_tree.specs.declared.tree.KeywordArgument.{KeywordArgument as RustKeyword}
 use Rattle.pc_tree.specs.declared.tree.Branch.{Branch as RustBranch, Branch'}
-use Rattle.pc_tree.specs.Tree.{Exprs, no_exprs, more_exprs, Entries, no_entries, more_entries, Keywords, no_keywords, more_keywords, Branches, no_branches, more_branches, expr_of, name_of, stmts_of}
+use Rattle.pc_tree.specs.Tree.{Name, Exprs, no_exprs, more_exprs, Entries, no_entries, more_entries, Keywords, no_keywords, more_keywords, Branches, no_branches, more_branches, expr_of, name_of, stmts_of}
 
 -- a list of expressions
 abbrev pub exprs_of_list : List RustExpr → Exprs
@@ -29,3 +31,7 @@ with_branch (Branch' condition shape body) rest = more_branches (expr_of conditi
 abbrev pub branches_of_list : List RustBranch → Branches
 branches_of_list [] = no_branches
 branches_of_list (b ∷ rest) = with_branch b (branches_of_list rest)
+
+-- a name that is lent by the tree
+abbrev pub name_seen : Bor RustName → Name
+name_seen n = name_of n.now

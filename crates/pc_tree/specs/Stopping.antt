@@ -153,6 +153,11 @@ given_in_constants (constant_item first c ∷ is) = given_in c.value ++ given_in
 given_in_constants (class_item first c ∷ is) = given_in_constants is
 given_in_constants (def_item first f ∷ is) = given_in_constants is
 
+-- what is bound before the parameters: `self` in a method
+abbrev pub self_before : (is_method : Bool) → List (List ℕ)
+self_before true = codes "self" ∷ []
+self_before false = []
+
 -- a function's parameters, after `self` in a method
 abbrev pub params_again : (before : List (List ℕ)) → FuncDef → List Place
 params_again before f = bound_again before (map name_of_param f.params)
@@ -163,7 +168,7 @@ given_in_def f = given_in_stmts f.body
 
 -- E01: a name that the module or a parameter list binds again, or that a call is given again, at the later name
 abbrev pub twice : Module → List Place
-twice m = bound_again [] (map name_of_item m.items) ++ (of_defs (params_again []) (params_again (codes "self" ∷ [])) m.items
+twice m = bound_again [] (map name_of_item m.items) ++ (of_defs (params_again (self_before false)) (params_again (self_before true)) m.items
     ++ (given_in_constants m.items ++ of_defs given_in_def given_in_def m.items))
 
 -- ---- E05: `break` or `continue` outside a loop

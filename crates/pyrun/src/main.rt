@@ -14,7 +14,9 @@ use crate::words::{OptionFault, Options};
 use pc_run::{Trace, trace_text};
 use pc_source::Fault;
 use std::alloc::AllocError;
+use std::hash::RandomState;
 use std::process::ExitCode;
+use std::random::RandomSource;
 use std::rt::{Env, Files};
 use std::{env, fs, io};
 
@@ -63,7 +65,7 @@ fn report<R: Print + Eprint + AllocGlobal>(rt: &R, outcome: &Result<Trace, Fault
 }
 
 /// Does what the words ask for, and gives the exit status.
-fn run<R: Print + Eprint + Env + Files + AllocGlobal>(rt: &R) -> u8 {
+fn run<R: Print + Eprint + Env + Files + RandomSource + AllocGlobal>(rt: &R) -> u8 {
     let options = match asked_for(rt) {
         Ok(options) => options,
         Err(fault) => return tell(rt, &fault),
@@ -72,7 +74,14 @@ fn run<R: Print + Eprint + Env + Files + AllocGlobal>(rt: &R) -> u8 {
         let _ = eprintln!(rt; "the input could not be read");
         return 3;
     };
-    report(rt, &traced(rt.alloc(), bytes.as_slice(), options.fuel))
+    let Ok(keys) = RandomState::new(rt) else {
+        let _ = eprintln!(rt; "there are no random keys");
+        return 3;
+    };
+    report(
+        rt,
+        &traced(rt.alloc(), keys, bytes.as_slice(), options.fuel),
+    )
 }
 
 fn main(rt: HostRuntime) -> ExitCode {

@@ -5,6 +5,7 @@ use crate::status::status_of;
 use crate::words::OptionFault;
 use pc_source::Fault;
 use std::alloc::Global;
+use std::hash::RandomState;
 use std::test::Fail;
 
 /// The words of a row of a table, each behind a bar.
@@ -170,13 +171,14 @@ fn texts_of_faults(rt: HostRuntime) -> Result<(), Fail> {
 #[test]
 fn statuses(rt: HostRuntime) -> Result<(), Fail> {
     let add = b"from __future__ import annotations\ndef main():\n    return 1 + \"a\"\nmain()\n";
-    let outcome = traced(rt.alloc(), add, 4);
+    let keys = RandomState::new(&rt)?;
+    let outcome = traced(rt.alloc(), keys, add, 4);
     assert_eq!(rt; status_of(&outcome), 0);
     assert_eq!(rt; outcome?.events.len(), 3);
-    let outcome = traced(rt.alloc(), add, 3);
+    let outcome = traced(rt.alloc(), keys, add, 3);
     assert_eq!(rt; status_of(&outcome), 0);
     assert_eq!(rt; outcome?.events.len(), 1);
-    let outcome = traced(rt.alloc(), b"$", 4);
+    let outcome = traced(rt.alloc(), keys, b"$", 4);
     assert_eq!(rt; status_of(&outcome), 2);
     match outcome {
         Ok(_) => assert!(rt; false, "a text that is no module has a trace"),

@@ -1,5 +1,6 @@
 use crate::cases::Case;
 use pc_front::read_module;
+use pc_names::fixed_keys;
 use pc_run::{Trace, run, trace_text};
 use pc_source::Fault;
 use std::alloc::{AllocError, Global};
@@ -31,7 +32,8 @@ pub fn module_of_lines(alloc: Global, lines: &str) -> Result<String, AllocError>
 /// The trace of a module that is run with the fuel and the choices of a case.
 fn traced(alloc: Global, text: &str, case: &Case) -> Result<Trace, Fault> {
     let program = read_module(alloc, text.as_bytes())?;
-    Ok(run(alloc, &program, case.fuel, case.choices.as_slice())?)
+    let keys = fixed_keys()?;
+    Ok(run(alloc, keys, &program, case.fuel, case.choices.as_slice())?)
 }
 
 /// The lines of the trace of a module, or why it has none.

@@ -1,6 +1,7 @@
 //! Tables of modules that no text spells, with their traces.
 use crate::builder::module_of_words;
 use crate::cases::{Case, cases};
+use pc_names::fixed_keys;
 use pc_run::{Trace, run};
 use pc_source::OutOfMemory;
 use pc_tables::{TableFault, Tally};
@@ -9,7 +10,8 @@ use std::alloc::{AllocError, Global};
 /// The trace of the module of a case.
 fn traced(alloc: Global, case: &Case) -> Result<Trace, OutOfMemory> {
     let module = module_of_words(alloc, case.text.as_str())?;
-    run(alloc, &module, case.fuel, case.choices.as_slice())
+    let keys = fixed_keys()?;
+    run(alloc, keys, &module, case.fuel, case.choices.as_slice())
 }
 
 /// A trace as text, without the bytes at which its places end, and a space in place of each line feed.

@@ -1,6 +1,6 @@
 use Rattle.std.proofs.Common.{◌∙◌, sym, ap}
 use Rattle.pc_tree.proofs.Trees.{if_tree, branches_next}
-use Rattle.pc_tree.proofs.Stops.{or_yes, or_no}
+use Rattle.pc_scope.proofs.Joints.{or_yes, or_no}
 use Rattle.pc_scope.specs.Reach.{completes, some_completes}
 use Rattle.pc_scope.proofs.Suites.{no_statement}
 use Rattle.pc_scope.proofs.completing.+completing.Goals as goal

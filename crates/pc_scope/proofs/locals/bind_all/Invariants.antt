@@ -1,6 +1,7 @@
 use Rattle.std.proofs.Common.{◌≡◌, map, fold, drop, string_bytes}
 use Rattle.pc_scope.specs.Bindings.{texts}
-use Rattle.pc_scope.specs.Walking.{with_local, name_seen}
+use Rattle.pc_tree.specs.Lists.{name_seen}
+use Rattle.pc_scope.specs.Walking.{with_local}
 use Rattle.pc_scope.proofs.locals.bind_all.Given as goal
 
 abbrev pub invariant-loop-name : goal.invariant-loop-name

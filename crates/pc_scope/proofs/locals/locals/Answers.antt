@@ -2,9 +2,10 @@ use Rattle.std.proofs.Common.{◌∙◌, ap, map, fold, ◌++◌, List, ℕ}
 use Rattle.std.specs.Prelude.{string_bytes}
 use Rattle.pc_tree.specs.Tree.{Name, param_of, stmts_of_list}
 use Rattle.pc_tree.specs.Stopping.{bound_by}
-use Rattle.pc_tree.specs.Runnable.{self_before}
+use Rattle.pc_tree.specs.Stopping.{self_before}
 use Rattle.pc_scope.specs.Bindings.{texts, param_names}
-use Rattle.pc_scope.specs.Walking.{with_local, name_seen}
+use Rattle.pc_tree.specs.Lists.{name_seen}
+use Rattle.pc_scope.specs.Walking.{with_local}
 use Rattle.pc_scope.proofs.TextSets.{in_turn}
 use Rattle.pc_scope.proofs.locals.locals.Goals as goal
 

@@ -7,7 +7,7 @@ use Rattle.pc_tree.specs.declared.tree.Branch.{out-Branch}
 use Rattle.pc_tree.specs.Tree.{stmts_of_list, stmt_of, Stmt, Stmts, Branches}
 use Rattle.pc_tree.specs.Lists.{branches_of_list}
 use Rattle.pc_tree.proofs.Trees.{while_tree, for_tree, if_tree, branches_next, stmts_next}
-use Rattle.pc_scope.specs.Found.{at_code}
+use Rattle.pc_stop.specs.Found.{at_code}
 use Rattle.pc_scope.specs.Reach.{completes, first_places, unreached, unreached_in, unreached_in_branches}
 use Rattle.pc_scope.proofs.Joints.{joined}
 use Rattle.pc_scope.proofs.Reached.{behind, first_is}

@@ -2,7 +2,7 @@ use Rattle.std.proofs.Common.{◌≡◌, drop, ◌++◌}
 use Rattle.pc_tree.specs.declared.code.Code.TheVariants.{E30}
 use Rattle.pc_tree.specs.Tree.{stmts_of_list}
 use Rattle.pc_tree.specs.Lists.{branches_of_list}
-use Rattle.pc_scope.specs.Found.{at_code}
+use Rattle.pc_stop.specs.Found.{at_code}
 use Rattle.pc_scope.specs.Reach.{unreached, unreached_in_branches}
 use Rattle.pc_scope.proofs.Reached.{behind}
 use Rattle.pc_scope.proofs.unreached.+unreached.Given as goal

@@ -1,0 +1,55 @@
+//! What the module has bound, looked up by name.
+ghost use Rattle.std.specs.Prelude.{◌≡◌, ◌++◌, ◌∷◌, [], map, OnOk};
+ghost use Rattle.pc_machine.specs.Names.{global_of};
+ghost use Rattle.pc_machine.specs.Machine.{global_of as global_seen, bound_of, found_global};
+
+use crate::state::{Bound, Global, Globals};
+use indexmap::IndexMap;
+use pc_names::bind_first;
+use pc_source::OutOfMemory;
+use std::alloc::Global as Allocator;
+use std::hash::RandomState;
+
+impl<'m> Globals<'m> {
+    /// Nothing is bound.
+    pub fn new(alloc: Allocator, keys: RandomState) -> Globals<'m>
+        ensures { result.bindings.items ≡ [] }
+    {
+        Globals {
+            bindings: Vec::new(alloc),
+            places: IndexMap::with_hasher(alloc, keys),
+        }
+    }
+
+    /// What is bound to a name, if anything.
+    pub fn get(&self, name: &str) -> Option<&Bound<'m>>
+        ensures { found_global result ≡ global_of name.now (map global_seen self.now.bindings.items) }
+    {
+        match self.places.get(name) {
+            Some(place) => match self.bindings.get(*place) {
+                Some(binding) => Some(&binding.bound),
+                None => None,
+            },
+            None => None,
+        }
+    }
+
+    /// The module binds a name.
+    ///
+    /// # Errors
+    ///
+    /// `OutOfMemory` where there is no room; nothing is bound then.
+    pub fn bind(&mut self, name: &'m str, bound: Bound<'m>) -> Result<(), OutOfMemory>
+        ensures { OnOk result (map global_seen self.new.bindings.items ≡ map global_seen self.old.bindings.items ++ record { name = name.now; is = bound_of bound.entry } ∷ []) }
+    {
+        let place = self.bindings.len();
+        self.bindings.push(Global { name, bound })?;
+        match bind_first(&mut self.places, name, place) {
+            Ok(()) => Ok(()),
+            Err(_) => {
+                let _ = self.bindings.pop();
+                Err(OutOfMemory)
+            }
+        }
+    }
+}

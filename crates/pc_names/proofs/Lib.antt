@@ -1,0 +1,3 @@
+pub mod Texts
+pub mod InSets
+pub mod InMaps

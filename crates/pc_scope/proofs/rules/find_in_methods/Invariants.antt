@@ -1,8 +1,0 @@
-use Rattle.std.proofs.Common.{◌≡◌, ◌++◌, map, drop, true}
-use Rattle.pc_tree.specs.Tree.{member_of}
-use Rattle.pc_tree.specs.Stopping.{of_members}
-use Rattle.pc_scope.specs.Found.{at_code, code_of, places_by}
-use Rattle.pc_scope.proofs.rules.find_in_methods.Given as goal
-
-abbrev pub invariant-loop-member : goal.invariant-loop-member
-invariant-loop-member l = l.found.items ++ at_code (code_of l.rule) (of_members (places_by l.rule true) (map member_of (drop l.member-index l.members))) ≡ l.fn.found.items ++ at_code (code_of l.rule) (of_members (places_by l.rule true) (map member_of l.members))

@@ -1,0 +1,10 @@
+use Rattle.std.proofs.Common.{◌≡◌, ◌++◌, map, drop}
+use Rattle.pc_tree.specs.declared.code.Code.TheVariants.{E30}
+use Rattle.pc_tree.specs.Tree.{member_of}
+use Rattle.pc_tree.specs.Stopping.{of_members}
+use Rattle.pc_stop.specs.Found.{at_code}
+use Rattle.pc_scope.specs.Found.{unreached_def}
+use Rattle.pc_scope.proofs.unreached.find_unreached_in_methods.Given as goal
+
+abbrev pub invariant-loop-member : goal.invariant-loop-member
+invariant-loop-member l = l.found.items ++ at_code E30 (of_members unreached_def (map member_of (drop l.member-index l.members))) ≡ l.fn.found.items ++ at_code E30 (of_members unreached_def (map member_of l.members))

@@ -1,0 +1,53 @@
+//! E03: an initializer that names what is not defined yet, or calls what is no name. Own rule of the profile.
+#![tactic(auto, using(crate::proofs::Seeking::early_sought, crate::proofs::Finds::at_both, crate::proofs::Joints::joined))]
+
+ghost use Rattle.std.specs.Prelude.{◌≡◌, ◌++◌, map, OnOk, false};
+ghost use Rattle.pc_tree.specs.declared.code.Code.TheVariants.{E03};
+ghost use Rattle.pc_tree.specs.Tree.{expr_of, item_of};
+ghost use Rattle.pc_scope.specs.declared.resolution.Owner.TheVariants as owners;
+ghost use Rattle.pc_scope.specs.Expressions.{parts_in};
+ghost use Rattle.pc_stop.specs.Found.{at_code};
+ghost use Rattle.pc_scope.specs.Found.{early_among, early_in};
+ghost use Rattle.pc_scope.specs.Tables.{meaning};
+
+use crate::parts::{Sought, seek};
+use crate::tables::Names;
+use pc_source::OutOfMemory;
+use pc_tree::{Expr, Findings, Item, ItemKind};
+
+/// Adds the names in an initializer that stand too early behind so many constants and classes, and the callees that are
+/// no names. Own rule of the profile.
+fn find_early(
+    found: &mut Findings,
+    names: &Names,
+    constants: usize,
+    classes: usize,
+    e: &Expr,
+) -> Result<(), OutOfMemory>
+    ensures { OnOk result (found.new.items ≡ found.old.items ++ at_code E03 (early_among constants classes (meaning names.now owners.Module) (parts_in false (expr_of e.now)))) }
+{
+    seek(found, names, Sought::Early(constants, classes), e)
+}
+
+/// Finds what stands too early in initializers.
+pub fn find_early_names(
+    found: &mut Findings,
+    names: &Names,
+    items: &[Item],
+) -> Result<(), OutOfMemory>
+    ensures { OnOk result (found.new.items ≡ found.old.items ++ at_code E03 (early_in 0 0 (meaning names.now owners.Module) (map item_of items.now))) }
+{
+    let mut constants = 0;
+    let mut classes = 0;
+    for item in items {
+        match &item.kind {
+            ItemKind::Constant(constant) => {
+                find_early(found, names, constants, classes, &constant.value)?;
+                constants += 1;
+            }
+            ItemKind::Class(_) => classes += 1,
+            ItemKind::Def(_) => {}
+        }
+    }
+    Ok(())
+}

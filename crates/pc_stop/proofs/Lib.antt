@@ -1,0 +1,9 @@
+pub mod Among
+pub mod Finds
+pub mod Joints
+pub mod Passed
+pub mod SharedTables
+pub mod HeldNames
+pub mod Clashes
+pub mod ClashingItems
+pub mod AllStops

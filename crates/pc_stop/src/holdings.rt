@@ -1,0 +1,132 @@
+//! What classes have by which names: each class has a table of its own, which shares what its base has.
+ghost use Rattle.std.specs.Prelude.{◌≡◌, ◌<◌, ◌^◌, ◌++◌, ◌∷◌, [], IfOk, OnOk, Some, slice_get, List, ℕ};
+ghost use Rattle.pc_tree.specs.Tree.{member_of};
+ghost use Rattle.pc_tree.specs.Stopping.{Held, held_by, name_of_member, is_field};
+ghost use Rattle.pc_names.specs.Names.{texts_in};
+ghost use Rattle.pc_stop.specs.Tables.{value_at};
+ghost use Rattle.pc_stop.specs.Holdings.{HasIn, IsReady, Keeps, number_of, holding_of, with_member};
+
+use crate::tables::{Node, table_with, value_in};
+use indexmap::IndexSet;
+use pc_names::NameSet;
+use pc_source::OutOfMemory;
+use pc_tree::Member;
+use std::alloc::Global as Allocator;
+use std::hash::RandomState;
+
+/// How many binary digits the number of a name has at most: a text of the profile has fewer names than they tell.
+pub const DIGITS: usize = 20;
+
+/// The first number that has more digits.
+const MOST: usize = 1_048_576;
+
+/// The table that has nothing.
+pub const EMPTY: usize = 0;
+
+/// What a class or its ancestors have by a name.
+#[derive(Clone, Copy, Debug, PartialEq, Eq)]
+pub enum Holding {
+    Nothing,
+    /// Methods, and no field.
+    Method,
+    Field,
+}
+
+/// The names of members, each with a number, and the tables from numbers to what is had by them.
+#[derive(Drop)]
+pub struct Holdings<'m> {
+    pub numbers: NameSet<'m>,
+    pub nodes: Vec<Node>,
+}
+
+/// A holding as the value of a table.
+fn number_of(holding: Holding) -> usize
+    ensures { result ≡ number_of holding }
+{
+    match holding {
+        Holding::Nothing => 0,
+        Holding::Method => 1,
+        Holding::Field => 2,
+    }
+}
+
+/// The value of a table as a holding.
+fn holding_of(value: usize) -> Holding
+    ensures { result ≡ holding_of value }
+{
+    if value == 0 {
+        return Holding::Nothing;
+    }
+    if value == 1 {
+        return Holding::Method;
+    }
+    Holding::Field
+}
+
+/// What is had with one member more.
+fn with_member(had: Holding, member: &Member) -> Holding
+    ensures { result ≡ with_member had (is_field (member_of member.now)) }
+{
+    match member {
+        Member::Field(_) => Holding::Field,
+        Member::Method(_) => match had {
+            Holding::Nothing => Holding::Method,
+            Holding::Method => Holding::Method,
+            Holding::Field => Holding::Field,
+        },
+    }
+}
+
+impl<'m> Holdings<'m> {
+    /// No names, and the empty table.
+    pub fn new(alloc: Allocator, keys: RandomState) -> Result<Holdings<'m>, OutOfMemory>
+        ensures { IfOk result (λ h. HasIn h EMPTY []) }
+    {
+        let empty = Node { even: 0, odd: 0 };
+        let mut nodes = Vec::new(alloc);
+        nodes.push(empty)?;
+        nodes.push(empty)?;
+        nodes.push(empty)?;
+        Ok(Holdings {
+            numbers: IndexSet::with_hasher(alloc, keys),
+            nodes,
+        })
+    }
+
+    /// The number of a name, which may be new.
+    pub fn number(&mut self, name: &'m str) -> Result<usize, OutOfMemory>
+        ensures named { IfOk result (λ k. slice_get (texts_in self.new.numbers) k ≡ Some name.now) }
+        ensures small { IfOk result (λ k. k < 2 ^ DIGITS) }
+        ensures nodes { self.new.nodes ≡ self.old.nodes }
+        ensures kept { OnOk result ((t : ℕ) (hs : List Held) → HasIn self.old t hs → HasIn self.new t hs) }
+    {
+        let (number, _) = self.numbers.insert_full(name)?;
+        if number >= MOST {
+            return Err(OutOfMemory);
+        }
+        Ok(number)
+    }
+
+    /// What a table has at the number of a name.
+    pub fn held(&self, table: usize, number: usize) -> Holding
+        ensures { result ≡ holding_of (value_at self.now.nodes.items DIGITS table number) }
+    {
+        holding_of(value_in(&self.nodes, DIGITS, table, number))
+    }
+
+    /// A table with one member more, whose name has this number.
+    pub fn hold(
+        &mut self,
+        table: usize,
+        number: usize,
+        member: &Member,
+    ) -> Result<usize, OutOfMemory>
+        requires { IsReady self.old.nodes.items }
+        ensures held { IfOk result (λ t. (hs : List Held) → number < 2 ^ DIGITS → slice_get (texts_in self.old.numbers) number ≡ Some (name_of_member (member_of member.now)).text → HasIn self.old table hs → HasIn self.new t (hs ++ held_by (member_of member.now) ∷ [])) }
+        ensures keeps { OnOk result (Keeps self.old self.new) }
+    {
+        let had = self.held(table, number);
+        let value = number_of(with_member(had, member));
+        table_with(&mut self.nodes, DIGITS, table, number, value)
+    }
+}

@@ -1,0 +1,96 @@
+//! All the findings that stop a run.
+ghost use Rattle.std.specs.Prelude.{◌≡◌, ◌↔◌, ◌++◌, Contains, OnOk, IfOk};
+ghost use Rattle.pc_tree.specs.declared.code.Code.TheVariants.{E01, E29};
+ghost use Rattle.pc_tree.specs.declared.code.Finding.{Finding as FindingOf};
+ghost use Rattle.pc_tree.specs.Tree.{module_of};
+ghost use Rattle.pc_tree.specs.Stopping.{twice, reserved_bound, has_none, is_runnable, IsStopping};
+ghost use Rattle.pc_stop.specs.Found.{at_code, found_in_scopes};
+
+use crate::calls::find_given_in_constants;
+use crate::defs::{FunctionRule, find_in_defs};
+use crate::entry::find_no_main;
+use crate::members::find_in_classes;
+use crate::reserved::{find_reserved_in_classes, find_reserved_items};
+use crate::twice::find_items_again;
+use pc_source::OutOfMemory;
+use pc_tree::{Findings, Module};
+use std::alloc::Global as Allocator;
+use std::hash::RandomState;
+
+/// Finds what is bound or given twice: E01.
+#[tactic(auto, using(crate::proofs::Finds::at_both, crate::proofs::Joints::joined))]
+fn find_twice(
+    found: &mut Findings,
+    alloc: Allocator,
+    keys: RandomState,
+    program: &Module,
+) -> Result<(), OutOfMemory>
+    ensures { OnOk result (found.new.items ≡ found.old.items ++ at_code E01 (twice (module_of program.now))) }
+{
+    let items = program.items.as_slice();
+    find_items_again(found, alloc, keys, items)?;
+    find_in_defs(found, alloc, keys, FunctionRule::ParametersAgain, items)?;
+    find_given_in_constants(found, alloc, keys, items)?;
+    find_in_defs(found, alloc, keys, FunctionRule::GivenAgain, items)
+}
+
+/// Finds reserved names that are bound: E29.
+#[tactic(auto, using(crate::proofs::Finds::at_both, crate::proofs::Joints::joined))]
+fn find_reserved(
+    found: &mut Findings,
+    alloc: Allocator,
+    keys: RandomState,
+    program: &Module,
+) -> Result<(), OutOfMemory>
+    ensures { OnOk result (found.new.items ≡ found.old.items ++ at_code E29 (reserved_bound (module_of program.now))) }
+{
+    let items = program.items.as_slice();
+    find_reserved_items(found, alloc, items)?;
+    find_reserved_in_classes(found, items)?;
+    find_in_defs(found, alloc, keys, FunctionRule::ReservedName, items)
+}
+
+/// Finds what stops a run and is a condition on names and on the places of statements: E01, E05, E28, E29, E31.
+/// Own rules of the profile.
+///
+/// # Errors
+///
+/// `OutOfMemory` where the findings, or the names that were passed, have no room.
+pub fn find_in_scopes(
+    found: &mut Findings,
+    alloc: Allocator,
+    keys: RandomState,
+    program: &Module,
+) -> Result<(), OutOfMemory>
+    ensures { OnOk result (found.new.items ≡ found.old.items ++ found_in_scopes (module_of program.now)) }
+{
+    find_twice(found, alloc, keys, program)?;
+    find_in_defs(
+        found,
+        alloc,
+        keys,
+        FunctionRule::OutsideLoop,
+        &program.items,
+    )?;
+    find_no_main(found, program)?;
+    find_reserved(found, alloc, keys, program)?;
+    find_in_defs(found, alloc, keys, FunctionRule::LatePlain, &program.items)
+}
+
+/// The findings that stop each run of a module, in any order: a name that is bound or given twice (E01), `break` or
+/// `continue` outside a loop (E05), members that clash (E06), no `main` without parameters (E28), a reserved name that
+/// is bound (E29), a parameter without default after one with default (E31). The module runs exactly where there is
+/// none. Own rule of the profile.
+///
+/// # Errors
+///
+/// `OutOfMemory` where the findings, or the names that were passed, have no room.
+pub fn stops(alloc: Allocator, keys: RandomState, program: &Module) -> Result<Findings, OutOfMemory>
+    ensures found { IfOk result (λ fs. (f : FindingOf) → Contains fs.items f ↔ IsStopping (module_of program.now) f.place f.code) }
+    ensures none { IfOk result (λ fs. has_none fs.items ≡ is_runnable (module_of program.now)) }
+{
+    let mut found = Vec::new(alloc);
+    find_in_scopes(&mut found, alloc, keys, program)?;
+    find_in_classes(&mut found, alloc, keys, program)?;
+    Ok(found)
+}

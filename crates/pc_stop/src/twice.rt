@@ -1,0 +1,84 @@
+//! E01: a name that the module or a parameter list binds again. Language Reference 4.2.1 "Binding of names".
+ghost use Rattle.std.specs.Prelude.{◌≡◌, ◌++◌, ◌&&◌, not, map, [], OnOk, List, ℕ};
+ghost use Rattle.pc_token.specs.Keywords.{is_reserved};
+ghost use Rattle.pc_tree.specs.declared.code.Code.TheVariants.{E01};
+ghost use Rattle.pc_tree.specs.Lists.{name_seen};
+ghost use Rattle.pc_tree.specs.Tree.{name_of, param_of, item_of};
+ghost use Rattle.pc_tree.specs.Stopping.{is_among, one_if, bound_again, name_of_item, name_of_param, self_before};
+ghost use Rattle.pc_stop.specs.Found.{at_code};
+ghost use Rattle.pc_names.specs.Names.{texts_in};
+
+use crate::found::find_if;
+use crate::names::{add_params, names_of};
+use indexmap::IndexSet;
+use pc_names::{NameSet, put};
+use pc_source::OutOfMemory;
+use pc_tree::{Code, Findings, Item, Name, Param, is_reserved};
+use std::alloc::Global as Allocator;
+use std::hash::RandomState;
+
+/// Finds a name that stands among those before it, unless it is reserved.
+fn find_again(found: &mut Findings, again: bool, name: &Name) -> Result<(), OutOfMemory>
+    ensures { OnOk result (found.new.items ≡ found.old.items ++ at_code E01 (one_if (again && not (is_reserved (name_of name.now).text)) (name_of name.now).place)) }
+{
+    if is_reserved(name.text.as_str()) {
+        return Ok(());
+    }
+    find_if(found, again, Code::E01, name.place)
+}
+
+/// Finds the names that are bound again: each that stands among those before it and is not reserved.
+fn find_bound_again<'m>(
+    found: &mut Findings,
+    before: &mut NameSet<'m>,
+    names: &[&'m Name],
+) -> Result<(), OutOfMemory>
+    ensures { OnOk result (found.new.items ≡ found.old.items ++ at_code E01 (bound_again (texts_in before.old) (map name_seen names.now))) }
+{
+    for name in names {
+        let again = put(before, name.text.as_str())?;
+        find_again(found, again, name)?;
+    }
+    Ok(())
+}
+
+/// Finds the names that the module binds again.
+pub fn find_items_again(
+    found: &mut Findings,
+    alloc: Allocator,
+    keys: RandomState,
+    items: &[Item],
+) -> Result<(), OutOfMemory>
+    ensures { OnOk result (found.new.items ≡ found.old.items ++ at_code E01 (bound_again [] (map name_of_item (map item_of items.now)))) }
+{
+    let names = names_of(alloc, items)?;
+    let mut before = IndexSet::with_hasher(alloc, keys);
+    find_bound_again(found, &mut before, &names)
+}
+
+/// The object of a method stands before its parameters.
+fn put_self(before: &mut NameSet<'_>, is_method: bool) -> Result<(), OutOfMemory>
+    ensures { OnOk result ((text : List ℕ) → is_among (texts_in before.new) text ≡ is_among (self_before is_method ++ texts_in before.old) text) }
+{
+    if is_method {
+        put(before, "self")?;
+    }
+    Ok(())
+}
+
+/// Finds the parameters that have the name of an earlier one, or of the object of a method.
+pub fn find_parameters_again(
+    found: &mut Findings,
+    alloc: Allocator,
+    keys: RandomState,
+    is_method: bool,
+    params: &[Param],
+) -> Result<(), OutOfMemory>
+    ensures { OnOk result (found.new.items ≡ found.old.items ++ at_code E01 (bound_again (self_before is_method) (map name_of_param (map param_of params.now)))) }
+{
+    let mut names = Vec::new(alloc);
+    add_params(&mut names, params)?;
+    let mut before = IndexSet::with_hasher(alloc, keys);
+    put_self(&mut before, is_method)?;
+    find_bound_again(found, &mut before, &names)
+}
