@@ -3,8 +3,6 @@
 
 mod notes;
 mod rebuilding;
-#[cfg(test)]
-mod tests;
 
 pub use notes::Notes;
 pub use rebuilding::transfer;

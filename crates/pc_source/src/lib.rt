@@ -8,8 +8,6 @@ mod fault;
 pub mod laws;
 mod place;
 mod source;
-#[cfg(test)]
-mod tests;
 
 pub use counted::Counted;
 pub use fault::{Fault, OutOfMemory, Refusal, RefusalCode};

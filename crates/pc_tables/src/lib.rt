@@ -1,12 +1,12 @@
-//! Tables of worked cases in text files, and what the programs share that go through them.
+//! Tables of worked cases in text files.
 #![tactic(auto)]
 
 mod fault;
-mod files;
+mod marks;
 mod row;
 mod tally;
 
 pub use fault::TableFault;
-pub use files::{Judge, judge_files};
+pub use marks::{BETWEEN, ROW};
 pub use row::{Row, rows, written_out};
 pub use tally::Tally;

@@ -9,8 +9,6 @@ mod laws;
 mod parents;
 mod shape;
 mod store;
-#[cfg(test)]
-mod tests;
 
 pub use boxed::{BoxStore, BoxType};
 pub use head::Head;

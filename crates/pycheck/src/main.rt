@@ -1,15 +1,10 @@
 //! Checks a module: `pycheck [--json] [--format N] FILE`.
 #![tactic(auto)]
 
-mod command_line;
-mod words;
-#[cfg(test)]
-mod words_tests;
-
 ghost use Rattle.std.specs.Prelude.{◌≡◌};
 ghost use Rattle.pycheck.specs.Status.{status};
 
-use crate::words::{OptionFault, Options};
+use pc_commands::{CheckOptions, OptionFault, check_options};
 use pc_source::Counted;
 use pc_top::{CheckFault, check_stream};
 use std::fs::File;
@@ -32,14 +27,14 @@ pub fn status_of(outcome: &Result<(u64, u64), CheckFault>) -> u8
 }
 
 /// What the words of the command line ask for.
-fn asked_for<R: Env + AllocGlobal>(rt: &R) -> Result<Options, OptionFault> {
+fn asked_for<R: Env + AllocGlobal>(rt: &R) -> Result<CheckOptions, OptionFault> {
     let Ok(words) = env::args(rt) else {
         let text = String::from_str(rt.alloc(), "error: the words could not be read\n")?;
         return Err(OptionFault::Usage(text));
     };
     let given: Vec<String> = words.skip(1).collect(rt.alloc())?;
     let words: Vec<&str> = given.iter().map(|word| word.as_str()).collect(rt.alloc())?;
-    command_line::options(rt.alloc(), words.as_slice())
+    check_options(rt.alloc(), words.as_slice())
 }
 
 /// Tells why the words ask for no check, and gives the exit status.
@@ -56,7 +51,7 @@ fn tell<R: Print + Eprint>(rt: &R, fault: &OptionFault) -> u8 {
 /// Checks a file, and writes its report to standard output.
 fn checked<R: Print + Files + AllocGlobal>(
     rt: &R,
-    options: &Options,
+    options: &CheckOptions,
 ) -> Result<(u64, u64), CheckFault> {
     let file = File::open(rt, options.file.as_str()).map_err(|_| CheckFault::Read)?;
     let mut input = Counted::new(file);

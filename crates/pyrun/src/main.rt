@@ -1,16 +1,7 @@
 //! Runs a module: `pyrun --fuel N FILE`.
 #![tactic(auto)]
 
-mod command_line;
-mod running;
-mod status;
-mod words;
-#[cfg(test)]
-mod words_tests;
-
-use crate::running::traced;
-use crate::status::status_of;
-use crate::words::{OptionFault, Options};
+use pc_commands::{OptionFault, RunOptions, run_options, status_of, traced};
 use pc_run::{Trace, trace_text};
 use pc_source::Fault;
 use std::alloc::AllocError;
@@ -21,14 +12,14 @@ use std::rt::{Env, Files};
 use std::{env, fs, io};
 
 /// What the words of the command line ask for.
-fn asked_for<R: Env + AllocGlobal>(rt: &R) -> Result<Options, OptionFault> {
+fn asked_for<R: Env + AllocGlobal>(rt: &R) -> Result<RunOptions, OptionFault> {
     let Ok(words) = env::args(rt) else {
         let text = String::from_str(rt.alloc(), "error: the words could not be read\n")?;
         return Err(OptionFault::Usage(text));
     };
     let given: Vec<String> = words.skip(1).collect(rt.alloc())?;
     let words: Vec<&str> = given.iter().map(|word| word.as_str()).collect(rt.alloc())?;
-    command_line::options(rt.alloc(), words.as_slice())
+    run_options(rt.alloc(), words.as_slice())
 }
 
 /// Tells why the words ask for no run, and gives the exit status.

@@ -2,7 +2,7 @@ use crate::actions::count_actions;
 use crate::cases::{Case, cases};
 use crate::modules::{module_of_lines, module_of_statements, trace_of};
 use crate::words::count_words;
-use pc_tables::{Judge, TableFault, Tally};
+use pc_tables::{TableFault, Tally};
 use std::alloc::{AllocError, Global};
 
 /// What stands before the heading of a part of a table.
@@ -10,9 +10,6 @@ const HEADING: &str = "\n==== ";
 
 /// What stands between a part's lines before `main` and its cases.
 const CASES: &str = "----\n";
-
-/// Tables of runs, of actions, and of modules made of words.
-pub struct Runs;
 
 /// A part of a table: what its cases have, and what it says of them.
 #[derive(Clone, Copy)]
@@ -94,19 +91,16 @@ fn count_runs(alloc: Global, table: &str, tally: &mut Tally) -> Result<(), Table
     Ok(())
 }
 
-impl Judge for Runs {
-    fn judge(
-        &self,
-        alloc: Global,
-        kind: &str,
-        table: &str,
-        tally: &mut Tally,
-    ) -> Result<(), TableFault> {
-        match kind {
-            "runs" => count_runs(alloc, table, tally),
-            "actions" => count_actions(alloc, table, tally),
-            "words" => count_words(alloc, table, tally),
-            _ => Err(TableFault::Kind),
-        }
+/// Counts each case of a table of runs of this kind.
+///
+/// # Errors
+///
+/// `Kind` where there are no tables of this kind, and `Form` where a part of the table is no case.
+pub fn judge(alloc: Global, kind: &str, table: &str, tally: &mut Tally) -> Result<(), TableFault> {
+    match kind {
+        "runs" => count_runs(alloc, table, tally),
+        "actions" => count_actions(alloc, table, tally),
+        "words" => count_words(alloc, table, tally),
+        _ => Err(TableFault::Kind),
     }
 }

@@ -1,0 +1,5 @@
+pub mod Faults
+pub mod CheckWords
+pub mod RunWords
+pub mod Running
+pub mod Status

@@ -1,0 +1,116 @@
+//! The words of the command line of `pycheck`.
+ghost use Rattle.std.specs.Prelude.{◌≡◌, IfOk, IfErr, Some, None, true, false, map, string_bytes};
+ghost use Rattle.clap.specs.Words.{app_of, rule_of};
+ghost use Rattle.pc_commands.specs.Faults.{OnFault};
+ghost use Rattle.pc_commands.specs.CheckWords.{are_plain, asked, asks_for_help, command_line, file_rule, format_in, format_rule, is_mistaken, json_rule, plainly_asked};
+
+use crate::faults::{OptionFault, fault_of};
+use clap::{Arg, ArgAction, Command};
+use pc_report::Format;
+use std::alloc::{AllocError, Global};
+
+/// What the words of the command line ask for: a check of a file, whose report is JSON or text, in a format.
+#[derive(Debug, PartialEq, Eq, Drop)]
+pub struct CheckOptions {
+    pub json: bool,
+    pub format: Format,
+    pub file: String,
+}
+
+/// The format that a word names.
+fn format_of(word: &str) -> Option<Format>
+    ensures { result ≡ format_in word.now }
+{
+    match word {
+        "1" => Some(Format::One),
+        "2" => Some(Format::Two),
+        _ => None,
+    }
+}
+
+/// The flag `--json`.
+fn json_argument<'a>(alloc: Global) -> Arg<'a>
+    ensures rule { rule_of result ≡ json_rule }
+    ensures local { result.global ≡ false }
+{
+    Arg::new(alloc, "json")
+        .long("json")
+        .action(ArgAction::SetTrue)
+        .help("Write the report as JSON")
+}
+
+/// The option `--format N`.
+fn format_argument<'a>(alloc: Global) -> Arg<'a>
+    ensures rule { rule_of result ≡ format_rule }
+    ensures local { result.global ≡ false }
+{
+    Arg::new(alloc, "format")
+        .long("format")
+        .value_name("N")
+        .default_value("2")
+        .action(ArgAction::Set)
+        .help("The report's format: 1, or 2 with the types of each dynamic flow")
+}
+
+/// The file.
+fn file_argument<'a>(alloc: Global) -> Arg<'a>
+    ensures rule { rule_of result ≡ file_rule }
+    ensures local { result.global ≡ false }
+{
+    Arg::new(alloc, "file")
+        .value_name("FILE")
+        .required(true)
+        .action(ArgAction::Set)
+        .help("The module to check")
+}
+
+/// The command line of the program, for `clap`.
+fn command<'a>(alloc: Global) -> Result<Command<'a>, AllocError>
+    ensures { IfOk result (λ c. app_of c ≡ command_line) }
+{
+    Command::new(alloc, "pycheck")
+        .version("0.1.0")
+        .about("Checks the types of a module of the profile, and prints the report")
+        .no_binary_name(true)
+        .arg(json_argument(alloc))?
+        .arg(format_argument(alloc))?
+        .arg(file_argument(alloc))
+}
+
+/// What is said of a value of `--format` that names no format.
+fn format_fault(alloc: Global, word: &str) -> OptionFault
+    ensures { OnFault (Unit {0}) ⊥ result }
+{
+    let text = format!(in alloc;
+        "error: invalid value '{word}' for '--format <N>'\n  [possible values: 1, 2]\n\nFor more information, try '--help'.\n"
+    );
+    match text {
+        Ok(text) => OptionFault::Usage(text),
+        Err(_) => OptionFault::OutOfMemory,
+    }
+}
+
+/// What the words of the command line ask for: they are a file, and `--json` and `--format N` or nothing more, as `clap` reads
+/// them, and N is `1` or `2`; without `--format N` the format is two. Own rule of the profile.
+///
+/// # Errors
+///
+/// `Usage` where they are other words; `Help` where they ask for help or the version; `OutOfMemory` only when an allocation failed.
+pub fn check_options(alloc: Global, words: &[&str]) -> Result<CheckOptions, OptionFault>
+    ensures read { IfOk result (λ o. asked (map (λ w. w.now) words.now) ≡ Some (record { json = o.json; format = o.format; file = string_bytes o.file })) }
+    ensures plain { are_plain (map (λ w. w.now) words.now) ≡ true → asked (map (λ w. w.now) words.now) ≡ plainly_asked (map (λ w. w.now) words.now) }
+    ensures none { IfErr result (OnFault (asked (map (λ w. w.now) words.now) ≡ None) (asked (map (λ w. w.now) words.now) ≡ None)) }
+    ensures which { IfErr result (OnFault (is_mistaken (map (λ w. w.now) words.now) ≡ true) (asks_for_help (map (λ w. w.now) words.now) ≡ true)) }
+{
+    let matches = match command(alloc)?.try_get_matches_from(words) {
+        Ok(matches) => matches,
+        Err(error) => return Err(fault_of(alloc, &error)),
+    };
+    let number = matches.get_str("format").unwrap_or("");
+    let Some(format) = format_of(number) else {
+        return Err(format_fault(alloc, number));
+    };
+    let json = matches.get_str("json").unwrap_or("") == "true";
+    let file = String::from_str(alloc, matches.get_str("file").unwrap_or(""))?;
+    Ok(CheckOptions { json, format, file })
+}

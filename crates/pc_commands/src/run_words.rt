@@ -1,0 +1,110 @@
+//! The words of the command line of `pyrun`.
+ghost use Rattle.std.specs.Prelude.{◌≡◌, IfOk, IfErr, Some, None, true, codes, map, option_and_then, string_bytes};
+ghost use Rattle.std.specs.Str.{all_ascii_digits};
+ghost use Rattle.clap.specs.Words.{app_of, first_value, found_of};
+ghost use Rattle.pc_commands.specs.Faults.{OnFault};
+ghost use Rattle.pc_commands.specs.RunWords.{are_plain, asked, asks_for_help, command_line, fuel_in, is_mistaken, plainly_asked};
+
+use crate::faults::{OptionFault, fault_of};
+use clap::{Arg, ArgAction, ArgMatches, Command};
+use std::alloc::{AllocError, Global};
+
+/// What the words of the command line ask for: a run of a file, with so much fuel.
+#[derive(Debug, PartialEq, Eq, Drop)]
+pub struct RunOptions {
+    pub fuel: u64,
+    pub file: String,
+}
+
+/// Whether a word has digits alone.
+fn has_digits_alone(word: &[u8]) -> bool
+    ensures { result ≡ all_ascii_digits word.now }
+{
+    for byte in word {
+        if !byte.is_ascii_digit() {
+            return false;
+        }
+    }
+    true
+}
+
+/// The fuel that a word gives: a whole number in decimal, of digits alone, that fits 64 bits.
+#[tactic(auto, using(crate::proofs::Fuel::read_fuel))]
+fn fuel_of(word: &str) -> Option<u64>
+    ensures { result ≡ fuel_in word.now }
+{
+    if !has_digits_alone(word.as_bytes()) {
+        return None;
+    }
+    match word.parse() {
+        Ok(fuel) => Some(fuel),
+        Err(_) => None,
+    }
+}
+
+/// The command line of the program, for `clap`.
+fn command<'a>(alloc: Global) -> Result<Command<'a>, AllocError>
+    ensures { IfOk result (λ c. app_of c ≡ command_line) }
+{
+    let fuel = Arg::new(alloc, "fuel")
+        .long("fuel")
+        .value_name("N")
+        .required(true)
+        .action(ArgAction::Set)
+        .help("How many steps the run may take, from 0 to 18446744073709551615");
+    let file = Arg::new(alloc, "file")
+        .value_name("FILE")
+        .required(true)
+        .action(ArgAction::Set)
+        .help("The module to run");
+    Command::new(alloc, "pyrun")
+        .version("0.1.0")
+        .about("Runs a module of the profile in the model, and prints its trace")
+        .no_binary_name(true)
+        .arg(fuel)?
+        .arg(file)
+}
+
+/// What is said where the value of `--fuel` is no number.
+const NO_NUMBER: &str =
+    "error: invalid value for '--fuel <N>': not a whole number from 0 to 18446744073709551615\n\nFor more information, try '--help'.\n";
+
+/// What is said of a value of `--fuel` that is no number.
+fn number_fault(alloc: Global) -> OptionFault
+    ensures { OnFault (Unit {0}) ⊥ result }
+{
+    match String::from_str(alloc, NO_NUMBER) {
+        Ok(text) => OptionFault::Usage(text),
+        Err(_) => OptionFault::OutOfMemory,
+    }
+}
+
+/// The fuel that the words give, if its value is a number.
+fn fuel_given(matches: &ArgMatches) -> Option<u64>
+    ensures { result ≡ option_and_then fuel_in (first_value (found_of matches.now) (codes "fuel")) }
+{
+    fuel_of(matches.get_str("fuel")?)
+}
+
+/// What the words of the command line ask for: they are `--fuel N` and a file, as `clap` reads them, and N is a whole number
+/// in decimal from 0 to 18446744073709551615. Own rule of the profile.
+///
+/// # Errors
+///
+/// `Usage` where they are other words; `Help` where they ask for help or the version; `OutOfMemory` only when an allocation failed.
+pub fn run_options(alloc: Global, words: &[&str]) -> Result<RunOptions, OptionFault>
+    ensures read { IfOk result (λ o. asked (map (λ w. w.now) words.now) ≡ Some (record { fuel = o.fuel; file = string_bytes o.file })) }
+    ensures plain { are_plain (map (λ w. w.now) words.now) ≡ true → asked (map (λ w. w.now) words.now) ≡ plainly_asked (map (λ w. w.now) words.now) }
+    ensures none { IfErr result (OnFault (asked (map (λ w. w.now) words.now) ≡ None) (asked (map (λ w. w.now) words.now) ≡ None)) }
+    ensures which { IfErr result (OnFault (is_mistaken (map (λ w. w.now) words.now) ≡ true) (asks_for_help (map (λ w. w.now) words.now) ≡ true)) }
+{
+    let matches = match command(alloc)?.try_get_matches_from(words) {
+        Ok(matches) => matches,
+        Err(error) => return Err(fault_of(alloc, &error)),
+    };
+    let (Some(fuel), Some(file)) = (fuel_given(&matches), matches.get_str("file")) else {
+        return Err(number_fault(alloc));
+    };
+    let file = String::from_str(alloc, file)?;
+    Ok(RunOptions { fuel, file })
+}

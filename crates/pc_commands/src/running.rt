@@ -1,0 +1,29 @@
+//! The run of the module that bytes spell.
+ghost use Rattle.std.specs.Prelude.{length, IfOk, IfErr};
+ghost use Rattle.pc_source.specs.Answers.{OnRefusal};
+ghost use Rattle.pc_source.specs.Within.{IsWithin};
+ghost use Rattle.pc_run.specs.Traces.{end_of_rust};
+ghost use Rattle.pc_front.specs.Bytes.{IsRefusalOf};
+ghost use Rattle.pc_commands.specs.Running.{RunsPlainly};
+
+use pc_front::read_module;
+use pc_run::{Trace, run};
+use pc_source::Fault;
+use std::alloc::Global;
+use std::hash::RandomState;
+
+/// The trace of the plain run of the module that the bytes spell, with that fuel and without choices. The keys
+/// are those of the hashes of names, which no author of a text should know. Own rule of the profile.
+///
+/// # Errors
+///
+/// The refusal of the bytes where they spell no module; `OutOfMemory` where a growth was refused.
+pub fn traced(alloc: Global, keys: RandomState, bytes: &[u8], fuel: u64) -> Result<Trace, Fault>
+    ensures runs { IfOk result (λ t. RunsPlainly bytes.now fuel t.events.items (end_of_rust t.end)) }
+    ensures refused { IfErr result (OnRefusal (IsRefusalOf bytes.now)) }
+    ensures within { IfErr result (IsWithin (length bytes.now)) }
+{
+    let program = read_module(alloc, bytes)?;
+    let trace = run(alloc, keys, &program, fuel, &[])?;
+    Ok(trace)
+}

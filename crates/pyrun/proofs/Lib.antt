@@ -1,3 +1,0 @@
-mod Fuel
-pub mod Reading
-pub mod Plain

@@ -1,0 +1,2 @@
+pub mod HeldTables
+pub mod Locals

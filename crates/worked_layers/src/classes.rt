@@ -1,0 +1,303 @@
+//! Class tables of modules, and what is found of their classes, by `pc_class`.
+ghost use Rattle.std.specs.Prelude.{◌≡◌, All};
+ghost use Rattle.pc_tree.specs.Tree.{module_of};
+ghost use Rattle.pc_scope.specs.Scoped.{AreScopes};
+ghost use Rattle.pc_types.specs.Bases.{bases_of};
+ghost use Rattle.pc_types.specs.Boxed.{IsGiven};
+ghost use Rattle.pc_class.specs.Tables.{HasParameter, HasMethod, HasEntries};
+
+use pc_ann::type_text;
+use pc_class::{ClassTable, Method, Parameter, class_table, override_findings};
+use pc_front::module_in;
+use pc_scope::{Scopes, scopes};
+use pc_source::{Fault, Source, read_source};
+use pc_tables::{BETWEEN, ROW, TableFault, Tally};
+use pc_tree::{Finding, ItemKind, Member, Module};
+use pc_types::{BoxStore, BoxType, Parents};
+use std::alloc::{AllocError, Global};
+
+/// What stands first in each module of a table, three lines.
+const HEADERS: &str = "\
+from __future__ import annotations
+from dataclasses import dataclass
+from typing import Any
+";
+
+/// What stands last in it.
+const TAIL: &str = "def main():\n    pass\nmain()\n";
+
+/// The names of the classes of a module, by their numbers.
+fn class_names(alloc: Global, tree: &Module) -> Result<Vec<&str>, AllocError> {
+    let mut names = Vec::new(alloc);
+    for item in &tree.items {
+        if let ItemKind::Class(class) = &item.kind {
+            names.push(class.name.text.as_str())?;
+        }
+    }
+    Ok(names)
+}
+
+/// Puts each name of a method behind others that do not have it.
+fn add_methods<'m>(names: &mut Vec<&'m str>, members: &'m [Member]) -> Result<(), AllocError> {
+    for member in members {
+        if let Member::Method(method) = member {
+            let name = method.name.text.as_str();
+            if !names.contains(&name) {
+                names.push(name)?;
+            }
+        }
+    }
+    Ok(())
+}
+
+/// The names of the methods of a module, each once.
+fn method_names(alloc: Global, tree: &Module) -> Result<Vec<&str>, AllocError> {
+    let mut names = Vec::new(alloc);
+    for item in &tree.items {
+        if let ItemKind::Class(class) = &item.kind {
+            add_methods(&mut names, &class.members)?;
+        }
+    }
+    Ok(names)
+}
+
+/// A parameter or a field, as `x: int`, with ` =` behind one that has a default.
+fn parameter_text(
+    alloc: Global,
+    tree: &Module,
+    parameter: &Parameter<BoxType>,
+) -> Result<String, Fault>
+    requires { HasParameter IsGiven parameter.now }
+{
+    let ty = type_text(&BoxStore::new(), alloc, tree, &parameter.ty)?;
+    let mark = if parameter.has_default { " =" } else { "" };
+    Ok(format!(in alloc; "{}: {ty}{mark}", parameter.name)?)
+}
+
+/// Parameters, with commas between them.
+fn parameters_text(
+    alloc: Global,
+    tree: &Module,
+    parameters: &[Parameter<BoxType>],
+) -> Result<String, Fault>
+    requires { All (HasParameter IsGiven) parameters.now }
+{
+    let mut out = String::new(alloc);
+    for i in 0..parameters.len() {
+        if i > 0 {
+            out.push_str(", ")?;
+        }
+        let parameter = parameter_text(alloc, tree, &parameters[i])?;
+        out.push_str(parameter.as_str())?;
+    }
+    Ok(out)
+}
+
+/// A method, with its class and its number there, what it takes and what it returns.
+fn add_method(
+    alloc: Global,
+    tree: &Module,
+    classes: &[&str],
+    method: &Method<BoxType>,
+    out: &mut String,
+) -> Result<(), Fault>
+    requires { HasMethod IsGiven method.now }
+{
+    let owner = classes.get(method.owner).copied().unwrap_or("no class");
+    let parameters = parameters_text(alloc, tree, &method.params)?;
+    let ret = type_text(&BoxStore::new(), alloc, tree, &method.ret)?;
+    let (name, number) = (&method.name, method.number);
+    writeln!(
+        out,
+        "method {name} of {owner} {number} ({parameters}) -> {ret}"
+    )?;
+    Ok(())
+}
+
+/// The method that a class has by a name, if it has one.
+fn add_method_named(
+    alloc: Global,
+    tree: &Module,
+    classes: &[&str],
+    table: &ClassTable<BoxType>,
+    class: usize,
+    name: &str,
+    out: &mut String,
+) -> Result<(), Fault>
+    requires { HasEntries IsGiven table.now }
+{
+    match table.method(class, name) {
+        None => Ok(()),
+        Some(method) => add_method(alloc, tree, classes, method, out),
+    }
+}
+
+/// The field that a class has by a name.
+fn field_named(
+    alloc: Global,
+    tree: &Module,
+    table: &ClassTable<BoxType>,
+    class: usize,
+    name: &str,
+) -> Result<String, Fault>
+    requires { HasEntries IsGiven table.now }
+{
+    match table.field(class, name) {
+        None => Ok(String::from_str(alloc, "no field")?),
+        Some(field) => parameter_text(alloc, tree, field),
+    }
+}
+
+/// The name of a class, its base, and the classes that it is or is below.
+fn add_class(
+    classes: &[&str],
+    table: &ClassTable<BoxType>,
+    class: usize,
+    name: &str,
+    out: &mut String,
+) -> Result<(), AllocError> {
+    write!(out, "class {name}")?;
+    if let Some(base) = table.parents().base(class) {
+        let base = classes.get(base).copied().unwrap_or("no class");
+        write!(out, "({base})")?;
+    }
+    out.push_str(" is")?;
+    for (other, name) in classes.iter().enumerate() {
+        if table.is_sub(class, other) {
+            write!(out, " {name}")?;
+        }
+    }
+    out.push_str("\n")
+}
+
+/// The fields of a class in their order, and how each is told by its name, where that is otherwise.
+fn add_fields(
+    alloc: Global,
+    tree: &Module,
+    table: &ClassTable<BoxType>,
+    class: usize,
+    out: &mut String,
+) -> Result<(), Fault>
+    requires { HasEntries IsGiven table.now }
+{
+    let fields = table.fields(alloc, class)?;
+    for i in 0..fields.len() {
+        let text = parameter_text(alloc, tree, fields[i])?;
+        writeln!(out, "field {text}")?;
+        let named = field_named(alloc, tree, table, class, fields[i].name.as_str())?;
+        if named.as_str() != text.as_str() {
+            writeln!(out, "by its name {named}")?;
+        }
+    }
+    Ok(())
+}
+
+/// What a table says of a class: of it, of its fields, and of each name of a method.
+fn add_members(
+    alloc: Global,
+    tree: &Module,
+    table: &ClassTable<BoxType>,
+    class: usize,
+    classes: &[&str],
+    methods: &[&str],
+    out: &mut String,
+) -> Result<(), Fault>
+    requires { HasEntries IsGiven table.now }
+{
+    add_fields(alloc, tree, table, class, out)?;
+    for method in methods {
+        add_method_named(alloc, tree, classes, table, class, method, out)?;
+    }
+    Ok(())
+}
+
+/// What a table says of each class.
+fn add_table(
+    alloc: Global,
+    tree: &Module,
+    table: &ClassTable<BoxType>,
+    out: &mut String,
+) -> Result<(), Fault>
+    requires { HasEntries IsGiven table.now }
+{
+    let classes = class_names(alloc, tree)?;
+    let methods = method_names(alloc, tree)?;
+    for (class, name) in classes.iter().enumerate() {
+        add_class(&classes, table, class, name, out)?;
+        add_members(alloc, tree, table, class, &classes, &methods, out)?;
+    }
+    Ok(())
+}
+
+/// Each finding, by its line and column, and the text at its place.
+fn add_findings(source: &Source, found: &[Finding], out: &mut String) -> Result<(), AllocError> {
+    for finding in found {
+        let (start, end) = (finding.place.start, finding.place.end);
+        let (line, column) = source.line_col(start);
+        let at = source.text().get(start..end).unwrap_or("no place");
+        writeln!(out, "{line}:{column} {} {at}", finding.code.text())?;
+    }
+    Ok(())
+}
+
+/// What the class table of a module says, and what is found of its classes.
+fn described(
+    alloc: Global,
+    source: &Source,
+    tree: &Module,
+    scopes: &Scopes,
+    parents: &Parents,
+) -> Result<String, Fault>
+    requires scopes { AreScopes (module_of tree.now) scopes.now }
+    requires parents { parents.now ≡ bases_of (module_of tree.now) }
+{
+    let mut store = BoxStore::new();
+    let mut found = Vec::new(alloc);
+    let table = class_table(&mut store, alloc, parents, tree, scopes, &mut found)?;
+    override_findings(&mut store, parents, tree, &table, &mut found)?;
+    let mut out = String::new(alloc);
+    add_table(alloc, tree, &table, &mut out)?;
+    add_findings(source, &found, &mut out)?;
+    Ok(out)
+}
+
+/// The same of the text of a module.
+fn reading(alloc: Global, text: &str) -> Result<String, Fault> {
+    let source = read_source(alloc, text.as_bytes())?;
+    let tree = module_in(alloc, &source)?;
+    let scopes = scopes(alloc, &tree)?;
+    let parents = Parents::of(alloc, &tree, &scopes)?;
+    described(alloc, &source, &tree, &scopes, &parents)
+}
+
+/// What the classes of a module come to, or why it is none.
+fn answer_to(alloc: Global, text: &str) -> Result<String, AllocError> {
+    match reading(alloc, text) {
+        Ok(answer) => Ok(answer),
+        Err(fault) => format!(in alloc; "{fault}"),
+    }
+}
+
+/// A module of a table, and what its class table is to say.
+fn case_of(alloc: Global, lines: &str) -> Result<(String, String), AllocError> {
+    let mut text = String::from_str(alloc, HEADERS)?;
+    let mut table = String::new(alloc);
+    for line in lines.lines() {
+        match line.strip_prefix(ROW) {
+            Some(row) => writeln!(table, "{row}")?,
+            None => writeln!(text, "{line}")?,
+        }
+    }
+    text.push_str(TAIL)?;
+    Ok((text, table))
+}
+
+/// Counts the modules of a table.
+pub fn count_classes(alloc: Global, table: &str, tally: &mut Tally) -> Result<(), TableFault> {
+    for lines in table.split(BETWEEN) {
+        let (text, want) = case_of(alloc, lines)?;
+        let got = answer_to(alloc, text.as_str())?;
+        tally.count(text.as_str(), want.as_str(), got.as_str())?;
+    }
+    Ok(())
+}

@@ -1,0 +1,140 @@
+//! Types as annotations spell them, by both stores.
+use crate::questions::{Question, Setting, answer};
+use pc_front::read_module;
+use pc_intern::InternStore;
+use pc_scope::scopes;
+use pc_source::{Fault, OutOfMemory};
+use pc_tables::{BETWEEN, TableFault, Tally};
+use pc_types::{BoxStore, Parents};
+use std::alloc::{AllocError, Global};
+
+/// What stands behind the types of a row in its module.
+const TAIL: &str = "def main():\n    pass\nmain()\n";
+
+/// What stands between the head of the modules and the rows.
+const ROWS: &str = "rows:\n";
+
+/// How a line begins that is no row.
+const COMMENT: &str = "# ";
+
+/// A row of a table: what is asked of which types, and what the table says.
+#[derive(Drop)]
+struct Row<'a> {
+    question: Question,
+    first: &'a str,
+    second: &'a str,
+    want: &'a str,
+}
+
+/// The question that a word stands for.
+fn question_of(word: &str) -> Option<Question> {
+    match word {
+        "flow" => Some(Question::Flow),
+        "join" => Some(Question::Join),
+        "nodes" => Some(Question::Nodes),
+        "parts" => Some(Question::Parts),
+        "members" => Some(Question::Members),
+        "copy" => Some(Question::Copy),
+        _ => None,
+    }
+}
+
+/// The row of a line. Where it names one type alone, that one is the second, too.
+fn row_of(line: &str) -> Option<Row<'_>> {
+    let (word, rest) = line.split_once(" ; ")?;
+    let (types, want) = rest.rsplit_once(" ; ")?;
+    let (first, second) = types.split_once(" ; ").unwrap_or((types, types));
+    Some(Row {
+        question: question_of(word)?,
+        first,
+        second,
+        want,
+    })
+}
+
+/// Adds a constant to a module that is annotated with a type; that without an annotation stands for `Never`.
+fn add_constant(text: &mut String, name: &str, ty: &str) -> Result<(), AllocError> {
+    if ty == "Never" {
+        write!(text, "{name} = 1\n")
+    } else {
+        write!(text, "{name}: {ty} = 1\n")
+    }
+}
+
+/// The answers of both stores to a row, or the one that both give.
+fn ask(
+    alloc: Global,
+    numbers: &mut InternStore,
+    boxes: &mut BoxStore,
+    head: &str,
+    row: &Row,
+) -> Result<String, Fault> {
+    let mut text = String::from_str(alloc, head)?;
+    add_constant(&mut text, "s", row.first)?;
+    add_constant(&mut text, "t", row.second)?;
+    text.push_str(TAIL)?;
+    let module = read_module(alloc, text.as_bytes())?;
+    let scopes = scopes(alloc, &module)?;
+    let parents = Parents::of(alloc, &module, &scopes)?;
+    let setting = Setting {
+        tree: &module,
+        scopes: &scopes,
+        parents: &parents,
+    };
+    let by_numbers = answer(numbers, alloc, &setting, row.question)?;
+    let by_boxes = answer(boxes, alloc, &setting, row.question)?;
+    if by_numbers.as_str() == by_boxes.as_str() {
+        return Ok(by_numbers);
+    }
+    Ok(format!(in alloc;
+        "{} by numbers, {} by boxes",
+        by_numbers.as_str(),
+        by_boxes.as_str()
+    )?)
+}
+
+/// Counts the rows of a part of a table.
+fn count_rows(
+    alloc: Global,
+    numbers: &mut InternStore,
+    boxes: &mut BoxStore,
+    part: &str,
+    tally: &mut Tally,
+) -> Result<(), TableFault> {
+    let (head, rows) = part.split_once(ROWS).ok_or(TableFault::Form)?;
+    for line in rows.lines() {
+        if line.starts_with(COMMENT) {
+            continue;
+        }
+        let row = row_of(line).ok_or(TableFault::Form)?;
+        let got = match ask(alloc, numbers, boxes, head, &row) {
+            Ok(answer) => answer,
+            Err(fault) => format!(in alloc; "{fault}")?,
+        };
+        tally.count(line, row.want, got.as_str())?;
+    }
+    Ok(())
+}
+
+/// A store of types as numbers, whose parents are those of the classes of a module's head.
+fn store_for(alloc: Global, head: &str) -> Result<InternStore, Fault> {
+    let text = format!(in alloc; "{head}{TAIL}")?;
+    let module = read_module(alloc, text.as_bytes())?;
+    let scopes = scopes(alloc, &module)?;
+    let parents = Parents::of(alloc, &module, &scopes)?;
+    Ok(InternStore::new(alloc, parents)?)
+}
+
+/// Counts the rows of a table, twice over, so that each is asked again when the others were asked. One store of each kind is
+/// asked all of them; its parents are those of the first part.
+pub fn count_types(alloc: Global, table: &str, tally: &mut Tally) -> Result<(), TableFault> {
+    let (head, _) = table.split_once(ROWS).ok_or(TableFault::Form)?;
+    let mut numbers = store_for(alloc, head).map_err(|_| TableFault::Form)?;
+    let mut boxes = BoxStore::new();
+    for _ in 0..2 {
+        for part in table.split(BETWEEN) {
+            count_rows(alloc, &mut numbers, &mut boxes, part, tally)?;
+        }
+    }
+    Ok(())
+}

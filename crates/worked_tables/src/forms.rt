@@ -1,0 +1,93 @@
+//! Modules that are checked as streams, with their reports as text and as JSON.
+use crate::modules::HEADER;
+use pc_source::Counted;
+use pc_tables::{BETWEEN, ROW, TableFault, Tally};
+use pc_top::{CheckFault, Format, check_stream};
+use std::alloc::{AllocError, Global};
+
+/// How the JSON of a report in format two ends.
+const FORMAT_TWO: &str = "\"format\":2}\n";
+
+/// A module with its report, as text and as JSON.
+#[derive(Drop)]
+struct Case {
+    module: String,
+    text: String,
+    json: String,
+}
+
+impl Case {
+    /// The format of its report, which the JSON names.
+    fn format(&self) -> Format {
+        if self.json.ends_with(FORMAT_TWO) {
+            Format::Two
+        } else {
+            Format::One
+        }
+    }
+}
+
+/// Adds a line to a text.
+fn add_line(text: &mut String, line: &str) -> Result<(), AllocError> {
+    text.push_str(line)?;
+    text.push_str("\n")
+}
+
+/// The module of these lines, and its report in both forms.
+fn case_of(alloc: Global, lines: &str) -> Result<Case, TableFault> {
+    let mut case = Case {
+        module: String::from_str(alloc, HEADER)?,
+        text: String::new(alloc),
+        json: String::new(alloc),
+    };
+    for line in lines.lines() {
+        if let Some(row) = line.strip_prefix(ROW) {
+            add_line(&mut case.text, row)?;
+        } else if line.starts_with("{") {
+            add_line(&mut case.json, line)?;
+        } else {
+            add_line(&mut case.module, line)?;
+        }
+    }
+    if case.text.is_empty() || case.json.is_empty() {
+        return Err(TableFault::Form);
+    }
+    Ok(case)
+}
+
+/// Whether a check of the module as a stream writes this report, and gives the counts of the last line of its text.
+fn is_written(alloc: Global, case: &Case, json: bool, report: &str) -> Result<bool, CheckFault> {
+    let mut reader = Counted::new(case.module.as_bytes());
+    let mut writer = Counted::new(Vec::new(alloc));
+    let (errors, dynamic) = check_stream(alloc, &mut reader, &mut writer, json, case.format())?;
+    let counts = format!(in alloc; "errors {errors}, dynamic {dynamic}\n").map_err(
+        |_| CheckFault::OutOfMemory,
+    )?;
+    Ok(
+        case.text.as_str().ends_with(counts.as_str())
+            && writer.inner().as_slice() == report.as_bytes()
+            && reader.failures() == 0
+            && writer.failures() == 0,
+    )
+}
+
+/// What comes of a report of the module as a stream: the report, where it is written as the table says.
+fn written(alloc: Global, case: &Case, json: bool, report: &str) -> Result<String, AllocError> {
+    match is_written(alloc, case, json, report) {
+        Ok(true) => String::from_str(alloc, report),
+        Ok(false) => String::from_str(alloc, "another report"),
+        Err(fault) => format!(in alloc; "{fault}"),
+    }
+}
+
+/// Counts the modules of a table.
+pub fn count_forms(alloc: Global, table: &str, tally: &mut Tally) -> Result<(), TableFault> {
+    for lines in table.split(BETWEEN) {
+        let case = case_of(alloc, lines)?;
+        let mut got = written(alloc, &case, false, case.text.as_str())?;
+        got.push_str(written(alloc, &case, true, case.json.as_str())?.as_str())?;
+        let want = format!(in alloc; "{}{}", case.text.as_str(), case.json.as_str())?;
+        tally.count(case.module.as_str(), want.as_str(), got.as_str())?;
+    }
+    Ok(())
+}

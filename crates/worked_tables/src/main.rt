@@ -1,0 +1,19 @@
+//! Goes through worked texts, runs, layers and reports, and compares what comes of each with its table: `worked_tables FOLDER/FILE..`.
+#![tactic(auto)]
+
+mod bytes;
+mod files;
+mod forms;
+mod modules;
+mod sizes;
+mod stores;
+mod streams;
+mod tables;
+mod texts;
+
+use crate::files::judge_files;
+use std::process::ExitCode;
+
+fn main(rt: HostRuntime) -> ExitCode {
+    ExitCode::from(judge_files(&rt))
+}
