@@ -9,13 +9,13 @@ use Rattle.pc_tree.specs.declared.tree.Ann.{Ann as RustAnn}
 use Rattle.pc_tree.specs.Tree.{ann_of, Module}
 use Rattle.pc_types.specs.Tree.{Tree}
 use Rattle.pc_types.specs.Below.{Bases}
-use Rattle.pc_types.specs.Shape.{nodes, nodes_of, limit, trees}
+use Rattle.pc_types.specs.Shape.{nodes, nodes_of, node_limit, trees}
 use Rattle.pc_types.specs.Head.{head_of}
-use Rattle.pc_types.specs.Store.{Keeps, MeansWithin}
+use Rattle.pc_types.specs.Store.{KeepsTypes, MeansWithin}
 use Rattle.pc_types.specs.declared.head.Head.{Head}
 use Rattle.pc_types.specs.Annotations.{reading, readings}
 use Rattle.pc_ann.specs.Listed.{anns_of_list, part_findings, parts_findings}
-use Rattle.pc_ann.specs.Read.{IsRead, AreRead, with_one}
+use Rattle.pc_ann.specs.Internal.TypesRead.{IsRead, AreRead, with_one}
 
 nodes_push : (ts : List Tree) (t : Tree) → nodes_of (trees (ts ++ t ∷ [])) ≡ nodes_of (trees ts) + nodes t
 nodes_push [] t = omega arith
@@ -23,9 +23,9 @@ nodes_push (u ∷ ts) t = omega (arith, nodes_push ts t)
 
 module _ {Store Ty : Type 0} (has : Store → Ty → Type 0) (tree : Ty → Tree) where
   abbrev TypesAre : Store → Option (Vec Ty Global) → List Tree → Type 0
-  TypesAre store types ts = MatchOption types (limit < nodes_of (trees ts)) (λ v. All (has store) v.items × (map tree v.items ≡ ts))
+  TypesAre store types ts = MatchOption types (node_limit < nodes_of (trees ts)) (λ v. All (has store) v.items × (map tree v.items ≡ ts))
 
-  types_more : (old store : Store) (types next : Option (Vec Ty Global)) (type : Option Ty) (ts : List Tree) (t : Tree) → Keeps has old store → TypesAre old types ts → MeansWithin has tree store type t
+  types_more : (old store : Store) (types next : Option (Vec Ty Global)) (type : Option Ty) (ts : List Tree) (t : Tree) → KeepsTypes has old store → TypesAre old types ts → MeansWithin has tree store type t
       → option_map (λ v. v.items) next ≡ with_one (option_map (λ v. v.items) types) type → TypesAre store next (ts ++ t ∷ [])
   types_more old store None None type ts t k r m e = omega (arith, nodes_push ts t, r)
   types_more old store (Some v) None None ts t k r m e = omega (arith, nodes_push ts t, m)
@@ -37,7 +37,7 @@ module _ {Store Ty : Type 0} (has : Store → Ty → Type 0) (tree : Ty → Tree
       let all = All-push (has store) v.items x (All-weaker (has old) (has store) (λ y h. k y h) v.items r.0) m.0 in
       (subst (All (has store)) (sym q) all, ap (map tree) q ∙ map-append tree v.items (x ∷ []) ∙ (λ i. r.1 i ++ m.1 i ∷ []))
 
-  pub read_more : (old store : Store) (kinds kinds' : List Head) (head : Head) (types next : Option (Vec Ty Global)) (type : Option Ty) (ts : List Tree) (t : Tree) → Keeps has old store → AreRead has tree old kinds types ts → IsRead has tree store head type t
+  pub read_more : (old store : Store) (kinds kinds' : List Head) (head : Head) (types next : Option (Vec Ty Global)) (type : Option Ty) (ts : List Tree) (t : Tree) → KeepsTypes has old store → AreRead has tree old kinds types ts → IsRead has tree store head type t
       → kinds' ≡ kinds ++ head ∷ [] → option_map (λ v. v.items) next ≡ with_one (option_map (λ v. v.items) types) type → AreRead has tree store kinds' next (ts ++ t ∷ [])
   read_more old store kinds kinds' head types next type ts t k r o h e = record {
     heads_are = h ∙ (λ i. r.heads_are i ++ o.head_is i ∷ []) ∙ sym (map-append head_of ts (t ∷ []));

@@ -14,9 +14,9 @@ use Rattle.pc_tree.specs.Depth.{place_of_ann}
 use Rattle.pc_scope.specs.Resolution.{resolve_in_module}
 use Rattle.pc_types.specs.Tree.{Tree}
 use Rattle.pc_types.specs.Below.{Bases}
-use Rattle.pc_types.specs.Shape.{nodes, limit}
-use Rattle.pc_types.specs.Annotations.{named_type, applied_type, empty_type, union_type, reading, readings, PartFinds, PartsFind, IsTooLarge, AnnFinds, OptionFinds}
-use Rattle.pc_ann.specs.Listed.{without_type, inside_type, part_findings, parts_findings, ann_findings, option_findings, FindingsAreListed, OptionalFindingsAreListed}
+use Rattle.pc_types.specs.Shape.{nodes, node_limit}
+use Rattle.pc_types.specs.Annotations.{named_type, applied_type, empty_type, union_type, reading, readings, PartFinds, PartsFind, IsTooLarge, AnnFinds, OptionAnnFinds}
+use Rattle.pc_ann.specs.Listed.{without_type, inside_type, part_findings, parts_findings, ann_findings, option_findings, AnnFindingsAreListed, OptionalFindingsAreListed}
 
 in_none : {f : Finding} → Contains [] f → ⊥
 in_none h = let l : h.0 < 0 = h.1 in absurd (omega arith)
@@ -55,22 +55,22 @@ module _ (m : Module) (bases : Bases) (f : Finding) where
     in_parts no_anns = (in_none, λ e. absurd e)
     in_parts (more_anns a rest) = in_both (part_findings m bases a) (parts_findings m bases rest) f (in_part a) (in_parts rest)
 
-  large : (a : Ann) (b : Test) → nat_le (nodes (reading m bases a)) limit ≡ b → Contains (if b then [] else finding (place_of_ann a) E26 ∷ []) f ↔ IsTooLarge m bases a f
-  large a true e = (λ h. absurd (in_none h), λ h. let n = h.large in let l = leb-true (nodes (reading m bases a)) limit e in absurd (omega arith))
+  large : (a : Ann) (b : Test) → nat_le (nodes (reading m bases a)) node_limit ≡ b → Contains (if b then [] else finding (place_of_ann a) E26 ∷ []) f ↔ IsTooLarge m bases a f
+  large a true e = (λ h. absurd (in_none h), λ h. let n = h.large in let l = leb-true (nodes (reading m bases a)) node_limit e in absurd (omega arith))
   large a false e =
-      (λ h. record { large = leb-false (nodes (reading m bases a)) limit e; is = (in_one (finding (place_of_ann a) E26) f).0 h }, λ h. (in_one (finding (place_of_ann a) E26) f).1 h.is)
+      (λ h. record { large = leb-false (nodes (reading m bases a)) node_limit e; is = (in_one (finding (place_of_ann a) E26) f).0 h }, λ h. (in_one (finding (place_of_ann a) E26) f).1 h.is)
 
-  too_large : (a : Ann) → Contains (if nat_le (nodes (reading m bases a)) limit then [] else finding (place_of_ann a) E26 ∷ []) f ↔ IsTooLarge m bases a f
-  too_large a = large a (nat_le (nodes (reading m bases a)) limit) refl
+  too_large : (a : Ann) → Contains (if nat_le (nodes (reading m bases a)) node_limit then [] else finding (place_of_ann a) E26 ∷ []) f ↔ IsTooLarge m bases a f
+  too_large a = large a (nat_le (nodes (reading m bases a)) node_limit) refl
 
   pub listed : (a : Ann) → Contains (ann_findings m bases a) f ↔ AnnFinds m bases a f
-  listed a = in_both (part_findings m bases a) (if nat_le (nodes (reading m bases a)) limit then [] else finding (place_of_ann a) E26 ∷ []) f (in_part a) (too_large a)
+  listed a = in_both (part_findings m bases a) (if nat_le (nodes (reading m bases a)) node_limit then [] else finding (place_of_ann a) E26 ∷ []) f (in_part a) (too_large a)
 
-  pub listed_option : (a : Option Ann) → Contains (option_findings m bases a) f ↔ OptionFinds m bases a f
+  pub listed_option : (a : Option Ann) → Contains (option_findings m bases a) f ↔ OptionAnnFinds m bases a f
   listed_option None = (in_none, λ e. absurd e)
   listed_option (Some a) = listed a
 
-pub all_listed : FindingsAreListed
+pub all_listed : AnnFindingsAreListed
 all_listed m bases a f = listed m bases f a
 
 pub all_listed_options : OptionalFindingsAreListed

@@ -14,7 +14,7 @@ use Rattle.pc_types.specs.Below.{Bases}
 use Rattle.pc_types.specs.declared.head.Head.{Head}
 use Rattle.pc_types.specs.Annotations.{applied_type, union_type, reading, readings}
 use Rattle.pc_ann.specs.Listed.{without_type, inside_type, part_findings, parts_findings}
-use Rattle.pc_ann.specs.Read.{IsRead, IsReadAny}
+use Rattle.pc_ann.specs.Internal.TypesRead.{IsRead, IsReadAny}
 
 module _ {Store Ty : Type 0} (has : Store → Ty → Type 0) (tree : Ty → Tree) (store : Store) where
   -- what was read is read as the type that there is

@@ -7,12 +7,12 @@ use Rattle.std.proofs.lemmas.Option.{slice_get-map, slice_get-get_or}
 use Rattle.std.proofs.lemmas.List.{take_more, take_all, map-append, length-map, length-take-le}
 use Rattle.pc_tree.specs.Tree.{Module}
 use Rattle.pc_types.specs.Tree.{Tree, Trees, Any, Object, Never, Int, Bool, Str, NoneType, Class, ListOf, DictOf, TupleOf, Union, end, more}
-use Rattle.pc_types.specs.Shape.{nodes, nodes_of, members, parts, listed, trees}
+use Rattle.pc_types.specs.Shape.{nodes, nodes_of, members, parts, list_of_trees, trees}
 use Rattle.pc_types.specs.Normal.{IsAfter, IsNormal}
 use Rattle.pc_types.specs.Head.{head_of}
 use Rattle.pc_types.specs.declared.head.Head.{Head}
 use Rattle.pc_types.specs.declared.head.Head.TheVariants as heads
-use Rattle.pc_ann.specs.Text.{type_text, parts_text, others_text, each_behind, separated, texts_with, before, plain_text, text_by_head}
+use Rattle.pc_ann.specs.Text.{type_text, parts_text, others_text, each_behind, with_separator, texts_with, before, plain_text, text_by_head}
 
 -- what stands behind a member is not Never
 not_never : (a b : Tree) → IsAfter a b → b ≡ Never → ⊥
@@ -22,11 +22,11 @@ module _ (m : Module) where
   abbrev texts : List Tree → List (List ℕ)
   texts ts = map (type_text m) ts
 
-  others_are : (ts : Trees) → others_text m ts ≡ each_behind (codes ", ") (texts (listed ts))
+  others_are : (ts : Trees) → others_text m ts ≡ each_behind (codes ", ") (texts (list_of_trees ts))
   others_are Rattle.pc_types.specs.Tree.end = refl
   others_are (more t ts) = ap (λ l. codes ", " ++ (type_text m t ++ l)) (others_are ts)
 
-  parts_are : (ts : Trees) → parts_text m ts ≡ texts_with (codes ", ") (texts (listed ts))
+  parts_are : (ts : Trees) → parts_text m ts ≡ texts_with (codes ", ") (texts (list_of_trees ts))
   parts_are Rattle.pc_types.specs.Tree.end = refl
   parts_are (more t ts) = ap (λ l. type_text m t ++ l) (others_are ts)
 
@@ -70,25 +70,25 @@ behind_push separator (y ∷ xs) x =
     ∙ ap (λ l. separator ++ l) (sym (append_assoc y (each_behind separator xs) (separator ++ x)))
     ∙ sym (append_assoc separator (y ++ each_behind separator xs) (separator ++ x))
 
-separated_push : (separator : List ℕ) (xs : List (List ℕ)) (x : List ℕ) → separated separator (xs ++ x ∷ []) ≡ separated separator xs ++ (before (length xs) separator ++ x)
+separated_push : (separator : List ℕ) (xs : List (List ℕ)) (x : List ℕ) → with_separator separator (xs ++ x ∷ []) ≡ with_separator separator xs ++ (before (length xs) separator ++ x)
 separated_push separator [] x = append-nil x
 separated_push separator (y ∷ xs) x = ap (λ l. y ++ l) (behind_push separator xs x) ∙ sym (append_assoc y (each_behind separator xs) (separator ++ x))
 
 -- the text of one part more
 pub part_more : {Ty : Type 0} (text : Ty → List ℕ) (separator old out next last : List ℕ) (types : List Ty) (k : ℕ) (t : Ty) → k < length types → t ≡ get_or types k t
-    → out ≡ old ++ separated separator (map text (take k types)) → next ≡ out ++ before k separator → last ≡ next ++ text t → last ≡ old ++ separated separator (map text (take (k + 1) types))
+    → out ≡ old ++ with_separator separator (map text (take k types)) → next ≡ out ++ before k separator → last ≡ next ++ text t → last ≡ old ++ with_separator separator (map text (take (k + 1) types))
 part_more text separator old out next last types k t h e a b c =
     let front = map text (take k types) in
     let n : length front ≡ k = length-map (take k types) text ∙ length-take-le k types (omega arith) in
     c ∙ ap (λ l. l ++ text t) (b ∙ ap (λ l. l ++ before k separator) a)
-    ∙ append_assoc (old ++ separated separator front) (before k separator) (text t)
-    ∙ append_assoc old (separated separator front) (before k separator ++ text t)
-    ∙ ap (λ j. old ++ (separated separator front ++ (before j separator ++ text t))) (sym n)
+    ∙ append_assoc (old ++ with_separator separator front) (before k separator) (text t)
+    ∙ append_assoc old (with_separator separator front) (before k separator ++ text t)
+    ∙ ap (λ j. old ++ (with_separator separator front ++ (before j separator ++ text t))) (sym n)
     ∙ ap (λ l. old ++ l) (sym (separated_push separator front (text t)))
-    ∙ ap (λ l. old ++ separated separator l) (sym (map-append text (take k types) (t ∷ [])) ∙ ap (map text) (ap (λ y. take k types ++ y ∷ []) e ∙ sym (take_more types k t h)))
+    ∙ ap (λ l. old ++ with_separator separator l) (sym (map-append text (take k types) (t ∷ [])) ∙ ap (map text) (ap (λ y. take k types ++ y ∷ []) e ∙ sym (take_more types k t h)))
 
 -- texts that are all there
-pub whole : (separator : List ℕ) (ts : List (List ℕ)) → 0 < length ts → separated separator ts ≡ texts_with separator ts
+pub whole : (separator : List ℕ) (ts : List (List ℕ)) → 0 < length ts → with_separator separator ts ≡ texts_with separator ts
 whole separator [] h = absurd (omega arith)
 whole separator (t ∷ ts) h = refl
 
@@ -108,7 +108,7 @@ members_nodes (DictOf k v) = omega arith
 members_nodes (TupleOf ts) = omega arith
 members_nodes _ = omega arith
 
-listed_nodes : (ts : Trees) → nodes_of (trees (listed ts)) ≡ nodes_of ts
+listed_nodes : (ts : Trees) → nodes_of (trees (list_of_trees ts)) ≡ nodes_of ts
 listed_nodes Rattle.pc_types.specs.Tree.end = refl
 listed_nodes (more t ts) = omega (arith, listed_nodes ts)
 
@@ -131,10 +131,10 @@ texts_through f tree (t ∷ types) = ap (λ l. f (tree t) ∷ l) (texts_through 
 
 -- the texts of all parts
 pub all_parts : {Ty : Type 0} (f : Tree → List ℕ) (tree : Ty → Tree) (separator old out : List ℕ) (types : List Ty) (k : ℕ) (ps : List Tree) → map tree types ≡ ps → 0 < length types → length types ≤ k
-    → out ≡ old ++ separated separator (map (λ t. f (tree t)) (take k types)) → out ≡ old ++ texts_with separator (map f ps)
+    → out ≡ old ++ with_separator separator (map (λ t. f (tree t)) (take k types)) → out ≡ old ++ texts_with separator (map f ps)
 all_parts f tree separator old out types k ps e h l o =
-    o ∙ ap (λ x. old ++ separated separator (map (λ t. f (tree t)) x)) (take_all k types l)
-    ∙ ap (λ x. old ++ separated separator x) (texts_through f tree types)
+    o ∙ ap (λ x. old ++ with_separator separator (map (λ t. f (tree t)) x)) (take_all k types l)
+    ∙ ap (λ x. old ++ with_separator separator x) (texts_through f tree types)
     ∙ ap (λ x. old ++ x) (whole separator (map f (map tree types)) (omega (arith, h, length-map (map tree types) f, length-map types tree)))
     ∙ ap (λ x. old ++ texts_with separator (map f x)) e
 

@@ -1,14 +1,14 @@
 -- The types that several parts are read as, as the parts of a tuple.
 use Rattle.std.proofs.Common.{◌≡◌, ◌<◌, ℕ, List, [], ◌∷◌, map, All, Option, Some, None, Vec, Global, length, refl, ap, ◌∙◌, subst, arith}
 use Rattle.pc_types.specs.Tree.{Tree, TupleOf}
-use Rattle.pc_types.specs.Shape.{count, nodes_of, limit, trees}
+use Rattle.pc_types.specs.Shape.{count, nodes_of, node_limit, trees}
 use Rattle.pc_types.specs.Head.{head_of}
 use Rattle.pc_types.specs.Store.{MeansWithin}
 use Rattle.pc_types.specs.declared.head.Head.{Head}
 use Rattle.pc_types.specs.declared.head.Head.TheVariants as heads
 use Rattle.pc_types.specs.Annotations.{built_type}
 use Rattle.pc_scope.specs.declared.resolution.Builtin.TheVariants as builtin
-use Rattle.pc_ann.specs.Read.{AreRead, IsReadAny}
+use Rattle.pc_ann.specs.Internal.TypesRead.{AreRead, IsReadAny}
 
 heads_count : (ts : List Tree) → length (map head_of ts) ≡ count (trees ts)
 heads_count [] = refl
@@ -25,7 +25,7 @@ module _ {Store Ty : Type 0} (has : Store → Ty → Type 0) (tree : Ty → Tree
       → IsReadAny has tree store (Some (heads.Tuple n, None)) (built_type builtin.Tuple ts)
   tuple_none old store kinds types ts n r e l z =
       let m = r.types_are in
-      let k : limit < nodes_of (trees ts) = rw e at m in
+      let k : node_limit < nodes_of (trees ts) = rw e at m in
       read_tuple store None n ts (l ∙ ap length r.heads_are) z (omega arith)
 
   -- a tuple of types that there are

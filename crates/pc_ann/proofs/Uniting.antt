@@ -9,16 +9,16 @@ use Rattle.pc_tree.specs.Tree.{Anns, Module}
 use Rattle.pc_tree.specs.Tree as syntax_tree
 use Rattle.pc_types.specs.Tree.{Tree, Any, Object, Never, Int, Bool, Class, Union}
 use Rattle.pc_types.specs.Below.{Bases, AreSmaller}
-use Rattle.pc_types.specs.Shape.{nodes, nodes_of, limit, trees, ahead, members, union}
-use Rattle.pc_types.specs.Normal.{rank, IsNormal}
+use Rattle.pc_types.specs.Shape.{nodes, nodes_of, node_limit, trees, ahead, members, union}
+use Rattle.pc_types.specs.Normal.{member_rank, IsNormal}
 use Rattle.pc_types.specs.Join.{absorbs, is_before}
 use Rattle.pc_types.specs.Head.{head_of}
 use Rattle.pc_types.specs.Store.{MeansWithin}
 use Rattle.pc_types.specs.declared.head.Head.{Head}
 use Rattle.pc_types.specs.declared.head.Head.TheVariants as heads
-use Rattle.pc_types.specs.Annotations.{is_member, are_apart, is_union, placed, in_order, union_type, readings}
+use Rattle.pc_types.specs.Annotations.{is_member, are_apart, is_union, insert_member, in_union_order, union_type, readings}
 use Rattle.pc_types.proofs.Readings.{reading_normal_reduced}
-use Rattle.pc_ann.specs.Read.{IsReadAny, is_member_head, rank_of_head, head_absorbs, heads_apart, heads_make_union, united_head}
+use Rattle.pc_ann.specs.Internal.TypesRead.{IsReadAny, is_member_head, rank_of_head, head_absorbs, heads_apart, heads_make_union, united_head}
 
 member_by_head : (t : Tree) → is_member_head (head_of t) ≡ is_member t
 member_by_head Any = refl
@@ -27,7 +27,7 @@ member_by_head Never = refl
 member_by_head (Union a b) = refl
 member_by_head _ = refl
 
-rank_by_head : (t : Tree) → rank_of_head (head_of t) ≡ rank t
+rank_by_head : (t : Tree) → rank_of_head (head_of t) ≡ member_rank t
 rank_by_head Int = refl
 rank_by_head _ = refl
 
@@ -58,37 +58,37 @@ union_by_heads bases (t ∷ ts) = λ i. member_by_head t i && (apart_from bases 
 
 -- ---- members in order are as many and as large
 
-placed_length : (m : Tree) (ns : List Tree) → length (placed m ns) ≡ length ns + 1
+placed_length : (m : Tree) (ns : List Tree) → length (insert_member m ns) ≡ length ns + 1
 placed_length m [] = refl
-placed_length m (n ∷ ns) = cond_both (is_before m n) (m ∷ n ∷ ns) (n ∷ placed m ns) (λ l. length l ≡ length (n ∷ ns) + 1) (λ e. omega arith) (λ e. omega (arith, placed_length m ns))
+placed_length m (n ∷ ns) = cond_both (is_before m n) (m ∷ n ∷ ns) (n ∷ insert_member m ns) (λ l. length l ≡ length (n ∷ ns) + 1) (λ e. omega arith) (λ e. omega (arith, placed_length m ns))
 
-order_length : (ts : List Tree) → length (in_order ts) ≡ length ts
+order_length : (ts : List Tree) → length (in_union_order ts) ≡ length ts
 order_length [] = refl
-order_length (t ∷ ts) = omega (arith, placed_length t (in_order ts), order_length ts)
+order_length (t ∷ ts) = omega (arith, placed_length t (in_union_order ts), order_length ts)
 
-placed_nodes : (m : Tree) (ns : List Tree) → nodes_of (trees (placed m ns)) ≡ nodes m + nodes_of (trees ns)
+placed_nodes : (m : Tree) (ns : List Tree) → nodes_of (trees (insert_member m ns)) ≡ nodes m + nodes_of (trees ns)
 placed_nodes m [] = refl
-placed_nodes m (n ∷ ns) = cond_both (is_before m n) (m ∷ n ∷ ns) (n ∷ placed m ns) (λ l. nodes_of (trees l) ≡ nodes m + nodes_of (trees (n ∷ ns))) (λ e. refl) (λ e. omega (arith, placed_nodes m ns))
+placed_nodes m (n ∷ ns) = cond_both (is_before m n) (m ∷ n ∷ ns) (n ∷ insert_member m ns) (λ l. nodes_of (trees l) ≡ nodes m + nodes_of (trees (n ∷ ns))) (λ e. refl) (λ e. omega (arith, placed_nodes m ns))
 
-order_nodes : (ts : List Tree) → nodes_of (trees (in_order ts)) ≡ nodes_of (trees ts)
+order_nodes : (ts : List Tree) → nodes_of (trees (in_union_order ts)) ≡ nodes_of (trees ts)
 order_nodes [] = refl
-order_nodes (t ∷ ts) = omega (arith, placed_nodes t (in_order ts), order_nodes ts)
+order_nodes (t ∷ ts) = omega (arith, placed_nodes t (in_union_order ts), order_nodes ts)
 
 -- each may stand in a union
 abbrev AreMembers : List Tree → Type 0
 AreMembers [] = Unit {0}
 AreMembers (t ∷ ts) = (is_member t ≡ true) × AreMembers ts
 
-placed_members : (m : Tree) (ns : List Tree) → is_member m ≡ true → AreMembers ns → AreMembers (placed m ns)
+placed_members : (m : Tree) (ns : List Tree) → is_member m ≡ true → AreMembers ns → AreMembers (insert_member m ns)
 placed_members m [] e h = (e, tt)
-placed_members m (n ∷ ns) e h = cond_both (is_before m n) (m ∷ n ∷ ns) (n ∷ placed m ns) AreMembers (λ b. (e, h)) (λ b. (h.0, placed_members m ns e h.1))
+placed_members m (n ∷ ns) e h = cond_both (is_before m n) (m ∷ n ∷ ns) (n ∷ insert_member m ns) AreMembers (λ b. (e, h)) (λ b. (h.0, placed_members m ns e h.1))
 
-order_members : (bases : Bases) (ts : List Tree) → is_union bases ts ≡ true → AreMembers (in_order ts)
+order_members : (bases : Bases) (ts : List Tree) → is_union bases ts ≡ true → AreMembers (in_union_order ts)
 order_members bases [] e = tt
 order_members bases (t ∷ ts) e =
     let p = and_parts (is_member t) (list_all (are_apart bases t) ts && is_union bases ts) e in
     let q = and_parts (list_all (are_apart bases t) ts) (is_union bases ts) p.1 in
-    placed_members t (in_order ts) p.0 (order_members bases ts q.1)
+    placed_members t (in_union_order ts) p.0 (order_members bases ts q.1)
 
 -- ---- their union
 
@@ -132,11 +132,11 @@ many_heads h k rest [] e m = absurd (omega arith)
 many_heads h k rest (t ∷ []) e m = absurd (omega arith)
 many_heads h k rest (t ∷ u ∷ us) e m = ap heads.Union (omega (arith, e, length-map (t ∷ u ∷ us) head_of)) ∙ union_head t (u ∷ us) m
 
-order_head : (bases : Bases) (ts : List Tree) → is_union bases ts ≡ true → united_head (map head_of ts) ≡ head_of (union (in_order ts))
+order_head : (bases : Bases) (ts : List Tree) → is_union bases ts ≡ true → united_head (map head_of ts) ≡ head_of (union (in_union_order ts))
 order_head bases [] e = refl
 order_head bases (t ∷ []) e = refl
 order_head bases (t ∷ u ∷ us) e =
-    many_heads (head_of t) (head_of u) (map head_of us) (in_order (t ∷ u ∷ us)) (omega (arith, order_length (t ∷ u ∷ us), length-map us head_of)) (order_members bases (t ∷ u ∷ us) e)
+    many_heads (head_of t) (head_of u) (map head_of us) (in_union_order (t ∷ u ∷ us)) (omega (arith, order_length (t ∷ u ∷ us), length-map us head_of)) (order_members bases (t ∷ u ∷ us) e)
 
 least_nodes : (t : Tree) (l : List Tree) → AreMembers (t ∷ l) → nodes_of (trees (t ∷ l)) ≤ nodes (union (t ∷ l))
 least_nodes t l h = omega (arith, nodes_are t l h)
@@ -146,16 +146,16 @@ in_order_nodes [] h = omega arith
 in_order_nodes (t ∷ l) h = least_nodes t l h
 
 -- a union has at least the nodes of its members
-pub union_large : (bases : Bases) (ts : List Tree) → is_union bases ts ≡ true → limit < nodes_of (trees ts) → limit < nodes (union (in_order ts))
-union_large bases ts e h = omega (arith, h, order_nodes ts, in_order_nodes (in_order ts) (order_members bases ts e))
+pub union_large : (bases : Bases) (ts : List Tree) → is_union bases ts ≡ true → node_limit < nodes_of (trees ts) → node_limit < nodes (union (in_union_order ts))
+union_large bases ts e h = omega (arith, h, order_nodes ts, in_order_nodes (in_union_order ts) (order_members bases ts e))
 
-many_nodes : (l : List Tree) → AreMembers l → 128 < length l → limit < nodes (union l)
+many_nodes : (l : List Tree) → AreMembers l → 128 < length l → node_limit < nodes (union l)
 many_nodes [] h n = absurd (omega arith)
 many_nodes (t ∷ l) h n = omega (arith, n, nodes_are t l h, length_nodes (t ∷ l))
 
 -- a union of more than 128 members is too large
-pub union_of_many : (bases : Bases) (ts : List Tree) → is_union bases ts ≡ true → 128 < length ts → limit < nodes (union (in_order ts))
-union_of_many bases ts e n = many_nodes (in_order ts) (order_members bases ts e) (omega (arith, n, order_length ts))
+pub union_of_many : (bases : Bases) (ts : List Tree) → is_union bases ts ≡ true → 128 < length ts → node_limit < nodes (union (in_union_order ts))
+union_of_many bases ts e n = many_nodes (in_union_order ts) (order_members bases ts e) (omega (arith, n, order_length ts))
 
 -- ---- what is answered
 
@@ -165,17 +165,17 @@ is_one bases ts kinds k e = sym (e ∙ ap (heads_make_union bases) k ∙ union_b
 module _ {Store Ty : Type 0} (has : Store → Ty → Type 0) (tree : Ty → Tree) where
   pub no_union : (store : Store) (bases : Bases) (ts : List Tree) (kinds : List Head) → kinds ≡ map head_of ts → false ≡ heads_make_union bases kinds → IsReadAny has tree store None (union_type bases ts)
   no_union store bases ts kinds k e =
-      subst (λ b. IsReadAny has tree store None (if b then Some (union (in_order ts)) else None)) (e ∙ ap (heads_make_union bases) k ∙ union_by_heads bases ts) tt
+      subst (λ b. IsReadAny has tree store None (if b then Some (union (in_union_order ts)) else None)) (e ∙ ap (heads_make_union bases) k ∙ union_by_heads bases ts) tt
 
   pub one_union : (store : Store) (bases : Bases) (ts : List Tree) (kinds : List Head) (head : Head) (type : Option Ty) → kinds ≡ map head_of ts → true ≡ heads_make_union bases kinds → head ≡ united_head kinds
-      → ((is_union bases ts ≡ true) → MeansWithin has tree store type (union (in_order ts))) → IsReadAny has tree store (Some (head, type)) (union_type bases ts)
+      → ((is_union bases ts ≡ true) → MeansWithin has tree store type (union (in_union_order ts))) → IsReadAny has tree store (Some (head, type)) (union_type bases ts)
   one_union store bases ts kinds head type k e h m =
       let u = is_one bases ts kinds k e in
-      subst (λ b. IsReadAny has tree store (Some (head, type)) (if b then Some (union (in_order ts)) else None)) (sym u)
+      subst (λ b. IsReadAny has tree store (Some (head, type)) (if b then Some (union (in_union_order ts)) else None)) (sym u)
       (record { head_is = h ∙ ap united_head k ∙ order_head bases ts u; type_is = m u })
 
 -- the union of parts of an annotation is in normal form
-pub union_is_normal : (m : Module) (bases : Bases) (parts : Anns) → AreSmaller bases → is_union bases (readings m bases parts) ≡ true → IsNormal (union (in_order (readings m bases parts)))
+pub union_is_normal : (m : Module) (bases : Bases) (parts : Anns) → AreSmaller bases → is_union bases (readings m bases parts) ≡ true → IsNormal (union (in_union_order (readings m bases parts)))
 union_is_normal m bases parts o e =
     let a = syntax_tree.union (record { start = 0; end = 0 }) parts in
-    subst (λ b. IsNormal (unwrap_or (if b then Some (union (in_order (readings m bases parts))) else None) Any)) e (reading_normal_reduced m bases o a).0
+    subst (λ b. IsNormal (unwrap_or (if b then Some (union (in_union_order (readings m bases parts))) else None) Any)) e (reading_normal_reduced m bases o a).0

@@ -1,3 +1,3 @@
 pub mod Listed
-pub mod Read
 pub mod Text
+pub mod Internal

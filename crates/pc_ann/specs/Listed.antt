@@ -13,8 +13,8 @@ use Rattle.pc_tree.specs.Depth.{place_of_ann}
 use Rattle.pc_scope.specs.Resolution.{resolve_in_module}
 use Rattle.pc_types.specs.Tree.{Tree}
 use Rattle.pc_types.specs.Below.{Bases}
-use Rattle.pc_types.specs.Shape.{nodes, limit}
-use Rattle.pc_types.specs.Annotations.{named_type, applied_type, empty_type, union_type, reading, readings, AnnFinds, OptionFinds}
+use Rattle.pc_types.specs.Shape.{nodes, node_limit}
+use Rattle.pc_types.specs.Annotations.{named_type, applied_type, empty_type, union_type, reading, readings, AnnFinds, OptionAnnFinds}
 
 -- annotations of the program, as trees
 abbrev pub anns_of_list : List RustAnn → Anns
@@ -49,7 +49,7 @@ module _ (m : Module) (bases : Bases) where
 
   -- the findings of an annotation
   abbrev pub ann_findings : Ann → List Finding
-  ann_findings a = part_findings a ++ (if nat_le (nodes (reading m bases a)) limit then [] else finding (place_of_ann a) E26 ∷ [])
+  ann_findings a = part_findings a ++ (if nat_le (nodes (reading m bases a)) node_limit then [] else finding (place_of_ann a) E26 ∷ [])
 
   -- the findings of an annotation, none where there is none
   abbrev pub option_findings : Option Ann → List Finding
@@ -57,9 +57,9 @@ module _ (m : Module) (bases : Bases) where
   option_findings (Some a) = ann_findings a
 
 -- the list of the findings of an annotation has exactly those
-abbrev pub FindingsAreListed : Type 0
-FindingsAreListed = (m : Module) (bases : Bases) (a : Ann) (f : Finding) → Contains (ann_findings m bases a) f ↔ AnnFinds m bases a f
+abbrev pub AnnFindingsAreListed : Type 0
+AnnFindingsAreListed = (m : Module) (bases : Bases) (a : Ann) (f : Finding) → Contains (ann_findings m bases a) f ↔ AnnFinds m bases a f
 
 -- and so where an annotation may be left out
 abbrev pub OptionalFindingsAreListed : Type 0
-OptionalFindingsAreListed = (m : Module) (bases : Bases) (a : Option Ann) (f : Finding) → Contains (option_findings m bases a) f ↔ OptionFinds m bases a f
+OptionalFindingsAreListed = (m : Module) (bases : Bases) (a : Option Ann) (f : Finding) → Contains (option_findings m bases a) f ↔ OptionAnnFinds m bases a f

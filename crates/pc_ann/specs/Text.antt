@@ -62,14 +62,14 @@ each_behind separator [] = []
 each_behind separator (x ∷ xs) = separator ++ (x ++ each_behind separator xs)
 
 -- texts with a separator between them
-abbrev pub separated : List ℕ → List (List ℕ) → List ℕ
-separated separator [] = []
-separated separator (x ∷ xs) = x ++ each_behind separator xs
+abbrev pub with_separator : List ℕ → List (List ℕ) → List ℕ
+with_separator separator [] = []
+with_separator separator (x ∷ xs) = x ++ each_behind separator xs
 
 -- the same, `()` where there is none
 abbrev pub texts_with : List ℕ → List (List ℕ) → List ℕ
 texts_with separator [] = codes "()"
-texts_with separator (x ∷ xs) = separated separator (x ∷ xs)
+texts_with separator (x ∷ xs) = with_separator separator (x ∷ xs)
 
 -- the text of a type whose head says it
 abbrev pub plain_text : Module → Head → Option (List ℕ)

@@ -1,13 +1,13 @@
-// Types that names and `N[..]` in annotations stand for.
+//! Types that names and `N[..]` in annotations stand for.
 
 ghost use Rattle.std.specs.Prelude.{◌≡◌, IfOk};
 ghost use Rattle.std.specs.Option.{option_map};
 ghost use Rattle.pc_tree.specs.Tree.{module_of};
 ghost use Rattle.pc_scope.specs.declared.resolution.Builtin.TheVariants as builtin;
-ghost use Rattle.pc_types.specs.Store.{Keeps, MeansAny};
+ghost use Rattle.pc_types.specs.Store.{KeepsTypes, MeansAny};
 ghost use Rattle.pc_types.specs.Annotations.{atom, named_type, built_type, applied_type, empty_type, readings};
 ghost use Rattle.pc_ann.specs.Listed.{anns_of_list};
-ghost use Rattle.pc_ann.specs.Read.{AreRead, IsReadAny};
+ghost use Rattle.pc_ann.specs.Internal.TypesRead.{AreRead, IsReadAny};
 
 use crate::reading::{Reading, Readings, Setting, read_as};
 use pc_scope::{Builtin, Res};
@@ -24,7 +24,7 @@ fn atom<S: TypeStore>(
     builtin: Builtin,
 ) -> Result<Option<S::Ty>, OutOfMemory>
     ensures value { IfOk result (λ t. MeansAny S.has S.tree store.new t (atom imports_any builtin)) }
-    ensures kept { Keeps S.has store.old store.new }
+    ensures kept { KeepsTypes S.has store.old store.new }
 {
     match builtin {
         Builtin::Int => Ok(Some(store.int(alloc)?)),
@@ -50,7 +50,7 @@ pub(crate) fn named_type<S: TypeStore>(
     meaning: Res,
 ) -> Result<Option<S::Ty>, OutOfMemory>
     ensures value { IfOk result (λ t. MeansAny S.has S.tree store.new t (named_type imports_any meaning)) }
-    ensures kept { Keeps S.has store.old store.new }
+    ensures kept { KeepsTypes S.has store.old store.new }
 {
     match meaning {
         Res::Builtin(builtin) => atom(store, alloc, imports_any, builtin),
@@ -66,7 +66,7 @@ pub(crate) fn empty_tuple<S: TypeStore>(
     meaning: Res,
 ) -> Result<Option<Reading<S::Ty>>, OutOfMemory>
     ensures value { IfOk result (λ r. IsReadAny S.has S.tree store.new (option_map (λ x. (x.head, x.ty)) r) (empty_type meaning)) }
-    ensures kept { Keeps S.has store.old store.new }
+    ensures kept { KeepsTypes S.has store.old store.new }
 {
     match meaning {
         Res::Builtin(Builtin::Tuple) => {
@@ -90,7 +90,7 @@ fn list_of<S: TypeStore>(
 ) -> Result<Option<Reading<S::Ty>>, OutOfMemory>
     requires { AreRead S.has S.tree store.old arguments.now.heads.items arguments.now.types (readings (module_of setting.now.tree.now) setting.now.parents.now (anns_of_list parts.now)) }
     ensures value { IfOk result (λ r. IsReadAny S.has S.tree store.new (option_map (λ x. (x.head, x.ty)) r) (built_type builtin.List (readings (module_of setting.now.tree.now) setting.now.parents.now (anns_of_list parts.now)))) }
-    ensures kept { Keeps S.has store.old store.new }
+    ensures kept { KeepsTypes S.has store.old store.new }
 {
     if arguments.heads.len() != 1 {
         return Ok(None);
@@ -115,7 +115,7 @@ fn dict_of<S: TypeStore>(
 ) -> Result<Option<Reading<S::Ty>>, OutOfMemory>
     requires { AreRead S.has S.tree store.old arguments.now.heads.items arguments.now.types (readings (module_of setting.now.tree.now) setting.now.parents.now (anns_of_list parts.now)) }
     ensures value { IfOk result (λ r. IsReadAny S.has S.tree store.new (option_map (λ x. (x.head, x.ty)) r) (built_type builtin.Dict (readings (module_of setting.now.tree.now) setting.now.parents.now (anns_of_list parts.now)))) }
-    ensures kept { Keeps S.has store.old store.new }
+    ensures kept { KeepsTypes S.has store.old store.new }
 {
     if arguments.heads.len() != 2 {
         return Ok(None);
@@ -143,7 +143,7 @@ fn tuple_of<S: TypeStore>(
 ) -> Result<Option<Reading<S::Ty>>, OutOfMemory>
     requires { AreRead S.has S.tree store.old arguments.now.heads.items arguments.now.types (readings (module_of setting.now.tree.now) setting.now.parents.now (anns_of_list parts.now)) }
     ensures value { IfOk result (λ r. IsReadAny S.has S.tree store.new (option_map (λ x. (x.head, x.ty)) r) (built_type builtin.Tuple (readings (module_of setting.now.tree.now) setting.now.parents.now (anns_of_list parts.now)))) }
-    ensures kept { Keeps S.has store.old store.new }
+    ensures kept { KeepsTypes S.has store.old store.new }
 {
     let count = arguments.heads.len();
     if count == 0 {
@@ -171,7 +171,7 @@ pub(crate) fn apply<S: TypeStore>(
 ) -> Result<Option<Reading<S::Ty>>, OutOfMemory>
     requires { AreRead S.has S.tree store.old arguments.now.heads.items arguments.now.types (readings (module_of setting.now.tree.now) setting.now.parents.now (anns_of_list parts.now)) }
     ensures value { IfOk result (λ r. IsReadAny S.has S.tree store.new (option_map (λ x. (x.head, x.ty)) r) (applied_type meaning (readings (module_of setting.now.tree.now) setting.now.parents.now (anns_of_list parts.now)))) }
-    ensures kept { Keeps S.has store.old store.new }
+    ensures kept { KeepsTypes S.has store.old store.new }
 {
     match meaning {
         Res::Builtin(Builtin::List) => list_of(setting, store, alloc, parts, arguments),

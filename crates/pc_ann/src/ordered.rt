@@ -1,9 +1,9 @@
-// Types in the order of a union.
+//! Types in the order of a union.
 
 ghost use Rattle.std.specs.Prelude.{◌≡◌, ◌≤◌, ◌++◌, ◌∷◌, All, IfOk, length, map, take, drop};
 ghost use Rattle.pc_types.specs.Join.{is_before};
-ghost use Rattle.pc_types.specs.Annotations.{placed, in_order};
-ghost use Rattle.pc_ann.specs.Read.{rank_of_head};
+ghost use Rattle.pc_types.specs.Annotations.{insert_member, in_union_order};
+ghost use Rattle.pc_ann.specs.Internal.TypesRead.{rank_of_head};
 
 use pc_source::OutOfMemory;
 use pc_types::{Head, TypeStore};
@@ -42,7 +42,7 @@ fn place<S: TypeStore>(store: &S, types: &[S::Ty], ty: &S::Ty) -> usize
     requires types { All (S.has store.now) types.now }
     requires ty { S.has store.now ty.now }
     ensures within { result ≤ length types.now }
-    ensures placed { placed (S.tree ty.now) (map S.tree types.now) ≡ map S.tree (take result types.now) ++ (S.tree ty.now ∷ map S.tree (drop result types.now)) }
+    ensures placed { insert_member (S.tree ty.now) (map S.tree types.now) ≡ map S.tree (take result types.now) ++ (S.tree ty.now ∷ map S.tree (drop result types.now)) }
 {
     for i in 0..types.len() {
         if stands_before(store, ty, &types[i]) {
@@ -60,7 +60,7 @@ pub(crate) fn in_order<S: TypeStore>(
 ) -> Result<Vec<S::Ty>, OutOfMemory>
     requires { All (S.has store.now) types.items }
     ensures held { IfOk result (λ v. All (S.has store.now) v.items) }
-    ensures value { IfOk result (λ v. map S.tree v.items ≡ in_order (map S.tree types.items)) }
+    ensures value { IfOk result (λ v. map S.tree v.items ≡ in_union_order (map S.tree types.items)) }
 {
     let mut types = types;
     let mut ordered = Vec::new(alloc);

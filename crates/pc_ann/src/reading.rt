@@ -1,16 +1,16 @@
-// Parts of annotations read as types.
+//! Parts of annotations read as types.
 
 ghost use Rattle.std.specs.Prelude.{◌≡◌, ◌++◌, ◌∷◌, [], IfOk, OnOk};
 ghost use Rattle.pc_tree.specs.Code.{finding};
 ghost use Rattle.pc_tree.specs.declared.code.Code.TheVariants.{E09, E10};
 ghost use Rattle.pc_tree.specs.Tree.{module_of, name_of, ann_of};
 ghost use Rattle.pc_scope.specs.Resolution.{resolve_in_module};
-ghost use Rattle.pc_scope.specs.Scoped.{AreScopes};
+ghost use Rattle.pc_scope.specs.ModuleScopes.{AreScopes};
 ghost use Rattle.pc_types.specs.Tree.{Any};
-ghost use Rattle.pc_types.specs.Store.{Keeps};
+ghost use Rattle.pc_types.specs.Store.{KeepsTypes};
 ghost use Rattle.pc_types.specs.Annotations.{reading, readings};
 ghost use Rattle.pc_ann.specs.Listed.{anns_of_list, part_findings, parts_findings};
-ghost use Rattle.pc_ann.specs.Read.{IsRead, AreRead, with_one};
+ghost use Rattle.pc_ann.specs.Internal.TypesRead.{IsRead, AreRead, with_one};
 ghost use Rattle.std.specs.Option.{option_map};
 
 use crate::built::{apply, empty_tuple, named_type};
@@ -74,7 +74,7 @@ fn fault<S: TypeStore>(
 ) -> Result<Reading<S::Ty>, OutOfMemory>
     ensures typed { IfOk result (λ r. IsRead S.has S.tree store.new r.head r.ty Any) }
     ensures pushed { OnOk result (found.new.items ≡ found.old.items ++ finding place code ∷ []) }
-    ensures kept { Keeps S.has store.old store.new }
+    ensures kept { KeepsTypes S.has store.old store.new }
 {
     found.push(Finding { place, code })?;
     let any = store.any(alloc)?;
@@ -93,7 +93,7 @@ pub(crate) fn read<S: TypeStore>(
     requires { AreScopes (module_of setting.now.tree.now) setting.now.scopes.now }
     ensures typed { IfOk result (λ r. IsRead S.has S.tree store.new r.head r.ty (reading (module_of setting.now.tree.now) setting.now.parents.now (ann_of ann.now))) }
     ensures pushed { OnOk result (found.new.items ≡ found.old.items ++ part_findings (module_of setting.now.tree.now) setting.now.parents.now (ann_of ann.now)) }
-    ensures kept { Keeps S.has store.old store.new }
+    ensures kept { KeepsTypes S.has store.old store.new }
 {
     match ann {
         Ann::Name(name) => {
@@ -148,7 +148,7 @@ fn read_each<S: TypeStore>(
     requires { AreScopes (module_of setting.now.tree.now) setting.now.scopes.now }
     ensures typed { IfOk result (λ r. AreRead S.has S.tree store.new r.heads.items r.types (readings (module_of setting.now.tree.now) setting.now.parents.now (anns_of_list parts.now))) }
     ensures pushed { OnOk result (found.new.items ≡ found.old.items ++ parts_findings (module_of setting.now.tree.now) setting.now.parents.now (anns_of_list parts.now)) }
-    ensures kept { Keeps S.has store.old store.new }
+    ensures kept { KeepsTypes S.has store.old store.new }
 {
     let mut heads = Vec::new(alloc);
     let mut types = Some(Vec::new(alloc));

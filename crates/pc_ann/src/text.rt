@@ -1,4 +1,4 @@
-// Types written as texts.
+//! Types written as texts.
 
 ghost use Rattle.std.specs.Prelude.{◌≡◌, ◌++◌, codes, IfOk, OnOk, string_bytes};
 ghost use Rattle.std.specs.Option.{option_map};

@@ -1,11 +1,11 @@
-// Whole annotations.
+//! Whole annotations.
 
 ghost use Rattle.std.specs.Prelude.{◌≡◌, ◌↔◌, ◌⊎◌, ◌++◌, Contains, IfOk, OnOk};
 ghost use Rattle.pc_tree.specs.declared.code.Finding.{Finding as FindingOf};
 ghost use Rattle.pc_tree.specs.Tree.{module_of, ann_of, option_ann_of};
-ghost use Rattle.pc_scope.specs.Scoped.{AreScopes};
-ghost use Rattle.pc_types.specs.Store.{Means, Keeps};
-ghost use Rattle.pc_types.specs.Annotations.{read_ann, read_option, AnnFinds, OptionFinds};
+ghost use Rattle.pc_scope.specs.ModuleScopes.{AreScopes};
+ghost use Rattle.pc_types.specs.Store.{Means, KeepsTypes};
+ghost use Rattle.pc_types.specs.Annotations.{read_ann, read_option, AnnFinds, OptionAnnFinds};
 ghost use Rattle.pc_ann.specs.Listed.{ann_findings, option_findings};
 
 use crate::reading::{Setting, read};
@@ -26,7 +26,7 @@ fn read_whole<S: TypeStore>(
     requires { AreScopes (module_of setting.now.tree.now) setting.now.scopes.now }
     ensures typed { IfOk result (λ t. Means S.has S.tree store.new t (read_ann (module_of setting.now.tree.now) setting.now.parents.now (ann_of ann.now))) }
     ensures pushed { OnOk result (found.new.items ≡ found.old.items ++ ann_findings (module_of setting.now.tree.now) setting.now.parents.now (ann_of ann.now)) }
-    ensures kept { Keeps S.has store.old store.new }
+    ensures kept { KeepsTypes S.has store.old store.new }
 {
     let reading = read(setting, store, alloc, found, ann)?;
     match reading.ty {
@@ -58,7 +58,7 @@ pub fn read_ann<S: TypeStore>(
     ensures typed { IfOk result (λ t. Means S.has S.tree store.new t (read_ann (module_of tree.now) parents.now (ann_of ann.now))) }
     ensures pushed { OnOk result (found.new.items ≡ found.old.items ++ ann_findings (module_of tree.now) parents.now (ann_of ann.now)) }
     ensures found { OnOk result ((f : FindingOf) → Contains found.new.items f ↔ (Contains found.old.items f ⊎ AnnFinds (module_of tree.now) parents.now (ann_of ann.now) f)) }
-    ensures kept { Keeps S.has store.old store.new }
+    ensures kept { KeepsTypes S.has store.old store.new }
 {
     let setting = Setting {
         tree,
@@ -82,8 +82,8 @@ pub fn read_option<S: TypeStore>(
     requires { AreScopes (module_of tree.now) scopes.now }
     ensures typed { IfOk result (λ t. Means S.has S.tree store.new t (read_option (module_of tree.now) parents.now (option_ann_of ann.now))) }
     ensures pushed { OnOk result (found.new.items ≡ found.old.items ++ option_findings (module_of tree.now) parents.now (option_ann_of ann.now)) }
-    ensures found { OnOk result ((f : FindingOf) → Contains found.new.items f ↔ (Contains found.old.items f ⊎ OptionFinds (module_of tree.now) parents.now (option_ann_of ann.now) f)) }
-    ensures kept { Keeps S.has store.old store.new }
+    ensures found { OnOk result ((f : FindingOf) → Contains found.new.items f ↔ (Contains found.old.items f ⊎ OptionAnnFinds (module_of tree.now) parents.now (option_ann_of ann.now) f)) }
+    ensures kept { KeepsTypes S.has store.old store.new }
 {
     match ann {
         Some(ann) => read_ann(store, alloc, parents, tree, scopes, found, ann),

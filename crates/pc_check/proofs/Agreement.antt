@@ -21,25 +21,25 @@ use Rattle.pc_scope.specs.declared.resolution.Res.{Res}
 use Rattle.pc_scope.specs.declared.resolution.Res.TheVariants as res
 use Rattle.pc_scope.specs.Reserved.{builtin_of}
 use Rattle.pc_scope.specs.Bindings.{as_constant, as_class, as_function, constants_in, classes_in, functions_in, methods_in, Body, bodies}
-use Rattle.pc_scope.specs.Resolution.{index_of, locals, local_of, or_else, bound_first, builtin_res, resolve_in_module, resolve_among, resolve, locals_of_function, method_at, function_of, receiver}
+use Rattle.pc_scope.specs.Resolution.{index_of, locals, local_meaning, or_meaning, bound_first, builtin_meaning, resolve_in_module, resolve_among, resolve, locals_of_function, method_at, function_of, receiver}
 use Rattle.pc_scope.specs.Expressions.{is_name, parts_in, other_callee, exprs_in_all}
 use Rattle.pc_scope.specs.Findings as scope
 use Rattle.pc_scope.specs.Findings.{IsUnknownIn, IsEarlyMeaning, IsEarlyName, IsEarlyCallee, ScopeFinds}
 use Rattle.pc_types.specs.Tree.{Tree}
 use Rattle.pc_types.specs.Below.{Bases}
-use Rattle.pc_types.specs.Annotations.{OptionFinds}
+use Rattle.pc_types.specs.Annotations.{OptionAnnFinds}
 use Rattle.pc_class.specs.Bases.{bases_of}
-use Rattle.pc_class.specs.Facts.{Class, returned}
+use Rattle.pc_class.specs.Facts.{ClassFacts, return_type}
 use Rattle.pc_class.specs.Findings.{base_class}
 use Rattle.pc_flow.specs.Environment.{Env}
 use Rattle.pc_expr.specs.Operations.{clean}
 use Rattle.pc_expr.specs.Context.{Context}
-use Rattle.pc_expr.specs.Labels.{Flowing, is_of_scopes, mark_of, Finds}
+use Rattle.pc_expr.specs.Labels.{FlowMarks, is_of_scopes, mark_of, Finds}
 use Rattle.pc_expr.specs.Signatures.{literal_type, literal_place, LawfulDefault, DefaultFinds, ParamsMarks, LawfulParams, ParamsFind, binds_name, body_context, initializer_context, annotated_types}
 use Rattle.pc_expr.proofs.Saying.{none_among, among_first, IsPart, IsEarlyHere, PartSays, Said, no_flow_of_scopes}
 use Rattle.pc_expr.proofs.SaidByLabels.{said}
 use Rattle.pc_expr.proofs.SaidInLabels.{said_found}
-use Rattle.pc_check.specs.Modules.{entries_of, names_entered, ReturnsWell, leaves, may_complete, may_not, FunctionMarks, LawfulFunction, FunctionFinds, MembersMarks, LawfulMembers, MembersFind, ItemMarks, ItemsMarks, item_constants, constant_types, Before, before_next, nothing_before, LawfulItem, LawfulItems, ItemFinds, ItemsFind, Labelling, IsLawful, LabelsSay}
+use Rattle.pc_check.specs.Modules.{entry_parameters, names_entered, ReturnsWell, leaves, may_complete, may_not, FunctionMarks, LawfulFunction, FunctionFinds, MembersMarks, LawfulMembers, MembersFind, ItemMarks, ItemsMarks, item_constants, constant_types, BeforeItem, before_next, nothing_before, LawfulItem, LawfulModuleItems, ItemFinds, ItemsFind, Labelling, IsLawful, LabelsSay}
 use Rattle.pc_check.specs.Agreement.{AgreesWithScopes}
 use Rattle.pc_check.proofs.SaidByStatements.{no_code, no_flows, no_annotation, suite_said}
 use Rattle.pc_check.proofs.SaidInStatements.{suite_found}
@@ -189,7 +189,7 @@ there_in_module m word = go (builtin_of word) (bound_first 0 0 0 m.items word) r
     zero_more k c (res.Builtin i) h = tt
     zero_more k c res.None h = tt
 
-    go : (b : Option Builtin) (r : Option Res) → bound_first 0 0 0 m.items word ≡ r → IsThere (length (constants_in m.items)) (length (classes_in m.items)) (or_else (builtin_res b) (or_else r res.None))
+    go : (b : Option Builtin) (r : Option Res) → bound_first 0 0 0 m.items word ≡ r → IsThere (length (constants_in m.items)) (length (classes_in m.items)) (or_meaning (builtin_meaning b) (or_meaning r res.None))
     go (Some b) r is = tt
     go None None is = tt
     go None (Some r) is = zero_more _ _ r (first_there 0 0 0 m.items word r is)
@@ -197,7 +197,7 @@ there_in_module m word = go (builtin_of word) (bound_first 0 0 0 m.items word) r
 there_among : (m : Module) (names : List (List ℕ)) (word : List ℕ) → IsThere (length (constants_in m.items)) (length (classes_in m.items)) (resolve_among m names word)
 there_among m names word = go (index_of word names)
   where
-    go : (o : Option ℕ) → IsThere (length (constants_in m.items)) (length (classes_in m.items)) (or_else (local_of o) (resolve_in_module m word))
+    go : (o : Option ℕ) → IsThere (length (constants_in m.items)) (length (classes_in m.items)) (or_meaning (local_meaning o) (resolve_in_module m word))
     go None = there_in_module m word
     go (Some x) = tt
 
@@ -269,11 +269,11 @@ returns_code (may_complete a) x e = absurd (none-some _ e)
 returns_code (may_not n) x e = subst (λ y. is_of_scopes y ≡ false) (same_Some _ _ e) refl
 
 module _ (m : Module) (f : Finding) (s : is_of_scopes f.code ≡ true) where
-  no_option : (a : Option Ann) → OptionFinds m (bases_of m) a f → ⊥
+  no_option : (a : Option Ann) → OptionAnnFinds m (bases_of m) a f → ⊥
   no_option None h = h
   no_option (Some a) h = no_annotation m (bases_of m) f s a h
 
-  no_default : (binds : Test) (l : Option Literal) (t : Tree) (flows : Flowing) → LawfulDefault (bases_of m) binds l t flows → DefaultFinds l flows f → ⊥
+  no_default : (binds : Test) (l : Option Literal) (t : Tree) (flows : FlowMarks) → LawfulDefault (bases_of m) binds l t flows → DefaultFinds l flows f → ⊥
   no_default binds None t flows law h = h
   no_default false (Some l) t flows law h = no_flows flows (literal_place l) f law h
   no_default true (Some l) t flows law h = no_flow_of_scopes (bases_of m) (clean (literal_type l)) (t ∷ []) flows (literal_place l) f law s h
@@ -315,13 +315,13 @@ module _ (m : Module) (marks : Labelling m) (f : Finding) (s : is_of_scopes f.co
         | inr k ↦ elim k [
           | inl x ↦ absurd (no_code d.name.place fm.completing f (returns_code law.completing) s x)
           | inr y ↦
-              let r = suite_said m Ctx fm.declared f s (returned m d) (names_entered [] (entries_of m owner d)) _ d.body fm.body fm.out law.body y in
+              let r = suite_said m Ctx fm.declared f s (return_type m d) (names_entered [] (entry_parameters m owner d)) _ d.body fm.body fm.out law.body y in
               part_in_body r.expr r.among r.says.part r.says.among r.says.says
         ]
       ]
     ]
 
-  members_scope : (base : Class) (c count : ℕ) (before : List (List ℕ)) (ms : List Member) (mm : MembersMarks ms) → LawfulMembers m (constant_types m m.items marks) base c count before ms mm → ((i n : ℕ) (d : FuncDef) → slice_get (methods_in ms) i ≡ Some d → n ≡ count + i → function_of m (owners.Method c n) ≡ Some d) → MembersFind m (constant_types m m.items marks) c count ms mm f → ScopeFinds m f
+  members_scope : (base : ClassFacts) (c count : ℕ) (before : List (List ℕ)) (ms : List Member) (mm : MembersMarks ms) → LawfulMembers m (constant_types m m.items marks) base c count before ms mm → ((i n : ℕ) (d : FuncDef) → slice_get (methods_in ms) i ≡ Some d → n ≡ count + i → function_of m (owners.Method c n) ≡ Some d) → MembersFind m (constant_types m m.items marks) c count ms mm f → ScopeFinds m f
   members_scope base c count before [] mm law at h = absurd h
   members_scope base c count before (field_member x ∷ ms) mm law at h = elim h [
     | inl a ↦ absurd (no_annotation m (bases_of m) f s x.annotation a)
@@ -379,7 +379,7 @@ module _ (m : Module) (marks : Labelling m) (f : Finding) (s : is_of_scopes f.co
 -- ---- items behind those before them
 
 -- what stands before an item, as the items before it say
-pub record Reached (done : List Item) (b : Before) : Type 0 where
+pub record Reached (done : List Item) (b : BeforeItem) : Type 0 where
   pub constants : length b.constants ≡ length (constants_in done)
   pub classes : b.classes ≡ length (classes_in done)
   pub functions : b.functions ≡ length (functions_in done)
@@ -387,7 +387,7 @@ pub record Reached (done : List Item) (b : Before) : Type 0 where
 one_more : {A : Type 0} (gives : Item → Option A) (done : List Item) (i : Item) → length (filter_map gives (done ++ i ∷ [])) ≡ length (filter_map gives done) + length (filter_map gives (i ∷ []))
 one_more gives done i = ap length (filter_map-append gives done (i ∷ [])) ∙ length-append (filter_map gives done) (filter_map gives (i ∷ []))
 
-reached_next : (m : Module) (done : List Item) (b : Before) (i : Item) (im : ItemMarks i) → Reached done b → Reached (done ++ i ∷ []) (before_next m b i im)
+reached_next : (m : Module) (done : List Item) (b : BeforeItem) (i : Item) (im : ItemMarks i) → Reached done b → Reached (done ++ i ∷ []) (before_next m b i im)
 reached_next m done b (constant_item p c) im r =
     let k = one_more as_constant done (constant_item p c) in
     let cs = one_more as_class done (constant_item p c) in
@@ -422,7 +422,7 @@ module _ (m : Module) (done : List Item) (i : Item) (rest : List Item) (all : m.
       ∙ get_at_end (filter_map gives done) x (filter_map gives rest)
 
 module _ (m : Module) (marks : Labelling m) (f : Finding) (s : is_of_scopes f.code ≡ true) where
-  items_scope : (done items : List Item) (b : Before) (im : ItemsMarks items) → m.items ≡ done ++ items → Reached done b → LawfulItems m (constant_types m m.items marks) b items im → ItemsFind m (constant_types m m.items marks) b items im f → ScopeFinds m f
+  items_scope : (done items : List Item) (b : BeforeItem) (im : ItemsMarks items) → m.items ≡ done ++ items → Reached done b → LawfulModuleItems m (constant_types m m.items marks) b items im → ItemsFind m (constant_types m m.items marks) b items im f → ScopeFinds m f
   items_scope done [] b im all r law h = absurd h
   items_scope done (i ∷ rest) b im all r law h = elim h [
     | inl a ↦ here i im.0 all law.0 a
@@ -454,14 +454,14 @@ module _ (m : Module) (marks : Labelling m) (f : Finding) (s : is_of_scopes f.co
 module _ (m : Module) (constants : List Tree) where
   -- a constant with its labels
   record ConstantIn (done : List Item) (c : Constant) (finds : Finding → Type 0) : Type 0 where
-    before : Before
+    before : BeforeItem
     reached : Reached done before
     first : Place
     marks : ItemMarks (constant_item first c)
     lawful : LawfulItem m constants before (constant_item first c) marks
     within : (f : Finding) → Finds c.value marks.value f → finds f
 
-  constant_in : (done items taken : List Item) (b : Before) (im : ItemsMarks items) → Reached done b → LawfulItems m constants b items im → (at : ℕ) (first : Place) (c : Constant) → slice_get items at ≡ Some (constant_item first c) → taken ≡ done ++ take at items → ConstantIn taken c (ItemsFind m constants b items im)
+  constant_in : (done items taken : List Item) (b : BeforeItem) (im : ItemsMarks items) → Reached done b → LawfulModuleItems m constants b items im → (at : ℕ) (first : Place) (c : Constant) → slice_get items at ≡ Some (constant_item first c) → taken ≡ done ++ take at items → ConstantIn taken c (ItemsFind m constants b items im)
   constant_in done [] taken b im r law at first c e all = absurd (none-some _ e)
   constant_in done (constant_item p x ∷ rest) taken b im r law zero first c e all =
       subst (λ y. ConstantIn taken y (ItemsFind m constants b (constant_item p x ∷ rest) im)) (constant_of (same_Some _ _ e))
@@ -510,7 +510,7 @@ module _ (m : Module) (marks : Labelling m) (lawful : IsLawful m marks) where
       let is = body_is m b of in
       let k = function_labels m marks lawful b.owner b.function is in
       let means : resolve m b.owner h.n.text ≡ resolve_among m (locals b.owner b.function) h.n.text = ap (λ o. resolve_among m (locals_of_function b.owner o) h.n.text) is in
-      k.within f (inr (inr (inr (suite_found m (body_context m (constant_types m m.items marks) (locals b.owner b.function)) k.marks.declared (name h.n) f (inl (sym means ∙ h.unknown, h.is)) e (name_part (parts_in true e) h.n h.named) (returned m b.function) (names_entered [] (entries_of m b.owner b.function)) _ b.function.body k.marks.body k.marks.out k.lawful.body (is_part e (exprs_in_all true b.function.body) among)))))
+      k.within f (inr (inr (inr (suite_found m (body_context m (constant_types m m.items marks) (locals b.owner b.function)) k.marks.declared (name h.n) f (inl (sym means ∙ h.unknown, h.is)) e (name_part (parts_in true e) h.n h.named) (return_type m b.function) (names_entered [] (entry_parameters m b.owner b.function)) _ b.function.body k.marks.body k.marks.out k.lawful.body (is_part e (exprs_in_all true b.function.body) among)))))
 
   early_named : (at : ℕ) (first : Place) (c : Constant) → slice_get m.items at ≡ Some (constant_item first c) → (n : Name) → Contains (filter_map name_of_tree (parts_in true c.value)) n → IsEarlyMeaning (length (constants_in (take at m.items))) (length (classes_in (take at m.items))) (resolve_in_module m n.text) → LabelsSay m marks (finding n.place E03)
   early_named at first c is n named early =

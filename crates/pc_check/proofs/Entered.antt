@@ -14,17 +14,17 @@ use Rattle.pc_types.specs.Below.{Bases}
 use Rattle.pc_types.specs.Store.{Means}
 use Rattle.pc_types.specs.WellFormed.{IsWellFormed}
 use Rattle.pc_class.specs.declared.table.Parameter.{Parameter as RustParameter}
-use Rattle.pc_class.specs.Facts.{Parameter, parameters_of}
+use Rattle.pc_class.specs.Facts.{TypedParameter, parameters_of}
 use Rattle.pc_class.specs.Tables.{HasParameter, parameters_with}
 use Rattle.pc_class.specs.WellFormed.{ParametersWellFormed}
 use Rattle.pc_flow.specs.Environment.{Env, none_assigned}
 use Rattle.pc_flow.specs.WellFormed.{IsWellFormedEnv}
 use Rattle.pc_flow.specs.Stored.{HasOne, env_of}
 use Rattle.pc_notes.specs.Notes.{Note}
-use Rattle.pc_check.specs.ComputedStatements.{Frame, Table, Walk, enter, enter_local, enter_name, end_finds, frame_of, function_finds, walk_suite}
-use Rattle.pc_check.specs.Modules.{entries_of, receiver_parameter}
-use Rattle.pc_check.specs.Walking.{HoldsType, HoldsTypes}
-use Rattle.pc_check.specs.Entering.{HoldsParameter, GivesEntry}
+use Rattle.pc_check.specs.ComputedStatements.{BodyFrame, Table, Walk, enter_parameters, enter_local, enter_name, end_finds, body_frame_of, function_finds, walk_suite}
+use Rattle.pc_check.specs.Modules.{entry_parameters, receiver_parameter}
+use Rattle.pc_check.specs.Internal.StatementWalk.{HoldsType, HoldsTypes}
+use Rattle.pc_check.specs.Internal.Entry.{HoldsParameter, GivesEntry}
 use Rattle.pc_check.proofs.Bound.{set_gives, bound_is}
 
 -- what is borrowed is none where there is none
@@ -74,31 +74,31 @@ module _ {Store Ty : Type 0} (has : Store → Ty → Type 0) (tree : Ty → Tree
       }
 
 -- parameters one after another
-enter_both : (resolve : List ℕ → Res) (table : Table) (env : Env) (ps qs : List Parameter) → enter resolve table env (ps ++ qs) ≡ enter resolve (enter resolve table env ps).0 (enter resolve table env ps).1 qs
+enter_both : (resolve : List ℕ → Res) (table : Table) (env : Env) (ps qs : List TypedParameter) → enter_parameters resolve table env (ps ++ qs) ≡ enter_parameters resolve (enter_parameters resolve table env ps).0 (enter_parameters resolve table env ps).1 qs
 enter_both resolve table env [] qs = refl
 enter_both resolve table env (p ∷ ps) qs = let r = enter_name table env (resolve p.name) p.type in enter_both resolve r.0 r.1 ps qs
 
 -- a walk from this entry
-abbrev walk_from : Frame → FuncDef → List Note → Table × Env → Walk
+abbrev walk_from : BodyFrame → FuncDef → List Note → Table × Env → Walk
 walk_from frame f found start = walk_suite frame (record { table = start.0; env = Some start.1; broken = None; found = found }) f.body
 
 -- what is found in a function of so many locals that is entered with these parameters
-abbrev found_from : Frame → FuncDef → List Note → ℕ → List Parameter → List Note
+abbrev found_from : BodyFrame → FuncDef → List Note → ℕ → List TypedParameter → List Note
 found_from frame f found n ps =
-    let body = walk_from frame f found (enter frame.context.resolve (none_assigned n) (none_assigned n) ps) in
+    let body = walk_from frame f found (enter_parameters frame.context.resolve (none_assigned n) (none_assigned n) ps) in
     body.found ++ end_finds frame.context.bases frame.returned f.name.place body.env
 
 -- what is found in a function, by what its receiver, its parameters and its body come to
-pub function_found : (m : Module) (constants : List Tree) (owner : Owner) (f : FuncDef) (frame : Frame) (found : List Note) (n : ℕ) (middle start : Table × Env) (body : Walk) →
-    frame ≡ frame_of m constants owner f →
+pub function_found : (m : Module) (constants : List Tree) (owner : Owner) (f : FuncDef) (frame : BodyFrame) (found : List Note) (n : ℕ) (middle start : Table × Env) (body : Walk) →
+    frame ≡ body_frame_of m constants owner f →
     n ≡ length (locals owner f) →
-    middle ≡ enter frame.context.resolve (none_assigned n) (none_assigned n) (receiver_parameter owner) →
-    start ≡ enter frame.context.resolve middle.0 middle.1 (parameters_of m f.params) →
+    middle ≡ enter_parameters frame.context.resolve (none_assigned n) (none_assigned n) (receiver_parameter owner) →
+    start ≡ enter_parameters frame.context.resolve middle.0 middle.1 (parameters_of m f.params) →
     body ≡ walk_from frame f found start →
     body.found ++ end_finds frame.context.bases frame.returned f.name.place body.env ≡ function_finds m constants owner f found
 function_found m constants owner f frame found n middle start body ef en em es eb =
     let resolve = frame.context.resolve in
-    let entered = es ∙ ap (λ (r : Table × Env). enter resolve r.0 r.1 (parameters_of m f.params)) em ∙ sym (enter_both resolve (none_assigned n) (none_assigned n) (receiver_parameter owner) (parameters_of m f.params)) in
+    let entered = es ∙ ap (λ (r : Table × Env). enter_parameters resolve r.0 r.1 (parameters_of m f.params)) em ∙ sym (enter_both resolve (none_assigned n) (none_assigned n) (receiver_parameter owner) (parameters_of m f.params)) in
     ap (λ (w : Walk). w.found ++ end_finds frame.context.bases frame.returned f.name.place w.env) (eb ∙ ap (walk_from frame f found) entered)
-    ∙ ap (λ k. found_from frame f found k (entries_of m owner f)) en
-    ∙ ap (λ k. found_from k f found (length (locals owner f)) (entries_of m owner f)) ef
+    ∙ ap (λ k. found_from frame f found k (entry_parameters m owner f)) en
+    ∙ ap (λ k. found_from k f found (length (locals owner f)) (entry_parameters m owner f)) ef

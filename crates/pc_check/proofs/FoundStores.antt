@@ -6,7 +6,7 @@ use Rattle.pc_types.specs.Below.{Bases}
 use Rattle.pc_flow.specs.WellFormed.{AreWellFormed, IsWellFormedIfAny}
 use Rattle.pc_expr.specs.Operations.{StoreOffer, only_type}
 use Rattle.pc_expr.specs.Standing.{HasIfAny}
-use Rattle.pc_check.specs.Walking.{HoldsTypeIfAny}
+use Rattle.pc_check.specs.Internal.StatementWalk.{HoldsTypeIfAny}
 use Rattle.pc_check.proofs.StoredTypes.{only_well_formed}
 
 -- findings pushed twice, and three times

@@ -10,10 +10,10 @@ use Rattle.pc_scope.specs.declared.resolution.Owner.TheVariants as owners
 use Rattle.pc_scope.specs.Bindings.{classes_in, functions_in, methods_in, Body, function_bodies, method_bodies, class_bodies, bodies}
 use Rattle.pc_scope.specs.Resolution.{method_at, function_of}
 use Rattle.pc_types.specs.Tree.{Tree}
-use Rattle.pc_class.specs.Facts.{Class}
+use Rattle.pc_class.specs.Facts.{ClassFacts}
 use Rattle.pc_class.specs.Findings.{base_class}
 use Rattle.pc_expr.proofs.Saying.{none_among, among_first}
-use Rattle.pc_check.specs.Modules.{FunctionMarks, LawfulFunction, FunctionFinds, MembersMarks, LawfulMembers, MembersFind, ItemsMarks, LawfulItems, ItemsFind, Before, before_next, nothing_before, Labelling, IsLawful, LabelsSay, constant_types}
+use Rattle.pc_check.specs.Modules.{FunctionMarks, LawfulFunction, FunctionFinds, MembersMarks, LawfulMembers, MembersFind, ItemsMarks, LawfulModuleItems, ItemsFind, BeforeItem, before_next, nothing_before, Labelling, IsLawful, LabelsSay, constant_types}
 
 -- ---- functions and methods by their numbers
 
@@ -30,20 +30,20 @@ module _ (m : Module) (constants : List Tree) where
   wider : (owner : Owner) (d : FuncDef) (finds more : Finding → Type 0) → ((f : Finding) → finds f → more f) → FunctionIn owner d finds → FunctionIn owner d more
   wider owner d finds more w h = record { marks = h.marks; lawful = h.lawful; within = λ f x. w f (h.within f x) }
 
-  pub function_in : (items : List Item) (b : Before) (marks : ItemsMarks items) → LawfulItems m constants b items marks → (j i : ℕ) (d : FuncDef) → slice_get (functions_in items) j ≡ Some d → i ≡ b.functions + j → FunctionIn (owners.Func i) d (ItemsFind m constants b items marks)
+  pub function_in : (items : List Item) (b : BeforeItem) (marks : ItemsMarks items) → LawfulModuleItems m constants b items marks → (j i : ℕ) (d : FuncDef) → slice_get (functions_in items) j ≡ Some d → i ≡ b.functions + j → FunctionIn (owners.Func i) d (ItemsFind m constants b items marks)
   function_in [] b marks law j i d e at = absurd (none-some _ e)
   function_in (constant_item p c ∷ rest) b marks law j i d e at = wider (owners.Func i) d _ _ (λ f h. inr h) (function_in rest (before_next m b (constant_item p c) marks.0) marks.1 law.1 j i d e at)
   function_in (class_item p c ∷ rest) b marks law j i d e at = wider (owners.Func i) d _ _ (λ f h. inr h) (function_in rest (before_next m b (class_item p c) marks.0) marks.1 law.1 j i d e at)
   function_in (def_item p x ∷ rest) b marks law zero i d e at = same_function (owners.Func b.functions) (owners.Func i) x d _ (ap owners.Func (omega arith)) (same_Some _ _ e) (record { marks = marks.0; lawful = law.0; within = λ f h. inl h })
   function_in (def_item p x ∷ rest) b marks law (suc j) i d e at = wider (owners.Func i) d _ _ (λ f h. inr h) (function_in rest (before_next m b (def_item p x) marks.0) marks.1 law.1 j i d e (omega arith))
 
-  method_in : (base : Class) (c number : ℕ) (before : List (List ℕ)) (ms : List Member) (marks : MembersMarks ms) → LawfulMembers m constants base c number before ms marks → (j i : ℕ) (d : FuncDef) → slice_get (methods_in ms) j ≡ Some d → i ≡ number + j → FunctionIn (owners.Method c i) d (MembersFind m constants c number ms marks)
+  method_in : (base : ClassFacts) (c number : ℕ) (before : List (List ℕ)) (ms : List Member) (marks : MembersMarks ms) → LawfulMembers m constants base c number before ms marks → (j i : ℕ) (d : FuncDef) → slice_get (methods_in ms) j ≡ Some d → i ≡ number + j → FunctionIn (owners.Method c i) d (MembersFind m constants c number ms marks)
   method_in base c number before [] marks law j i d e at = absurd (none-some _ e)
   method_in base c number before (field_member x ∷ ms) marks law j i d e at = wider (owners.Method c i) d _ _ (λ f h. inr (inr h)) (method_in base c number (x.name.text ∷ before) ms marks.rest law.others j i d e at)
   method_in base c number before (method_member x ∷ ms) marks law zero i d e at = same_function (owners.Method c number) (owners.Method c i) x d _ (ap (owners.Method c) (omega arith)) (same_Some _ _ e) (record { marks = marks.method; lawful = law.method; within = λ f h. inl h })
   method_in base c number before (method_member x ∷ ms) marks law (suc j) i d e at = wider (owners.Method c i) d _ _ (λ f h. inr h) (method_in base c (suc number) (x.name.text ∷ before) ms marks.rest law.others j i d e (omega arith))
 
-  pub method_of_class_in : (items : List Item) (b : Before) (marks : ItemsMarks items) → LawfulItems m constants b items marks → (j c : ℕ) (class : ClassDef) (i : ℕ) (d : FuncDef) → slice_get (classes_in items) j ≡ Some class → c ≡ b.classes + j → slice_get (methods_in class.members) i ≡ Some d → FunctionIn (owners.Method c i) d (ItemsFind m constants b items marks)
+  pub method_of_class_in : (items : List Item) (b : BeforeItem) (marks : ItemsMarks items) → LawfulModuleItems m constants b items marks → (j c : ℕ) (class : ClassDef) (i : ℕ) (d : FuncDef) → slice_get (classes_in items) j ≡ Some class → c ≡ b.classes + j → slice_get (methods_in class.members) i ≡ Some d → FunctionIn (owners.Method c i) d (ItemsFind m constants b items marks)
   method_of_class_in [] b marks law j c class i d e at is = absurd (none-some _ e)
   method_of_class_in (constant_item p x ∷ rest) b marks law j c class i d e at is = wider (owners.Method c i) d _ _ (λ f h. inr h) (method_of_class_in rest (before_next m b (constant_item p x) marks.0) marks.1 law.1 j c class i d e at is)
   method_of_class_in (def_item p x ∷ rest) b marks law j c class i d e at is = wider (owners.Method c i) d _ _ (λ f h. inr h) (method_of_class_in rest (before_next m b (def_item p x) marks.0) marks.1 law.1 j c class i d e at is)

@@ -7,9 +7,9 @@ use Rattle.pc_tree.specs.Tree.{Expr}
 use Rattle.pc_scope.specs.declared.resolution.Res.{Res}
 use Rattle.pc_types.specs.Tree.{Tree, Any}
 use Rattle.pc_types.specs.Below.{Bases}
-use Rattle.pc_types.specs.Store.{Keeps}
+use Rattle.pc_types.specs.Store.{KeepsTypes}
 use Rattle.pc_types.specs.WellFormed.{IsWellFormed}
-use Rattle.pc_class.specs.Tables.{Entry, HasEntry, HasMethod, HasParameter}
+use Rattle.pc_class.specs.Tables.{ClassEntry, HasEntry, HasMethod, HasParameter}
 use Rattle.pc_class.specs.declared.table.Parameter.{Parameter as RustParameter}
 use Rattle.pc_class.specs.declared.table.Method.{Method as RustMethod}
 use Rattle.pc_flow.specs.Environment.{Env}
@@ -24,7 +24,7 @@ use Rattle.pc_expr.specs.declared.setting.Signature.{Signature as RustSignature}
 use Rattle.pc_expr.specs.declared.label.Label.{Label}
 use Rattle.pc_check.specs.declared.frame.Frame.{Frame as RustFrame}
 use Rattle.pc_check.specs.ComputedStatements.{Table, type_table}
-use Rattle.pc_check.specs.Walking.{HoldsType, HoldsTypeIfAny, HoldsTypes, HoldsTypesIfAny, HoldsFrame, GivesLabel, GivesTypes}
+use Rattle.pc_check.specs.Internal.StatementWalk.{HoldsType, HoldsTypeIfAny, HoldsTypes, HoldsTypesIfAny, HoldsFrame, GivesLabel, GivesTypes}
 
 -- the declared types that a table of the program means
 pub declared_is : {Ty : Type 0} (tree : Ty → Tree) (types : List (Option Ty)) → declared_of tree types ≡ type_table (env_of tree types)
@@ -66,7 +66,7 @@ module _ {Store Ty : Type 0} (has : Store → Ty → Type 0) (tree : Ty → Tree
   want_well_formed store None h = tt
   want_well_formed store (Some ty) h = h.well_formed
 
-  module _ (a b : Store) (k : Keeps has a b) where
+  module _ (a b : Store) (k : KeepsTypes has a b) where
     pub type_kept : (ty : Ty) → HoldsType (has a) tree bases ty → HoldsType (has b) tree bases ty
     type_kept ty h = record { given = k ty h.given; well_formed = h.well_formed }
 
@@ -82,19 +82,19 @@ module _ {Store Ty : Type 0} (has : Store → Ty → Type 0) (tree : Ty → Tree
     types_kept_if_any (Some types) h = types_kept types h
 
 -- what environments mean is kept
-module _ {Store Ty : Type 0} (has : Store → Ty → Type 0) (tree : Ty → Tree) (bases : Bases) (a b : Store) (k : Keeps has a b) where
+module _ {Store Ty : Type 0} (has : Store → Ty → Type 0) (tree : Ty → Tree) (bases : Bases) (a b : Store) (k : KeepsTypes has a b) where
   pub gives_types_kept : (types : List (Option Ty)) (env : Env) → GivesTypes has tree bases a types env → GivesTypes has tree bases b types env
   gives_types_kept types env g = record { holds = types_kept has tree bases a b k types g.holds; is = g.is }
 
 -- what a frame holds is kept
-module _ {Store Ty : Type 0} (has : Store → Ty → Type 0) (a b : Store) (k : Keeps has a b) where
+module _ {Store Ty : Type 0} (has : Store → Ty → Type 0) (a b : Store) (k : KeepsTypes has a b) where
   params_kept : (ps : List (RustParameter Ty)) → All (HasParameter (has a)) ps → All (HasParameter (has b)) ps
   params_kept ps h = All-weaker (HasParameter (has a)) (HasParameter (has b)) (λ p g. k p.ty g) ps h
 
   method_kept : (x : RustMethod Ty) → HasMethod (has a) x → HasMethod (has b) x
   method_kept x h = record { params = params_kept x.params.items h.params; ret = k x.ret h.ret }
 
-  entry_kept : (c : Entry Ty) → HasEntry (has a) c → HasEntry (has b) c
+  entry_kept : (c : ClassEntry Ty) → HasEntry (has a) c → HasEntry (has b) c
   entry_kept c h = record { fields = params_kept c.fields h.fields; methods = All-weaker (HasMethod (has a)) (HasMethod (has b)) method_kept c.methods h.methods }
 
   signature_kept : (s : RustSignature Ty) → HasSignature (has a) s → HasSignature (has b) s

@@ -8,16 +8,16 @@ use Rattle.pc_types.specs.Below.{Bases}
 use Rattle.pc_types.specs.WellFormed.{IsWellFormed}
 use Rattle.pc_tree.specs.declared.code.Code.TheVariants.{A5}
 use Rattle.pc_expr.specs.Operations.{clean}
-use Rattle.pc_expr.specs.Calls.{Given, is_suited, range_signature, given, range_item}
+use Rattle.pc_expr.specs.Calls.{GivenArguments, is_suited, range_signature, arguments_given, range_item}
 use Rattle.pc_expr.specs.Standing.{Standing, finds_in}
 use Rattle.pc_expr.specs.Typing.{range_finds}
-use Rattle.pc_check.specs.ComputedStatements.{Frame, item_of, values_item, iterable_finds}
-use Rattle.pc_check.specs.Ranging.{over_range}
+use Rattle.pc_check.specs.ComputedStatements.{BodyFrame, item_mark_of, values_item, iterable_finds}
+use Rattle.pc_check.specs.Internal.Ranges.{over_range}
 
-module _ (frame : Frame) (k : Standing) where
+module _ (frame : BodyFrame) (k : Standing) where
   -- the item of a call of `range`
-  pub range_items : (p : Place) (c : Expr) (arguments : Exprs) (by_name : Keywords) → over_range frame.context.resolve (call p c arguments by_name) ≡ true → item_of frame k (call p c arguments by_name) ≡ range_item (given arguments by_name)
-  range_items p (name n) arguments by_name h = ap (λ b. if b then range_item (given arguments by_name) else values_item frame k (call p (name n) arguments by_name)) h
+  pub range_items : (p : Place) (c : Expr) (arguments : Exprs) (by_name : Keywords) → over_range frame.context.resolve (call p c arguments by_name) ≡ true → item_mark_of frame k (call p c arguments by_name) ≡ range_item (arguments_given arguments by_name)
+  range_items p (name n) arguments by_name h = ap (λ b. if b then range_item (arguments_given arguments by_name) else values_item frame k (call p (name n) arguments by_name)) h
   range_items p c arguments by_name h = absurd (grind (arith, h))
 
   -- what is found in it
@@ -31,5 +31,5 @@ range_type_well_formed : (bases : Bases) (suited : Test) → IsWellFormed bases 
 range_type_well_formed bases true = (tt, tt, omega arith)
 range_type_well_formed bases false = (tt, tt, omega arith)
 
-pub range_well_formed : (bases : Bases) (g : Given) → IsWellFormed bases (range_item g).type
+pub range_well_formed : (bases : Bases) (g : GivenArguments) → IsWellFormed bases (range_item g).type
 range_well_formed bases g = range_type_well_formed bases (is_suited g range_signature)

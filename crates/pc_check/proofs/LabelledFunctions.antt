@@ -14,18 +14,18 @@ use Rattle.pc_types.specs.Annotations.{read_ann, read_option}
 use Rattle.pc_types.proofs.DecidedSubtyping.{Decision, decide_static}
 use Rattle.pc_types.proofs.Readings.{read_ann_well_formed, read_option_well_formed}
 use Rattle.pc_class.specs.Bases.{bases_of}
-use Rattle.pc_class.specs.Facts.{binds_field, returned}
+use Rattle.pc_class.specs.Facts.{binds_field, return_type}
 use Rattle.pc_types.proofs.Earlier.{smaller}
 use Rattle.pc_class.specs.WellFormed.{ParametersWellFormed}
 use Rattle.pc_class.proofs.WellFormed.{params_well_formed, returned_well_formed}
 use Rattle.pc_flow.specs.Environment.{Env, none_assigned}
 use Rattle.pc_flow.specs.WellFormed.{AreWellFormed, IsWellFormedEnv}
 use Rattle.pc_expr.specs.Operations.{clean}
-use Rattle.pc_expr.specs.Labels.{Flowing}
+use Rattle.pc_expr.specs.Labels.{FlowMarks}
 use Rattle.pc_expr.specs.Signatures.{LawfulDefault, LawfulParams, ParamsMarks, binds_name, body_context, literal_type}
 use Rattle.pc_expr.proofs.Contexts.{bodies_well_formed}
-use Rattle.pc_check.specs.Modules.{ReturnsWell, entries_of, leaves, may_complete, may_not, names_entered}
-use Rattle.pc_check.specs.Labelled.{FunctionLabelled, IsTable, MembersLabelled, Setting, Settled}
+use Rattle.pc_check.specs.Modules.{ReturnsWell, entry_parameters, leaves, may_complete, may_not, names_entered}
+use Rattle.pc_check.specs.LabellingLaws.{FunctionLabelled, IsDeclaredTable, MembersLabelled, Setting, GoesByNames}
 use Rattle.pc_check.proofs.LocalNames.{names_are}
 use Rattle.pc_check.proofs.OneModule.{none_kept}
 use Rattle.pc_check.proofs.LabelledEntry.{entry_labelled}
@@ -58,7 +58,7 @@ literal_well_formed bases (none_literal p) = (tt, tt, omega arith)
 
 -- the flows of a default
 record DefaultLabelled (bases : Bases) (b : Test) (l : Option Literal) (t : Tree) : Type 0 where
-  flows : Flowing
+  flows : FlowMarks
   lawful : LawfulDefault bases b l t flows
 
 default_labelled : (bases : Bases) (b : Test) (l : Option Literal) (t : Tree) → AreSmaller bases → IsWellFormed bases t → DefaultLabelled bases b l t
@@ -81,7 +81,7 @@ params_labelled m before (p ∷ ps) =
 -- ---- functions
 
 -- what a function is entered with
-pub entries_well_formed : (m : Module) (owner : Owner) (f : FuncDef) → ParametersWellFormed (bases_of m) (entries_of m owner f)
+pub entries_well_formed : (m : Module) (owner : Owner) (f : FuncDef) → ParametersWellFormed (bases_of m) (entry_parameters m owner f)
 entries_well_formed m owners.Module f = params_well_formed m f.params
 entries_well_formed m (owners.Func i) f = params_well_formed m f.params
 entries_well_formed m (owners.Method c i) f = ((tt, tt, omega arith), params_well_formed m f.params)
@@ -103,12 +103,12 @@ module _ (m : Module) where
         let ctx = body_context m constants names in
         let here : Setting = record { whole = m; context = ctx; context_well_formed = bodies_well_formed m constants names kc; count = length names; locals = names_are m constants names } in
         let count = length names in
-        let table : IsTable here (replicate count Any) = record { long = any_long count; well_formed = any_well_formed (bases_of m) count } in
-        let none : Settled here (replicate count Any) [] (none_assigned count) = record { well_formed = none_well_formed (bases_of m) count; same = λ F gF s. none_kept (replicate count Any) F count (any_long count) gF.long } in
-        let start = entry_labelled here (replicate count Any) [] (none_assigned count) table none (entries_of m owner f) (entries_well_formed m owner f) in
-        let body = suite_labelled here (returned m f) (returned_well_formed m f) start.table (names_entered [] (entries_of m owner f)) _ start.is_table start.settled f.body in
+        let table : IsDeclaredTable here (replicate count Any) = record { long = any_long count; well_formed = any_well_formed (bases_of m) count } in
+        let none : GoesByNames here (replicate count Any) [] (none_assigned count) = record { well_formed = none_well_formed (bases_of m) count; same = λ F gF s. none_kept (replicate count Any) F count (any_long count) gF.long } in
+        let start = entry_labelled here (replicate count Any) [] (none_assigned count) table none (entry_parameters m owner f) (entries_well_formed m owner f) in
+        let body = suite_labelled here (return_type m f) (returned_well_formed m f) start.table (names_entered [] (entry_parameters m owner f)) _ start.is_table start.settled f.body in
         let params = params_labelled m (receiver owner) f.params in
-        let end = returns_labelled (bases_of m) (returned m f) body.out (smaller m) (returned_well_formed m f) in
+        let end = returns_labelled (bases_of m) (return_type m f) body.out (smaller m) (returned_well_formed m f) in
         record {
           marks = record { params = params.marks; declared = body.table; body = body.marks; out = body.out; completing = end.0 };
           lawful = record {
@@ -122,7 +122,7 @@ module _ (m : Module) where
 
     -- ---- classes
 
-    pub members_labelled : (base : facts.Class) (c number : ℕ) (before : List (List ℕ)) (ms : List Member) → MembersLabelled m constants base c number before ms
+    pub members_labelled : (base : facts.ClassFacts) (c number : ℕ) (before : List (List ℕ)) (ms : List Member) → MembersLabelled m constants base c number before ms
     members_labelled base c number before [] = record { marks = tt; lawful = tt }
     members_labelled base c number before (field_member d ∷ ms) =
         let q = default_labelled (bases_of m) (binds_field base before d.name.text) d.default (read_ann m (bases_of m) d.annotation) (smaller m) (read_ann_well_formed m (bases_of m) (smaller m) d.annotation) in

@@ -14,7 +14,7 @@ use Rattle.pc_expr.specs.Labels.{mark_of, type_of}
 use Rattle.pc_expr.specs.Signatures.{binds_name, initializer_context, annotated_types, constant_type, first_of_types}
 use Rattle.pc_expr.proofs.Contexts.{initializers_well_formed}
 use Rattle.pc_expr.proofs.ComputedLawful.{has_labels}
-use Rattle.pc_check.specs.Modules.{Before, HasLabelling, ItemMarks, ItemsMarks, LawfulItem, LawfulItems, before_next, constant_types, nothing_before}
+use Rattle.pc_check.specs.Modules.{BeforeItem, HasLabelling, ItemMarks, ItemsMarks, LawfulItem, LawfulModuleItems, before_next, constant_types, nothing_before}
 use Rattle.pc_check.proofs.LabelledFunctions.{function_labelled, members_labelled}
 use Rattle.pc_check.proofs.LabelledExpressions.{flows_labelled}
 
@@ -22,7 +22,7 @@ module _ (m : Module) where
   -- ---- constants, then all items
 
   -- a constant has lawful labels, whatever the types of all constants; and its type is well-formed
-  record ConstantLabelled (b : Before) (p : _) (c : Constant) : Type 0 where
+  record ConstantLabelled (b : BeforeItem) (p : _) (c : Constant) : Type 0 where
     marks : ItemMarks (constant_item p c)
     lawful : (all : List Tree) → LawfulItem m all b (constant_item p c) marks
     well_formed : IsWellFormed (bases_of m) (constant_type m c.annotation (type_of c.value marks.value))
@@ -40,7 +40,7 @@ module _ (m : Module) where
   constant_well_formed None t k = k
   constant_well_formed (Some a) t k = read_ann_well_formed m (bases_of m) (smaller m) a
 
-  constant_labelled : (b : Before) → AreWellFormed (bases_of m) b.constants → (p : _) (c : Constant) → ConstantLabelled b p c
+  constant_labelled : (b : BeforeItem) → AreWellFormed (bases_of m) b.constants → (p : _) (c : Constant) → ConstantLabelled b p c
   constant_labelled b kb p c =
       let want = annotated_types m (binds_name b.names c.name) c.annotation in
       let kw = wants_well_formed (binds_name b.names c.name) c.annotation in
@@ -57,18 +57,18 @@ module _ (m : Module) where
   one_more (u ∷ ts) t k h = (k.0, one_more ts t k.1 h)
 
   -- labels of items with all constants' types known, whatever those are
-  record AllLabelled (b : Before) (items : List Item) (types all : List Tree) : Type 0 where
+  record AllLabelled (b : BeforeItem) (items : List Item) (types all : List Tree) : Type 0 where
     marks : ItemsMarks items
-    lawful : LawfulItems m all b items marks
+    lawful : LawfulModuleItems m all b items marks
     is : constant_types m items marks ≡ types
 
   -- items have types of their constants, and labels with all constants' types known
-  record ItemsLabelled (b : Before) (items : List Item) : Type 0 where
+  record ItemsLabelled (b : BeforeItem) (items : List Item) : Type 0 where
     types : List Tree
     well_formed : AreWellFormed (bases_of m) types
     found : (all : List Tree) → AreWellFormed (bases_of m) all → AllLabelled b items types all
 
-  items_labelled : (b : Before) → AreWellFormed (bases_of m) b.constants → (items : List Item) → ItemsLabelled b items
+  items_labelled : (b : BeforeItem) → AreWellFormed (bases_of m) b.constants → (items : List Item) → ItemsLabelled b items
   items_labelled b kb [] = record { types = []; well_formed = tt; found = λ all k. record { marks = tt; lawful = tt; is = refl } }
   items_labelled b kb (constant_item p c ∷ rest) =
       let q = constant_labelled b kb p c in
@@ -105,4 +105,4 @@ module _ (m : Module) where
   every_module_has_a_labelling =
       let r = items_labelled nothing_before tt m.items in
       let f = r.found r.types r.well_formed in
-      record { marks = f.marks; lawful = subst (λ ts. LawfulItems m ts nothing_before m.items f.marks) (sym f.is) f.lawful }
+      record { marks = f.marks; lawful = subst (λ ts. LawfulModuleItems m ts nothing_before m.items f.marks) (sym f.is) f.lawful }

@@ -10,8 +10,8 @@ use Rattle.pc_types.specs.WellFormed.{IsWellFormed}
 use Rattle.pc_flow.specs.Environment.{Env, join_envs_onto, join_ways, loop_head}
 use Rattle.pc_flow.specs.Narrowing.{narrow}
 use Rattle.pc_check.specs.StatementLabels.{behind_list, breaks_in, breaks_in_branches, breaks_in_suite, ways_in}
-use Rattle.pc_check.specs.Statements.{LawfulBranches, LawfulOption, LawfulSuite, Seen, binds_number}
-use Rattle.pc_check.specs.Labelled.{Agree, BranchesLabelled, IsTable, Setting, Settled, StmtLabelled, SuiteLabelled}
+use Rattle.pc_check.specs.Statements.{LawfulBranches, LawfulOption, LawfulSuite, NamesBound, binds_number}
+use Rattle.pc_check.specs.LabellingLaws.{Agree, BranchesLabelled, IsDeclaredTable, Setting, GoesByNames, StmtLabelled, SuiteLabelled}
 use Rattle.pc_check.proofs.BoundNames.{Within, within_both, within_later, within_one, within_right}
 use Rattle.pc_check.proofs.Tables.{all_both, all_on, all_wider, head_same, head_settled, joined_same, joined_settled, out_all, out_wider, same_on, same_self, settled_on, still_same, truth_same, truth_settled, ways_same, ways_settled}
 use Rattle.pc_check.proofs.LabelledExpressions.{expr_labelled, iterable_labelled}
@@ -28,7 +28,7 @@ module _ (setting : Setting) where
     truth_of ds b c env = narrow ctx.bases ds ctx.resolve b c env
 
     mutual
-      pub stmt_labelled : (ds : List Tree) (seen : Seen) (env : Env) → IsTable setting ds → Settled setting ds seen env → (s : Stmt) → StmtLabelled setting returned ds seen env s
+      pub stmt_labelled : (ds : List Tree) (seen : NamesBound) (env : Env) → IsDeclaredTable setting ds → GoesByNames setting ds seen env → (s : Stmt) → StmtLabelled setting returned ds seen env s
       stmt_labelled ds seen env g h (pass p) = record { table = ds; is_table = g; same = same_self setting ds seen; marks = tt; out = Some env; ends = h; broken = tt; reaches = refl; lawful = λ F gF s. refl }
       stmt_labelled ds seen env g h (breaks p) = record { table = ds; is_table = g; same = same_self setting ds seen; marks = env; out = None; ends = tt; broken = (h, tt); reaches = refl; lawful = λ F gF s. (refl, refl) }
       stmt_labelled ds seen env g h (continues p) = record { table = ds; is_table = g; same = same_self setting ds seen; marks = tt; out = None; ends = tt; broken = tt; reaches = refl; lawful = λ F gF s. refl }
@@ -166,7 +166,7 @@ module _ (setting : Setting) where
                 };
           }
 
-      pub suite_labelled : (ds : List Tree) (seen : Seen) (env : Env) → IsTable setting ds → Settled setting ds seen env → (b : Stmts) → SuiteLabelled setting returned ds seen env b
+      pub suite_labelled : (ds : List Tree) (seen : NamesBound) (env : Env) → IsDeclaredTable setting ds → GoesByNames setting ds seen env → (b : Stmts) → SuiteLabelled setting returned ds seen env b
       suite_labelled ds seen env g h no_stmts = record { table = ds; is_table = g; same = same_self setting ds seen; marks = tt; out = Some env; ends = h; broken = tt; reaches = refl; lawful = λ F gF s. refl }
       suite_labelled ds seen env g h (more_stmts st rest) =
           let first = stmt_labelled ds seen env g h st in
@@ -186,7 +186,7 @@ module _ (setting : Setting) where
             lawful = λ F gF s. q.lawful F gF (λ word x a r. s word x (wl word a) r);
           }
 
-      pub branches_labelled : (ds : List Tree) (seen : Seen) (env : Env) → IsTable setting ds → Settled setting ds seen env → (bs : Branches) → BranchesLabelled setting returned ds seen env bs
+      pub branches_labelled : (ds : List Tree) (seen : NamesBound) (env : Env) → IsDeclaredTable setting ds → GoesByNames setting ds seen env → (bs : Branches) → BranchesLabelled setting returned ds seen env bs
       branches_labelled ds seen env g h no_branches = record { table = ds; is_table = g; same = same_self setting ds seen; marks = tt; last = env; ends = h; broken = tt; ways = tt; reaches = refl; lawful = λ F gF s. refl }
       branches_labelled ds seen env g h (more_branches c b rest) =
           let v = expr_labelled setting ds seen env None c g h tt in

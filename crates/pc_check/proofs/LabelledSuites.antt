@@ -10,10 +10,10 @@ use Rattle.pc_types.specs.Tree.{NoneType, Tree}
 use Rattle.pc_types.specs.WellFormed.{IsWellFormed}
 use Rattle.pc_flow.specs.Environment.{Env, join_ways}
 use Rattle.pc_expr.specs.Operations.{clean}
-use Rattle.pc_expr.specs.Labels.{Flowing, mark_of}
+use Rattle.pc_expr.specs.Labels.{FlowMarks, mark_of}
 use Rattle.pc_check.specs.StatementLabels.{Behind, BehindRule, OptionMarks, StmtMarks, SuiteMarks, behind_list, breaks_in, breaks_in_suite}
-use Rattle.pc_check.specs.Statements.{LawfulOption, LawfulReturn, LawfulStmt, LawfulSuite, Seen, Undeclared}
-use Rattle.pc_check.specs.Labelled.{Agree, IsTable, OutSettled, Setting, Settled, SettledAll, StmtLabelled, SuiteLabelled, any_way}
+use Rattle.pc_check.specs.Statements.{LawfulOption, LawfulReturn, LawfulStmt, LawfulSuite, NamesBound, AreUndeclared}
+use Rattle.pc_check.specs.LabellingLaws.{Agree, IsDeclaredTable, OutSettled, Setting, GoesByNames, SettledAll, StmtLabelled, SuiteLabelled, any_way}
 use Rattle.pc_check.proofs.BoundNames.{Within, within_right}
 use Rattle.pc_check.proofs.Tables.{all_both, all_on, same_on, same_self}
 use Rattle.pc_check.proofs.LabelledExpressions.{expr_labelled, flows_labelled}
@@ -25,12 +25,12 @@ module _ (setting : Setting) where
 
   module _ (returned : Tree) (kr : IsWellFormed ctx.bases returned) where
     -- a `return` has labels of its value and their flow
-    pub record ReturnLabelled (ds : List Tree) (seen : Seen) (env : Env) (e : Option Expr) : Type 0 where
+    pub record ReturnLabelled (ds : List Tree) (seen : NamesBound) (env : Env) (e : Option Expr) : Type 0 where
       pub marks : OptionMarks e
-      pub flows : Flowing
-      pub lawful : (F : List Tree) → IsTable setting F → Agree ctx ds F seen → LawfulReturn m ctx F returned env e marks flows
+      pub flows : FlowMarks
+      pub lawful : (F : List Tree) → IsDeclaredTable setting F → Agree ctx ds F seen → LawfulReturn m ctx F returned env e marks flows
 
-    pub return_labelled : (ds : List Tree) (seen : Seen) (env : Env) → IsTable setting ds → Settled setting ds seen env → (e : Option Expr) → ReturnLabelled ds seen env e
+    pub return_labelled : (ds : List Tree) (seen : NamesBound) (env : Env) → IsDeclaredTable setting ds → GoesByNames setting ds seen env → (e : Option Expr) → ReturnLabelled ds seen env e
     return_labelled ds seen env g h None =
         let fl = flows_labelled ctx.bases (clean NoneType) (returned ∷ []) ck.smaller (tt, tt, omega arith) (kr, tt) in
         record { marks = tt; flows = fl.flows; lawful = λ F gF s. fl.lawful }
@@ -40,11 +40,11 @@ module _ (setting : Setting) where
         record { marks = v.marks; flows = fl.flows; lawful = λ F gF s. (v.lawful F gF s, fl.lawful) }
 
     -- an expression that may be left out has labels
-    pub record OptionLabelled (ds : List Tree) (seen : Seen) (env : Env) (e : Option Expr) : Type 0 where
+    pub record OptionLabelled (ds : List Tree) (seen : NamesBound) (env : Env) (e : Option Expr) : Type 0 where
       pub marks : OptionMarks e
-      pub lawful : (F : List Tree) → IsTable setting F → Agree ctx ds F seen → LawfulOption m ctx F returned env e marks
+      pub lawful : (F : List Tree) → IsDeclaredTable setting F → Agree ctx ds F seen → LawfulOption m ctx F returned env e marks
 
-    pub option_labelled : (ds : List Tree) (seen : Seen) (env : Env) → IsTable setting ds → Settled setting ds seen env → (e : Option Expr) → OptionLabelled ds seen env e
+    pub option_labelled : (ds : List Tree) (seen : NamesBound) (env : Env) → IsDeclaredTable setting ds → GoesByNames setting ds seen env → (e : Option Expr) → OptionLabelled ds seen env e
     option_labelled ds seen env g h None = record { marks = tt; lawful = λ F gF s. tt }
     option_labelled ds seen env g h (Some e) = let v = expr_labelled setting ds seen env None e g h tt in record { marks = v.marks; lawful = v.lawful }
 
@@ -69,18 +69,18 @@ module _ (setting : Setting) where
     empty_reaches (more_stmts s rest) x = refl
 
     -- a statement, and what stands behind it
-    pub record BehindLabelled (b : Test) (ds : List Tree) (seen : Seen) (env : Env) (s : Stmt) (rest : Stmts) : Type 0 where
+    pub record BehindLabelled (b : Test) (ds : List Tree) (seen : NamesBound) (env : Env) (s : Stmt) (rest : Stmts) : Type 0 where
       pub table : List Tree
-      pub is_table : IsTable setting table
+      pub is_table : IsDeclaredTable setting table
       pub same : Agree ctx ds table seen
       pub marks : StmtMarks s × Behind b (Env × SuiteMarks rest)
       pub out : Option Env
       pub ends : OutSettled setting table (texts (bound_by rest) ++ (texts (bound_by_stmt s) ++ seen)) out
       pub broken : SettledAll setting table (texts (bound_by rest) ++ (texts (bound_by_stmt s) ++ seen)) (breaks_in s marks.0 ++ behind_list b marks.1 (λ r. breaks_in_suite rest r.1))
       pub reaches : is_some out ≡ (b && completes_all rest)
-      pub lawful : (F : List Tree) → IsTable setting F → Agree ctx table F (texts (bound_by rest) ++ (texts (bound_by_stmt s) ++ seen)) → BehindRule b marks.1 (λ r. LawfulStmt m ctx F returned seen env s marks.0 (Some r.0) × LawfulSuite m ctx F returned (texts (bound_by_stmt s) ++ seen) r.0 rest r.1 out) (LawfulStmt m ctx F returned seen env s marks.0 None × Undeclared m ctx F (texts (bound_by_stmt s) ++ seen) (bound_by rest) × (out ≡ None))
+      pub lawful : (F : List Tree) → IsDeclaredTable setting F → Agree ctx table F (texts (bound_by rest) ++ (texts (bound_by_stmt s) ++ seen)) → BehindRule b marks.1 (λ r. LawfulStmt m ctx F returned seen env s marks.0 (Some r.0) × LawfulSuite m ctx F returned (texts (bound_by_stmt s) ++ seen) r.0 rest r.1 out) (LawfulStmt m ctx F returned seen env s marks.0 None × AreUndeclared m ctx F (texts (bound_by_stmt s) ++ seen) (bound_by rest) × (out ≡ None))
 
-    pub behind_labelled : (b : Test) (ds : List Tree) (seen : Seen) (env : Env) (s : Stmt) (rest : Stmts) (t : List Tree) → IsTable setting t → Agree ctx ds t seen → (mk : StmtMarks s) (mid : Option Env) → OutSettled setting t (texts (bound_by_stmt s) ++ seen) mid → SettledAll setting t (texts (bound_by_stmt s) ++ seen) (breaks_in s mk) → is_some mid ≡ b → ((F : List Tree) → IsTable setting F → Agree ctx t F (texts (bound_by_stmt s) ++ seen) → LawfulStmt m ctx F returned seen env s mk mid) → ((e : Env) → Settled setting t (texts (bound_by_stmt s) ++ seen) e → SuiteLabelled setting returned t (texts (bound_by_stmt s) ++ seen) e rest) → BehindLabelled b ds seen env s rest
+    pub behind_labelled : (b : Test) (ds : List Tree) (seen : NamesBound) (env : Env) (s : Stmt) (rest : Stmts) (t : List Tree) → IsDeclaredTable setting t → Agree ctx ds t seen → (mk : StmtMarks s) (mid : Option Env) → OutSettled setting t (texts (bound_by_stmt s) ++ seen) mid → SettledAll setting t (texts (bound_by_stmt s) ++ seen) (breaks_in s mk) → is_some mid ≡ b → ((F : List Tree) → IsDeclaredTable setting F → Agree ctx t F (texts (bound_by_stmt s) ++ seen) → LawfulStmt m ctx F returned seen env s mk mid) → ((e : Env) → GoesByNames setting t (texts (bound_by_stmt s) ++ seen) e → SuiteLabelled setting returned t (texts (bound_by_stmt s) ++ seen) e rest) → BehindLabelled b ds seen env s rest
     behind_labelled true ds seen env s rest t g same mk (Some mid) ends broken e lawful next =
         let nx = next mid ends in
         let w : Within (texts (bound_by_stmt s) ++ seen) (texts (bound_by rest) ++ (texts (bound_by_stmt s) ++ seen)) = within_right (texts (bound_by rest)) (texts (bound_by_stmt s) ++ seen) in
@@ -112,7 +112,7 @@ module _ (setting : Setting) where
     behind_labelled true ds seen env s rest t g same mk None ends broken e lawful next = absurd (grind (arith, e))
     behind_labelled false ds seen env s rest t g same mk (Some mid) ends broken e lawful next = absurd (grind (arith, e))
 
-    pub assignment_labelled : (ds : List Tree) (seen : Seen) (env : Env) → IsTable setting ds → Settled setting ds seen env → (p : Place) (t : Target) (e : Expr) → StmtLabelled setting returned ds seen env (assigns p t e)
+    pub assignment_labelled : (ds : List Tree) (seen : NamesBound) (env : Env) → IsDeclaredTable setting ds → GoesByNames setting ds seen env → (p : Place) (t : Target) (e : Expr) → StmtLabelled setting returned ds seen env (assigns p t e)
     assignment_labelled ds seen env g h p (to_name n) e =
         let b = binding_labelled setting ds seen env g h n (ctx.resolve n.text) refl None tt e in
         record {

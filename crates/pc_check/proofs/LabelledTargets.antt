@@ -12,12 +12,12 @@ use Rattle.pc_flow.specs.Environment.{Env, assign, assigned_type, declared_type}
 use Rattle.pc_flow.specs.WellFormed.{AreWellFormed}
 use Rattle.pc_expr.specs.Operations.{Mark, clean, only_type, store_codes, store_index_types, stored_types}
 use Rattle.pc_expr.specs.Context.{FlowsInto}
-use Rattle.pc_expr.specs.Labels.{Flowing, Marks, mark_of, type_of}
+use Rattle.pc_expr.specs.Labels.{FlowMarks, Marks, mark_of, type_of}
 use Rattle.pc_check.specs.StatementLabels.{TargetMarks}
-use Rattle.pc_check.specs.Statements.{LawfulStore, LawfulTarget, Seen, Undeclared, UndeclaredName, attribute_offers, index_offers, is_first, only_code}
+use Rattle.pc_check.specs.Statements.{LawfulStore, LawfulTarget, NamesBound, AreUndeclared, UndeclaredName, attribute_offers, index_offers, is_first, only_code}
 use Rattle.pc_check.proofs.StoredTypes.{fields_stored, items_stored, keys_stored, only_well_formed}
 use Rattle.pc_flow.proofs.Conditions.{assigned_well_formed}
-use Rattle.pc_check.specs.Labelled.{Agree, IsTable, Setting, Settled}
+use Rattle.pc_check.specs.LabellingLaws.{Agree, IsDeclaredTable, Setting, GoesByNames}
 use Rattle.pc_check.proofs.BoundNames.{here_among, within_later, within_one, within_right}
 use Rattle.pc_check.proofs.Tables.{assign_settled, declared_well_formed, same_on, same_self, settled_on, still_same}
 use Rattle.pc_check.proofs.LabelledExpressions.{expr_labelled, flows_labelled}
@@ -27,16 +27,16 @@ module _ (setting : Setting) where
   open setting use {whole as m, context as ctx, context_well_formed as ck, count, locals as names}
 
   -- the target of a `for`
-  pub record TargetLabelled (ds : List Tree) (seen : Seen) (head : Env) (n : Name) (r : Res) (item : Mark) : Type 0 where
+  pub record TargetLabelled (ds : List Tree) (seen : NamesBound) (head : Env) (n : Name) (r : Res) (item : Mark) : Type 0 where
     pub table : List Tree
-    pub is_table : IsTable setting table
+    pub is_table : IsDeclaredTable setting table
     pub same : Agree ctx ds table seen
-    pub flows : Flowing
+    pub flows : FlowMarks
     pub inside : Env
-    pub settled : Settled setting table (n.text ∷ seen) inside
-    pub lawful : (F : List Tree) → IsTable setting F → Agree ctx table F (n.text ∷ seen) → LawfulTarget m ctx F seen n r head item flows inside
+    pub settled : GoesByNames setting table (n.text ∷ seen) inside
+    pub lawful : (F : List Tree) → IsDeclaredTable setting F → Agree ctx table F (n.text ∷ seen) → LawfulTarget m ctx F seen n r head item flows inside
 
-  pub target_labelled : (ds : List Tree) (seen : Seen) (head : Env) → IsTable setting ds → Settled setting ds seen head → (n : Name) (r : Res) → ctx.resolve n.text ≡ r → (item : Mark) → IsWellFormed ctx.bases item.type → TargetLabelled ds seen head n r item
+  pub target_labelled : (ds : List Tree) (seen : NamesBound) (head : Env) → IsDeclaredTable setting ds → GoesByNames setting ds seen head → (n : Name) (r : Res) → ctx.resolve n.text ≡ r → (item : Mark) → IsWellFormed ctx.bases item.type → TargetLabelled ds seen head n r item
   target_labelled ds seen head g h n (res.Local x) i item k =
       let st = local_set setting ds seen g n.text x i item.type k (is_first seen n) refl in
       let d = declared_type st.table x in
@@ -62,11 +62,11 @@ module _ (setting : Setting) where
   target_labelled ds seen head g h n res.None i item k = record { table = ds; is_table = g; same = same_self setting ds seen; flows = []; inside = head; settled = still_same setting ds seen (n.text ∷ seen) head (within_one n.text seen) g h; lawful = λ F gF s. (refl, refl) }
 
   -- names first bound where no run comes: Any
-  pub record UndeclaredLabelled (ds : List Tree) (seen : Seen) (ns : List Name) : Type 0 where
+  pub record UndeclaredLabelled (ds : List Tree) (seen : NamesBound) (ns : List Name) : Type 0 where
     pub table : List Tree
-    pub is_table : IsTable setting table
+    pub is_table : IsDeclaredTable setting table
     pub same : Agree ctx ds table seen
-    pub lawful : (F : List Tree) → Agree ctx table F (texts ns ++ seen) → Undeclared m ctx F seen ns
+    pub lawful : (F : List Tree) → Agree ctx table F (texts ns ++ seen) → AreUndeclared m ctx F seen ns
 
   undeclared_name : (F : List Tree) (b : Test) (r : Res) → ((x : ℕ) → r ≡ res.Local x → b ≡ true → declared_type F x ≡ Any) → UndeclaredName m ctx F b r
   undeclared_name F false r h = tt
@@ -77,7 +77,7 @@ module _ (setting : Setting) where
   undeclared_name F true (res.Builtin c) h = tt
   undeclared_name F true res.None h = tt
 
-  pub undeclared_labelled : (ds : List Tree) (seen : Seen) → IsTable setting ds → (ns : List Name) → UndeclaredLabelled ds seen ns
+  pub undeclared_labelled : (ds : List Tree) (seen : NamesBound) → IsDeclaredTable setting ds → (ns : List Name) → UndeclaredLabelled ds seen ns
   undeclared_labelled ds seen g [] = record { table = ds; is_table = g; same = same_self setting ds seen; lawful = λ F s. tt }
   undeclared_labelled ds seen g (n ∷ ns) =
       let st = name_set setting ds seen g n.text (ctx.resolve n.text) refl Any (tt, tt, omega arith) in
@@ -94,13 +94,13 @@ module _ (setting : Setting) where
   -- ---- stores
 
   -- a store has labels of its target, of the value and of their flows
-  pub record StoreLabelled (ds : List Tree) (seen : Seen) (env : Env) (t : Target) (e : Expr) : Type 0 where
+  pub record StoreLabelled (ds : List Tree) (seen : NamesBound) (env : Env) (t : Target) (e : Expr) : Type 0 where
     pub target : TargetMarks t
     pub marks : Marks e
-    pub flows : Flowing
-    pub lawful : (F : List Tree) → IsTable setting F → Agree ctx ds F seen → LawfulStore m ctx F env t target e marks flows
+    pub flows : FlowMarks
+    pub lawful : (F : List Tree) → IsDeclaredTable setting F → Agree ctx ds F seen → LawfulStore m ctx F env t target e marks flows
 
-  pub attribute_labelled : (ds : List Tree) (seen : Seen) (env : Env) → IsTable setting ds → Settled setting ds seen env → (p : Place) (x : Expr) (f : Name) (e : Expr) → StoreLabelled ds seen env (to_attribute p x f) e
+  pub attribute_labelled : (ds : List Tree) (seen : NamesBound) (env : Env) → IsDeclaredTable setting ds → GoesByNames setting ds seen env → (p : Place) (x : Expr) (f : Name) (e : Expr) → StoreLabelled ds seen env (to_attribute p x f) e
   attribute_labelled ds seen env g h p x f e =
       let q = expr_labelled setting ds seen env None x g h tt in
       let os = attribute_offers m ctx ds f.text (type_of x q.marks) in
@@ -114,7 +114,7 @@ module _ (setting : Setting) where
         lawful = λ F gF s. record { object = q.lawful F gF s; value = v.lawful F gF s; codes = refl; flow = fl.lawful };
       }
 
-  pub index_labelled : (ds : List Tree) (seen : Seen) (env : Env) → IsTable setting ds → Settled setting ds seen env → (p : Place) (x i e : Expr) → StoreLabelled ds seen env (to_index p x i) e
+  pub index_labelled : (ds : List Tree) (seen : NamesBound) (env : Env) → IsDeclaredTable setting ds → GoesByNames setting ds seen env → (p : Place) (x i e : Expr) → StoreLabelled ds seen env (to_index p x i) e
   index_labelled ds seen env g h p x i e =
       let q = expr_labelled setting ds seen env None x g h tt in
       let j = expr_labelled setting ds seen env None i g h tt in

@@ -8,11 +8,11 @@ use Rattle.pc_tree.specs.Tree.{Item, Module, class_item, constant_item, def_item
 use Rattle.pc_scope.specs.declared.resolution.Builtin.{Builtin}
 use Rattle.pc_scope.specs.declared.resolution.Res.{Res}
 use Rattle.pc_scope.specs.Reserved.{builtin_of}
-use Rattle.pc_scope.specs.Resolution.{bound_first, builtin_res, index_of, local_of, or_else, resolve_among, resolve_in_module}
+use Rattle.pc_scope.specs.Resolution.{bound_first, builtin_meaning, index_of, local_meaning, or_meaning, resolve_among, resolve_in_module}
 use Rattle.pc_types.specs.Tree.{Tree}
 use Rattle.pc_expr.specs.Signatures.{body_context}
 use Rattle.std.proofs.lemmas.Option.{same_Some}
-use Rattle.pc_check.specs.Labelled.{Locals}
+use Rattle.pc_check.specs.LabellingLaws.{Locals}
 
 -- a name that has an index stands there
 index_get : (word : List ℕ) (ts : List (List ℕ)) (x : ℕ) → index_of word ts ≡ Some x → slice_get ts x ≡ Some word
@@ -59,7 +59,7 @@ bound_local k f c (def_item p i ∷ rest) word x e = go (bytes_eq i.name.text wo
 pub module_local : (m : Module) (word : List ℕ) (x : ℕ) → resolve_in_module m word ≡ res.Local x → ⊥
 module_local m word x e = go (builtin_of word) (bound_first 0 0 0 m.items word) refl e
   where
-    go : (b : Option Builtin) (r : Option Res) → bound_first 0 0 0 m.items word ≡ r → or_else (builtin_res b) (or_else r res.None) ≡ res.Local x → ⊥
+    go : (b : Option Builtin) (r : Option Res) → bound_first 0 0 0 m.items word ≡ r → or_meaning (builtin_meaning b) (or_meaning r res.None) ≡ res.Local x → ⊥
     go (Some b) r i e = grind (arith, e)
     go None None i e = grind (arith, e)
     go None (Some r) i e = bound_local 0 0 0 m.items word x (i ∙ ap Some e)
@@ -68,7 +68,7 @@ module_local m word x e = go (builtin_of word) (bound_first 0 0 0 m.items word) 
 local_get : (m : Module) (names : List (List ℕ)) (word : List ℕ) (x : ℕ) → resolve_among m names word ≡ res.Local x → slice_get names x ≡ Some word
 local_get m names word x e = go (index_of word names) refl e
   where
-    go : (o : Option ℕ) → index_of word names ≡ o → or_else (local_of o) (resolve_in_module m word) ≡ res.Local x → slice_get names x ≡ Some word
+    go : (o : Option ℕ) → index_of word names ≡ o → or_meaning (local_meaning o) (resolve_in_module m word) ≡ res.Local x → slice_get names x ≡ Some word
     go None i e = absurd (module_local m word x e)
     go (Some y) i e = let q : y ≡ x = grind (arith, e) in index_get word names x (i ∙ ap Some q)
 

@@ -6,16 +6,16 @@ use Rattle.pc_tree.specs.Tree.{Name}
 use Rattle.pc_scope.specs.declared.resolution.Res.{Res}
 use Rattle.pc_scope.specs.declared.resolution.Res.TheVariants as res
 use Rattle.pc_flow.specs.Narrowing.{as_local}
-use Rattle.pc_check.specs.Statements.{binds_number, is_number}
-use Rattle.pc_check.specs.ComputedStatements.{Frame, Table, unreached_name, unreached_names}
-use Rattle.pc_check.specs.Walking.{numbers_of, unreached_numbers}
+use Rattle.pc_check.specs.Statements.{binds_number, is_local_number}
+use Rattle.pc_check.specs.ComputedStatements.{BodyFrame, Table, unreached_name, unreached_names}
+use Rattle.pc_check.specs.Internal.StatementWalk.{numbers_of, unreached_numbers}
 
 -- a number is among those of names where one of the names binds it
 pub numbers_bind : (resolve : List ℕ → Res) (names : List Name) (x : ℕ) → list_any (nat_eq x) (numbers_of resolve names) ≡ binds_number resolve names x
 numbers_bind resolve [] x = refl
-numbers_bind resolve (n ∷ ns) x = go (resolve n.text) ∙ ap (λ b. is_number x (resolve n.text) || b) (numbers_bind resolve ns x)
+numbers_bind resolve (n ∷ ns) x = go (resolve n.text) ∙ ap (λ b. is_local_number x (resolve n.text) || b) (numbers_bind resolve ns x)
   where
-    go : (r : Res) → list_any (nat_eq x) (cons_option (as_local r) (numbers_of resolve ns)) ≡ (is_number x r || list_any (nat_eq x) (numbers_of resolve ns))
+    go : (r : Res) → list_any (nat_eq x) (cons_option (as_local r) (numbers_of resolve ns)) ≡ (is_local_number x r || list_any (nat_eq x) (numbers_of resolve ns))
     go (res.Local y) = refl
     go (res.Const y) = refl
     go (res.Func y) = refl
@@ -24,7 +24,7 @@ numbers_bind resolve (n ∷ ns) x = go (resolve n.text) ∙ ap (λ b. is_number 
     go res.None = refl
 
 -- locals that no run binds, by their numbers
-pub unreached_by : (frame : Frame) (table : Table) (names : List Name) → unreached_numbers table (numbers_of frame.context.resolve names) ≡ unreached_names frame table names
+pub unreached_by : (frame : BodyFrame) (table : Table) (names : List Name) → unreached_numbers table (numbers_of frame.context.resolve names) ≡ unreached_names frame table names
 unreached_by frame table [] = refl
 unreached_by frame table (n ∷ ns) = go (frame.context.resolve n.text) (λ t. unreached_by frame t ns)
   where

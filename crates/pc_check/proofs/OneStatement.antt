@@ -8,7 +8,7 @@ use Rattle.pc_source.specs.declared.place.Place.{Place}
 use Rattle.pc_scope.specs.declared.resolution.Res.{Res}
 use Rattle.pc_scope.specs.declared.resolution.Res.TheVariants as res
 use Rattle.pc_scope.specs.Bindings.{texts}
-use Rattle.pc_scope.specs.Resolution.{is_among}
+use Rattle.pc_scope.specs.Resolution.{is_one_of}
 use Rattle.pc_scope.specs.Reach.{completes}
 use Rattle.pc_types.specs.Tree.{Tree, Any, NoneType}
 use Rattle.pc_types.specs.Shape.{members}
@@ -17,13 +17,13 @@ use Rattle.pc_flow.specs.Environment.{Env, declared_type, assign, assigned_type,
 use Rattle.pc_flow.specs.Narrowing.{narrow}
 use Rattle.pc_expr.specs.Operations.{Mark, clean, offers_mark, iterate_member, store_codes, store_index_types, stored_types, only_type}
 use Rattle.pc_expr.specs.Context.{Context, FlowsInto}
-use Rattle.pc_expr.specs.Calls.{given, positional_seat, named_seat, is_range, range_offers, range_item}
-use Rattle.pc_expr.specs.Labels.{Flowing, Marks, mark_of, type_of, with_mark}
+use Rattle.pc_expr.specs.Calls.{arguments_given, positional_seat, named_seat, is_range, range_offers, range_item}
+use Rattle.pc_expr.specs.Labels.{FlowMarks, Marks, mark_of, type_of, with_mark}
 use Rattle.pc_expr.specs.Lawful.{Lawful}
 use Rattle.pc_expr.proofs.Same.{SameWhere, Alike, SameWhereAll, all_joins_alike, heads_alike, narrow_alike}
 use Rattle.pc_expr.proofs.One.{into_one, one, items_one, keywords_one}
 use Rattle.pc_check.specs.StatementLabels.{OptionMarks, TargetMarks, StmtMarks, SuiteMarks, BranchesMarks, Behind, BehindRule, behind_list, breaks_in, breaks_in_suite, breaks_in_branches, ways_in}
-use Rattle.pc_check.specs.Statements.{only_code, Seen, is_first, binds_number, LawfulRange, LawfulValues, RangeOrValues, LawfulIterable, DeclaredAt, known_type, LawfulBinding, LawfulDeclaration, LawfulTarget, UndeclaredName, Undeclared, attribute_offers, index_offers, LawfulStore, annotation_at, LawfulAnnotated, LawfulReturn, LawfulOption, LawfulStmt, LawfulSuite, LawfulBranches}
+use Rattle.pc_check.specs.Statements.{only_code, NamesBound, is_first, binds_number, LawfulRange, LawfulValues, RangeOrValues, LawfulIterable, DeclaredAt, known_type, LawfulBinding, LawfulDeclaration, LawfulTarget, UndeclaredName, AreUndeclared, attribute_offers, index_offers, LawfulStore, annotation_at, LawfulAnnotated, LawfulReturn, LawfulOption, LawfulStmt, LawfulSuite, LawfulBranches}
 
 -- ---- names among names
 
@@ -40,25 +40,25 @@ or_left true b e = refl
 or_left false b e = absurd (grind arith)
 
 abbrev pub IsAmong : List ℕ → List (List ℕ) → Type 0
-IsAmong word xs = is_among word xs ≡ true
+IsAmong word xs = is_one_of word xs ≡ true
 
 among_mono : (word : List ℕ) (xs ys zs : List (List ℕ)) → (IsAmong word ys → IsAmong word zs) → IsAmong word (xs ++ ys) → IsAmong word (xs ++ zs)
 among_mono word [] ys zs f h = f h
-among_mono word (x ∷ xs) ys zs f h = elim (or_cases (bytes_eq word x) (is_among word (xs ++ ys)) h) [
-  | inl e ↦ or_left (bytes_eq word x) (is_among word (xs ++ zs)) e
-  | inr r ↦ or_right (bytes_eq word x) (is_among word (xs ++ zs)) (among_mono word xs ys zs f r)
+among_mono word (x ∷ xs) ys zs f h = elim (or_cases (bytes_eq word x) (is_one_of word (xs ++ ys)) h) [
+  | inl e ↦ or_left (bytes_eq word x) (is_one_of word (xs ++ zs)) e
+  | inr r ↦ or_right (bytes_eq word x) (is_one_of word (xs ++ zs)) (among_mono word xs ys zs f r)
 ]
 
 pub among_right : (word : List ℕ) (xs ys : List (List ℕ)) → IsAmong word ys → IsAmong word (xs ++ ys)
 among_right word [] ys h = h
-among_right word (x ∷ xs) ys h = or_right (bytes_eq word x) (is_among word (xs ++ ys)) (among_right word xs ys h)
+among_right word (x ∷ xs) ys h = or_right (bytes_eq word x) (is_one_of word (xs ++ ys)) (among_right word xs ys h)
 
 -- names of both, in either order
 pub among_both : (word : List ℕ) (a b : List Name) (seen : List (List ℕ)) → IsAmong word (texts (a ++ b) ++ seen) → IsAmong word (texts b ++ (texts a ++ seen))
 among_both word [] b seen h = h
-among_both word (n ∷ a) b seen h = elim (or_cases (bytes_eq word n.text) (is_among word (texts (a ++ b) ++ seen)) h) [
-  | inl e ↦ among_right word (texts b) (n.text ∷ (texts a ++ seen)) (or_left (bytes_eq word n.text) (is_among word (texts a ++ seen)) e)
-  | inr r ↦ among_mono word (texts b) (texts a ++ seen) (n.text ∷ (texts a ++ seen)) (or_right (bytes_eq word n.text) (is_among word (texts a ++ seen))) (among_both word a b seen r)
+among_both word (n ∷ a) b seen h = elim (or_cases (bytes_eq word n.text) (is_one_of word (texts (a ++ b) ++ seen)) h) [
+  | inl e ↦ among_right word (texts b) (n.text ∷ (texts a ++ seen)) (or_left (bytes_eq word n.text) (is_one_of word (texts a ++ seen)) e)
+  | inr r ↦ among_mono word (texts b) (texts a ++ seen) (n.text ∷ (texts a ++ seen)) (or_right (bytes_eq word n.text) (is_one_of word (texts a ++ seen))) (among_both word a b seen r)
 ]
 
 some_inj : {A : Type 0} {x y : A} → Some x ≡ Some y → x ≡ y
@@ -82,19 +82,19 @@ assign_kept (d ∷ ds) (d' ∷ ds') [] x u h e = absurd h
 
 module _ (m : Module) (ctx : Context) (ds ds' : List Tree) where
   -- the declared types of the locals seen so far are the same
-  abbrev pub SameSeen : Seen → Type 0
+  abbrev pub SameSeen : NamesBound → Type 0
   SameSeen seen = (word : List ℕ) (x : ℕ) → IsAmong word seen → ctx.resolve word ≡ res.Local x → declared_type ds x ≡ declared_type ds' x
 
   abbrev SameName : Name → Type 0
   SameName n = (x : ℕ) → ctx.resolve n.text ≡ res.Local x → declared_type ds x ≡ declared_type ds' x
 
-  pub seen_more : (seen : Seen) (n : Name) → SameSeen seen → SameName n → SameSeen (n.text ∷ seen)
-  seen_more seen n h s word x among r = elim (or_cases (bytes_eq word n.text) (is_among word seen) among) [
+  pub seen_more : (seen : NamesBound) (n : Name) → SameSeen seen → SameName n → SameSeen (n.text ∷ seen)
+  seen_more seen n h s word x among r = elim (or_cases (bytes_eq word n.text) (is_one_of word seen) among) [
     | inl e ↦ s x (ap ctx.resolve (sym ((bytes_eq-Decides word n.text).0 e)) ∙ r)
     | inr k ↦ h word x k r
   ]
 
-  pub seen_both : (a b : List Name) (seen : Seen) → SameSeen (texts b ++ (texts a ++ seen)) → SameSeen (texts (a ++ b) ++ seen)
+  pub seen_both : (a b : List Name) (seen : NamesBound) → SameSeen (texts b ++ (texts a ++ seen)) → SameSeen (texts (a ++ b) ++ seen)
   seen_both a b seen h word x among r = h word x (among_both word a b seen among) r
 
   abbrev OutKept : Option Env → Type 0
@@ -121,21 +121,21 @@ module _ (m : Module) (ctx : Context) (ds ds' : List Tree) where
       let q = one ctx ds ds' env k None e mk mk' h h' in
       record { marks = q; same = d ∙ ap (type_of e) q ∙ sym d' }
 
-  pub record BindingOne {A : Type 0} (mk mk' : A) (fl fl' : Flowing) (after after' : Env) (n : Name) : Type 0 where
+  pub record BindingOne {A : Type 0} (mk mk' : A) (fl fl' : FlowMarks) (after after' : Env) (n : Name) : Type 0 where
     pub marks : mk ≡ mk'
     pub flows : fl ≡ fl'
     pub afters : after ≡ after'
     pub kept : SameWhere ds ds' after
     pub same : SameName n
 
-  first_seen : (seen : Seen) (n : Name) (x : ℕ) → SameSeen seen → ctx.resolve n.text ≡ res.Local x → is_first seen n ≡ false → declared_type ds x ≡ declared_type ds' x
-  first_seen seen n x h r e = h n.text x (not_false (is_among n.text seen) e) r
+  first_seen : (seen : NamesBound) (n : Name) (x : ℕ) → SameSeen seen → ctx.resolve n.text ≡ res.Local x → is_first seen n ≡ false → declared_type ds x ≡ declared_type ds' x
+  first_seen seen n x h r e = h n.text x (not_false (is_one_of n.text seen) e) r
 
   -- what is no local binds nothing
-  plain_one : (env : Env) → SameWhere ds ds' env → (n : Name) → ((x : ℕ) → ctx.resolve n.text ≡ res.Local x → ⊥) → (e : Expr) (mk mk' : Marks e) (fl fl' : Flowing) (after after' : Env) → Lawful ctx ds env None e mk → fl ≡ [] → after ≡ env → Lawful ctx ds' env None e mk' → fl' ≡ [] → after' ≡ env → BindingOne mk mk' fl fl' after after' n
+  plain_one : (env : Env) → SameWhere ds ds' env → (n : Name) → ((x : ℕ) → ctx.resolve n.text ≡ res.Local x → ⊥) → (e : Expr) (mk mk' : Marks e) (fl fl' : FlowMarks) (after after' : Env) → Lawful ctx ds env None e mk → fl ≡ [] → after ≡ env → Lawful ctx ds' env None e mk' → fl' ≡ [] → after' ≡ env → BindingOne mk mk' fl fl' after after' n
   plain_one env k n r e mk mk' fl fl' after after' h f a h' f' a' = record { marks = one ctx ds ds' env k None e mk mk' h h'; flows = f ∙ sym f'; afters = a ∙ sym a'; kept = subst (SameWhere ds ds') (sym a) k; same = λ x i. absurd (r x i) }
 
-  binding_one : (seen : Seen) (env : Env) → SameSeen seen → SameWhere ds ds' env → (n : Name) (r : Res) → ctx.resolve n.text ≡ r → (a : Option Tree) (e : Expr) (mk mk' : Marks e) (fl fl' : Flowing) (after after' : Env) → LawfulBinding m ctx ds env seen n r a e mk fl after → LawfulBinding m ctx ds' env seen n r a e mk' fl' after' → BindingOne mk mk' fl fl' after after' n
+  binding_one : (seen : NamesBound) (env : Env) → SameSeen seen → SameWhere ds ds' env → (n : Name) (r : Res) → ctx.resolve n.text ≡ r → (a : Option Tree) (e : Expr) (mk mk' : Marks e) (fl fl' : FlowMarks) (after after' : Env) → LawfulBinding m ctx ds env seen n r a e mk fl after → LawfulBinding m ctx ds' env seen n r a e mk' fl' after' → BindingOne mk mk' fl fl' after after' n
   binding_one seen env s k n (res.Local x) i a e mk mk' fl fl' after after' h h' =
       let q = local_one env k x (is_first seen n) (first_seen seen n x s i) a e mk mk' h.value h.at_first h'.value h'.at_first in
       let f : fl ≡ fl' = into_one ctx.bases (mark_of e mk') (declared_type ds' x ∷ []) fl fl' (subst (λ y. FlowsInto ctx.bases (mark_of e y) (declared_type ds' x ∷ []) fl) q.marks (subst (λ t. FlowsInto ctx.bases (mark_of e mk) (t ∷ []) fl) q.same h.flow)) h'.flow in
@@ -157,7 +157,7 @@ module _ (m : Module) (ctx : Context) (ds ds' : List Tree) where
   declared_one false x t s d d' = s refl
   declared_one true x t s d d' = d ∙ sym d'
 
-  declaration_one : (seen : Seen) → SameSeen seen → (n : Name) (r : Res) → ctx.resolve n.text ≡ r → (t : Tree) → LawfulDeclaration m ctx ds seen n r t → LawfulDeclaration m ctx ds' seen n r t → SameName n
+  declaration_one : (seen : NamesBound) → SameSeen seen → (n : Name) (r : Res) → ctx.resolve n.text ≡ r → (t : Tree) → LawfulDeclaration m ctx ds seen n r t → LawfulDeclaration m ctx ds' seen n r t → SameName n
   declaration_one seen s n (res.Local x) i t h h' y j =
       let is : x ≡ y = local_inj (sym i ∙ j) in
       subst (λ z. declared_type ds z ≡ declared_type ds' z) is (declared_one (is_first seen n) x t (first_seen seen n x s i) h h')
@@ -167,7 +167,7 @@ module _ (m : Module) (ctx : Context) (ds ds' : List Tree) where
   declaration_one seen s n (res.Builtin c) i t h h' y j = absurd (grind (arith, i, j))
   declaration_one seen s n res.None i t h h' y j = absurd (grind (arith, i, j))
 
-  annotated_one : (seen : Seen) (env : Env) → SameSeen seen → SameWhere ds ds' env → (n : Name) (a : Ann) (e : Option Expr) (mk mk' : OptionMarks e) (fl fl' : Flowing) (after after' : Env) → LawfulAnnotated m ctx ds env seen n a e mk fl after → LawfulAnnotated m ctx ds' env seen n a e mk' fl' after' → BindingOne mk mk' fl fl' after after' n
+  annotated_one : (seen : NamesBound) (env : Env) → SameSeen seen → SameWhere ds ds' env → (n : Name) (a : Ann) (e : Option Expr) (mk mk' : OptionMarks e) (fl fl' : FlowMarks) (after after' : Env) → LawfulAnnotated m ctx ds env seen n a e mk fl after → LawfulAnnotated m ctx ds' env seen n a e mk' fl' after' → BindingOne mk mk' fl fl' after after' n
   annotated_one seen env s k n a None mk mk' fl fl' after after' h h' = record {
     marks = refl;
     flows = h.1 ∙ sym h'.1;
@@ -179,7 +179,7 @@ module _ (m : Module) (ctx : Context) (ds ds' : List Tree) where
       binding_one seen env s k n (ctx.resolve n.text) refl (annotation_at m ctx ds (is_first seen n) (read_ann m ctx.bases a)) e mk mk' fl fl' after after' h h'
 
   -- the target of a `for`
-  pub record TargetOne (fl fl' : Flowing) (inside inside' : Env) (n : Name) : Type 0 where
+  pub record TargetOne (fl fl' : FlowMarks) (inside inside' : Env) (n : Name) : Type 0 where
     pub flows : fl ≡ fl'
     pub insides : inside ≡ inside'
     pub kept : SameWhere ds ds' inside
@@ -189,10 +189,10 @@ module _ (m : Module) (ctx : Context) (ds ds' : List Tree) where
   from_one false x t s d d' = s refl
   from_one true x t s d d' = d ∙ sym d'
 
-  no_target_one : (head : Env) → SameWhere ds ds' head → (n : Name) → ((x : ℕ) → ctx.resolve n.text ≡ res.Local x → ⊥) → (fl fl' : Flowing) (inside inside' : Env) → (fl ≡ []) × (inside ≡ head) → (fl' ≡ []) × (inside' ≡ head) → TargetOne fl fl' inside inside' n
+  no_target_one : (head : Env) → SameWhere ds ds' head → (n : Name) → ((x : ℕ) → ctx.resolve n.text ≡ res.Local x → ⊥) → (fl fl' : FlowMarks) (inside inside' : Env) → (fl ≡ []) × (inside ≡ head) → (fl' ≡ []) × (inside' ≡ head) → TargetOne fl fl' inside inside' n
   no_target_one head k n r fl fl' inside inside' h h' = record { flows = h.0 ∙ sym h'.0; insides = h.1 ∙ sym h'.1; kept = subst (SameWhere ds ds') (sym h.1) k; same = λ x i. absurd (r x i) }
 
-  target_one : (seen : Seen) (head : Env) → SameSeen seen → SameWhere ds ds' head → (n : Name) (r : Res) → ctx.resolve n.text ≡ r → (item : Mark) (fl fl' : Flowing) (inside inside' : Env) → LawfulTarget m ctx ds seen n r head item fl inside → LawfulTarget m ctx ds' seen n r head item fl' inside' → TargetOne fl fl' inside inside' n
+  target_one : (seen : NamesBound) (head : Env) → SameSeen seen → SameWhere ds ds' head → (n : Name) (r : Res) → ctx.resolve n.text ≡ r → (item : Mark) (fl fl' : FlowMarks) (inside inside' : Env) → LawfulTarget m ctx ds seen n r head item fl inside → LawfulTarget m ctx ds' seen n r head item fl' inside' → TargetOne fl fl' inside inside' n
   target_one seen head s k n (res.Local x) i item fl fl' inside inside' h h' =
       let q = from_one (is_first seen n) x item.type (first_seen seen n x s i) h.at_first h'.at_first in
       let f : fl ≡ fl' = into_one ctx.bases (clean item.type) (declared_type ds' x ∷ []) fl fl' (subst (λ t. FlowsInto ctx.bases (clean item.type) (t ∷ []) fl) q h.flow) h'.flow in
@@ -218,10 +218,10 @@ module _ (m : Module) (ctx : Context) (ds ds' : List Tree) where
   undeclared_name true (res.Builtin c) x s i h h' = absurd (grind (arith, i))
   undeclared_name true res.None x s i h h' = absurd (grind (arith, i))
 
-  among_later : (word : List ℕ) (n : Name) (ns : List Name) (seen : Seen) → IsAmong word (n.text ∷ (texts ns ++ seen)) → IsAmong word (texts ns ++ (n.text ∷ seen))
+  among_later : (word : List ℕ) (n : Name) (ns : List Name) (seen : NamesBound) → IsAmong word (n.text ∷ (texts ns ++ seen)) → IsAmong word (texts ns ++ (n.text ∷ seen))
   among_later word n ns seen h = among_both word (n ∷ []) ns seen h
 
-  undeclared_one : (seen : Seen) (ns : List Name) → SameSeen seen → Undeclared m ctx ds seen ns → Undeclared m ctx ds' seen ns → SameSeen (texts ns ++ seen)
+  undeclared_one : (seen : NamesBound) (ns : List Name) → SameSeen seen → AreUndeclared m ctx ds seen ns → AreUndeclared m ctx ds' seen ns → SameSeen (texts ns ++ seen)
   undeclared_one seen [] s h h' = s
   undeclared_one seen (n ∷ ns) s h h' =
       let rest = undeclared_one (n.text ∷ seen) ns (seen_more seen n s (λ x i. undeclared_name (is_first seen n) (ctx.resolve n.text) x (first_seen seen n x s i) i h.0 h'.0)) h.1 h'.1 in
@@ -241,14 +241,14 @@ module _ (m : Module) (ctx : Context) (ds ds' : List Tree) where
   range_one : (env : Env) → SameWhere ds ds' env → (c : Expr) (args : Exprs) (kws : Keywords) (p : Place) (mk mk' : Marks (call p c args kws)) → LawfulRange m ctx ds env c args kws p mk → LawfulRange m ctx ds' env c args kws p mk' → mk ≡ mk'
   range_one env k c args kws p mk mk' h h' =
       let v = one ctx ds ds' env k None c h.value h'.value h.lawful h'.lawful in
-      let q = items_one ctx ds ds' env k (positional_seat (range_offers (given args kws))) args mk.arguments mk'.arguments h.arguments h'.arguments in
-      let s = keywords_one ctx ds ds' env k (named_seat (range_offers (given args kws))) [] kws mk.keywords mk'.keywords h.keywords h'.keywords in
+      let q = items_one ctx ds ds' env k (positional_seat (range_offers (arguments_given args kws))) args mk.arguments mk'.arguments h.arguments h'.arguments in
+      let s = keywords_one ctx ds ds' env k (named_seat (range_offers (arguments_given args kws))) [] kws mk.keywords mk'.keywords h.keywords h'.keywords in
       let f : mk.callee ≡ mk'.callee = h.callee ∙ ap (λ x. with_mark c x (clean Any)) v ∙ sym h'.callee in
       let r : mk.here ≡ mk'.here = h.here ∙ sym h'.here in
       let t : mk.second ≡ mk'.second = h.second ∙ sym h'.second in
       λ i. record { here = r i; callee = f i; second = t i; arguments = q i; keywords = s i }
 
-  range_or_values : (b : Test) (env : Env) → SameWhere ds ds' env → (c : Expr) (args : Exprs) (kws : Keywords) (p : Place) (mk mk' : Marks (call p c args kws)) (item item' : Mark) → RangeOrValues m ctx ds b (LawfulRange m ctx ds env c args kws p mk × (item ≡ range_item (given args kws))) (LawfulValues m ctx ds env (call p c args kws) mk item) → RangeOrValues m ctx ds' b (LawfulRange m ctx ds' env c args kws p mk' × (item' ≡ range_item (given args kws))) (LawfulValues m ctx ds' env (call p c args kws) mk' item') → IterableOne mk mk' item item'
+  range_or_values : (b : Test) (env : Env) → SameWhere ds ds' env → (c : Expr) (args : Exprs) (kws : Keywords) (p : Place) (mk mk' : Marks (call p c args kws)) (item item' : Mark) → RangeOrValues m ctx ds b (LawfulRange m ctx ds env c args kws p mk × (item ≡ range_item (arguments_given args kws))) (LawfulValues m ctx ds env (call p c args kws) mk item) → RangeOrValues m ctx ds' b (LawfulRange m ctx ds' env c args kws p mk' × (item' ≡ range_item (arguments_given args kws))) (LawfulValues m ctx ds' env (call p c args kws) mk' item') → IterableOne mk mk' item item'
   range_or_values true env k c args kws p mk mk' item item' h h' = record { marks = range_one env k c args kws p mk mk' h.0 h'.0; items = h.1 ∙ sym h'.1 }
   range_or_values false env k c args kws p mk mk' item item' h h' = values_one env k (call p c args kws) mk mk' item item' h h'
 
@@ -258,12 +258,12 @@ module _ (m : Module) (ctx : Context) (ds ds' : List Tree) where
 
   -- ---- stores, returns
 
-  record StoreOne {A B : Type 0} (tg tg' : A) (mk mk' : B) (fl fl' : Flowing) : Type 0 where
+  record StoreOne {A B : Type 0} (tg tg' : A) (mk mk' : B) (fl fl' : FlowMarks) : Type 0 where
     targets : tg ≡ tg'
     marks : mk ≡ mk'
     flows : fl ≡ fl'
 
-  store_one : (env : Env) → SameWhere ds ds' env → (t : Target) (tg tg' : TargetMarks t) (e : Expr) (mk mk' : Marks e) (fl fl' : Flowing) → LawfulStore m ctx ds env t tg e mk fl → LawfulStore m ctx ds' env t tg' e mk' fl' → StoreOne tg tg' mk mk' fl fl'
+  store_one : (env : Env) → SameWhere ds ds' env → (t : Target) (tg tg' : TargetMarks t) (e : Expr) (mk mk' : Marks e) (fl fl' : FlowMarks) → LawfulStore m ctx ds env t tg e mk fl → LawfulStore m ctx ds' env t tg' e mk' fl' → StoreOne tg tg' mk mk' fl fl'
   store_one env k (to_name n) tg tg' e mk mk' fl fl' h h' = absurd h
   store_one env k (to_attribute p o f) tg tg' e mk mk' fl fl' h h' =
       let q = one ctx ds ds' env k None o tg.object tg'.object h.object h'.object in
@@ -288,11 +288,11 @@ module _ (m : Module) (ctx : Context) (ds ds' : List Tree) where
         flows = into_one ctx.bases (mark_of e mk') (stored_types (offers tg'.object)) fl fl' (subst (λ x. FlowsInto ctx.bases (mark_of e x) (stored_types (offers tg'.object)) fl) v (subst (λ x. FlowsInto ctx.bases (mark_of e mk) (stored_types (offers x)) fl) q h.flow)) h'.flow;
       }
 
-  record ReturnOne {A : Type 0} (mk mk' : A) (fl fl' : Flowing) : Type 0 where
+  record ReturnOne {A : Type 0} (mk mk' : A) (fl fl' : FlowMarks) : Type 0 where
     marks : mk ≡ mk'
     flows : fl ≡ fl'
 
-  return_one : (returned : Tree) (env : Env) → SameWhere ds ds' env → (e : Option Expr) (mk mk' : OptionMarks e) (fl fl' : Flowing) → LawfulReturn m ctx ds returned env e mk fl → LawfulReturn m ctx ds' returned env e mk' fl' → ReturnOne mk mk' fl fl'
+  return_one : (returned : Tree) (env : Env) → SameWhere ds ds' env → (e : Option Expr) (mk mk' : OptionMarks e) (fl fl' : FlowMarks) → LawfulReturn m ctx ds returned env e mk fl → LawfulReturn m ctx ds' returned env e mk' fl' → ReturnOne mk mk' fl fl'
   return_one t env k None mk mk' fl fl' h h' = record { marks = refl; flows = into_one ctx.bases (clean NoneType) (t ∷ []) fl fl' h h' }
   return_one t env k (Some e) mk mk' fl fl' h h' =
       let q = one ctx ds ds' env k (Some t) e mk mk' h.0 h'.0 in
@@ -313,14 +313,14 @@ module _ (m : Module) (ctx : Context) (ds ds' : List Tree) where
   option_kept (Some e) h = (h, tt)
 
   -- what two lawful labellings of a statement have in common: the labels, the environment after it, and what is kept behind it
-  pub record SameStmt {A : Type 0} (mk mk' : A) (out out' : Option Env) (broken : List Env) (after : Seen) : Type 0 where
+  pub record SameStmt {A : Type 0} (mk mk' : A) (out out' : Option Env) (broken : List Env) (after : NamesBound) : Type 0 where
     pub marks : mk ≡ mk'
     pub outs : out ≡ out'
     pub kept : OutKept out
     pub broken_kept : AllKept broken
     pub seen : SameSeen after
 
-  pub record SameBranches {A : Type 0} (mk mk' : A) (last last' : Env) (broken ways : List Env) (after : Seen) : Type 0 where
+  pub record SameBranches {A : Type 0} (mk mk' : A) (last last' : Env) (broken ways : List Env) (after : NamesBound) : Type 0 where
     pub marks : mk ≡ mk'
     pub lasts : last ≡ last'
     pub kept : SameWhere ds ds' last
@@ -335,18 +335,18 @@ module _ (m : Module) (ctx : Context) (ds ds' : List Tree) where
   truth_of' c b env = narrow ctx.bases ds' ctx.resolve b c env
 
   module _ (returned : Tree) where
-    abbrev StmtRule : Seen → Env → (s : Stmt) → StmtMarks s → Option Env → Type 0
+    abbrev StmtRule : NamesBound → Env → (s : Stmt) → StmtMarks s → Option Env → Type 0
     StmtRule seen env s mk out = LawfulStmt m ctx ds returned seen env s mk out
 
-    abbrev StmtRule' : Seen → Env → (s : Stmt) → StmtMarks s → Option Env → Type 0
+    abbrev StmtRule' : NamesBound → Env → (s : Stmt) → StmtMarks s → Option Env → Type 0
     StmtRule' seen env s mk out = LawfulStmt m ctx ds' returned seen env s mk out
 
     -- what stands behind a statement
-    behind_one : (seen : Seen) (env : Env) (s : Stmt) (rest : Stmts) (b : Test) (s0 s0' : StmtMarks s) (r r' : Behind b (Env × SuiteMarks rest)) (out out' : Option Env)
+    behind_one : (seen : NamesBound) (env : Env) (s : Stmt) (rest : Stmts) (b : Test) (s0 s0' : StmtMarks s) (r r' : Behind b (Env × SuiteMarks rest)) (out out' : Option Env)
         → ((o o' : Option Env) → StmtRule seen env s s0 o → StmtRule' seen env s s0' o' → SameStmt s0 s0' o o' (breaks_in s s0) (texts (bound_by_stmt s) ++ seen))
         → ((mid : Env) → SameWhere ds ds' mid → SameSeen (texts (bound_by_stmt s) ++ seen) → (k k' : SuiteMarks rest) (o o' : Option Env) → LawfulSuite m ctx ds returned (texts (bound_by_stmt s) ++ seen) mid rest k o → LawfulSuite m ctx ds' returned (texts (bound_by_stmt s) ++ seen) mid rest k' o' → SameStmt k k' o o' (breaks_in_suite rest k) (texts (bound_by rest) ++ (texts (bound_by_stmt s) ++ seen)))
-        → BehindRule b r (λ x. StmtRule seen env s s0 (Some x.0) × LawfulSuite m ctx ds returned (texts (bound_by_stmt s) ++ seen) x.0 rest x.1 out) (StmtRule seen env s s0 None × Undeclared m ctx ds (texts (bound_by_stmt s) ++ seen) (bound_by rest) × (out ≡ None))
-        → BehindRule b r' (λ x. StmtRule' seen env s s0' (Some x.0) × LawfulSuite m ctx ds' returned (texts (bound_by_stmt s) ++ seen) x.0 rest x.1 out') (StmtRule' seen env s s0' None × Undeclared m ctx ds' (texts (bound_by_stmt s) ++ seen) (bound_by rest) × (out' ≡ None))
+        → BehindRule b r (λ x. StmtRule seen env s s0 (Some x.0) × LawfulSuite m ctx ds returned (texts (bound_by_stmt s) ++ seen) x.0 rest x.1 out) (StmtRule seen env s s0 None × AreUndeclared m ctx ds (texts (bound_by_stmt s) ++ seen) (bound_by rest) × (out ≡ None))
+        → BehindRule b r' (λ x. StmtRule' seen env s s0' (Some x.0) × LawfulSuite m ctx ds' returned (texts (bound_by_stmt s) ++ seen) x.0 rest x.1 out') (StmtRule' seen env s s0' None × AreUndeclared m ctx ds' (texts (bound_by_stmt s) ++ seen) (bound_by rest) × (out' ≡ None))
         → SameStmt {A = StmtMarks s × Behind b (Env × SuiteMarks rest)} (s0, r) (s0', r') out out' (breaks_in s s0 ++ behind_list b r (λ x. breaks_in_suite rest x.1)) (texts (bound_by rest) ++ (texts (bound_by_stmt s) ++ seen))
     behind_one seen env s rest true s0 s0' r r' out out' first next h h' =
         let f = first (Some r.0) (Some r'.0) h.0 h'.0 in
@@ -364,7 +364,7 @@ module _ (m : Module) (ctx : Context) (ds ds' : List Tree) where
         }
 
     -- an assignment to a name, or to another target
-    assignment_one : (p : Place) (seen : Seen) (env : Env) → SameSeen seen → SameWhere ds ds' env → (t : Target) (e : Expr) (mk mk' : StmtMarks (assigns p t e)) (out out' : Option Env) → StmtRule seen env (assigns p t e) mk out → StmtRule' seen env (assigns p t e) mk' out' → SameStmt mk mk' out out' [] (texts (bound_by_stmt (assigns p t e)) ++ seen)
+    assignment_one : (p : Place) (seen : NamesBound) (env : Env) → SameSeen seen → SameWhere ds ds' env → (t : Target) (e : Expr) (mk mk' : StmtMarks (assigns p t e)) (out out' : Option Env) → StmtRule seen env (assigns p t e) mk out → StmtRule' seen env (assigns p t e) mk' out' → SameStmt mk mk' out out' [] (texts (bound_by_stmt (assigns p t e)) ++ seen)
     assignment_one p seen env s k (to_name n) e mk mk' out out' h h' =
         let q = binding_one seen env s k n (ctx.resolve n.text) refl None e mk.value mk'.value mk.flows mk'.flows h.after h'.after h.assignment h'.assignment in
         record { marks = λ i. record { value = q.marks i; target = tt; flows = q.flows i }; outs = h.is ∙ ap Some q.afters ∙ sym h'.is; kept = subst OutKept (sym h.is) q.kept; broken_kept = tt; seen = seen_more seen n s q.same }
@@ -385,7 +385,7 @@ module _ (m : Module) (ctx : Context) (ds ds' : List Tree) where
     narrows c b env k = narrow_alike ctx.bases ds ds' ctx.resolve c b env k
 
     mutual
-      pub stmt_one : (seen : Seen) (env : Env) → SameSeen seen → SameWhere ds ds' env → (s : Stmt) (mk mk' : StmtMarks s) (out out' : Option Env) → StmtRule seen env s mk out → StmtRule' seen env s mk' out' → SameStmt mk mk' out out' (breaks_in s mk) (texts (bound_by_stmt s) ++ seen)
+      pub stmt_one : (seen : NamesBound) (env : Env) → SameSeen seen → SameWhere ds ds' env → (s : Stmt) (mk mk' : StmtMarks s) (out out' : Option Env) → StmtRule seen env s mk out → StmtRule' seen env s mk' out' → SameStmt mk mk' out out' (breaks_in s mk) (texts (bound_by_stmt s) ++ seen)
       stmt_one seen env s k (pass p) mk mk' out out' h h' = record { marks = refl; outs = h ∙ sym h'; kept = subst OutKept (sym h) k; broken_kept = tt; seen = s }
       stmt_one seen env s k (breaks p) mk mk' out out' h h' = record { marks = h.0 ∙ sym h'.0; outs = h.1 ∙ sym h'.1; kept = subst OutKept (sym h.1) tt; broken_kept = (subst (SameWhere ds ds') (sym h.0) k, tt); seen = s }
       stmt_one seen env s k (continues p) mk mk' out out' h h' = record { marks = refl; outs = h ∙ sym h'; kept = subst OutKept (sym h) tt; broken_kept = tt; seen = s }
@@ -448,7 +448,7 @@ module _ (m : Module) (ctx : Context) (ds ds' : List Tree) where
             seen = seen_both (bound_by_branches bs) (bound_by o) seen el.seen;
           }
 
-      pub suite_one : (seen : Seen) (env : Env) → SameSeen seen → SameWhere ds ds' env → (b : Stmts) (mk mk' : SuiteMarks b) (out out' : Option Env) → LawfulSuite m ctx ds returned seen env b mk out → LawfulSuite m ctx ds' returned seen env b mk' out' → SameStmt mk mk' out out' (breaks_in_suite b mk) (texts (bound_by b) ++ seen)
+      pub suite_one : (seen : NamesBound) (env : Env) → SameSeen seen → SameWhere ds ds' env → (b : Stmts) (mk mk' : SuiteMarks b) (out out' : Option Env) → LawfulSuite m ctx ds returned seen env b mk out → LawfulSuite m ctx ds' returned seen env b mk' out' → SameStmt mk mk' out out' (breaks_in_suite b mk) (texts (bound_by b) ++ seen)
       suite_one seen env s k no_stmts mk mk' out out' h h' = record { marks = refl; outs = h ∙ sym h'; kept = subst OutKept (sym h) k; broken_kept = tt; seen = s }
       suite_one seen env s k (more_stmts st rest) mk mk' out out' h h' =
           let q = behind_one seen env st rest (completes st) mk.0 mk'.0 mk.1 mk'.1 out out'
@@ -457,7 +457,7 @@ module _ (m : Module) (ctx : Context) (ds ds' : List Tree) where
           h h' in
           record { marks = q.marks; outs = q.outs; kept = q.kept; broken_kept = q.broken_kept; seen = seen_both (bound_by_stmt st) (bound_by rest) seen q.seen }
 
-      pub branches_one : (seen : Seen) (env : Env) → SameSeen seen → SameWhere ds ds' env → (bs : Branches) (mk mk' : BranchesMarks bs) (last last' : Env) → LawfulBranches m ctx ds returned seen env bs mk last → LawfulBranches m ctx ds' returned seen env bs mk' last' → SameBranches mk mk' last last' (breaks_in_branches bs mk) (ways_in bs mk) (texts (bound_by_branches bs) ++ seen)
+      pub branches_one : (seen : NamesBound) (env : Env) → SameSeen seen → SameWhere ds ds' env → (bs : Branches) (mk mk' : BranchesMarks bs) (last last' : Env) → LawfulBranches m ctx ds returned seen env bs mk last → LawfulBranches m ctx ds' returned seen env bs mk' last' → SameBranches mk mk' last last' (breaks_in_branches bs mk) (ways_in bs mk) (texts (bound_by_branches bs) ++ seen)
       branches_one seen env s k no_branches mk mk' last last' h h' = record { marks = refl; lasts = h ∙ sym h'; kept = subst (SameWhere ds ds') (sym h) k; broken_kept = tt; ways_kept = tt; seen = s }
       branches_one seen env s k (more_branches c b rest) mk mk' last last' h h' =
           let cond = one ctx ds ds' env k None c mk.condition mk'.condition h.condition h'.condition in

@@ -24,14 +24,14 @@ use Rattle.pc_flow.specs.Environment.{Env, declared_type}
 use Rattle.pc_flow.specs.Narrowing.{narrow}
 use Rattle.pc_expr.specs.Operations.{Mark, clean}
 use Rattle.pc_expr.specs.Context.{Context, FlowsInto}
-use Rattle.pc_expr.specs.Calls.{Given, given, is_suited, is_range, range_signature, range_offers, range_item}
-use Rattle.pc_expr.specs.Labels.{Flowing, Marks, mark_of, type_of, is_of_scopes, Finds, IsFoundAt, IsFlowAt, IsCodeAt}
+use Rattle.pc_expr.specs.Calls.{GivenArguments, arguments_given, is_suited, is_range, range_signature, range_offers, range_item}
+use Rattle.pc_expr.specs.Labels.{FlowMarks, Marks, mark_of, type_of, is_of_scopes, Finds, IsFoundAt, IsFlowAt, IsCodeAt}
 use Rattle.pc_expr.specs.Lawful.{Lawful}
 use Rattle.pc_expr.proofs.Silent.{Silent, items_silent, stored_items_silent, stored_fields_silent, called_silent, calls_silent}
 use Rattle.pc_expr.proofs.Saying.{not_of_scopes, no_flow_of_scopes, none_among, IsPart, part_left, part_right, Said, said_left, said_right, said_behind}
 use Rattle.pc_expr.proofs.SaidByLabels.{said, arguments_said, keywords_said}
 use Rattle.pc_check.specs.StatementLabels.{OptionMarks, TargetMarks, StmtMarks, SuiteMarks, BranchesMarks, Behind, BehindRule}
-use Rattle.pc_check.specs.Statements.{Seen, is_first, RangeOrValues, Undeclared, LawfulRange, LawfulValues, LawfulIterable, LawfulBinding, LawfulTarget, LawfulStore, LawfulAssignment, LawfulAnnotated, LawfulReturn, LawfulOption, LawfulStmt, LawfulSuite, LawfulBranches, OptionFinds, option_place, TargetFinds, AnnotationFinds, StmtFinds, SuiteFinds, BranchesFind}
+use Rattle.pc_check.specs.Statements.{NamesBound, is_first, RangeOrValues, AreUndeclared, LawfulRange, LawfulValues, LawfulIterable, LawfulBinding, LawfulTarget, LawfulStore, LawfulAssignment, LawfulAnnotated, LawfulReturn, LawfulOption, LawfulStmt, LawfulSuite, LawfulBranches, OptionFinds, option_place, TargetFinds, AnnotationFinds, StmtFinds, SuiteFinds, BranchesFind}
 
 both : {b : Test} → b ≡ true → b ≡ false → ⊥
 both e e' = absurd (grind (arith, e, e'))
@@ -46,7 +46,7 @@ no_code p None f other s h = h
 no_code p (Some c) f other s h = other_code p c f (other c refl) s h
 
 -- nothing is found where nothing flows
-pub no_flows : (flows : Flowing) (p : Place) (f : Finding) → flows ≡ [] → IsFlowAt p flows f → ⊥
+pub no_flows : (flows : FlowMarks) (p : Place) (f : Finding) → flows ≡ [] → IsFlowAt p flows f → ⊥
 no_flows flows p f is h = none_among h.flow (subst (λ fs. Contains fs h.flow) is h.among)
 
 -- ---- annotations
@@ -97,7 +97,7 @@ module _ (m : Module) (ctx : Context) (declared : List Tree) (f : Finding) (s : 
   of_expr : (env : Env) (want : Option Tree) (e : Expr) (marks : Marks e) (es : List Expr) → Lawful ctx declared env want e marks → Finds e marks f → SaidIn (e ∷ es)
   of_expr env want e marks es law h = record { expr = e; among = inl refl; says = said ctx declared true f s env want e marks law h }
 
-  no_flow : (mark : Mark) (ts : List Tree) (flows : Flowing) (p : Place) → FlowsInto ctx.bases mark ts flows → IsFlowAt p flows f → ⊥
+  no_flow : (mark : Mark) (ts : List Tree) (flows : FlowMarks) (p : Place) → FlowsInto ctx.bases mark ts flows → IsFlowAt p flows f → ⊥
   no_flow mark ts flows p law h = no_flow_of_scopes ctx.bases mark ts flows p f law s h
 
   -- what a local is bound to
@@ -105,7 +105,7 @@ module _ (m : Module) (ctx : Context) (declared : List Tree) (f : Finding) (s : 
     want : Option Tree
     law : Lawful ctx declared env want e marks
 
-  bound_value : (env : Env) (seen : Seen) (n : Name) (r : Res) (a : Option Tree) (e : Expr) (marks : Marks e) (flows : Flowing) (after : Env) → LawfulBinding m ctx declared env seen n r a e marks flows after → IsLabelled env e marks
+  bound_value : (env : Env) (seen : NamesBound) (n : Name) (r : Res) (a : Option Tree) (e : Expr) (marks : Marks e) (flows : FlowMarks) (after : Env) → LawfulBinding m ctx declared env seen n r a e marks flows after → IsLabelled env e marks
   bound_value env seen n (res.Local x) a e marks flows after law = record { want = _; law = law.value }
   bound_value env seen n (res.Const x) a e marks flows after law = record { want = _; law = law.value }
   bound_value env seen n (res.Func x) a e marks flows after law = record { want = _; law = law.value }
@@ -113,7 +113,7 @@ module _ (m : Module) (ctx : Context) (declared : List Tree) (f : Finding) (s : 
   bound_value env seen n (res.Builtin x) a e marks flows after law = record { want = _; law = law.value }
   bound_value env seen n res.None a e marks flows after law = record { want = _; law = law.value }
 
-  bound_flow : (env : Env) (seen : Seen) (n : Name) (r : Res) (a : Option Tree) (e : Expr) (marks : Marks e) (flows : Flowing) (after : Env) (p : Place) → LawfulBinding m ctx declared env seen n r a e marks flows after → IsFlowAt p flows f → ⊥
+  bound_flow : (env : Env) (seen : NamesBound) (n : Name) (r : Res) (a : Option Tree) (e : Expr) (marks : Marks e) (flows : FlowMarks) (after : Env) (p : Place) → LawfulBinding m ctx declared env seen n r a e marks flows after → IsFlowAt p flows f → ⊥
   bound_flow env seen n (res.Local x) a e marks flows after p law h = no_flow (mark_of e marks) (declared_type declared x ∷ []) flows p law.flow h
   bound_flow env seen n (res.Const x) a e marks flows after p law h = no_flows flows p f law.flow h
   bound_flow env seen n (res.Func x) a e marks flows after p law h = no_flows flows p f law.flow h
@@ -122,7 +122,7 @@ module _ (m : Module) (ctx : Context) (declared : List Tree) (f : Finding) (s : 
   bound_flow env seen n res.None a e marks flows after p law h = no_flows flows p f law.flow h
 
   -- targets of assignments
-  target_said : (env : Env) (t : Target) (target : TargetMarks t) (e : Expr) (marks : Marks e) (flows : Flowing) → LawfulStore m ctx declared env t target e marks flows → TargetFinds m ctx t target f → SaidIn (target_exprs t)
+  target_said : (env : Env) (t : Target) (target : TargetMarks t) (e : Expr) (marks : Marks e) (flows : FlowMarks) → LawfulStore m ctx declared env t target e marks flows → TargetFinds m ctx t target f → SaidIn (target_exprs t)
   target_said env (to_name n) target e marks flows law h = absurd h
   target_said env (to_attribute p o n) target e marks flows law h = elim h [
     | inl a ↦ absurd (not_of_scopes p target.codes f (subst Silent (sym law.codes) (stored_fields_silent ctx n.text (members (type_of o target.object)))) s a)
@@ -136,17 +136,17 @@ module _ (m : Module) (ctx : Context) (declared : List Tree) (f : Finding) (s : 
     ]
   ]
 
-  store_value : (env : Env) (t : Target) (target : TargetMarks t) (e : Expr) (marks : Marks e) (flows : Flowing) → LawfulStore m ctx declared env t target e marks flows → IsLabelled env e marks
+  store_value : (env : Env) (t : Target) (target : TargetMarks t) (e : Expr) (marks : Marks e) (flows : FlowMarks) → LawfulStore m ctx declared env t target e marks flows → IsLabelled env e marks
   store_value env (to_name n) target e marks flows law = absurd law
   store_value env (to_attribute p o n) target e marks flows law = record { want = _; law = law.value }
   store_value env (to_index p o i) target e marks flows law = record { want = _; law = law.value }
 
-  store_flow : (env : Env) (t : Target) (target : TargetMarks t) (e : Expr) (marks : Marks e) (flows : Flowing) (p : Place) → LawfulStore m ctx declared env t target e marks flows → IsFlowAt p flows f → ⊥
+  store_flow : (env : Env) (t : Target) (target : TargetMarks t) (e : Expr) (marks : Marks e) (flows : FlowMarks) (p : Place) → LawfulStore m ctx declared env t target e marks flows → IsFlowAt p flows f → ⊥
   store_flow env (to_name n) target e marks flows p law h = law
   store_flow env (to_attribute q o n) target e marks flows p law h = no_flow (mark_of e marks) _ flows p law.flow h
   store_flow env (to_index q o i) target e marks flows p law h = no_flow (mark_of e marks) _ flows p law.flow h
 
-  assigned_said : (env : Env) (seen : Seen) (p : Place) (t : Target) (target : TargetMarks t) (e : Expr) (marks : Marks e) (flows : Flowing) (after : Env) → LawfulAssignment m ctx declared env seen t target e marks flows after → IsFlowAt p flows f ⊎ (Finds e marks f ⊎ TargetFinds m ctx t target f) → SaidIn (e ∷ target_exprs t)
+  assigned_said : (env : Env) (seen : NamesBound) (p : Place) (t : Target) (target : TargetMarks t) (e : Expr) (marks : Marks e) (flows : FlowMarks) (after : Env) → LawfulAssignment m ctx declared env seen t target e marks flows after → IsFlowAt p flows f ⊎ (Finds e marks f ⊎ TargetFinds m ctx t target f) → SaidIn (e ∷ target_exprs t)
   assigned_said env seen p (to_name n) target e marks flows after law h = elim h [
     | inl a ↦ absurd (bound_flow env seen n (ctx.resolve n.text) None e marks flows after p law a)
     | inr b ↦ elim b [ inl c ↦ let k = bound_value env seen n (ctx.resolve n.text) None e marks flows after law in of_expr env k.want e marks [] k.law c | inr d ↦ absurd d ]
@@ -176,7 +176,7 @@ module _ (m : Module) (ctx : Context) (declared : List Tree) (f : Finding) (s : 
   annotation_said (res.Builtin x) first n a h = no_annotation m ctx.bases f s a h
   annotation_said res.None first n a h = no_annotation m ctx.bases f s a h
 
-  annotated_said : (env : Env) (seen : Seen) (p : Place) (n : Name) (a : Ann) (e : Option Expr) (marks : OptionMarks e) (flows : Flowing) (after : Env) → LawfulAnnotated m ctx declared env seen n a e marks flows after → IsFlowAt p flows f ⊎ OptionFinds m ctx e marks f → SaidIn (option_exprs e)
+  annotated_said : (env : Env) (seen : NamesBound) (p : Place) (n : Name) (a : Ann) (e : Option Expr) (marks : OptionMarks e) (flows : FlowMarks) (after : Env) → LawfulAnnotated m ctx declared env seen n a e marks flows after → IsFlowAt p flows f ⊎ OptionFinds m ctx e marks f → SaidIn (option_exprs e)
   annotated_said env seen p n a None marks flows after law h = elim h [ inl x ↦ absurd (no_flows flows p f law.1 x) | inr y ↦ absurd y ]
   annotated_said env seen p n a (Some e) marks flows after law h = elim h [
     | inl x ↦ absurd (bound_flow env seen n (ctx.resolve n.text) _ e marks flows after p law x)
@@ -189,7 +189,7 @@ module _ (m : Module) (ctx : Context) (declared : List Tree) (f : Finding) (s : 
       let looked = first_or_all (parts_in_first true args) (parts_in_all true args) (is_instance_test (name n) args kws) in
       let behind : Said ctx (looked ++ parts_in_keywords true kws) f → SaidIn (call p (name n) args kws ∷ []) = λ x. record { expr = call p (name n) args kws; among = inl refl; says = said_behind ctx (call p (name n) args kws) _ f (said_behind ctx (name n) _ f x) } in
       elim h [
-        | inl a ↦ absurd (not_of_scopes p marks.here.codes f (subst (λ x. Silent x.codes) (sym law.here) (calls_silent (range_offers (given args kws)) (called_silent (given args kws) range_signature))) s a)
+        | inl a ↦ absurd (not_of_scopes p marks.here.codes f (subst (λ x. Silent x.codes) (sym law.here) (calls_silent (range_offers (arguments_given args kws)) (called_silent (arguments_given args kws) range_signature))) s a)
         | inr b ↦ elim b [
           | inl x ↦ absurd (not_of_scopes n.place [] f tt s (subst (λ k. IsFoundAt n.place k.codes f) law.callee x))
           | inr d ↦ elim d [
@@ -202,7 +202,7 @@ module _ (m : Module) (ctx : Context) (declared : List Tree) (f : Finding) (s : 
         ]
       ]
 
-  range_items : (g : Given) → Silent (range_item g).codes
+  range_items : (g : GivenArguments) → Silent (range_item g).codes
   range_items g = go (is_suited g range_signature)
     where
       go : (b : Test) → Silent (if b then clean Int else record { type = Any; codes = A5 ∷ [] }).codes
@@ -215,7 +215,7 @@ module _ (m : Module) (ctx : Context) (declared : List Tree) (f : Finding) (s : 
   iterable_said : (env : Env) (e : Expr) (marks : Marks e) (item : Mark) → LawfulIterable m ctx declared env e marks item → Finds e marks f → SaidIn (e ∷ [])
   iterable_said env (call p (name n) args kws) marks item law h = go (is_range (ctx.resolve n.text)) law
     where
-      go : (b : Test) → RangeOrValues m ctx declared b (LawfulRange m ctx declared env (name n) args kws p marks × (item ≡ range_item (given args kws))) (LawfulValues m ctx declared env (call p (name n) args kws) marks item) → SaidIn (call p (name n) args kws ∷ [])
+      go : (b : Test) → RangeOrValues m ctx declared b (LawfulRange m ctx declared env (name n) args kws p marks × (item ≡ range_item (arguments_given args kws))) (LawfulValues m ctx declared env (call p (name n) args kws) marks item) → SaidIn (call p (name n) args kws ∷ [])
       go true law = range_said env p n args kws marks law.0 h
       go false law = values_said env (call p (name n) args kws) marks item law h
   iterable_said env e marks item law h = values_said env e marks item law h
@@ -226,12 +226,12 @@ module _ (m : Module) (ctx : Context) (declared : List Tree) (f : Finding) (s : 
   iterable_items : (env : Env) (e : Expr) (marks : Marks e) (item : Mark) → LawfulIterable m ctx declared env e marks item → Silent item.codes
   iterable_items env (call p (name n) args kws) marks item law = go (is_range (ctx.resolve n.text)) law
     where
-      go : (b : Test) → RangeOrValues m ctx declared b (LawfulRange m ctx declared env (name n) args kws p marks × (item ≡ range_item (given args kws))) (LawfulValues m ctx declared env (call p (name n) args kws) marks item) → Silent item.codes
-      go true law = subst (λ x. Silent x.codes) (sym law.1) (range_items (given args kws))
+      go : (b : Test) → RangeOrValues m ctx declared b (LawfulRange m ctx declared env (name n) args kws p marks × (item ≡ range_item (arguments_given args kws))) (LawfulValues m ctx declared env (call p (name n) args kws) marks item) → Silent item.codes
+      go true law = subst (λ x. Silent x.codes) (sym law.1) (range_items (arguments_given args kws))
       go false law = values_items env (call p (name n) args kws) marks item law
   iterable_items env e marks item law = values_items env e marks item law
 
-  for_flow : (seen : Seen) (n : Name) (r : Res) (head : Env) (item : Mark) (flows : Flowing) (inside : Env) (p : Place) → LawfulTarget m ctx declared seen n r head item flows inside → IsFlowAt p flows f → ⊥
+  for_flow : (seen : NamesBound) (n : Name) (r : Res) (head : Env) (item : Mark) (flows : FlowMarks) (inside : Env) (p : Place) → LawfulTarget m ctx declared seen n r head item flows inside → IsFlowAt p flows f → ⊥
   for_flow seen n (res.Local x) head item flows inside p law h = no_flow (clean item.type) (declared_type declared x ∷ []) flows p law.flow h
   for_flow seen n (res.Const x) head item flows inside p law h = no_flows flows p f law.0 h
   for_flow seen n (res.Func x) head item flows inside p law h = no_flows flows p f law.0 h
@@ -240,7 +240,7 @@ module _ (m : Module) (ctx : Context) (declared : List Tree) (f : Finding) (s : 
   for_flow seen n res.None head item flows inside p law h = no_flows flows p f law.0 h
 
   module _ (returned : Tree) where
-    returned_said : (env : Env) (p : Place) (e : Option Expr) (marks : OptionMarks e) (flows : Flowing) → LawfulReturn m ctx declared returned env e marks flows → IsFlowAt p flows f ⊎ OptionFinds m ctx e marks f → SaidIn (option_exprs e)
+    returned_said : (env : Env) (p : Place) (e : Option Expr) (marks : OptionMarks e) (flows : FlowMarks) → LawfulReturn m ctx declared returned env e marks flows → IsFlowAt p flows f ⊎ OptionFinds m ctx e marks f → SaidIn (option_exprs e)
     returned_said env p None marks flows law h = elim h [ inl a ↦ absurd (no_flow (clean NoneType) (returned ∷ []) flows p law a) | inr b ↦ absurd b ]
     returned_said env p (Some e) marks flows law h = elim h [ inl a ↦ absurd (no_flow (mark_of e marks) (returned ∷ []) flows p law.1 a) | inr b ↦ of_expr env (Some returned) e marks [] law.0 b ]
 
@@ -249,8 +249,8 @@ module _ (m : Module) (ctx : Context) (declared : List Tree) (f : Finding) (s : 
     message_said env (Some e) marks law h = of_expr env None e marks [] law h
 
     -- a statement, and those behind it where it can complete
-    behind_said : (seen : Seen) (env : Env) (st : Stmt) (rest : Stmts) (b : Test) (s0 : StmtMarks st) (r : Behind b (Env × SuiteMarks rest)) (out : Option Env)
-        → BehindRule b r (λ x. LawfulStmt m ctx declared returned seen env st s0 (Some x.0) × LawfulSuite m ctx declared returned (texts (bound_by_stmt st) ++ seen) x.0 rest x.1 out) (LawfulStmt m ctx declared returned seen env st s0 None × Undeclared m ctx declared (texts (bound_by_stmt st) ++ seen) (bound_by rest) × (out ≡ None))
+    behind_said : (seen : NamesBound) (env : Env) (st : Stmt) (rest : Stmts) (b : Test) (s0 : StmtMarks st) (r : Behind b (Env × SuiteMarks rest)) (out : Option Env)
+        → BehindRule b r (λ x. LawfulStmt m ctx declared returned seen env st s0 (Some x.0) × LawfulSuite m ctx declared returned (texts (bound_by_stmt st) ++ seen) x.0 rest x.1 out) (LawfulStmt m ctx declared returned seen env st s0 None × AreUndeclared m ctx declared (texts (bound_by_stmt st) ++ seen) (bound_by rest) × (out ≡ None))
         → StmtFinds m ctx seen st s0 f ⊎ BehindRule b r (λ x. SuiteFinds m ctx (texts (bound_by_stmt st) ++ seen) rest x.1 f) ⊥
         → ((o : Option Env) → LawfulStmt m ctx declared returned seen env st s0 o → StmtFinds m ctx seen st s0 f → SaidIn (exprs_in true st))
         → ((x : Env) (k : SuiteMarks rest) → LawfulSuite m ctx declared returned (texts (bound_by_stmt st) ++ seen) x rest k out → SuiteFinds m ctx (texts (bound_by_stmt st) ++ seen) rest k f → SaidIn (exprs_in_all true rest))
@@ -262,7 +262,7 @@ module _ (m : Module) (ctx : Context) (declared : List Tree) (f : Finding) (s : 
     behind_said seen env st rest false s0 r out law h first next = elim h [ inl a ↦ in_left (exprs_in true st) [] (first None law.0 a) | inr c ↦ absurd c ]
 
     mutual
-      pub stmt_said : (seen : Seen) (env : Env) (st : Stmt) (marks : StmtMarks st) (out : Option Env) → LawfulStmt m ctx declared returned seen env st marks out → StmtFinds m ctx seen st marks f → SaidIn (exprs_in true st)
+      pub stmt_said : (seen : NamesBound) (env : Env) (st : Stmt) (marks : StmtMarks st) (out : Option Env) → LawfulStmt m ctx declared returned seen env st marks out → StmtFinds m ctx seen st marks f → SaidIn (exprs_in true st)
       stmt_said seen env (pass p) marks out law h = absurd h
       stmt_said seen env (breaks p) marks out law h = absurd h
       stmt_said seen env (continues p) marks out law h = absurd h
@@ -296,11 +296,11 @@ module _ (m : Module) (ctx : Context) (declared : List Tree) (f : Finding) (s : 
         | inr k ↦ in_right (exprs_in_branches true bs) (exprs_in_all true o) (suite_said (texts (bound_by_branches bs) ++ seen) marks.last o marks.otherwise marks.out law.otherwise k)
       ]
 
-      pub suite_said : (seen : Seen) (env : Env) (b : Stmts) (marks : SuiteMarks b) (out : Option Env) → LawfulSuite m ctx declared returned seen env b marks out → SuiteFinds m ctx seen b marks f → SaidIn (exprs_in_all true b)
+      pub suite_said : (seen : NamesBound) (env : Env) (b : Stmts) (marks : SuiteMarks b) (out : Option Env) → LawfulSuite m ctx declared returned seen env b marks out → SuiteFinds m ctx seen b marks f → SaidIn (exprs_in_all true b)
       suite_said seen env no_stmts marks out law h = absurd h
       suite_said seen env (more_stmts st rest) marks out law h = behind_said seen env st rest (completes st) marks.0 marks.1 out law h (λ o l k. stmt_said seen env st marks.0 o l k) (λ x k l g. suite_said (texts (bound_by_stmt st) ++ seen) x rest k out l g)
 
-      branches_said : (seen : Seen) (env : Env) (bs : Branches) (marks : BranchesMarks bs) (last : Env) → LawfulBranches m ctx declared returned seen env bs marks last → BranchesFind m ctx seen bs marks f → SaidIn (exprs_in_branches true bs)
+      branches_said : (seen : NamesBound) (env : Env) (bs : Branches) (marks : BranchesMarks bs) (last : Env) → LawfulBranches m ctx declared returned seen env bs marks last → BranchesFind m ctx seen bs marks f → SaidIn (exprs_in_branches true bs)
       branches_said seen env no_branches marks last law h = absurd h
       branches_said seen env (more_branches c b rest) marks last law h = elim h [
         | inl x ↦ of_expr env None c marks.condition (exprs_in_all true b ++ exprs_in_branches true rest) law.condition x

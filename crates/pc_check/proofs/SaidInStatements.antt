@@ -15,13 +15,13 @@ use Rattle.pc_flow.specs.Environment.{Env}
 use Rattle.pc_flow.specs.Narrowing.{narrow}
 use Rattle.pc_expr.specs.Operations.{Mark}
 use Rattle.pc_expr.specs.Context.{Context}
-use Rattle.pc_expr.specs.Calls.{given, is_range, range_item}
-use Rattle.pc_expr.specs.Labels.{Flowing, Marks, Finds}
+use Rattle.pc_expr.specs.Calls.{arguments_given, is_range, range_item}
+use Rattle.pc_expr.specs.Labels.{FlowMarks, Marks, Finds}
 use Rattle.pc_expr.specs.Lawful.{Lawful}
 use Rattle.pc_expr.proofs.Saying.{IsPart, part_either, IsEarlyHere, NameSays, PartSays}
 use Rattle.pc_expr.proofs.SaidInLabels.{arguments_found, first_found, items_found, keywords_found, said_found}
 use Rattle.pc_check.specs.StatementLabels.{OptionMarks, TargetMarks, StmtMarks, SuiteMarks, BranchesMarks, Behind, BehindRule}
-use Rattle.pc_check.specs.Statements.{Seen, RangeOrValues, LawfulRange, LawfulValues, LawfulIterable, LawfulBinding, LawfulStore, LawfulAssignment, LawfulAnnotated, LawfulReturn, LawfulOption, Undeclared, LawfulStmt, LawfulSuite, LawfulBranches, OptionFinds, TargetFinds, StmtFinds, SuiteFinds, BranchesFind}
+use Rattle.pc_check.specs.Statements.{NamesBound, RangeOrValues, LawfulRange, LawfulValues, LawfulIterable, LawfulBinding, LawfulStore, LawfulAssignment, LawfulAnnotated, LawfulReturn, LawfulOption, AreUndeclared, LawfulStmt, LawfulSuite, LawfulBranches, OptionFinds, TargetFinds, StmtFinds, SuiteFinds, BranchesFind}
 
 module _ (m : Module) (ctx : Context) (declared : List Tree) (part : Expr) (f : Finding) (says : PartSays ctx part f) (expr : Expr) (judged : IsPart part (parts_in true expr)) where
   is_found : (env : Env) (want : Option Tree) (e : Expr) (marks : Marks e) → Lawful ctx declared env want e marks → e ≡ expr → Finds e marks f
@@ -29,7 +29,7 @@ module _ (m : Module) (ctx : Context) (declared : List Tree) (part : Expr) (f : 
 
   -- ---- values and targets
 
-  bound_found : (env : Env) (seen : Seen) (n : Name) (r : Res) (a : Option Tree) (e : Expr) (marks : Marks e) (flows : Flowing) (after : Env) → LawfulBinding m ctx declared env seen n r a e marks flows after → e ≡ expr → Finds e marks f
+  bound_found : (env : Env) (seen : NamesBound) (n : Name) (r : Res) (a : Option Tree) (e : Expr) (marks : Marks e) (flows : FlowMarks) (after : Env) → LawfulBinding m ctx declared env seen n r a e marks flows after → e ≡ expr → Finds e marks f
   bound_found env seen n (res.Local x) a e marks flows after law is = is_found env _ e marks law.value is
   bound_found env seen n (res.Const x) a e marks flows after law is = is_found env _ e marks law.value is
   bound_found env seen n (res.Func x) a e marks flows after law is = is_found env _ e marks law.value is
@@ -37,7 +37,7 @@ module _ (m : Module) (ctx : Context) (declared : List Tree) (part : Expr) (f : 
   bound_found env seen n (res.Builtin x) a e marks flows after law is = is_found env _ e marks law.value is
   bound_found env seen n res.None a e marks flows after law is = is_found env _ e marks law.value is
 
-  store_found : (env : Env) (t : Target) (target : TargetMarks t) (e : Expr) (marks : Marks e) (flows : Flowing) → LawfulStore m ctx declared env t target e marks flows → IsPart expr (e ∷ target_exprs t) → Finds e marks f ⊎ TargetFinds m ctx t target f
+  store_found : (env : Env) (t : Target) (target : TargetMarks t) (e : Expr) (marks : Marks e) (flows : FlowMarks) → LawfulStore m ctx declared env t target e marks flows → IsPart expr (e ∷ target_exprs t) → Finds e marks f ⊎ TargetFinds m ctx t target f
   store_found env (to_name n) target e marks flows law h = absurd law
   store_found env (to_attribute p o n) target e marks flows law h = elim h [
     | inl is ↦ inl (is_found env _ e marks law.value is)
@@ -51,12 +51,12 @@ module _ (m : Module) (ctx : Context) (declared : List Tree) (part : Expr) (f : 
     ]
   ]
 
-  assigned_found : (env : Env) (seen : Seen) (t : Target) (target : TargetMarks t) (e : Expr) (marks : Marks e) (flows : Flowing) (after : Env) → LawfulAssignment m ctx declared env seen t target e marks flows after → IsPart expr (e ∷ target_exprs t) → Finds e marks f ⊎ TargetFinds m ctx t target f
+  assigned_found : (env : Env) (seen : NamesBound) (t : Target) (target : TargetMarks t) (e : Expr) (marks : Marks e) (flows : FlowMarks) (after : Env) → LawfulAssignment m ctx declared env seen t target e marks flows after → IsPart expr (e ∷ target_exprs t) → Finds e marks f ⊎ TargetFinds m ctx t target f
   assigned_found env seen (to_name n) target e marks flows after law h = elim h [ inl is ↦ inl (bound_found env seen n (ctx.resolve n.text) None e marks flows after law is) | inr b ↦ absurd b ]
   assigned_found env seen (to_attribute p o n) target e marks flows after law h = store_found env (to_attribute p o n) target e marks flows law.0 h
   assigned_found env seen (to_index p o i) target e marks flows after law h = store_found env (to_index p o i) target e marks flows law.0 h
 
-  annotated_found : (env : Env) (seen : Seen) (n : Name) (a : Ann) (e : Option Expr) (marks : OptionMarks e) (flows : Flowing) (after : Env) → LawfulAnnotated m ctx declared env seen n a e marks flows after → IsPart expr (option_exprs e) → OptionFinds m ctx e marks f
+  annotated_found : (env : Env) (seen : NamesBound) (n : Name) (a : Ann) (e : Option Expr) (marks : OptionMarks e) (flows : FlowMarks) (after : Env) → LawfulAnnotated m ctx declared env seen n a e marks flows after → IsPart expr (option_exprs e) → OptionFinds m ctx e marks f
   annotated_found env seen n a None marks flows after law h = absurd h
   annotated_found env seen n a (Some e) marks flows after law h = elim h [ inl is ↦ bound_found env seen n (ctx.resolve n.text) _ e marks flows after law is | inr b ↦ absurd b ]
 
@@ -92,7 +92,7 @@ module _ (m : Module) (ctx : Context) (declared : List Tree) (part : Expr) (f : 
   iterable_found : (env : Env) (e : Expr) (marks : Marks e) (item : Mark) → LawfulIterable m ctx declared env e marks item → e ≡ expr → Finds e marks f
   iterable_found env (call p (name n) args kws) marks item law is = go (is_range (ctx.resolve n.text)) refl law
     where
-      go : (b : Test) → is_range (ctx.resolve n.text) ≡ b → RangeOrValues m ctx declared b (LawfulRange m ctx declared env (name n) args kws p marks × (item ≡ range_item (given args kws))) (LawfulValues m ctx declared env (call p (name n) args kws) marks item) → Finds (call p (name n) args kws) marks f
+      go : (b : Test) → is_range (ctx.resolve n.text) ≡ b → RangeOrValues m ctx declared b (LawfulRange m ctx declared env (name n) args kws p marks × (item ≡ range_item (arguments_given args kws))) (LawfulValues m ctx declared env (call p (name n) args kws) marks item) → Finds (call p (name n) args kws) marks f
       go true range law = range_found env p n args kws marks range law.0 is
       go false range law = is_found env None (call p (name n) args kws) marks law.0 is
   iterable_found env e marks item law is = is_found env None e marks law.0 is
@@ -100,7 +100,7 @@ module _ (m : Module) (ctx : Context) (declared : List Tree) (part : Expr) (f : 
   -- ---- statements
 
   module _ (returned : Tree) where
-    returned_found : (env : Env) (e : Option Expr) (marks : OptionMarks e) (flows : Flowing) → LawfulReturn m ctx declared returned env e marks flows → IsPart expr (option_exprs e) → OptionFinds m ctx e marks f
+    returned_found : (env : Env) (e : Option Expr) (marks : OptionMarks e) (flows : FlowMarks) → LawfulReturn m ctx declared returned env e marks flows → IsPart expr (option_exprs e) → OptionFinds m ctx e marks f
     returned_found env None marks flows law h = absurd h
     returned_found env (Some e) marks flows law h = elim h [ inl is ↦ is_found env (Some returned) e marks law.0 is | inr b ↦ absurd b ]
 
@@ -108,8 +108,8 @@ module _ (m : Module) (ctx : Context) (declared : List Tree) (part : Expr) (f : 
     message_found env None marks law h = absurd h
     message_found env (Some e) marks law h = elim h [ inl is ↦ is_found env None e marks law is | inr b ↦ absurd b ]
 
-    behind_found : (seen : Seen) (env : Env) (st : Stmt) (rest : Stmts) (b : Test) (s0 : StmtMarks st) (r : Behind b (Env × SuiteMarks rest)) (out : Option Env)
-        → BehindRule b r (λ x. LawfulStmt m ctx declared returned seen env st s0 (Some x.0) × LawfulSuite m ctx declared returned (texts (bound_by_stmt st) ++ seen) x.0 rest x.1 out) (LawfulStmt m ctx declared returned seen env st s0 None × Undeclared m ctx declared (texts (bound_by_stmt st) ++ seen) (bound_by rest) × (out ≡ None))
+    behind_found : (seen : NamesBound) (env : Env) (st : Stmt) (rest : Stmts) (b : Test) (s0 : StmtMarks st) (r : Behind b (Env × SuiteMarks rest)) (out : Option Env)
+        → BehindRule b r (λ x. LawfulStmt m ctx declared returned seen env st s0 (Some x.0) × LawfulSuite m ctx declared returned (texts (bound_by_stmt st) ++ seen) x.0 rest x.1 out) (LawfulStmt m ctx declared returned seen env st s0 None × AreUndeclared m ctx declared (texts (bound_by_stmt st) ++ seen) (bound_by rest) × (out ≡ None))
         → IsPart expr (exprs_in true st ++ (if b then exprs_in_all true rest else []))
         → ((o : Option Env) → LawfulStmt m ctx declared returned seen env st s0 o → IsPart expr (exprs_in true st) → StmtFinds m ctx seen st s0 f)
         → ((x : Env) (k : SuiteMarks rest) → LawfulSuite m ctx declared returned (texts (bound_by_stmt st) ++ seen) x rest k out → IsPart expr (exprs_in_all true rest) → SuiteFinds m ctx (texts (bound_by_stmt st) ++ seen) rest k f)
@@ -118,7 +118,7 @@ module _ (m : Module) (ctx : Context) (declared : List Tree) (part : Expr) (f : 
     behind_found seen env st rest false s0 r out law h first next = elim (part_either expr (exprs_in true st) [] h) [ inl a ↦ inl (first None law.0 a) | inr c ↦ absurd c ]
 
     mutual
-      pub stmt_found : (seen : Seen) (env : Env) (st : Stmt) (marks : StmtMarks st) (out : Option Env) → LawfulStmt m ctx declared returned seen env st marks out → IsPart expr (exprs_in true st) → StmtFinds m ctx seen st marks f
+      pub stmt_found : (seen : NamesBound) (env : Env) (st : Stmt) (marks : StmtMarks st) (out : Option Env) → LawfulStmt m ctx declared returned seen env st marks out → IsPart expr (exprs_in true st) → StmtFinds m ctx seen st marks f
       stmt_found seen env (pass p) marks out law h = h
       stmt_found seen env (breaks p) marks out law h = h
       stmt_found seen env (continues p) marks out law h = h
@@ -143,11 +143,11 @@ module _ (m : Module) (ctx : Context) (declared : List Tree) (part : Expr) (f : 
         | inr k ↦ inr (suite_found (texts (bound_by_branches bs) ++ seen) marks.last o marks.otherwise marks.out law.otherwise k)
       ]
 
-      pub suite_found : (seen : Seen) (env : Env) (b : Stmts) (marks : SuiteMarks b) (out : Option Env) → LawfulSuite m ctx declared returned seen env b marks out → IsPart expr (exprs_in_all true b) → SuiteFinds m ctx seen b marks f
+      pub suite_found : (seen : NamesBound) (env : Env) (b : Stmts) (marks : SuiteMarks b) (out : Option Env) → LawfulSuite m ctx declared returned seen env b marks out → IsPart expr (exprs_in_all true b) → SuiteFinds m ctx seen b marks f
       suite_found seen env no_stmts marks out law h = h
       suite_found seen env (more_stmts st rest) marks out law h = behind_found seen env st rest (completes st) marks.0 marks.1 out law h (λ o l k. stmt_found seen env st marks.0 o l k) (λ x k l g. suite_found (texts (bound_by_stmt st) ++ seen) x rest k out l g)
 
-      branches_found : (seen : Seen) (env : Env) (bs : Branches) (marks : BranchesMarks bs) (last : Env) → LawfulBranches m ctx declared returned seen env bs marks last → IsPart expr (exprs_in_branches true bs) → BranchesFind m ctx seen bs marks f
+      branches_found : (seen : NamesBound) (env : Env) (bs : Branches) (marks : BranchesMarks bs) (last : Env) → LawfulBranches m ctx declared returned seen env bs marks last → IsPart expr (exprs_in_branches true bs) → BranchesFind m ctx seen bs marks f
       branches_found seen env no_branches marks last law h = h
       branches_found seen env (more_branches c b rest) marks last law h = elim h [
         | inl is ↦ inl (is_found env None c marks.condition law.condition is)

@@ -3,10 +3,10 @@ use Rattle.std.proofs.Common.{ℕ, List, [], ◌∷◌, map, arith}
 use Rattle.std.specs.Prelude.{flat_map, Option, Some, None}
 use Rattle.pc_types.specs.Tree.{Tree, Class, ListOf, DictOf, TupleOf}
 use Rattle.pc_types.specs.Below.{Bases, AreSmaller}
-use Rattle.pc_types.specs.Shape.{members, listed}
+use Rattle.pc_types.specs.Shape.{members, list_of_trees}
 use Rattle.pc_types.specs.WellFormed.{IsWellFormed}
 use Rattle.pc_class.specs.Facts as facts
-use Rattle.pc_class.specs.Facts.{Parameter, Method, field_of, method_of, class_at}
+use Rattle.pc_class.specs.Facts.{TypedParameter, Method, field_by_name, method_by_name, class_facts_at}
 use Rattle.pc_class.specs.WellFormed.{ClassesWellFormed}
 use Rattle.pc_class.proofs.WellFormed.{class_at_well_formed}
 use Rattle.pc_flow.specs.WellFormed.{AreWellFormed, IsWellFormedIfAny}
@@ -50,24 +50,24 @@ module _ (bases : Bases) where
   store_index_well_formed (DictOf s t) k = record { takes = (key_well_formed bases s t k, tt); stores = (value_well_formed bases s t k, tt) }
   store_index_well_formed t k = record { takes = tt; stores = tt }
 
-  found_well_formed : (p : Option Parameter) (x : Option Method) → ParameterWellFormed bases p → StoreWellFormed bases (store_found p x)
+  found_well_formed : (p : Option TypedParameter) (x : Option Method) → ParameterWellFormed bases p → StoreWellFormed bases (store_found p x)
   found_well_formed (Some p) x k = record { takes = tt; stores = (k, tt) }
   found_well_formed None (Some x) k = record { takes = tt; stores = tt }
   found_well_formed None None k = record { takes = tt; stores = tt }
 
-  store_attribute_well_formed : (classes : List facts.Class) → ClassesWellFormed bases classes → (field : List ℕ) (t : Tree) → IsWellFormed bases t → StoreWellFormed bases (store_attribute_member classes field t)
-  store_attribute_well_formed classes h field (Class c) k = found_well_formed (field_of (class_at classes c).fields field) (method_of (class_at classes c).methods field) (field_well_formed bases (class_at classes c).fields field (class_at_well_formed bases classes c h).fields)
+  store_attribute_well_formed : (classes : List facts.ClassFacts) → ClassesWellFormed bases classes → (field : List ℕ) (t : Tree) → IsWellFormed bases t → StoreWellFormed bases (store_attribute_member classes field t)
+  store_attribute_well_formed classes h field (Class c) k = found_well_formed (field_by_name (class_facts_at classes c).fields field) (method_by_name (class_facts_at classes c).methods field) (field_well_formed bases (class_facts_at classes c).fields field (class_at_well_formed bases classes c h).fields)
   store_attribute_well_formed classes h field t k = record { takes = tt; stores = tt }
 
   iterate_well_formed : AreSmaller bases → (t : Tree) → IsWellFormed bases t → OfferWellFormed bases (iterate_member bases t)
   iterate_well_formed o (ListOf t) k = plain bases (item_well_formed bases t k) tt
   iterate_well_formed o (DictOf s t) k = plain bases (key_well_formed bases s t k) tt
-  iterate_well_formed o (TupleOf ts) k = plain bases (all_well_formed bases o (listed ts) (parts_well_formed bases ts k)) tt
+  iterate_well_formed o (TupleOf ts) k = plain bases (all_well_formed bases o (list_of_trees ts) (parts_well_formed bases ts k)) tt
   iterate_well_formed o t k = plain bases (tt, tt, omega arith) tt
 
   -- ---- on all members of a type
 
-  pub fields_stored : (classes : List facts.Class) → ClassesWellFormed bases classes → (field : List ℕ) (t : Tree) → IsWellFormed bases t → AreWellFormed bases (stored_types (map (store_attribute_member classes field) (members t)))
+  pub fields_stored : (classes : List facts.ClassFacts) → ClassesWellFormed bases classes → (field : List ℕ) (t : Tree) → IsWellFormed bases t → AreWellFormed bases (stored_types (map (store_attribute_member classes field) (members t)))
   fields_stored classes h field t k = stored_types_well_formed _ (each_store (store_attribute_member classes field) (store_attribute_well_formed classes h field) (members t) (members_well_formed bases t k))
 
   pub items_stored : (t : Tree) → IsWellFormed bases t → AreWellFormed bases (stored_types (map store_index_member (members t)))

@@ -13,8 +13,8 @@ use Rattle.pc_flow.specs.Environment.{Env}
 use Rattle.pc_flow.specs.Stored.{env_of}
 use Rattle.pc_notes.specs.Notes.{Note}
 use Rattle.pc_expr.specs.Standing.{finds_in}
-use Rattle.pc_check.specs.ComputedStatements.{Frame, Table, Walk, Forked, Bound, at, narrowed_at, with_way, behind_binding, behind_branches, walk_suite, walk_branches}
-use Rattle.pc_check.specs.Walking.{HoldsTypesIfAny, GivesBound, GivesWalk}
+use Rattle.pc_check.specs.ComputedStatements.{BodyFrame, Table, Walk, BranchesResult, BindingResult, at, narrowed_at, with_way, behind_binding, behind_branches, walk_suite, walk_branches}
+use Rattle.pc_check.specs.Internal.StatementWalk.{HoldsTypesIfAny, GivesBound, GivesWalk}
 
 -- nothing is left of a suite, and of branches
 pub no_statement_left : (body : List RustStmt) (i : ℕ) → length body ≤ i → stmts_of_list (drop i body) ≡ no_stmts
@@ -30,7 +30,7 @@ walk_by table env broken found = record { table = table; env = env; broken = bro
 pub found_by : (table : Table) (env broken : Option Env) (a b : List Note) → a ≡ b → walk_by table env broken a ≡ walk_by table env broken b
 found_by table env broken a b e = ap (walk_by table env broken) e
 
-module _ (frame : Frame) where
+module _ (frame : BodyFrame) where
   -- one branch more
   pub branch_walked : (table : Table) (last : Env) (ways broken : Option Env) (found : List Note) (c : Expr) (b : Stmts) (start body : Walk) (last' : Env) (ways' : Option Env) →
       start ≡ record { table = table; env = Some (narrowed_at frame table true c last); broken = broken; found = found ++ finds_in (at frame table last) None c } →
@@ -44,7 +44,7 @@ module _ (frame : Frame) where
       λ i. record { table = (e i).table; last = el i; ways = joined i; broken = (e i).broken; found = (e i).found }
 
   -- behind an `if`, by what its branches come to
-  pub branches_from : (fork result : Forked) (o : Stmts) → fork ≡ result →
+  pub branches_from : (fork result : BranchesResult) (o : Stmts) → fork ≡ result →
       behind_branches frame fork.ways (walk_suite frame (record { table = fork.table; env = Some fork.last; broken = fork.broken; found = fork.found }) o) ≡ behind_branches frame result.ways (walk_suite frame (record { table = result.table; env = Some result.last; broken = result.broken; found = result.found }) o)
   branches_from fork result o e = λ i. behind_branches frame (e i).ways (walk_suite frame (record { table = (e i).table; env = Some (e i).last; broken = (e i).broken; found = (e i).found }) o)
 
@@ -56,5 +56,5 @@ module _ (frame : Frame) where
 
 module _ {Store Ty : Type 0} (has : Store → Ty → Type 0) (tree : Ty → Tree) (bases : Bases) (store : Store) where
   -- behind a name that is bound
-  pub binding_walked : (frame : Frame) (declared env : List (Option Ty)) (broken : Option (List (Option Ty))) (found : List Note) (b : Bound) → GivesBound has tree bases store declared env found b → HoldsTypesIfAny (has store) tree bases broken → GivesWalk has tree bases store declared (Some env) broken found (behind_binding frame (option_map (env_of tree) broken) b)
+  pub binding_walked : (frame : BodyFrame) (declared env : List (Option Ty)) (broken : Option (List (Option Ty))) (found : List Note) (b : BindingResult) → GivesBound has tree bases store declared env found b → HoldsTypesIfAny (has store) tree bases broken → GivesWalk has tree bases store declared (Some env) broken found (behind_binding frame (option_map (env_of tree) broken) b)
   binding_walked frame declared env broken found b g h = record { declared_holds = g.declared_holds; env_holds = g.env_holds; broken_holds = h; is = ap (behind_binding frame (option_map (env_of tree) broken)) g.is }

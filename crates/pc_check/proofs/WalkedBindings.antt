@@ -9,7 +9,7 @@ use Rattle.pc_tree.specs.Depth.{place_of}
 use Rattle.pc_tree.specs.Tree.{Name, Expr, Ann}
 use Rattle.pc_scope.specs.declared.resolution.Res.{Res}
 use Rattle.pc_scope.specs.declared.resolution.Res.TheVariants as res
-use Rattle.pc_scope.specs.Resolution.{is_among}
+use Rattle.pc_scope.specs.Resolution.{is_one_of}
 use Rattle.pc_types.specs.Tree.{Tree, Any}
 use Rattle.pc_types.specs.WellFormed.{IsWellFormed}
 use Rattle.pc_types.specs.Annotations.{read_ann}
@@ -20,16 +20,16 @@ use Rattle.pc_flow.proofs.Conditions.{assign_well_formed, assigned_well_formed, 
 use Rattle.pc_notes.specs.Notes.{Note}
 use Rattle.pc_expr.specs.Operations.{Mark, clean}
 use Rattle.pc_expr.specs.Context.{FlowsInto}
-use Rattle.pc_expr.specs.Labels.{Flowing, Marks, mark_of, type_of, Finds, IsFlowAt}
+use Rattle.pc_expr.specs.Labels.{FlowMarks, Marks, mark_of, type_of, Finds, IsFlowAt}
 use Rattle.pc_expr.specs.Lawful.{Lawful}
 use Rattle.pc_expr.specs.Computed.{flows_of}
 use Rattle.pc_expr.specs.Found.{flows_at}
 use Rattle.pc_expr.specs.Standing.{finds_in}
 use Rattle.pc_expr.proofs.WellFormed.{unwrap_well_formed}
 use Rattle.pc_check.specs.StatementLabels.{OptionMarks}
-use Rattle.pc_check.specs.Statements.{Seen, is_first, only_code, DeclaredAt, known_type, LawfulBinding, LawfulDeclaration, LawfulTarget, annotation_at, LawfulAnnotated, OptionFinds, option_place, AnnotationFinds}
-use Rattle.pc_check.specs.Labelled.{Setting}
-use Rattle.pc_check.specs.ComputedStatements.{Table, type_table, bound_type, known, Frame, Bound, at, bind_label, bind_value, declared_alone, annotation_finds, bound_name, bind_annotated, bind_item}
+use Rattle.pc_check.specs.Statements.{NamesBound, is_first, only_code, DeclaredAt, known_type, LawfulBinding, LawfulDeclaration, LawfulTarget, annotation_at, LawfulAnnotated, OptionFinds, option_place, AnnotationFinds}
+use Rattle.pc_check.specs.LabellingLaws.{Setting}
+use Rattle.pc_check.specs.ComputedStatements.{Table, type_table, bound_type, known_declared, BodyFrame, BindingResult, at, bind_label, bind_value, declared_alone, annotation_finds, bound_name, bind_annotated, bind_item}
 use Rattle.pc_check.specs.WalkLaw.{TableFits, EnvFits, Adds, frame_in}
 use Rattle.pc_check.proofs.BoundNames.{here_among}
 use Rattle.pc_check.proofs.Marked.{type_of_bound}
@@ -40,33 +40,33 @@ use Rattle.pc_check.proofs.WalkedTables.{NameFits, name_fits, other_fits}
 use Rattle.pc_check.proofs.WalkedExpressions.{flows_told, flows_found, told}
 
 -- nothing found where nothing flows
-nothing_flows : (flows : Flowing) (p : Place) (P : Finding → Type 0) → flows ≡ [] → (f : Finding) → P f ⊎ IsFlowAt p flows f → P f
+nothing_flows : (flows : FlowMarks) (p : Place) (P : Finding → Type 0) → flows ≡ [] → (f : Finding) → P f ⊎ IsFlowAt p flows f → P f
 nothing_flows flows p P e f h = elim h [ inl a ↦ a | inr b ↦ absurd (no_flows flows p f e b) ]
 
 module _ (setting : Setting) (returned : Tree) (declared : List Tree) where
   open setting use {whole as m, context as ctx, context_well_formed as ck}
 
-  abbrev frame : Frame
+  abbrev frame : BodyFrame
   frame = frame_in setting returned
 
   -- a name bound has come to what is said: to this environment, with this found
-  pub record BoundSays (seen : Seen) (n : Name) (table : Table) (found : List Note) (b : Bound) (after : Env) (Says : Finding → Type 0) : Type 0 where
+  pub record BoundSays (seen : NamesBound) (n : Name) (table : Table) (found : List Note) (b : BindingResult) (after : Env) (Says : Finding → Type 0) : Type 0 where
     pub fits : TableFits setting declared (n.text ∷ seen) b.table
     pub grows : (env : Env) → EnvFits setting declared table env → EnvFits setting declared b.table env
     pub env_is : b.env ≡ after
     pub env_fits : EnvFits setting declared b.table after
     pub found_is : Adds found b.found Says
 
-  says_same : {P Q : Finding → Type 0} (seen : Seen) (n : Name) (table : Table) (found : List Note) (b : Bound) (after : Env) → ((f : Finding) → P f → Q f) → ((f : Finding) → Q f → P f) → BoundSays seen n table found b after P → BoundSays seen n table found b after Q
+  says_same : {P Q : Finding → Type 0} (seen : NamesBound) (n : Name) (table : Table) (found : List Note) (b : BindingResult) (after : Env) → ((f : Finding) → P f → Q f) → ((f : Finding) → Q f → P f) → BoundSays seen n table found b after P → BoundSays seen n table found b after Q
   says_same seen n table found b after to from h = record { fits = h.fits; grows = h.grows; env_is = h.env_is; env_fits = h.env_fits; found_is = adds_same found b.found to from h.found_is }
 
   -- with more found before
-  says_behind : {P Q : Finding → Type 0} (seen : Seen) (n : Name) (table : Table) (found more : List Note) (b : Bound) (after : Env) → Adds found more P → BoundSays seen n table more b after Q → BoundSays seen n table found b after (λ f. P f ⊎ Q f)
+  says_behind : {P Q : Finding → Type 0} (seen : NamesBound) (n : Name) (table : Table) (found more : List Note) (b : BindingResult) (after : Env) → Adds found more P → BoundSays seen n table more b after Q → BoundSays seen n table found b after (λ f. P f ⊎ Q f)
   says_behind seen n table found more b after a h = record { fits = h.fits; grows = h.grows; env_is = h.env_is; env_fits = h.env_fits; found_is = adds_both found more b.found a h.found_is }
 
   -- ---- what is expected of what is bound
 
-  known_well_formed : (o a : Option Tree) → IsWellFormedIfAny ctx.bases o → IsWellFormedIfAny ctx.bases a → IsWellFormedIfAny ctx.bases (known o a)
+  known_well_formed : (o a : Option Tree) → IsWellFormedIfAny ctx.bases o → IsWellFormedIfAny ctx.bases a → IsWellFormedIfAny ctx.bases (known_declared o a)
   known_well_formed None a h k = k
   known_well_formed (Some d) a h k = h
 
@@ -76,10 +76,10 @@ module _ (setting : Setting) (returned : Tree) (declared : List Tree) where
     declared_is from true e d = ap (λ p. unwrap_or p from) (bound (sym e))
     declared_is from false e d = ap (λ p. unwrap_or p from) (unbound (sym e)) ∙ sym d
 
-    want_is : (b' : Test) → b' ≡ b → (a a' : Option Tree) → (not b' ≡ true → a ≡ a') → (from : Tree) → DeclaredAt m ctx declared (not b') x a from → known_type m ctx declared (not b') x a ≡ known o a'
-    want_is true e a a' s from d = ap (λ p. known p a') (sym (bound (sym e)))
-    want_is false e None a' s from d = λ i. known (sym (unbound (sym e)) i) (s refl i)
-    want_is false e (Some t) a' s from d = ap Some d ∙ (λ i. known (sym (unbound (sym e)) i) (s refl i))
+    want_is : (b' : Test) → b' ≡ b → (a a' : Option Tree) → (not b' ≡ true → a ≡ a') → (from : Tree) → DeclaredAt m ctx declared (not b') x a from → known_type m ctx declared (not b') x a ≡ known_declared o a'
+    want_is true e a a' s from d = ap (λ p. known_declared p a') (sym (bound (sym e)))
+    want_is false e None a' s from d = λ i. known_declared (sym (unbound (sym e)) i) (s refl i)
+    want_is false e (Some t) a' s from d = ap Some d ∙ (λ i. known_declared (sym (unbound (sym e)) i) (s refl i))
 
     type_is : (b' : Test) → (a : Option Tree) (from : Tree) → DeclaredAt m ctx declared (not b') x a from → unwrap_or (known_type m ctx declared (not b') x a) from ≡ declared_type declared x
     type_is true a from d = refl
@@ -88,16 +88,16 @@ module _ (setting : Setting) (returned : Tree) (declared : List Tree) where
 
   -- ---- a local bound
 
-  module _ (seen : Seen) (n : Name) (table : Table) (h : TableFits setting declared seen table) where
+  module _ (seen : NamesBound) (n : Name) (table : Table) (h : TableFits setting declared seen table) where
     module _ (x : ℕ) (i : ctx.resolve n.text ≡ res.Local x) where
-      bound_here : is_among n.text seen ≡ true → bound_type table x ≡ Some (declared_type declared x)
+      bound_here : is_one_of n.text seen ≡ true → bound_type table x ≡ Some (declared_type declared x)
       bound_here e = h.bound n.text x e i
 
-      unbound_here : is_among n.text seen ≡ false → bound_type table x ≡ None
+      unbound_here : is_one_of n.text seen ≡ false → bound_type table x ≡ None
       unbound_here e = h.unbound n.text x e i
 
       -- bound to what has a label
-      label_says : (env : Env) → EnvFits setting declared table env → (want : Option Tree) (p : Place) (mark : Mark) (flows : Flowing) (after : Env) (found : List Note)
+      label_says : (env : Env) → EnvFits setting declared table env → (want : Option Tree) (p : Place) (mark : Mark) (flows : FlowMarks) (after : Env) (found : List Note)
           → unwrap_or want mark.type ≡ declared_type declared x → IsWellFormedIfAny ctx.bases want → IsWellFormed ctx.bases mark.type
           → FlowsInto ctx.bases mark (declared_type declared x ∷ []) flows → after ≡ assign env x (assigned_type (declared_type declared x) mark.type (only_code flows))
           → BoundSays seen n table found (bind_label frame table env x want p mark found) after (IsFlowAt p flows)
@@ -122,23 +122,23 @@ module _ (setting : Setting) (returned : Tree) (declared : List Tree) where
           }
 
       -- bound to a value
-      value_says : (env : Env) → EnvFits setting declared table env → (a a' : Option Tree) → (is_first seen n ≡ true → a ≡ a') → IsWellFormedIfAny ctx.bases a' → (e : Expr) (marks : Marks e) (flows : Flowing) (after : Env) (found : List Note)
+      value_says : (env : Env) → EnvFits setting declared table env → (a a' : Option Tree) → (is_first seen n ≡ true → a ≡ a') → IsWellFormedIfAny ctx.bases a' → (e : Expr) (marks : Marks e) (flows : FlowMarks) (after : Env) (found : List Note)
           → LawfulBinding m ctx declared env seen n (res.Local x) a e marks flows after
           → BoundSays seen n table found (bind_value frame table env (res.Local x) a' e found) after (λ f. Finds e marks f ⊎ IsFlowAt (place_of e) flows f)
       value_says env f a a' s ka e marks flows after found l =
           let o = bound_type table x in
-          let want = known o a' in
-          let w : known_type m ctx declared (is_first seen n) x a ≡ want = want_is x o (is_among n.text seen) bound_here unbound_here (is_among n.text seen) refl a a' s (type_of e marks) l.at_first in
+          let want = known_declared o a' in
+          let w : known_type m ctx declared (is_first seen n) x a ≡ want = want_is x o (is_one_of n.text seen) bound_here unbound_here (is_one_of n.text seen) refl a a' s (type_of e marks) l.at_first in
           let kw : IsWellFormedIfAny ctx.bases want = known_well_formed o a' (current_well_formed ctx.bases table x h.well_formed) ka in
           let v = told setting declared table h.well_formed env f want kw e marks (subst (λ y. Lawful ctx declared env y e marks) w l.value) in
-          let is : unwrap_or want (type_of e marks) ≡ declared_type declared x = ap (λ y. unwrap_or y (type_of e marks)) (sym w) ∙ type_is x o (is_among n.text seen) bound_here unbound_here (is_among n.text seen) a (type_of e marks) l.at_first in
+          let is : unwrap_or want (type_of e marks) ≡ declared_type declared x = ap (λ y. unwrap_or y (type_of e marks)) (sym w) ∙ type_is x o (is_one_of n.text seen) bound_here unbound_here (is_one_of n.text seen) a (type_of e marks) l.at_first in
           let finds = finds_in (at frame table env) want e in
           subst (λ k. BoundSays seen n table found (bind_label frame table env x want (place_of e) k (found ++ finds)) after (λ g. Finds e marks g ⊎ IsFlowAt (place_of e) flows g)) (sym v.mark)
           (says_behind seen n table found (found ++ finds) (bind_label frame table env x want (place_of e) (mark_of e marks) (found ++ finds)) after (adds_list found finds v.found)
           (label_says env f want (place_of e) (mark_of e marks) flows after (found ++ finds) is kw v.well_formed l.flow l.after_is))
 
     -- what is no local binds nothing
-    plain_says : ((x : ℕ) → ctx.resolve n.text ≡ res.Local x → ⊥) → (env : Env) → EnvFits setting declared table env → (e : Expr) (marks : Marks e) (flows : Flowing) (after : Env) (found : List Note)
+    plain_says : ((x : ℕ) → ctx.resolve n.text ≡ res.Local x → ⊥) → (env : Env) → EnvFits setting declared table env → (e : Expr) (marks : Marks e) (flows : FlowMarks) (after : Env) (found : List Note)
         → Lawful ctx declared env None e marks → flows ≡ [] → after ≡ env
         → BoundSays seen n table found (record { table = table; env = env; found = found ++ finds_in (at frame table env) None e }) after (λ f. Finds e marks f ⊎ IsFlowAt (place_of e) flows f)
     plain_says other env f e marks flows after found l none is =
@@ -152,7 +152,7 @@ module _ (setting : Setting) (returned : Tree) (declared : List Tree) where
           found_is = adds_same found (found ++ finds_in (at frame table env) None e) (λ g y. inl y) (nothing_flows flows (place_of e) (Finds e marks) none) (adds_list found (finds_in (at frame table env) None e) v.found);
         }
 
-    pub binding_says : (r : Res) → ctx.resolve n.text ≡ r → (env : Env) → EnvFits setting declared table env → (a a' : Option Tree) → (is_first seen n ≡ true → a ≡ a') → IsWellFormedIfAny ctx.bases a' → (e : Expr) (marks : Marks e) (flows : Flowing) (after : Env) (found : List Note)
+    pub binding_says : (r : Res) → ctx.resolve n.text ≡ r → (env : Env) → EnvFits setting declared table env → (a a' : Option Tree) → (is_first seen n ≡ true → a ≡ a') → IsWellFormedIfAny ctx.bases a' → (e : Expr) (marks : Marks e) (flows : FlowMarks) (after : Env) (found : List Note)
         → LawfulBinding m ctx declared env seen n r a e marks flows after
         → BoundSays seen n table found (bind_value frame table env r a' e found) after (λ f. Finds e marks f ⊎ IsFlowAt (place_of e) flows f)
     binding_says (res.Local x) i env f a a' s ka e marks flows after found l = value_says x i env f a a' s ka e marks flows after found l
@@ -164,7 +164,7 @@ module _ (setting : Setting) (returned : Tree) (declared : List Tree) where
 
     -- ---- the target of a `for`
 
-    idle_says : ((x : ℕ) → ctx.resolve n.text ≡ res.Local x → ⊥) → (head : Env) → EnvFits setting declared table head → (p : Place) (flows : Flowing) (inside : Env) (found : List Note) → flows ≡ [] → inside ≡ head
+    idle_says : ((x : ℕ) → ctx.resolve n.text ≡ res.Local x → ⊥) → (head : Env) → EnvFits setting declared table head → (p : Place) (flows : FlowMarks) (inside : Env) (found : List Note) → flows ≡ [] → inside ≡ head
         → BoundSays seen n table found (record { table = table; env = head; found = found }) inside (IsFlowAt p flows)
     idle_says other head f p flows inside found none is =
         let nf = other_fits setting declared seen n.text table other h in
@@ -176,11 +176,11 @@ module _ (setting : Setting) (returned : Tree) (declared : List Tree) where
           found_is = adds_same found found (λ g y. absurd y) (λ g y. no_flows flows p g none y) (adds_nothing found);
         }
 
-    pub target_says : (r : Res) → ctx.resolve n.text ≡ r → (head : Env) → EnvFits setting declared table head → (item : Mark) → IsWellFormed ctx.bases item.type → (p : Place) (flows : Flowing) (inside : Env) (found : List Note)
+    pub target_says : (r : Res) → ctx.resolve n.text ≡ r → (head : Env) → EnvFits setting declared table head → (item : Mark) → IsWellFormed ctx.bases item.type → (p : Place) (flows : FlowMarks) (inside : Env) (found : List Note)
         → LawfulTarget m ctx declared seen n r head item flows inside
         → BoundSays seen n table found (bind_item frame table head r p item.type found) inside (IsFlowAt p flows)
     target_says (res.Local x) i head f item k p flows inside found l =
-        label_says x i head f (bound_type table x) p (clean item.type) flows inside found (declared_is x (bound_type table x) (is_among n.text seen) (bound_here x i) (unbound_here x i) item.type (is_among n.text seen) refl l.at_first) (current_well_formed ctx.bases table x h.well_formed) k l.flow l.inside_is
+        label_says x i head f (bound_type table x) p (clean item.type) flows inside found (declared_is x (bound_type table x) (is_one_of n.text seen) (bound_here x i) (unbound_here x i) item.type (is_one_of n.text seen) refl l.at_first) (current_well_formed ctx.bases table x h.well_formed) k l.flow l.inside_is
     target_says (res.Const c) i head f item k p flows inside found l = idle_says (λ x j. absurd (grind (arith, i, j))) head f p flows inside found l.0 l.1
     target_says (res.Func c) i head f item k p flows inside found l = idle_says (λ x j. absurd (grind (arith, i, j))) head f p flows inside found l.0 l.1
     target_says (res.Class c) i head f item k p flows inside found l = idle_says (λ x j. absurd (grind (arith, i, j))) head f p flows inside found l.0 l.1
@@ -190,9 +190,9 @@ module _ (setting : Setting) (returned : Tree) (declared : List Tree) where
     -- ---- annotations
 
     annotation_says : (r : Res) → ctx.resolve n.text ≡ r → (a : Ann) → Lists (annotation_finds frame (bound_name frame table r) n a) (AnnotationFinds m ctx r (is_first seen n) n a)
-    annotation_says (res.Local x) i a = go (is_among n.text seen) refl
+    annotation_says (res.Local x) i a = go (is_one_of n.text seen) refl
       where
-        go : (b : Test) → is_among n.text seen ≡ b → Lists (annotation_finds frame (bound_type table x) n a) (AnnotationFinds m ctx (res.Local x) (not b) n a)
+        go : (b : Test) → is_one_of n.text seen ≡ b → Lists (annotation_finds frame (bound_type table x) n a) (AnnotationFinds m ctx (res.Local x) (not b) n a)
         go true e = subst (λ o. Lists (annotation_finds frame o n a) (AnnotationFinds m ctx (res.Local x) false n a)) (sym (bound_here x i e)) (lists_one (finding n.place E24) refl)
         go false e = subst (λ o. Lists (annotation_finds frame o n a) (AnnotationFinds m ctx (res.Local x) true n a)) (sym (unbound_here x i e)) (lists_annotation m ctx.bases a)
     annotation_says (res.Const c) i a = lists_annotation m ctx.bases a
@@ -202,7 +202,7 @@ module _ (setting : Setting) (returned : Tree) (declared : List Tree) where
     annotation_says res.None i a = lists_annotation m ctx.bases a
 
     declaration_fits : (r : Res) → ctx.resolve n.text ≡ r → (t : Tree) → IsWellFormed ctx.bases t → LawfulDeclaration m ctx declared seen n r t → NameFits setting declared seen n.text table (declared_alone frame table r t)
-    declaration_fits (res.Local x) i t k l = name_fits setting declared seen n.text x i table h t (λ e. first_type (is_among n.text seen) e l) k
+    declaration_fits (res.Local x) i t k l = name_fits setting declared seen n.text x i table h t (λ e. first_type (is_one_of n.text seen) e l) k
       where
         first_type : (b : Test) → b ≡ false → DeclaredAt m ctx declared (not b) x (Some t) t → declared_type declared x ≡ t
         first_type true e d = absurd (grind (arith, e))
@@ -214,7 +214,7 @@ module _ (setting : Setting) (returned : Tree) (declared : List Tree) where
     declaration_fits res.None i t k l = other_fits setting declared seen n.text table (λ x j. absurd (grind (arith, i, j))) h
 
     -- a name annotated, with a value or alone
-    pub annotated_says : (env : Env) → EnvFits setting declared table env → (p : Place) (a : Ann) (e : Option Expr) (marks : OptionMarks e) (flows : Flowing) (after : Env) (found : List Note)
+    pub annotated_says : (env : Env) → EnvFits setting declared table env → (p : Place) (a : Ann) (e : Option Expr) (marks : OptionMarks e) (flows : FlowMarks) (after : Env) (found : List Note)
         → LawfulAnnotated m ctx declared env seen n a e marks flows after
         → BoundSays seen n table found (bind_annotated frame table env n a e found) after (λ f. AnnotationFinds m ctx (ctx.resolve n.text) (is_first seen n) n a f ⊎ (IsFlowAt (option_place m ctx p e) flows f ⊎ OptionFinds m ctx e marks f))
     annotated_says env f p a None marks flows after found l =

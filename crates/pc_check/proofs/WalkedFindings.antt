@@ -13,10 +13,10 @@ use Rattle.pc_types.specs.Below.{Bases}
 use Rattle.pc_types.specs.Annotations.{AnnFinds}
 use Rattle.pc_ann.specs.Listed.{ann_findings}
 use Rattle.pc_ann.proofs.Listing.{all_listed}
-use Rattle.pc_notes.specs.Notes.{Note, plain, findings_of}
+use Rattle.pc_notes.specs.Notes.{Note, plain_note, findings_of}
 use Rattle.pc_expr.specs.Operations.{clean}
-use Rattle.pc_expr.specs.Labels.{Flowing, Marks, is_of_scopes, IsFoundAt, IsFlowAt, Finds}
-use Rattle.pc_expr.specs.Found.{codes_at, flows_at, found_in}
+use Rattle.pc_expr.specs.Labels.{FlowMarks, Marks, is_of_scopes, IsFoundAt, IsFlowAt, Finds}
+use Rattle.pc_expr.specs.Found.{codes_at, flows_at, notes_under}
 use Rattle.pc_expr.proofs.FoundList.{findings_listed, plain_findings}
 use Rattle.pc_check.specs.WalkLaw.{Adds}
 use Rattle.pc_check.proofs.SaidByStatements.{no_annotation}
@@ -55,7 +55,7 @@ lists_both {P = P} {Q = Q} xs ys h k f = (to, from)
 
 -- ---- what is found under labels
 
-pub lists_expression : (e : Expr) (m : Marks e) → Lists (found_in e m) (Finds e m)
+pub lists_expression : (e : Expr) (m : Marks e) → Lists (notes_under e m) (Finds e m)
 lists_expression e m f = let h = findings_listed e m f in (λ c. let r = h.0 c in (r.stands, r.own), λ q. h.1 (record { stands = q.0; own = q.1 }))
 
 -- the codes of a label are those of a literal with this label
@@ -67,7 +67,7 @@ no_codes : (p : Place) (f : Finding) → IsFoundAt p [] f → ⊥
 no_codes p f h = none_among h.code h.among
 
 -- the flows into an index are found there
-module _ (p : Place) (flows : Flowing) where
+module _ (p : Place) (flows : FlowMarks) where
   abbrev indexed : Expr
   indexed = index p (number p []) (number p [])
 
@@ -81,7 +81,7 @@ module _ (p : Place) (flows : Flowing) where
   lists_flows = lists_same (flows_at p flows) indexed_says (λ f h. inr (inl h)) (subst (λ xs. Lists xs (Finds indexed labels)) (append-nil (flows_at p flows)) (lists_expression indexed labels))
 
 -- what is found in an annotation
-pub lists_annotation : (m : Module) (bases : Bases) (a : Ann) → Lists (map plain (ann_findings m bases a)) (AnnFinds m bases a)
+pub lists_annotation : (m : Module) (bases : Bases) (a : Ann) → Lists (map plain_note (ann_findings m bases a)) (AnnFinds m bases a)
 lists_annotation m bases a f =
     subst (λ (l : List Finding). Contains l f ↔ (AnnFinds m bases a f × IsElsewhere f)) (sym (plain_findings (ann_findings m bases a)))
     (λ c. let h = (all_listed m bases a f).0 c in (h, elsewhere (is_of_scopes f.code) refl h), λ q. (all_listed m bases a f).1 q.0)
@@ -91,7 +91,7 @@ lists_annotation m bases a f =
     elsewhere false e h = refl
 
 -- one finding
-pub lists_one : (g : Finding) → is_of_scopes g.code ≡ false → Lists (plain g ∷ []) (λ f. f ≡ g)
+pub lists_one : (g : Finding) → is_of_scopes g.code ≡ false → Lists (plain_note g ∷ []) (λ f. f ≡ g)
 lists_one g own f = (to, λ q. subst (Contains (g ∷ [])) (sym q.0) (first_among g []))
   where
     to : Contains (g ∷ []) f → (f ≡ g) × IsElsewhere f

@@ -3,13 +3,13 @@ use Rattle.std.proofs.Common.{◌⊎◌, ℕ, suc, List, [], ◌∷◌, inl, inr
 use Rattle.std.specs.Prelude.{codes}
 use Rattle.pc_tree.specs.declared.code.Finding.{Finding}
 use Rattle.pc_tree.specs.Tree.{FuncDef, Member, field_member, method_member, Module}
-use Rattle.pc_scope.specs.Resolution.{is_among}
+use Rattle.pc_scope.specs.Resolution.{is_one_of}
 use Rattle.pc_scope.specs.declared.resolution.Owner.{Owner}
 use Rattle.pc_scope.specs.declared.resolution.Owner.TheVariants as owners
 use Rattle.pc_types.specs.Tree.{Tree}
-use Rattle.pc_types.specs.Annotations.{AnnFinds, OptionFinds}
+use Rattle.pc_types.specs.Annotations.{AnnFinds, OptionAnnFinds}
 use Rattle.pc_class.specs.Bases.{bases_of}
-use Rattle.pc_class.specs.Facts.{Class}
+use Rattle.pc_class.specs.Facts.{ClassFacts}
 use Rattle.pc_flow.specs.WellFormed.{AreWellFormed}
 use Rattle.pc_notes.specs.Notes.{Note}
 use Rattle.pc_expr.specs.Signatures.{DefaultFinds, LawfulParams, ParamsMarks, ParamsFind}
@@ -53,10 +53,10 @@ module _ (m : Module) where
 
   -- what is said of the signature of a function: in annotations, and at defaults
   abbrev pub SignatureSays : (f : FuncDef) → ParamsMarks f.params → Finding → Type 0
-  SignatureSays f params g = ParamsFind m f.params params g ⊎ OptionFinds m (bases_of m) f.returns g
+  SignatureSays f params g = ParamsFind m f.params params g ⊎ OptionAnnFinds m (bases_of m) f.returns g
 
-  pub signature_listed : (before : List (List ℕ)) (f : FuncDef) (params : ParamsMarks f.params) → LawfulParams m before f.params params → Lists (def_findings m (λ t. is_among t before) f) (SignatureSays f params)
-  signature_listed before f params l = lists_each (def_findings m (λ t. is_among t before) f) (λ g. def_listed m g before f params l)
+  pub signature_listed : (before : List (List ℕ)) (f : FuncDef) (params : ParamsMarks f.params) → LawfulParams m before f.params params → Lists (def_findings m (λ t. is_one_of t before) f) (SignatureSays f params)
+  signature_listed before f params l = lists_each (def_findings m (λ t. is_one_of t before) f) (λ g. def_listed m g before f params l)
 
   -- what is said of members but for the bodies of methods: of fields, and of signatures
   abbrev pub MembersSay : (ms : List Member) → MembersMarks ms → Finding → Type 0
@@ -74,20 +74,20 @@ module _ (m : Module) where
     -- ---- lists
 
     -- what is found of members behind these names
-    pub members_listed : (base : Class) (c number : ℕ) (before : List (List ℕ)) (ms : List Member) (marks : MembersMarks ms) → LawfulMembers m constants base c number before ms marks → Lists (members_findings m base (λ t. is_among t before) ms) (MembersSay ms marks)
+    pub members_listed : (base : ClassFacts) (c number : ℕ) (before : List (List ℕ)) (ms : List Member) (marks : MembersMarks ms) → LawfulMembers m constants base c number before ms marks → Lists (members_findings m base (λ t. is_one_of t before) ms) (MembersSay ms marks)
     members_listed base c number before [] marks l = lists_nothing
     members_listed base c number before (field_member d ∷ rest) marks l =
-        let one = field_findings m base (λ t. is_among t before) d in
-        lists_both one (members_findings m base (λ t. is_among t (d.name.text ∷ before)) rest)
+        let one = field_findings m base (λ t. is_one_of t before) d in
+        lists_both one (members_findings m base (λ t. is_one_of t (d.name.text ∷ before)) rest)
         (lists_each one (λ g. field_listed m g base before d marks.default l.default))
         (members_listed base c number (d.name.text ∷ before) rest marks.rest l.others)
     members_listed base c number before (method_member d ∷ rest) marks l =
-        lists_both (def_findings m (λ t. is_among t (codes "self" ∷ [])) d) (members_findings m base (λ t. is_among t (d.name.text ∷ before)) rest)
+        lists_both (def_findings m (λ t. is_one_of t (codes "self" ∷ [])) d) (members_findings m base (λ t. is_one_of t (d.name.text ∷ before)) rest)
         (signature_listed (codes "self" ∷ []) d marks.method.params l.method.params)
         (members_listed base c (suc number) (d.name.text ∷ before) rest marks.rest l.others)
 
     -- what the walks over the bodies of methods find
-    pub methods_say : AreWellFormed (bases_of m) constants → (base : Class) (c number : ℕ) (before : List (List ℕ)) (ms : List Member) (marks : MembersMarks ms) → LawfulMembers m constants base c number before ms marks
+    pub methods_say : AreWellFormed (bases_of m) constants → (base : ClassFacts) (c number : ℕ) (before : List (List ℕ)) (ms : List Member) (marks : MembersMarks ms) → LawfulMembers m constants base c number before ms marks
         → (found : List Note) → Adds found (methods_find m constants c number ms found) (MethodsSay c number ms marks)
     methods_say k base c number before [] marks l found = adds_nothing found
     methods_say k base c number before (field_member d ∷ rest) marks l found = methods_say k base c number (d.name.text ∷ before) rest marks.rest l.others found

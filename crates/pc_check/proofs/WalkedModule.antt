@@ -13,7 +13,7 @@ use Rattle.pc_class.specs.Findings.{ClassFinds}
 use Rattle.pc_flow.specs.WellFormed.{AreWellFormed}
 use Rattle.pc_notes.specs.Notes.{Note, findings_of}
 use Rattle.pc_expr.specs.SignaturesFound.{constants_of, signatures_find, nothing_reached, functions_findings, items_findings}
-use Rattle.pc_check.specs.Modules.{Labelling, IsLawful, ItemsMarks, Before, nothing_before, before_next, constant_types, ItemsFind, LabelsSay, LabelsFind, IsFinding}
+use Rattle.pc_check.specs.Modules.{Labelling, IsLawful, ItemsMarks, BeforeItem, nothing_before, before_next, constant_types, ItemsFind, LabelsSay, LabelsFind, IsFinding}
 use Rattle.pc_check.specs.ComputedModules.{bodies_find, module_finds}
 use Rattle.pc_check.specs.WalkLaw.{Adds}
 use Rattle.pc_check.specs.ModuleLaw.{ConstantsHaveTheTypesOfLabels, ModulesFindWhatLabelsSay, ModulesFindWhatLabelsFind, FindingsOfModulesAreComputed}
@@ -48,10 +48,10 @@ either_part s = elim s [
 
 module _ (m : Module) (all : List Tree) (f : Finding) where
   -- what is said of items: of functions' signatures, of constants and classes, and in bodies
-  abbrev InParts : Before → (items : List Item) → ItemsMarks items → Type 0
+  abbrev InParts : BeforeItem → (items : List Item) → ItemsMarks items → Type 0
   InParts b items marks = (FunctionsSay m items marks f ⊎ ItemsSay m items marks f) ⊎ BodiesSay m all b items marks f
 
-  items_split : (b : Before) (items : List Item) (marks : ItemsMarks items) → ItemsFind m all b items marks f → InParts b items marks
+  items_split : (b : BeforeItem) (items : List Item) (marks : ItemsMarks items) → ItemsFind m all b items marks f → InParts b items marks
   items_split b [] marks h = absurd h
   items_split b (constant_item p c ∷ rest) marks h = elim h [
     | inl x ↦ inl (inr (inl (elim x [ inl a ↦ inl a | inr y ↦ inr (elim y [ inl fl ↦ inr fl | inr v ↦ inl v ]) ])))
@@ -69,7 +69,7 @@ module _ (m : Module) (all : List Tree) (f : Finding) where
     | inr r ↦ other_part (items_split (before_next m b (def_item p d) marks.0) rest marks.1 r)
   ]
 
-  items_joined : (b : Before) (items : List Item) (marks : ItemsMarks items) → InParts b items marks → ItemsFind m all b items marks f
+  items_joined : (b : BeforeItem) (items : List Item) (marks : ItemsMarks items) → InParts b items marks → ItemsFind m all b items marks f
   items_joined b [] marks h = elim h [ inl t ↦ elim t [ inl x ↦ x | inr y ↦ y ] | inr z ↦ z ]
   items_joined b (constant_item p c ∷ rest) marks h =
       let next = items_joined (before_next m b (constant_item p c) marks.0) rest marks.1 in

@@ -16,9 +16,9 @@ use Rattle.pc_notes.specs.Notes.{Note}
 use Rattle.pc_expr.specs.Found.{codes_at}
 use Rattle.pc_expr.specs.Standing.{finds_in}
 use Rattle.pc_check.specs.StatementLabels.{StmtMarks, SuiteMarks, BranchesMarks, Behind, BehindRule, behind_list, breaks_in, breaks_in_suite, breaks_in_branches, ways_in}
-use Rattle.pc_check.specs.Statements.{Seen, binds_number, Undeclared, OptionFinds, StmtFinds, SuiteFinds, BranchesFind, LawfulStmt, LawfulSuite, LawfulBranches}
-use Rattle.pc_check.specs.Labelled.{Setting}
-use Rattle.pc_check.specs.ComputedStatements.{Table, Frame, Walk, Forked, Bound, at, with_way, narrowed_at, head_at, iterable_finds, bind_value, bind_annotated, bind_item, store_finds, option_finds, return_finds, behind_binding, inside_for, behind_loop, unreached_names, step, walk_suite, walk_branches}
+use Rattle.pc_check.specs.Statements.{NamesBound, binds_number, AreUndeclared, OptionFinds, StmtFinds, SuiteFinds, BranchesFind, LawfulStmt, LawfulSuite, LawfulBranches}
+use Rattle.pc_check.specs.LabellingLaws.{Setting}
+use Rattle.pc_check.specs.ComputedStatements.{Table, BodyFrame, Walk, BranchesResult, BindingResult, at, with_way, narrowed_at, head_at, iterable_finds, bind_value, bind_annotated, bind_item, store_finds, option_finds, return_finds, behind_binding, inside_for, behind_loop, unreached_names, step, walk_suite, walk_branches}
 use Rattle.pc_check.specs.WalkLaw.{TableFits, EnvFits, OutFits, Adds, with_breaks, frame_in, WalkSays}
 use Rattle.pc_check.proofs.WalkedFindings.{Lists, lists_codes, adds_nothing, adds_same, adds_list, adds_both}
 use Rattle.pc_check.proofs.WalkedTables.{out_grows, fits_both, all_unreached_fit, unreached_suite}
@@ -29,7 +29,7 @@ use Rattle.pc_check.proofs.WalkedStores.{store_says, option_says, return_says}
 
 -- A walk over branches has come to what labels say: to the environment where no condition was true, and with the ways out of the suites
 -- joined behind those before.
-record ForkSays (setting : Setting) (declared : List Tree) (seen : Seen) (table : Table) (ways : List Env) (broken : Option Env) (found : List Note) (w : Forked) (last : Env) (more envs : List Env) (Says : Finding → Type 0) : Type 0 where
+record ForkSays (setting : Setting) (declared : List Tree) (seen : NamesBound) (table : Table) (ways : List Env) (broken : Option Env) (found : List Note) (w : BranchesResult) (last : Env) (more envs : List Env) (Says : Finding → Type 0) : Type 0 where
   fits : TableFits setting declared seen w.table
   grows : (env : Env) → EnvFits setting declared table env → EnvFits setting declared w.table env
   last_is : w.last ≡ last
@@ -43,27 +43,27 @@ record ForkSays (setting : Setting) (declared : List Tree) (seen : Seen) (table 
 module _ (setting : Setting) (returned : Tree) (kr : IsWellFormed setting.context.bases returned) (declared : List Tree) where
   open setting use {whole as m, context as ctx, context_well_formed as ck}
 
-  abbrev frame : Frame
+  abbrev frame : BodyFrame
   frame = frame_in setting returned
 
-  abbrev TableHere : Seen → Table → Type 0
+  abbrev TableHere : NamesBound → Table → Type 0
   TableHere seen table = TableFits setting declared seen table
 
-  abbrev WalkHere : Seen → Table → Option Env → List Note → Walk → Option Env → List Env → (Finding → Type 0) → Type 0
+  abbrev WalkHere : NamesBound → Table → Option Env → List Note → Walk → Option Env → List Env → (Finding → Type 0) → Type 0
   WalkHere seen table broken found w out envs P = WalkSays setting declared seen table broken found w out envs P
 
   abbrev truth_of : Test → Expr → Env → Env
   truth_of b c env = narrow ctx.bases declared ctx.resolve b c env
 
-  abbrev LawfulHere : Seen → Env → (s : Stmt) → StmtMarks s → Option Env → Type 0
+  abbrev LawfulHere : NamesBound → Env → (s : Stmt) → StmtMarks s → Option Env → Type 0
   LawfulHere seen env s marks out = LawfulStmt m ctx declared returned seen env s marks out
 
-  abbrev LawfulThere : Seen → Env → (b : Stmts) → SuiteMarks b → Option Env → Type 0
+  abbrev LawfulThere : NamesBound → Env → (b : Stmts) → SuiteMarks b → Option Env → Type 0
   LawfulThere seen env b marks out = LawfulSuite m ctx declared returned seen env b marks out
 
   -- ---- walks, one after the other
 
-  both_say : {P Q : Finding → Type 0} (before seen : Seen) (table : Table) (broken : Option Env) (found : List Note) (v w : Walk) (mid out : Option Env) (a b : List Env) → WalkHere before table broken found v mid a P → WalkHere seen v.table v.broken v.found w out b Q → WalkHere seen table broken found w out (a ++ b) (λ f. P f ⊎ Q f)
+  both_say : {P Q : Finding → Type 0} (before seen : NamesBound) (table : Table) (broken : Option Env) (found : List Note) (v w : Walk) (mid out : Option Env) (a b : List Env) → WalkHere before table broken found v mid a P → WalkHere seen v.table v.broken v.found w out b Q → WalkHere seen table broken found w out (a ++ b) (λ f. P f ⊎ Q f)
   both_say before seen table broken found v w mid out a b h k = record {
     fits = k.fits;
     grows = λ env f. k.grows env (h.grows env f);
@@ -75,11 +75,11 @@ module _ (setting : Setting) (returned : Tree) (kr : IsWellFormed setting.contex
   }
 
   -- of the same that is found
-  says_same : {P Q : Finding → Type 0} (seen : Seen) (table : Table) (broken : Option Env) (found : List Note) (w : Walk) (out : Option Env) (a : List Env) → ((f : Finding) → P f → Q f) → ((f : Finding) → Q f → P f) → WalkHere seen table broken found w out a P → WalkHere seen table broken found w out a Q
+  says_same : {P Q : Finding → Type 0} (seen : NamesBound) (table : Table) (broken : Option Env) (found : List Note) (w : Walk) (out : Option Env) (a : List Env) → ((f : Finding) → P f → Q f) → ((f : Finding) → Q f → P f) → WalkHere seen table broken found w out a P → WalkHere seen table broken found w out a Q
   says_same seen table broken found w out a to from h = record { fits = h.fits; grows = h.grows; env_is = h.env_is; env_fits = h.env_fits; broken_is = h.broken_is; broken_fits = h.broken_fits; found_is = adds_same found w.found to from h.found_is }
 
   -- a walk that binds nothing
-  stays : {P : Finding → Type 0} (seen : Seen) (table : Table) (broken : Option Env) (found more : List Note) (after out : Option Env) → TableHere seen table → OutFits setting declared table broken → after ≡ out → OutFits setting declared table after → Adds found more P
+  stays : {P : Finding → Type 0} (seen : NamesBound) (table : Table) (broken : Option Env) (found more : List Note) (after out : Option Env) → TableHere seen table → OutFits setting declared table broken → after ≡ out → OutFits setting declared table after → Adds found more P
       → WalkHere seen table broken found (record { table = table; env = after; broken = broken; found = more }) out [] P
   stays seen table broken found more after out t k e f a = record {
     fits = t;
@@ -92,7 +92,7 @@ module _ (setting : Setting) (returned : Tree) (kr : IsWellFormed setting.contex
   }
 
   -- a walk behind a name bound
-  bound_says : {P : Finding → Type 0} (seen : Seen) (n : Name) (table : Table) (broken : Option Env) (found : List Note) (b : Bound) (after : Env) (out : Option Env) → OutFits setting declared table broken → out ≡ Some after → BoundSays setting returned declared seen n table found b after P
+  bound_says : {P : Finding → Type 0} (seen : NamesBound) (n : Name) (table : Table) (broken : Option Env) (found : List Note) (b : BindingResult) (after : Env) (out : Option Env) → OutFits setting declared table broken → out ≡ Some after → BoundSays setting returned declared seen n table found b after P
       → WalkHere (n.text ∷ seen) table broken found (behind_binding frame broken b) out [] P
   bound_says seen n table broken found b after out k e h = record {
     fits = h.fits;
@@ -105,7 +105,7 @@ module _ (setting : Setting) (returned : Tree) (kr : IsWellFormed setting.contex
   }
 
   -- a walk over a suite that no run comes to
-  unreached_says : (seen : Seen) (w : Walk) → TableHere seen w.table → OutFits setting declared w.table w.broken → w.env ≡ None → (b : Stmts) → Undeclared m ctx declared seen (bound_by b) → (out : Option Env) → out ≡ None
+  unreached_says : (seen : NamesBound) (w : Walk) → TableHere seen w.table → OutFits setting declared w.table w.broken → w.env ≡ None → (b : Stmts) → AreUndeclared m ctx declared seen (bound_by b) → (out : Option Env) → out ≡ None
       → WalkHere (texts (bound_by b) ++ seen) w.table w.broken w.found (walk_suite frame w b) out [] (λ f. ⊥)
   unreached_says seen w t k e b u out o =
       let more = all_unreached_fit setting declared returned seen w.table t (bound_by b) u in
@@ -121,10 +121,10 @@ module _ (setting : Setting) (returned : Tree) (kr : IsWellFormed setting.contex
       })
 
   -- a statement, and what stands behind it
-  behind_says : (b : Test) (seen : Seen) (table : Table) (env : Env) (broken : Option Env) (found : List Note) (s : Stmt) (rest : Stmts) (s0 : StmtMarks s) (r : Behind b (Env × SuiteMarks rest)) (out : Option Env)
+  behind_says : (b : Test) (seen : NamesBound) (table : Table) (env : Env) (broken : Option Env) (found : List Note) (s : Stmt) (rest : Stmts) (s0 : StmtMarks s) (r : Behind b (Env × SuiteMarks rest)) (out : Option Env)
       → ((o : Option Env) → LawfulHere seen env s s0 o → WalkHere (texts (bound_by_stmt s) ++ seen) table broken found (step frame table (Some env) broken found s) o (breaks_in s s0) (StmtFinds m ctx seen s s0))
       → ((w : Walk) (mid : Env) → w.env ≡ Some mid → TableHere (texts (bound_by_stmt s) ++ seen) w.table → EnvFits setting declared w.table mid → OutFits setting declared w.table w.broken → (k : SuiteMarks rest) (o : Option Env) → LawfulThere (texts (bound_by_stmt s) ++ seen) mid rest k o → WalkHere (texts (bound_by rest) ++ (texts (bound_by_stmt s) ++ seen)) w.table w.broken w.found (walk_suite frame w rest) o (breaks_in_suite rest k) (SuiteFinds m ctx (texts (bound_by_stmt s) ++ seen) rest k))
-      → BehindRule b r (λ x. LawfulHere seen env s s0 (Some x.0) × LawfulThere (texts (bound_by_stmt s) ++ seen) x.0 rest x.1 out) (LawfulHere seen env s s0 None × Undeclared m ctx declared (texts (bound_by_stmt s) ++ seen) (bound_by rest) × (out ≡ None))
+      → BehindRule b r (λ x. LawfulHere seen env s s0 (Some x.0) × LawfulThere (texts (bound_by_stmt s) ++ seen) x.0 rest x.1 out) (LawfulHere seen env s s0 None × AreUndeclared m ctx declared (texts (bound_by_stmt s) ++ seen) (bound_by rest) × (out ≡ None))
       → WalkHere (texts (bound_by rest) ++ (texts (bound_by_stmt s) ++ seen)) table broken found (walk_suite frame (step frame table (Some env) broken found s) rest) out (breaks_in s s0 ++ behind_list b r (λ x. breaks_in_suite rest x.1)) (λ f. StmtFinds m ctx seen s s0 f ⊎ BehindRule b r (λ x. SuiteFinds m ctx (texts (bound_by_stmt s) ++ seen) rest x.1 f) ⊥)
   behind_says true seen table env broken found s rest s0 r out first next l =
       let v = step frame table (Some env) broken found s in
@@ -138,12 +138,12 @@ module _ (setting : Setting) (returned : Tree) (kr : IsWellFormed setting.contex
       both_say (texts (bound_by_stmt s) ++ seen) (texts (bound_by rest) ++ (texts (bound_by_stmt s) ++ seen)) table broken found v (walk_suite frame v rest) None out (breaks_in s s0) [] f n
 
   -- with the names of both in order
-  says_named : {P : Finding → Type 0} (a b : List Name) (seen : Seen) (table : Table) (broken : Option Env) (found : List Note) (w : Walk) (out : Option Env) (envs : List Env) → WalkHere (texts b ++ (texts a ++ seen)) table broken found w out envs P → WalkHere (texts (a ++ b) ++ seen) table broken found w out envs P
+  says_named : {P : Finding → Type 0} (a b : List Name) (seen : NamesBound) (table : Table) (broken : Option Env) (found : List Note) (w : Walk) (out : Option Env) (envs : List Env) → WalkHere (texts b ++ (texts a ++ seen)) table broken found w out envs P → WalkHere (texts (a ++ b) ++ seen) table broken found w out envs P
   says_named a b seen table broken found w out envs h = record { fits = fits_both setting declared a b seen w.table h.fits; grows = h.grows; env_is = h.env_is; env_fits = h.env_fits; broken_is = h.broken_is; broken_fits = h.broken_fits; found_is = h.found_is }
 
   -- ---- assignments
 
-  assignment_says : (seen : Seen) (table : Table) (env : Env) (broken : Option Env) (found : List Note) → TableHere seen table → EnvFits setting declared table env → OutFits setting declared table broken → (p : Place) (t : Target) (e : Expr) (marks : StmtMarks (assigns p t e)) (out : Option Env) → LawfulHere seen env (assigns p t e) marks out
+  assignment_says : (seen : NamesBound) (table : Table) (env : Env) (broken : Option Env) (found : List Note) → TableHere seen table → EnvFits setting declared table env → OutFits setting declared table broken → (p : Place) (t : Target) (e : Expr) (marks : StmtMarks (assigns p t e)) (out : Option Env) → LawfulHere seen env (assigns p t e) marks out
       → WalkHere (texts (bound_by_stmt (assigns p t e)) ++ seen) table broken found (step frame table (Some env) broken found (assigns p t e)) out [] (StmtFinds m ctx seen (assigns p t e) marks)
   assignment_says seen table env broken found t f k p (to_name n) e marks out l =
       let b = bind_value frame table env (ctx.resolve n.text) None e found in
@@ -164,7 +164,7 @@ module _ (setting : Setting) (returned : Tree) (kr : IsWellFormed setting.contex
   -- ---- statements, suites and branches
 
   mutual
-    pub stmt_says : (seen : Seen) (table : Table) (env : Env) (broken : Option Env) (found : List Note) → TableHere seen table → EnvFits setting declared table env → OutFits setting declared table broken → (s : Stmt) (marks : StmtMarks s) (out : Option Env) → LawfulHere seen env s marks out
+    pub stmt_says : (seen : NamesBound) (table : Table) (env : Env) (broken : Option Env) (found : List Note) → TableHere seen table → EnvFits setting declared table env → OutFits setting declared table broken → (s : Stmt) (marks : StmtMarks s) (out : Option Env) → LawfulHere seen env s marks out
         → WalkHere (texts (bound_by_stmt s) ++ seen) table broken found (step frame table (Some env) broken found s) out (breaks_in s marks) (StmtFinds m ctx seen s marks)
     stmt_says seen table env broken found t f k (pass p) marks out l = stays seen table broken found found (Some env) out t k (sym l) f (adds_nothing found)
     stmt_says seen table env broken found t f k (breaks p) marks out l = record {
@@ -255,7 +255,7 @@ module _ (setting : Setting) (returned : Tree) (kr : IsWellFormed setting.contex
               said;
         }))
     stmt_says seen table env broken found t f k (conditional p bs o) marks out l =
-        let start : Forked = record { table = table; last = env; ways = None; broken = broken; found = found } in
+        let start : BranchesResult = record { table = table; last = env; ways = None; broken = broken; found = found } in
         let fork = walk_branches frame start bs in
         let br = branches_says seen start env [] refl refl t f tt k bs marks.branches marks.last l.branches in
         let mid : Walk = record { table = fork.table; env = Some fork.last; broken = fork.broken; found = fork.found } in
@@ -275,7 +275,7 @@ module _ (setting : Setting) (returned : Tree) (kr : IsWellFormed setting.contex
           found_is = adds_both found fork.found w.found br.found_is el.found_is;
         }
 
-    pub suite_says : (seen : Seen) (w : Walk) (env : Env) → w.env ≡ Some env → TableHere seen w.table → EnvFits setting declared w.table env → OutFits setting declared w.table w.broken → (b : Stmts) (marks : SuiteMarks b) (out : Option Env) → LawfulThere seen env b marks out
+    pub suite_says : (seen : NamesBound) (w : Walk) (env : Env) → w.env ≡ Some env → TableHere seen w.table → EnvFits setting declared w.table env → OutFits setting declared w.table w.broken → (b : Stmts) (marks : SuiteMarks b) (out : Option Env) → LawfulThere seen env b marks out
         → WalkHere (texts (bound_by b) ++ seen) w.table w.broken w.found (walk_suite frame w b) out (breaks_in_suite b marks) (SuiteFinds m ctx seen b marks)
     suite_says seen w env e t f k no_stmts marks out l = record {
       fits = t;
@@ -294,7 +294,7 @@ module _ (setting : Setting) (returned : Tree) (kr : IsWellFormed setting.contex
         (λ v mid i tv fv kv x o y. suite_says (texts (bound_by_stmt s) ++ seen) v mid i tv fv kv rest x o y)
         l))
 
-    branches_says : (seen : Seen) (w : Forked) (env : Env) (before : List Env) → w.last ≡ env → w.ways ≡ join_ways ctx.bases declared before → TableHere seen w.table → EnvFits setting declared w.table env → OutFits setting declared w.table w.ways → OutFits setting declared w.table w.broken
+    branches_says : (seen : NamesBound) (w : BranchesResult) (env : Env) (before : List Env) → w.last ≡ env → w.ways ≡ join_ways ctx.bases declared before → TableHere seen w.table → EnvFits setting declared w.table env → OutFits setting declared w.table w.ways → OutFits setting declared w.table w.broken
         → (bs : Branches) (marks : BranchesMarks bs) (last : Env) → LawfulBranches m ctx declared returned seen env bs marks last
         → ForkSays setting declared (texts (bound_by_branches bs) ++ seen) w.table before w.broken w.found (walk_branches frame w bs) last (ways_in bs marks) (breaks_in_branches bs marks) (BranchesFind m ctx seen bs marks)
     branches_says seen w env before e ways t f kw k no_branches marks last l = record {
@@ -320,7 +320,7 @@ module _ (setting : Setting) (returned : Tree) (kr : IsWellFormed setting.contex
         let ku = body.fits.well_formed in
         let wf : OutFits setting declared u.table w.ways = out_grows setting declared w.table u.table w.ways body.grows kw in
         let ways' : with_way ctx.bases u.table w.ways u.env ≡ join_ways ctx.bases declared (before ++ option_to_list marks.out) = (λ i. with_way ctx.bases u.table (ways i) (body.env_is i)) ∙ one_way setting declared u.table ku before marks.out (subst (OutFits setting declared u.table) ways wf) body.env_fits in
-        let next : Forked = record { table = u.table; last = narrowed_at frame w.table false c env; ways = with_way ctx.bases u.table w.ways u.env; broken = u.broken; found = u.found } in
+        let next : BranchesResult = record { table = u.table; last = narrowed_at frame w.table false c env; ways = with_way ctx.bases u.table w.ways u.env; broken = u.broken; found = u.found } in
         let others = branches_says (texts (bound_by b) ++ seen) next (truth_of false c env) (before ++ option_to_list marks.out) (sym no) ways' body.fits (body.grows (truth_of false c env) (truth_fits setting declared w.table kt false c env f)) (way_fits setting declared u.table ku w.ways u.env wf (subst (OutFits setting declared u.table) (sym body.env_is) body.env_fits)) body.broken_fits rest marks.rest last l.others in
         let z = walk_branches frame next rest in
         subst (λ x. ForkSays setting declared (texts (bound_by_branches (more_branches c b rest)) ++ seen) w.table before w.broken w.found (walk_branches frame (record { table = w.table; last = x; ways = w.ways; broken = w.broken; found = w.found }) (more_branches c b rest)) last (ways_in (more_branches c b rest) marks) (breaks_in_branches (more_branches c b rest) marks) (BranchesFind m ctx seen (more_branches c b rest) marks)) (sym e)

@@ -11,15 +11,15 @@ use Rattle.pc_flow.specs.Environment.{Env}
 use Rattle.pc_flow.specs.WellFormed.{AreWellFormed, IsWellFormedEnv, IsWellFormedIfAny}
 use Rattle.pc_expr.specs.Operations.{clean, StoreOffer, store_codes, store_index_types, stored_types, only_type}
 use Rattle.pc_expr.specs.Context.{FlowsInto}
-use Rattle.pc_expr.specs.Labels.{Flowing, Marks, mark_of, type_of, Finds, IsFoundAt, IsFlowAt}
+use Rattle.pc_expr.specs.Labels.{FlowMarks, Marks, mark_of, type_of, Finds, IsFoundAt, IsFlowAt}
 use Rattle.pc_expr.specs.Lawful.{Lawful}
 use Rattle.pc_expr.specs.Computed.{flows_of}
 use Rattle.pc_expr.specs.Found.{codes_at, flows_at}
 use Rattle.pc_expr.specs.Standing.{Standing, mark_in, finds_in}
 use Rattle.pc_check.specs.StatementLabels.{OptionMarks, TargetMarks}
 use Rattle.pc_check.specs.Statements.{attribute_offers, index_offers, LawfulStore, LawfulReturn, LawfulOption, OptionFinds, option_place, TargetFinds}
-use Rattle.pc_check.specs.Labelled.{Setting}
-use Rattle.pc_check.specs.ComputedStatements.{Table, Frame, attribute_stores, index_stores, stored_finds, store_finds, option_finds, return_finds}
+use Rattle.pc_check.specs.LabellingLaws.{Setting}
+use Rattle.pc_check.specs.ComputedStatements.{Table, BodyFrame, attribute_stores, index_stores, stored_finds, store_finds, option_finds, return_finds}
 use Rattle.pc_check.specs.WalkLaw.{EnvFits, frame_in}
 use Rattle.pc_check.proofs.StoredTypes.{fields_stored, items_stored, keys_stored, only_well_formed}
 use Rattle.pc_check.proofs.WalkedFindings.{Lists, lists_nothing, lists_same, lists_both, lists_codes}
@@ -28,7 +28,7 @@ use Rattle.pc_check.proofs.WalkedExpressions.{here, ExpressionTold, told, flows_
 module _ (setting : Setting) (returned : Tree) (kr : IsWellFormed setting.context.bases returned) (declared : List Tree) (table : Table) (kt : IsWellFormedEnv setting.context.bases table) (env : Env) (h : EnvFits setting declared table env) where
   open setting use {whole as m, context as ctx, context_well_formed as ck}
 
-  abbrev frame : Frame
+  abbrev frame : BodyFrame
   frame = frame_in setting returned
 
   abbrev at_env : Standing
@@ -41,7 +41,7 @@ module _ (setting : Setting) (returned : Tree) (kr : IsWellFormed setting.contex
   read want kw e marks l = told setting declared table kt env h want kw e marks l
 
   -- an expression, and then its flows into several types
-  flowing : (want : Option Tree) (e : Expr) (marks : Marks e) (ts : List Tree) (flows : Flowing) → Reads want e marks → AreWellFormed ctx.bases ts → FlowsInto ctx.bases (mark_of e marks) ts flows
+  flowing : (want : Option Tree) (e : Expr) (marks : Marks e) (ts : List Tree) (flows : FlowMarks) → Reads want e marks → AreWellFormed ctx.bases ts → FlowsInto ctx.bases (mark_of e marks) ts flows
       → Lists (flows_at (place_of e) (flows_of ctx.bases (mark_in at_env want e) ts)) (IsFlowAt (place_of e) flows)
   flowing want e marks ts flows v k l =
       subst (λ x. Lists (flows_at (place_of e) (flows_of ctx.bases x ts)) (IsFlowAt (place_of e) flows)) (sym v.mark)
@@ -50,7 +50,7 @@ module _ (setting : Setting) (returned : Tree) (kr : IsWellFormed setting.contex
   -- ---- stores
 
   -- at the store, and of the value
-  stored_says : (os : List StoreOffer) → AreWellFormed ctx.bases (stored_types os) → (p : Place) (e : Expr) (marks : Marks e) (flows : Flowing) → Lawful ctx declared env (only_type os (stored_types os)) e marks → FlowsInto ctx.bases (mark_of e marks) (stored_types os) flows
+  stored_says : (os : List StoreOffer) → AreWellFormed ctx.bases (stored_types os) → (p : Place) (e : Expr) (marks : Marks e) (flows : FlowMarks) → Lawful ctx declared env (only_type os (stored_types os)) e marks → FlowsInto ctx.bases (mark_of e marks) (stored_types os) flows
       → Lists (stored_finds frame at_env os p e) (λ f. IsFoundAt p (store_codes os) f ⊎ (Finds e marks f ⊎ IsFlowAt (place_of e) flows f))
   stored_says os k p e marks flows l fl =
       let want = only_type os (stored_types os) in
@@ -60,10 +60,10 @@ module _ (setting : Setting) (returned : Tree) (kr : IsWellFormed setting.contex
       lists_both (codes_at p (store_codes os)) (xs ++ ys) (lists_codes p (store_codes os)) (lists_both xs ys v.found (flowing want e marks (stored_types os) flows v k fl))
 
   -- what an assignment to a target that is no name says
-  abbrev StoreSays : (t : Target) → TargetMarks t → (e : Expr) → Marks e → Flowing → Finding → Type 0
+  abbrev StoreSays : (t : Target) → TargetMarks t → (e : Expr) → Marks e → FlowMarks → Finding → Type 0
   StoreSays t target e marks flows f = IsFlowAt (place_of e) flows f ⊎ (Finds e marks f ⊎ TargetFinds m ctx t target f)
 
-  pub store_says : (t : Target) (target : TargetMarks t) (e : Expr) (marks : Marks e) (flows : Flowing) → LawfulStore m ctx declared env t target e marks flows → Lists (store_finds frame at_env t e) (StoreSays t target e marks flows)
+  pub store_says : (t : Target) (target : TargetMarks t) (e : Expr) (marks : Marks e) (flows : FlowMarks) → LawfulStore m ctx declared env t target e marks flows → Lists (store_finds frame at_env t e) (StoreSays t target e marks flows)
   store_says (to_name n) target e marks flows l = absurd l
   store_says (to_attribute p o field) target e marks flows l =
       let v = read None tt o target.object l.object in
@@ -119,7 +119,7 @@ module _ (setting : Setting) (returned : Tree) (kr : IsWellFormed setting.contex
   option_says None marks l = lists_nothing
   option_says (Some e) marks l = (read None tt e marks l).found
 
-  pub return_says : (p : Place) (e : Option Expr) (marks : OptionMarks e) (flows : Flowing) → LawfulReturn m ctx declared returned env e marks flows → Lists (return_finds frame at_env p e) (λ f. IsFlowAt (option_place m ctx p e) flows f ⊎ OptionFinds m ctx e marks f)
+  pub return_says : (p : Place) (e : Option Expr) (marks : OptionMarks e) (flows : FlowMarks) → LawfulReturn m ctx declared returned env e marks flows → Lists (return_finds frame at_env p e) (λ f. IsFlowAt (option_place m ctx p e) flows f ⊎ OptionFinds m ctx e marks f)
   return_says p None marks flows l =
       lists_same (return_finds frame at_env p None) (λ f y. inl y) (λ f y. elim y [ inl a ↦ a | inr b ↦ absurd b ])
       (flows_found setting p (clean NoneType) (returned ∷ []) flows (flows_told setting (clean NoneType) (returned ∷ []) flows (tt, tt, omega arith) (kr, tt) l))

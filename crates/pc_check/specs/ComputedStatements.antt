@@ -20,20 +20,20 @@ use Rattle.pc_types.specs.Annotations.{read_ann}
 use Rattle.pc_types.specs.Computed.{static_test}
 use Rattle.pc_ann.specs.Listed.{ann_findings}
 use Rattle.pc_class.specs.Bases.{bases_of}
-use Rattle.pc_class.specs.Facts.{Parameter, returned}
+use Rattle.pc_class.specs.Facts.{TypedParameter, return_type}
 use Rattle.pc_flow.specs.Environment.{Env, assign, assigned_type, join_env, loop_head, none_assigned}
 use Rattle.pc_flow.specs.Narrowing.{narrow}
-use Rattle.pc_notes.specs.Notes.{Note, plain}
+use Rattle.pc_notes.specs.Notes.{Note, plain_note}
 use Rattle.pc_expr.specs.Operations.{Mark, clean, offers_mark, iterate_member, StoreOffer, store_attribute_member, store_index_member, store_codes, store_index_types, stored_types, only_type}
 use Rattle.pc_expr.specs.Context.{Context}
-use Rattle.pc_expr.specs.Calls.{given, is_range, range_item}
+use Rattle.pc_expr.specs.Calls.{arguments_given, is_range, range_item}
 use Rattle.pc_expr.specs.Computed.{flows_of}
 use Rattle.pc_expr.specs.Found.{codes_at, flows_at}
 use Rattle.pc_expr.specs.Standing.{Standing, mark_in, finds_in}
 use Rattle.pc_expr.specs.Typing.{range_finds}
 use Rattle.pc_expr.specs.Signatures.{body_context}
 use Rattle.pc_check.specs.Statements.{only_code, binds_number}
-use Rattle.pc_check.specs.Modules.{entries_of}
+use Rattle.pc_check.specs.Modules.{entry_parameters}
 
 -- ---- declared types so far
 
@@ -50,19 +50,19 @@ abbrev pub bound_type : Table → ℕ → Option Tree
 bound_type table x = slice_index_or table x None
 
 -- with a declared type for a local, unless it has this one already
-abbrev pub settled : {A : Type 0} → (bound : Option A) → List (Option A) → ℕ → A → List (Option A)
-settled (Some d) table x t = table
-settled None table x t = slice_set table x (Some t)
+abbrev pub with_declared : {A : Type 0} → (bound : Option A) → List (Option A) → ℕ → A → List (Option A)
+with_declared (Some d) table x t = table
+with_declared None table x t = slice_set table x (Some t)
 
 -- the declared type of a local that is known before a value is bound to it: the one that it has, else its annotation
-abbrev pub known : (bound : Option Tree) → (annotation : Option Tree) → Option Tree
-known (Some d) annotation = Some d
-known None annotation = annotation
+abbrev pub known_declared : (bound : Option Tree) → (annotation : Option Tree) → Option Tree
+known_declared (Some d) annotation = Some d
+known_declared None annotation = annotation
 
 -- ---- what a walk has come to
 
 -- what the statements of a function stand in: the module, what they may name, and the type that the function returns
-pub record Frame : Type 0 where
+pub record BodyFrame : Type 0 where
   pub whole : Module
   pub context : Context
   pub returned : Tree
@@ -76,14 +76,14 @@ pub record Walk : Type 0 where
   pub found : List Note
 
 -- what a name bound comes to: declared types, the environment behind it, and what was found
-pub record Bound : Type 0 where
+pub record BindingResult : Type 0 where
   pub table : Table
   pub env : Env
   pub found : List Note
 
 -- what a walk over branches has come to: declared types, the environment where all conditions so far are false, the ways out of the
 -- suites joined, breaks, and what was found
-pub record Forked : Type 0 where
+pub record BranchesResult : Type 0 where
   pub table : Table
   pub last : Env
   pub ways : Option Env
@@ -101,7 +101,7 @@ with_way bases table ways None = ways
 with_way bases table None (Some env) = Some env
 with_way bases table (Some way) (Some env) = Some (join_env bases (type_table table) way env)
 
-module _ (frame : Frame) where
+module _ (frame : BodyFrame) where
   -- what an expression stands in
   abbrev pub at : Table → Env → Standing
   at table env = record { context = frame.context; declared = type_table table; env = env }
@@ -114,7 +114,7 @@ module _ (frame : Frame) where
 
   -- a local that is first bound where no run comes has Any
   abbrev pub unreached_name : Table → Res → Table
-  unreached_name table (res.Local x) = settled (bound_type table x) table x Any
+  unreached_name table (res.Local x) = with_declared (bound_type table x) table x Any
   unreached_name table r = table
 
   -- so for each of several names
@@ -125,32 +125,32 @@ module _ (frame : Frame) where
   -- ---- binding a name
 
   -- a local bound to what has this label, at this place: its declared type, the flow into it, and its current type
-  abbrev pub bind_label : (table : Table) → Env → ℕ → (want : Option Tree) → Place → Mark → List Note → Bound
+  abbrev pub bind_label : (table : Table) → Env → ℕ → (want : Option Tree) → Place → Mark → List Note → BindingResult
   bind_label table env x want p mark found =
       let d = unwrap_or want mark.type in
       let flows = flows_of frame.context.bases mark (d ∷ []) in
       record {
-        table = settled (bound_type table x) table x d;
+        table = with_declared (bound_type table x) table x d;
         env = assign env x (assigned_type d mark.type (only_code flows));
         found = found ++ flows_at p flows;
       }
 
   -- a value bound to a name, with its annotation if it is one that counts; what is reserved binds nothing
-  abbrev pub bind_value : Table → Env → Res → (annotation : Option Tree) → Expr → List Note → Bound
+  abbrev pub bind_value : Table → Env → Res → (annotation : Option Tree) → Expr → List Note → BindingResult
   bind_value table env (res.Local x) annotation e found =
-      let want = known (bound_type table x) annotation in
+      let want = known_declared (bound_type table x) annotation in
       bind_label table env x want (place_of e) (mark_in (at table env) want e) (found ++ finds_in (at table env) want e)
   bind_value table env r annotation e found = record { table = table; env = env; found = found ++ finds_in (at table env) None e }
 
   -- a name annotated alone
   abbrev pub declared_alone : Table → Res → Tree → Table
-  declared_alone table (res.Local x) t = settled (bound_type table x) table x t
+  declared_alone table (res.Local x) t = with_declared (bound_type table x) table x t
   declared_alone table r t = table
 
   -- what is found at an annotation: E24 of a local that is bound already, else what is found in it
   abbrev pub annotation_finds : (bound : Option Tree) → Name → Ann → List Note
-  annotation_finds (Some d) n a = plain (finding n.place E24) ∷ []
-  annotation_finds None n a = map plain (ann_findings frame.whole frame.context.bases a)
+  annotation_finds (Some d) n a = plain_note (finding n.place E24) ∷ []
+  annotation_finds None n a = map plain_note (ann_findings frame.whole frame.context.bases a)
 
   -- the declared type of the local that a name means, if it means one that is bound so far
   abbrev pub bound_name : Table → Res → Option Tree
@@ -158,7 +158,7 @@ module _ (frame : Frame) where
   bound_name table r = None
 
   -- a name annotated, with a value or alone
-  abbrev pub bind_annotated : Table → Env → Name → Ann → Option Expr → List Note → Bound
+  abbrev pub bind_annotated : Table → Env → Name → Ann → Option Expr → List Note → BindingResult
   bind_annotated table env n a None found = record {
     table = declared_alone table (frame.context.resolve n.text) (read_ann frame.whole frame.context.bases a);
     env = env;
@@ -192,7 +192,7 @@ module _ (frame : Frame) where
       finds_in k None o ++ (finds_in k None i ++ (flows_at (place_of i) (flows_of frame.context.bases (mark_in k None i) (store_index_types offers)) ++ stored_finds k offers p e))
 
   -- an assignment: a name is bound, any other target is stored to
-  abbrev pub assign_target : Table → Env → Target → Expr → List Note → Bound
+  abbrev pub assign_target : Table → Env → Target → Expr → List Note → BindingResult
   assign_target table env (to_name n) e found = bind_value table env (frame.context.resolve n.text) None e found
   assign_target table env t e found = record { table = table; env = env; found = found ++ store_finds (at table env) t e }
 
@@ -203,10 +203,10 @@ module _ (frame : Frame) where
   values_item k e = offers_mark frame.context.bases (map (iterate_member frame.context.bases) (members (mark_in k None e).type))
 
   -- the label of a turn's item
-  abbrev pub item_of : Standing → Expr → Mark
-  item_of k (call p (name n) arguments keywords) =
-      if is_range (frame.context.resolve n.text) then range_item (given arguments keywords) else values_item k (call p (name n) arguments keywords)
-  item_of k e = values_item k e
+  abbrev pub item_mark_of : Standing → Expr → Mark
+  item_mark_of k (call p (name n) arguments keywords) =
+      if is_range (frame.context.resolve n.text) then range_item (arguments_given arguments keywords) else values_item k (call p (name n) arguments keywords)
+  item_mark_of k e = values_item k e
 
   -- what is found in an iterable
   abbrev pub iterable_finds : Standing → Expr → List Note
@@ -215,7 +215,7 @@ module _ (frame : Frame) where
   iterable_finds k e = finds_in k None e
 
   -- the target of a `for` bound to an item of this type, in the environment at the head
-  abbrev pub bind_item : Table → (head : Env) → Res → Place → Tree → List Note → Bound
+  abbrev pub bind_item : Table → (head : Env) → Res → Place → Tree → List Note → BindingResult
   bind_item table head (res.Local x) p t found = bind_label table head x (bound_type table x) p (clean t) found
   bind_item table head r p t found = record { table = table; env = head; found = found }
 
@@ -236,11 +236,11 @@ module _ (frame : Frame) where
   return_finds k p (Some e) = finds_in k (Some frame.returned) e ++ flows_at (place_of e) (flows_of frame.context.bases (mark_in k (Some frame.returned) e) (frame.returned ∷ []))
 
   -- behind a name that is bound
-  abbrev pub behind_binding : (broken : Option Env) → Bound → Walk
+  abbrev pub behind_binding : (broken : Option Env) → BindingResult → Walk
   behind_binding broken b = record { table = b.table; env = Some b.env; broken = broken; found = b.found }
 
   -- in the body of a `for`, whose way out is the head
-  abbrev pub inside_for : (head : Env) → Bound → Walk
+  abbrev pub inside_for : (head : Env) → BindingResult → Walk
   inside_for head b = record { table = b.table; env = Some b.env; broken = Some head; found = b.found }
 
   -- behind a loop: the way out of it, with each `break`; the breaks of a loop around it are as before it
@@ -279,7 +279,7 @@ module _ (frame : Frame) where
         }) b)
     step table (Some env) broken found (for_loop p n e b) =
         let head = head_at table (n ∷ bound_by b) env in
-        let item = item_of (at table env) e in
+        let item = item_mark_of (at table env) e in
         behind_loop broken (walk_suite (inside_for head (bind_item table head (frame.context.resolve n.text) (place_of e) item.type
         ((found ++ iterable_finds (at table env) e) ++ codes_at (place_of e) item.codes))) b)
     step table (Some env) broken found (conditional p bs o) =
@@ -290,7 +290,7 @@ module _ (frame : Frame) where
     walk_suite w no_stmts = w
     walk_suite w (more_stmts s rest) = walk_suite (step w.table w.env w.broken w.found s) rest
 
-    pub walk_branches : Forked → Branches → Forked
+    pub walk_branches : BranchesResult → Branches → BranchesResult
     walk_branches w no_branches = w
     walk_branches w (more_branches c b rest) =
         let body = walk_suite (record {
@@ -318,28 +318,28 @@ abbrev pub enter_name : Table → Env → Res → Tree → Table × Env
 enter_name table env (res.Local x) t = enter_local (bound_type table x) table env x t
 enter_name table env r t = (table, env)
 
-abbrev pub enter : (List ℕ → Res) → Table → Env → List Parameter → Table × Env
-enter resolve table env [] = (table, env)
-enter resolve table env (p ∷ ps) = let r = enter_name table env (resolve p.name) p.type in enter resolve r.0 r.1 ps
+abbrev pub enter_parameters : (List ℕ → Res) → Table → Env → List TypedParameter → Table × Env
+enter_parameters resolve table env [] = (table, env)
+enter_parameters resolve table env (p ∷ ps) = let r = enter_name table env (resolve p.name) p.type in enter_parameters resolve r.0 r.1 ps
 
 -- E21 at this place: the end of the body can be reached, and None is not static to the return type
-abbrev pub end_finds : Bases → (returned : Tree) → Place → (out : Option Env) → List Note
-end_finds bases returned p None = []
-end_finds bases returned p (Some env) = if static_test bases NoneType returned then [] else plain (finding p E21) ∷ []
+abbrev pub end_finds : Bases → (return_type : Tree) → Place → (out : Option Env) → List Note
+end_finds bases return_type p None = []
+end_finds bases return_type p (Some env) = if static_test bases NoneType return_type then [] else plain_note (finding p E21) ∷ []
 
 -- what the statements of a function stand in
-abbrev pub frame_of : Module → (constants : List Tree) → Owner → FuncDef → Frame
-frame_of m constants owner f = record { whole = m; context = body_context m constants (locals owner f); returned = returned m f }
+abbrev pub body_frame_of : Module → (constants : List Tree) → Owner → FuncDef → BodyFrame
+body_frame_of m constants owner f = record { whole = m; context = body_context m constants (locals owner f); returned = return_type m f }
 
 -- the walk over the body of a function, from its entry
 abbrev pub walk_body : Module → (constants : List Tree) → Owner → FuncDef → List Note → Walk
 walk_body m constants owner f found =
-    let frame = frame_of m constants owner f in
-    let start = enter frame.context.resolve (none_assigned (length (locals owner f))) (none_assigned (length (locals owner f))) (entries_of m owner f) in
+    let frame = body_frame_of m constants owner f in
+    let start = enter_parameters frame.context.resolve (none_assigned (length (locals owner f))) (none_assigned (length (locals owner f))) (entry_parameters m owner f) in
     walk_suite frame (record { table = start.0; env = Some start.1; broken = None; found = found }) f.body
 
 -- what was found, and then what is found in the body of a function, and E21 at its name
 abbrev pub function_finds : Module → (constants : List Tree) → Owner → FuncDef → List Note → List Note
 function_finds m constants owner f found =
     let body = walk_body m constants owner f found in
-    body.found ++ end_finds (bases_of m) (returned m f) f.name.place body.env
+    body.found ++ end_finds (bases_of m) (return_type m f) f.name.place body.env

@@ -1,14 +1,11 @@
 pub mod Agreement
-pub mod Checking
 pub mod ComputedModules
 pub mod ComputedStatements
 pub mod DynamicFlows
-pub mod Entering
-pub mod Labelled
 pub mod ModuleLaw
 pub mod Modules
-pub mod Ranging
 pub mod StatementLabels
 pub mod Statements
 pub mod WalkLaw
-pub mod Walking
+pub mod Internal
+pub mod LabellingLaws

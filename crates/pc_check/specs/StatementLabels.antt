@@ -5,7 +5,7 @@ use Rattle.pc_tree.specs.declared.code.Code.{Code}
 use Rattle.pc_tree.specs.Tree.{Expr, Target, to_name, to_attribute, to_index, Stmt, Stmts, Branches, pass, breaks, continues, returns, asserts, annotated, assigns, evaluates, while_loop, for_loop, conditional, no_stmts, more_stmts, no_branches, more_branches}
 use Rattle.pc_scope.specs.Reach.{completes}
 use Rattle.pc_flow.specs.Environment.{Env}
-use Rattle.pc_expr.specs.Labels.{Flowing, Marks}
+use Rattle.pc_expr.specs.Labels.{FlowMarks, Marks}
 use Rattle.pc_expr.specs.Operations.{Mark}
 
 -- the labels of an expression that may be missing
@@ -17,7 +17,7 @@ OptionMarks (Some e) = Marks e
 abbrev pub TargetMarks : Target → Type 0
 TargetMarks (to_name n) = Unit {0}
 TargetMarks (to_attribute p e field) = record { codes : List Code; object : Marks e }
-TargetMarks (to_index p e i) = record { codes : List Code; object : Marks e; key : Marks i; key_flows : Flowing }
+TargetMarks (to_index p e i) = record { codes : List Code; object : Marks e; key : Marks i; key_flows : FlowMarks }
 
 -- what stands behind a statement that can complete; behind another one there are no labels
 abbrev pub Behind : (completes : Test) → Type 0 → Type 0
@@ -31,13 +31,13 @@ abbrev mutual
   StmtMarks (pass p) = Unit {0}
   StmtMarks (breaks p) = Env
   StmtMarks (continues p) = Unit {0}
-  StmtMarks (returns p value) = record { value : OptionMarks value; flows : Flowing }
+  StmtMarks (returns p value) = record { value : OptionMarks value; flows : FlowMarks }
   StmtMarks (asserts p condition message) = record { condition : Marks condition; message : OptionMarks message }
-  StmtMarks (annotated p n annotation value) = record { value : OptionMarks value; flows : Flowing }
-  StmtMarks (assigns p target value) = record { value : Marks value; target : TargetMarks target; flows : Flowing }
+  StmtMarks (annotated p n annotation value) = record { value : OptionMarks value; flows : FlowMarks }
+  StmtMarks (assigns p target value) = record { value : Marks value; target : TargetMarks target; flows : FlowMarks }
   StmtMarks (evaluates p value) = Marks value
   StmtMarks (while_loop p c b) = record { head : Env; condition : Marks c; body : SuiteMarks b; out : Option Env }
-  StmtMarks (for_loop p n e b) = record { iterable : Marks e; item : Mark; flows : Flowing; head : Env; body : SuiteMarks b; out : Option Env }
+  StmtMarks (for_loop p n e b) = record { iterable : Marks e; item : Mark; flows : FlowMarks; head : Env; body : SuiteMarks b; out : Option Env }
   StmtMarks (conditional p bs o) = record { branches : BranchesMarks bs; last : Env; otherwise : SuiteMarks o; out : Option Env }
 
   -- the environment behind the first statement, and the labels of the others

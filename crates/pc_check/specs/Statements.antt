@@ -13,7 +13,7 @@ use Rattle.pc_scope.specs.declared.resolution.Res.TheVariants as res
 use Rattle.pc_tree.specs.Stopping.{bound_by_stmt, bound_by, bound_by_branches}
 use Rattle.pc_tree.specs.Depth.{place_of}
 use Rattle.pc_scope.specs.Bindings.{texts}
-use Rattle.pc_scope.specs.Resolution.{is_among}
+use Rattle.pc_scope.specs.Resolution.{is_one_of}
 use Rattle.pc_scope.specs.Reach.{completes}
 use Rattle.pc_types.specs.Tree.{Tree, Any, NoneType}
 use Rattle.pc_types.specs.Shape.{members}
@@ -22,32 +22,32 @@ use Rattle.pc_flow.specs.Environment.{Env, declared_type, assign, assigned_type,
 use Rattle.pc_flow.specs.Narrowing.{narrow}
 use Rattle.pc_expr.specs.Operations.{Mark, clean, offers_mark, StoreOffer, store_codes, store_index_types, stored_types, only_type, store_attribute_member, store_index_member, iterate_member}
 use Rattle.pc_expr.specs.Context.{Context, FlowsInto}
-use Rattle.pc_expr.specs.Calls.{given, call_mark, positional_seat, named_seat, is_range, range_offers, range_item}
-use Rattle.pc_expr.specs.Labels.{Flowing, Marks, mark_of, type_of, with_mark, Finds, IsFoundAt, IsFlowAt}
+use Rattle.pc_expr.specs.Calls.{arguments_given, call_mark, positional_seat, named_seat, is_range, range_offers, range_item}
+use Rattle.pc_expr.specs.Labels.{FlowMarks, Marks, mark_of, type_of, with_mark, Finds, IsFoundAt, IsFlowAt}
 use Rattle.pc_expr.specs.Lawful.{Lawful, LawfulItems, LawfulKeywords}
 use Rattle.pc_check.specs.StatementLabels.{OptionMarks, TargetMarks, StmtMarks, SuiteMarks, BranchesMarks, BehindRule, breaks_in_suite, ways_in}
 
 -- the code of a single flow
-abbrev pub only_code : Flowing → Option Code
+abbrev pub only_code : FlowMarks → Option Code
 only_code [] = None
 only_code (f ∷ fs) = f.code
 
 -- the names bound so far, in text order: a name is bound first where it is not among them
-abbrev pub Seen : Type 0
-Seen = List (List ℕ)
+abbrev pub NamesBound : Type 0
+NamesBound = List (List ℕ)
 
 -- the name is none of those bound so far
-abbrev pub is_first : Seen → Name → Test
-is_first seen n = not (is_among n.text seen)
+abbrev pub is_first : NamesBound → Name → Test
+is_first seen n = not (is_one_of n.text seen)
 
 -- a meaning is the local of this number
-abbrev pub is_number : ℕ → Res → Test
-is_number x (res.Local y) = nat_eq x y
-is_number x _ = false
+abbrev pub is_local_number : ℕ → Res → Test
+is_local_number x (res.Local y) = nat_eq x y
+is_local_number x _ = false
 
 -- one of the names means the local of this number
 abbrev pub binds_number : (List ℕ → Res) → List Name → ℕ → Test
-binds_number resolve names x = list_any (λ n. is_number x (resolve n.text)) names
+binds_number resolve names x = list_any (λ n. is_local_number x (resolve n.text)) names
 
 -- ---- what a `for` goes over
 
@@ -70,9 +70,9 @@ module _ (m : Module) (ctx : Context) (declared : List Tree) where
     value : Marks c;
     lawful : Lawful ctx declared env None c value;
     callee : marks.callee ≡ with_mark c value (clean Any);
-    arguments : LawfulItems ctx declared env (positional_seat (range_offers (given args kws))) args marks.arguments;
-    keywords : LawfulKeywords ctx declared env (named_seat (range_offers (given args kws))) [] kws marks.keywords;
-    here : marks.here ≡ call_mark ctx.bases (range_offers (given args kws));
+    arguments : LawfulItems ctx declared env (positional_seat (range_offers (arguments_given args kws))) args marks.arguments;
+    keywords : LawfulKeywords ctx declared env (named_seat (range_offers (arguments_given args kws))) [] kws marks.keywords;
+    here : marks.here ≡ call_mark ctx.bases (range_offers (arguments_given args kws));
     second : marks.second ≡ None;
   }
 
@@ -88,7 +88,7 @@ module _ (m : Module) (ctx : Context) (declared : List Tree) where
   -- the iterable of a `for` is lawful, and this is the label of its items
   abbrev pub LawfulIterable : Env → (e : Expr) → Marks e → Mark → Type 0
   LawfulIterable env (call p (name n) args kws) marks item =
-      RangeOrValues (is_range (ctx.resolve n.text)) (LawfulRange env (name n) args kws p marks × (item ≡ range_item (given args kws))) (LawfulValues env (call p (name n) args kws) marks item)
+      RangeOrValues (is_range (ctx.resolve n.text)) (LawfulRange env (name n) args kws p marks × (item ≡ range_item (arguments_given args kws))) (LawfulValues env (call p (name n) args kws) marks item)
   LawfulIterable env e marks item = LawfulValues env e marks item
 
   -- ---- binding a local
@@ -105,11 +105,11 @@ module _ (m : Module) (ctx : Context) (declared : List Tree) where
   known_type first x annotation = Some (declared_type declared x)
 
   -- a local after a type was assigned to it, with the code of that flow
-  abbrev pub bound_env : Env → ℕ → Tree → Flowing → Env
+  abbrev pub bound_env : Env → ℕ → Tree → FlowMarks → Env
   bound_env env x from flows = assign env x (assigned_type (declared_type declared x) from (only_code flows))
 
   -- a value is assigned to a name; what is reserved binds nothing, and nothing flows into it
-  abbrev pub LawfulBinding : Env → Seen → Name → Res → Option Tree → (e : Expr) → Marks e → Flowing → Env → Type 0
+  abbrev pub LawfulBinding : Env → NamesBound → Name → Res → Option Tree → (e : Expr) → Marks e → FlowMarks → Env → Type 0
   LawfulBinding env seen n (res.Local x) annotation e marks flows after = record {
     value : Lawful ctx declared env (known_type (is_first seen n) x annotation) e marks;
     at_first : DeclaredAt (is_first seen n) x annotation (type_of e marks);
@@ -123,12 +123,12 @@ module _ (m : Module) (ctx : Context) (declared : List Tree) where
   }
 
   -- a name that is annotated alone
-  abbrev pub LawfulDeclaration : Seen → Name → Res → Tree → Type 0
+  abbrev pub LawfulDeclaration : NamesBound → Name → Res → Tree → Type 0
   LawfulDeclaration seen n (res.Local x) t = DeclaredAt (is_first seen n) x (Some t) t
   LawfulDeclaration seen n _ t = Unit {0}
 
   -- the target of a `for`, with its item type
-  abbrev pub LawfulTarget : Seen → Name → Res → Env → Mark → Flowing → Env → Type 0
+  abbrev pub LawfulTarget : NamesBound → Name → Res → Env → Mark → FlowMarks → Env → Type 0
   LawfulTarget seen n (res.Local x) head item flows inside = record {
     at_first : DeclaredAt (is_first seen n) x None item.type;
     flow : FlowsInto ctx.bases (clean item.type) (declared_type declared x ∷ []) flows;
@@ -142,9 +142,9 @@ module _ (m : Module) (ctx : Context) (declared : List Tree) where
   UndeclaredName first r = Unit {0}
 
   -- each of the names that is first bound where no run comes has Any as declared type
-  abbrev pub Undeclared : Seen → List Name → Type 0
-  Undeclared seen [] = Unit {0}
-  Undeclared seen (n ∷ ns) = UndeclaredName (is_first seen n) (ctx.resolve n.text) × Undeclared (n.text ∷ seen) ns
+  abbrev pub AreUndeclared : NamesBound → List Name → Type 0
+  AreUndeclared seen [] = Unit {0}
+  AreUndeclared seen (n ∷ ns) = UndeclaredName (is_first seen n) (ctx.resolve n.text) × AreUndeclared (n.text ∷ seen) ns
 
   -- ---- targets that are no names
 
@@ -157,7 +157,7 @@ module _ (m : Module) (ctx : Context) (declared : List Tree) where
   index_offers t = map store_index_member (members t)
 
   -- a store to an attribute or an item is lawful: its parts, the codes at the target, and the flows
-  abbrev pub LawfulStore : Env → (t : Target) → TargetMarks t → (e : Expr) → Marks e → Flowing → Type 0
+  abbrev pub LawfulStore : Env → (t : Target) → TargetMarks t → (e : Expr) → Marks e → FlowMarks → Type 0
   LawfulStore env (to_name n) target e marks flows = ⊥
   LawfulStore env (to_attribute p o field) target e marks flows = record {
     object : Lawful ctx declared env None o target.object;
@@ -175,7 +175,7 @@ module _ (m : Module) (ctx : Context) (declared : List Tree) where
   }
 
   -- an assignment is lawful, with the environment after it: a name is bound, any other target is stored to
-  abbrev pub LawfulAssignment : Env → Seen → (t : Target) → TargetMarks t → (e : Expr) → Marks e → Flowing → Env → Type 0
+  abbrev pub LawfulAssignment : Env → NamesBound → (t : Target) → TargetMarks t → (e : Expr) → Marks e → FlowMarks → Env → Type 0
   LawfulAssignment env seen (to_name n) target e marks flows after = LawfulBinding env seen n (ctx.resolve n.text) None e marks flows after
   LawfulAssignment env seen t target e marks flows after = LawfulStore env t target e marks flows × (after ≡ env)
 
@@ -185,14 +185,14 @@ module _ (m : Module) (ctx : Context) (declared : List Tree) where
   annotation_at false t = None
 
   -- an annotated name is lawful, with or without a value, with the environment after it
-  abbrev pub LawfulAnnotated : Env → Seen → Name → Ann → (e : Option Expr) → OptionMarks e → Flowing → Env → Type 0
+  abbrev pub LawfulAnnotated : Env → NamesBound → Name → Ann → (e : Option Expr) → OptionMarks e → FlowMarks → Env → Type 0
   LawfulAnnotated env seen n a None marks flows after = LawfulDeclaration seen n (ctx.resolve n.text) (read_ann m ctx.bases a) × (flows ≡ []) × (after ≡ env)
   LawfulAnnotated env seen n a (Some e) marks flows after =
       LawfulBinding env seen n (ctx.resolve n.text) (annotation_at (is_first seen n) (read_ann m ctx.bases a)) e marks flows after
 
   module _ (returned : Tree) where
     -- the value of a `return` is lawful and flows into the return type; without a value None does
-    abbrev pub LawfulReturn : Env → (e : Option Expr) → OptionMarks e → Flowing → Type 0
+    abbrev pub LawfulReturn : Env → (e : Option Expr) → OptionMarks e → FlowMarks → Type 0
     LawfulReturn env None marks flows = FlowsInto ctx.bases (clean NoneType) (returned ∷ []) flows
     LawfulReturn env (Some e) marks flows = Lawful ctx declared env (Some returned) e marks × FlowsInto ctx.bases (mark_of e marks) (returned ∷ []) flows
 
@@ -204,7 +204,7 @@ module _ (m : Module) (ctx : Context) (declared : List Tree) where
     -- the labels of statements, suites and branches are lawful
     abbrev mutual
       -- a statement, behind the names bound so far, from the environment before it to the one after it, if it can complete
-      pub LawfulStmt : Seen → Env → (s : Stmt) → StmtMarks s → Option Env → Type 0
+      pub LawfulStmt : NamesBound → Env → (s : Stmt) → StmtMarks s → Option Env → Type 0
       LawfulStmt seen env (pass p) marks out = out ≡ Some env
       LawfulStmt seen env (breaks p) marks out = (marks ≡ env) × (out ≡ None)
       LawfulStmt seen env (continues p) marks out = out ≡ None
@@ -250,15 +250,15 @@ module _ (m : Module) (ctx : Context) (declared : List Tree) where
       }
 
       -- a suite, from the environment before it to the one after it, if it can complete
-      pub LawfulSuite : Seen → Env → (b : Stmts) → SuiteMarks b → Option Env → Type 0
+      pub LawfulSuite : NamesBound → Env → (b : Stmts) → SuiteMarks b → Option Env → Type 0
       LawfulSuite seen env no_stmts marks out = out ≡ Some env
       LawfulSuite seen env (more_stmts s rest) marks out =
           BehindRule (completes s) marks.1
           (λ r. LawfulStmt seen env s marks.0 (Some r.0) × LawfulSuite (texts (bound_by_stmt s) ++ seen) r.0 rest r.1 out)
-          (LawfulStmt seen env s marks.0 None × Undeclared (texts (bound_by_stmt s) ++ seen) (bound_by rest) × (out ≡ None))
+          (LawfulStmt seen env s marks.0 None × AreUndeclared (texts (bound_by_stmt s) ++ seen) (bound_by rest) × (out ≡ None))
 
       -- each condition is checked after the ones before it are false
-      pub LawfulBranches : Seen → Env → (bs : Branches) → BranchesMarks bs → Env → Type 0
+      pub LawfulBranches : NamesBound → Env → (bs : Branches) → BranchesMarks bs → Env → Type 0
       LawfulBranches seen env no_branches marks last = last ≡ env
       LawfulBranches seen env (more_branches c b rest) marks last = record {
         condition : Lawful ctx declared env None c marks.condition;
@@ -292,7 +292,7 @@ module _ (m : Module) (ctx : Context) where
 
   -- what is found in statements, suites and branches, behind the names bound so far
   abbrev mutual
-    pub StmtFinds : Seen → (s : Stmt) → StmtMarks s → Finding → Type 0
+    pub StmtFinds : NamesBound → (s : Stmt) → StmtMarks s → Finding → Type 0
     StmtFinds seen (pass p) marks f = ⊥
     StmtFinds seen (breaks p) marks f = ⊥
     StmtFinds seen (continues p) marks f = ⊥
@@ -307,12 +307,12 @@ module _ (m : Module) (ctx : Context) where
         IsFoundAt (place_of e) marks.item.codes f ⊎ (IsFlowAt (place_of e) marks.flows f ⊎ (Finds e marks.iterable f ⊎ SuiteFinds (n.text ∷ seen) b marks.body f))
     StmtFinds seen (conditional p bs o) marks f = BranchesFind seen bs marks.branches f ⊎ SuiteFinds (texts (bound_by_branches bs) ++ seen) o marks.otherwise f
 
-    pub SuiteFinds : Seen → (b : Stmts) → SuiteMarks b → Finding → Type 0
+    pub SuiteFinds : NamesBound → (b : Stmts) → SuiteMarks b → Finding → Type 0
     SuiteFinds seen no_stmts marks f = ⊥
     SuiteFinds seen (more_stmts s rest) marks f =
         StmtFinds seen s marks.0 f ⊎ BehindRule (completes s) marks.1 (λ r. SuiteFinds (texts (bound_by_stmt s) ++ seen) rest r.1 f) ⊥
 
-    pub BranchesFind : Seen → (bs : Branches) → BranchesMarks bs → Finding → Type 0
+    pub BranchesFind : NamesBound → (bs : Branches) → BranchesMarks bs → Finding → Type 0
     BranchesFind seen no_branches marks f = ⊥
     BranchesFind seen (more_branches c b rest) marks f =
         Finds c marks.condition f ⊎ (SuiteFinds seen b marks.body f ⊎ BranchesFind (texts (bound_by b) ++ seen) rest marks.rest f)

@@ -8,7 +8,7 @@ use Rattle.pc_tree.specs.Stopping.{bound_by, bound_by_stmt}
 use Rattle.pc_scope.specs.declared.resolution.Owner.{Owner}
 use Rattle.pc_scope.specs.declared.resolution.Res.TheVariants as res
 use Rattle.pc_scope.specs.Bindings.{texts}
-use Rattle.pc_scope.specs.Resolution.{is_among, locals}
+use Rattle.pc_scope.specs.Resolution.{is_one_of, locals}
 use Rattle.pc_types.specs.Tree.{Tree}
 use Rattle.pc_types.specs.Below.{Bases}
 use Rattle.pc_types.specs.WellFormed.{IsWellFormed}
@@ -20,21 +20,21 @@ use Rattle.pc_notes.specs.Notes.{Note, findings_of}
 use Rattle.pc_expr.specs.Labels.{is_of_scopes, IsCodeAt}
 use Rattle.pc_expr.specs.Signatures.{body_context}
 use Rattle.pc_check.specs.StatementLabels.{StmtMarks, SuiteMarks, breaks_in, breaks_in_suite}
-use Rattle.pc_check.specs.Statements.{Seen, LawfulStmt, LawfulSuite, StmtFinds, SuiteFinds}
-use Rattle.pc_check.specs.Modules.{FunctionMarks, LawfulFunction, entries_of, names_entered}
-use Rattle.pc_check.specs.Labelled.{Setting}
-use Rattle.pc_check.specs.ComputedStatements.{Table, type_table, bound_type, Frame, Walk, step, walk_suite, function_finds}
+use Rattle.pc_check.specs.Statements.{NamesBound, LawfulStmt, LawfulSuite, StmtFinds, SuiteFinds}
+use Rattle.pc_check.specs.Modules.{FunctionMarks, LawfulFunction, entry_parameters, names_entered}
+use Rattle.pc_check.specs.LabellingLaws.{Setting}
+use Rattle.pc_check.specs.ComputedStatements.{Table, type_table, bound_type, BodyFrame, Walk, step, walk_suite, function_finds}
 
 -- what the statements of a function that returns this type stand in
-abbrev pub frame_in : Setting → (returned : Tree) → Frame
+abbrev pub frame_in : Setting → (returned : Tree) → BodyFrame
 frame_in setting returned = record { whole = setting.whole; context = setting.context; returned = returned }
 
 -- a table of a walk fits declared types, behind the names bound so far: each local that one of them means has its declared type there, and no other local has one
-pub record TableFits (setting : Setting) (declared : List Tree) (seen : Seen) (table : Table) : Type 0 where
+pub record TableFits (setting : Setting) (declared : List Tree) (seen : NamesBound) (table : Table) : Type 0 where
   pub long : length table ≡ setting.count
   pub well_formed : IsWellFormedEnv setting.context.bases table
-  pub bound : (word : List ℕ) (x : ℕ) → is_among word seen ≡ true → setting.context.resolve word ≡ res.Local x → bound_type table x ≡ Some (declared_type declared x)
-  pub unbound : (word : List ℕ) (x : ℕ) → is_among word seen ≡ false → setting.context.resolve word ≡ res.Local x → bound_type table x ≡ None
+  pub bound : (word : List ℕ) (x : ℕ) → is_one_of word seen ≡ true → setting.context.resolve word ≡ res.Local x → bound_type table x ≡ Some (declared_type declared x)
+  pub unbound : (word : List ℕ) (x : ℕ) → is_one_of word seen ≡ false → setting.context.resolve word ≡ res.Local x → bound_type table x ≡ None
 
 -- an environment fits a table of a walk and declared types: they agree on each local that it assigns, and its types are well-formed
 pub record EnvFits (setting : Setting) (declared : List Tree) (table : Table) (env : Env) : Type 0 where
@@ -57,7 +57,7 @@ Adds before after Says = (f : Finding) → Contains (findings_of after) f ↔ (C
 
 -- A walk has come to what labels say: from a table to one that fits behind these names, to this environment, with these `break`s
 -- joined, and with what is said found; and what fitted the table before fits the one behind.
-pub record WalkSays (setting : Setting) (declared : List Tree) (seen : Seen) (table : Table) (broken : Option Env) (found : List Note) (w : Walk) (out : Option Env) (breaks : List Env) (Says : Finding → Type 0) : Type 0 where
+pub record WalkSays (setting : Setting) (declared : List Tree) (seen : NamesBound) (table : Table) (broken : Option Env) (found : List Note) (w : Walk) (out : Option Env) (breaks : List Env) (Says : Finding → Type 0) : Type 0 where
   pub fits : TableFits setting declared seen w.table
   pub grows : (env : Env) → EnvFits setting declared table env → EnvFits setting declared w.table env
   pub env_is : w.env ≡ out
@@ -70,7 +70,7 @@ pub record WalkSays (setting : Setting) (declared : List Tree) (seen : Seen) (ta
 abbrev pub WalksOfStatementsSayWhatLabelsSay : Type 0
 WalksOfStatementsSayWhatLabelsSay =
     (setting : Setting) (returned : Tree) → IsWellFormed setting.context.bases returned →
-    (declared : List Tree) (seen : Seen) (table : Table) (env : Env) (broken : Option Env) (found : List Note) →
+    (declared : List Tree) (seen : NamesBound) (table : Table) (env : Env) (broken : Option Env) (found : List Note) →
     TableFits setting declared seen table → EnvFits setting declared table env → OutFits setting declared table broken →
     (s : Stmt) (marks : StmtMarks s) (out : Option Env) → LawfulStmt setting.whole setting.context declared returned seen env s marks out →
     WalkSays setting declared (texts (bound_by_stmt s) ++ seen) table broken found (step (frame_in setting returned) table (Some env) broken found s) out (breaks_in s marks) (StmtFinds setting.whole setting.context seen s marks)
@@ -79,7 +79,7 @@ WalksOfStatementsSayWhatLabelsSay =
 abbrev pub WalksOfSuitesSayWhatLabelsSay : Type 0
 WalksOfSuitesSayWhatLabelsSay =
     (setting : Setting) (returned : Tree) → IsWellFormed setting.context.bases returned →
-    (declared : List Tree) (seen : Seen) (table : Table) (env : Env) (broken : Option Env) (found : List Note) →
+    (declared : List Tree) (seen : NamesBound) (table : Table) (env : Env) (broken : Option Env) (found : List Note) →
     TableFits setting declared seen table → EnvFits setting declared table env → OutFits setting declared table broken →
     (b : Stmts) (marks : SuiteMarks b) (out : Option Env) → LawfulSuite setting.whole setting.context declared returned seen env b marks out →
     WalkSays setting declared (texts (bound_by b) ++ seen) table broken found (walk_suite (frame_in setting returned) (record { table = table; env = Some env; broken = broken; found = found }) b) out (breaks_in_suite b marks) (SuiteFinds setting.whole setting.context seen b marks)
@@ -87,7 +87,7 @@ WalksOfSuitesSayWhatLabelsSay =
 -- what labels say in the body of a function and at its name
 abbrev pub BodySays : Module → (constants : List Tree) → Owner → (f : FuncDef) → FunctionMarks f → Finding → Type 0
 BodySays m constants owner f marks g =
-    IsCodeAt f.name.place marks.completing g ⊎ SuiteFinds m (body_context m constants (locals owner f)) (names_entered [] (entries_of m owner f)) f.body marks.body g
+    IsCodeAt f.name.place marks.completing g ⊎ SuiteFinds m (body_context m constants (locals owner f)) (names_entered [] (entry_parameters m owner f)) f.body marks.body g
 
 -- the walk over the body of a function finds just what any lawful labels of the function say in its body and at its name, but for what is found of scopes
 abbrev pub BodiesFindWhatLabelsSay : Type 0

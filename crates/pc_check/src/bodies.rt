@@ -1,14 +1,16 @@
+//! The bodies of the functions and methods of a module.
+
 ghost use Rattle.std.specs.Prelude.{◌≡◌, OnOk, Some};
 ghost use Rattle.std.specs.Option.{option_copied};
 ghost use Rattle.pc_tree.specs.Tree.{func_of};
 ghost use Rattle.pc_scope.specs.Resolution.{function_of};
-ghost use Rattle.pc_types.specs.Store.{Keeps};
+ghost use Rattle.pc_types.specs.Store.{KeepsTypes};
 ghost use Rattle.pc_notes.specs.Notes.{notes_of};
 ghost use Rattle.pc_expr.specs.Signatures.{signature_of};
 ghost use Rattle.pc_expr.specs.SignaturesFound.{constants_of};
 ghost use Rattle.pc_expr.specs.Standing.{HasSignature, signature_with};
 ghost use Rattle.pc_check.specs.ComputedStatements.{function_finds};
-ghost use Rattle.pc_check.specs.Checking.{module_in, signature_for, IsModuleSetting};
+ghost use Rattle.pc_check.specs.Internal.ModuleWalk.{module_in, signature_for, IsModuleSetting};
 
 use crate::entering::check_function;
 use crate::frame::Frame;
@@ -61,7 +63,7 @@ fn check_body<S: TypeStore>(
     requires given { HasSignature (S.has store.old) signature.now }
     requires signature { signature_with S.tree signature.now ≡ signature_of (module_in setting.now) (func_of def.now) }
     ensures pushed { OnOk result (notes_of found.new ≡ function_finds (module_in setting.now) (constants_of (module_in setting.now)) owner (func_of def.now) (notes_of found.old)) }
-    ensures kept { Keeps S.has store.old store.new }
+    ensures kept { KeepsTypes S.has store.old store.new }
 {
     let names = OwnerNames {
         scopes: setting.scopes,
@@ -104,7 +106,7 @@ pub(crate) fn check_owned<S: TypeStore>(
     requires setting { IsModuleSetting (S.has store.old) S.tree setting.now }
     requires owner { function_of (module_in setting.now) owner ≡ Some (func_of def.now) }
     ensures pushed { OnOk result (notes_of found.new ≡ function_finds (module_in setting.now) (constants_of (module_in setting.now)) owner (func_of def.now) (notes_of found.old)) }
-    ensures kept { Keeps S.has store.old store.new }
+    ensures kept { KeepsTypes S.has store.old store.new }
 {
     match signature_for(setting.signatures, owner) {
         None => Ok(()),

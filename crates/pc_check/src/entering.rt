@@ -1,18 +1,18 @@
-// The walk over the body of a function, from its entry.
+//! The walk over the body of a function, from its entry.
 
 ghost use Rattle.std.specs.Prelude.{◌≡◌, ◌++◌, All, map, length, OnOk};
 ghost use Rattle.std.specs.Option.{option_map};
 ghost use Rattle.pc_tree.specs.Tree.{module_of, func_of};
 ghost use Rattle.pc_scope.specs.Resolution.{locals};
-ghost use Rattle.pc_types.specs.Store.{Keeps};
+ghost use Rattle.pc_types.specs.Store.{KeepsTypes};
 ghost use Rattle.pc_class.specs.Tables.{HasParameter, parameters_with};
 ghost use Rattle.pc_class.specs.Facts.{parameters_of};
 ghost use Rattle.pc_flow.specs.Stored.{env_of};
 ghost use Rattle.pc_notes.specs.Notes.{notes_of};
 ghost use Rattle.pc_check.specs.Modules.{receiver_parameter};
-ghost use Rattle.pc_check.specs.ComputedStatements.{frame_of, function_finds, enter, enter_name, end_finds};
-ghost use Rattle.pc_check.specs.Walking.{frame_with, HoldsFrame, HoldsType, HoldsTypes};
-ghost use Rattle.pc_check.specs.Entering.{HoldsParameter, GivesEntry};
+ghost use Rattle.pc_check.specs.ComputedStatements.{body_frame_of, function_finds, enter_parameters, enter_name, end_finds};
+ghost use Rattle.pc_check.specs.Internal.StatementWalk.{frame_with, HoldsFrame, HoldsType, HoldsTypes};
+ghost use Rattle.pc_check.specs.Internal.Entry.{HoldsParameter, GivesEntry};
 
 use crate::frame::Frame;
 use crate::statements::check_suite;
@@ -68,7 +68,7 @@ fn enter<S: TypeStore, R: Resolver>(
     requires declared { HoldsTypes (S.has store.now) S.tree parents.now declared.old }
     requires env { HoldsTypes (S.has store.now) S.tree parents.now env.old }
     requires params { All (HoldsParameter (S.has store.now) S.tree parents.now) params.now }
-    ensures { OnOk result (GivesEntry (S.has store.now) S.tree parents.now declared.new env.new (enter (R.meaning names.now) (env_of S.tree declared.old) (env_of S.tree env.old) (parameters_with S.tree params.now))) }
+    ensures { OnOk result (GivesEntry (S.has store.now) S.tree parents.now declared.new env.new (enter_parameters (R.meaning names.now) (env_of S.tree declared.old) (env_of S.tree env.old) (parameters_with S.tree params.now))) }
 {
     for param in params {
         enter_name(
@@ -97,8 +97,8 @@ fn enter_receiver<S: TypeStore, R: Resolver>(
 ) -> Result<(), OutOfMemory>
     requires declared { HoldsTypes (S.has store.old) S.tree parents.now declared.old }
     requires env { HoldsTypes (S.has store.old) S.tree parents.now env.old }
-    ensures entered { OnOk result (GivesEntry (S.has store.new) S.tree parents.now declared.new env.new (enter (R.meaning names.now) (env_of S.tree declared.old) (env_of S.tree env.old) (receiver_parameter owner))) }
-    ensures kept { Keeps S.has store.old store.new }
+    ensures entered { OnOk result (GivesEntry (S.has store.new) S.tree parents.now declared.new env.new (enter_parameters (R.meaning names.now) (env_of S.tree declared.old) (env_of S.tree env.old) (receiver_parameter owner))) }
+    ensures kept { KeepsTypes S.has store.old store.new }
 {
     match owner {
         Owner::Module => Ok(()),
@@ -123,7 +123,7 @@ fn find_end<S: TypeStore>(
 ) -> Result<(), OutOfMemory>
     requires { S.has store.old returned.now }
     ensures pushed { OnOk result (notes_of found.new ≡ notes_of found.old ++ end_finds parents.now (S.tree returned.now) name (option_map (env_of S.tree) out.now)) }
-    ensures kept { Keeps S.has store.old store.new }
+    ensures kept { KeepsTypes S.has store.old store.new }
 {
     if out.is_none() {
         return Ok(());
@@ -149,12 +149,12 @@ pub(crate) fn check_function<S: TypeStore, R: Resolver>(
     found: &mut Notes,
 ) -> Result<(), OutOfMemory>
     requires frame { HoldsFrame (S.has store.old) S.tree R.meaning frame.now }
-    requires body { frame_with S.tree R.meaning frame.now ≡ frame_of (module_of frame.now.tree.now) (map S.tree frame.now.constants.now) owner (func_of def.now) }
+    requires body { frame_with S.tree R.meaning frame.now ≡ body_frame_of (module_of frame.now.tree.now) (map S.tree frame.now.constants.now) owner (func_of def.now) }
     requires count { count ≡ length (locals owner (func_of def.now)) }
     requires given { All (HasParameter (S.has store.old)) params.now }
     requires params { parameters_with S.tree params.now ≡ parameters_of (module_of frame.now.tree.now) (func_of def.now).params }
     ensures pushed { OnOk result (notes_of found.new ≡ function_finds (module_of frame.now.tree.now) (map S.tree frame.now.constants.now) owner (func_of def.now) (notes_of found.old)) }
-    ensures kept { Keeps S.has store.old store.new }
+    ensures kept { KeepsTypes S.has store.old store.new }
 {
     let mut declared = DeclaredTypes::new(alloc, count)?;
     let mut env = Env::new(alloc, count)?;

@@ -1,13 +1,13 @@
-// The types of a dynamic flow.
+//! The types of a dynamic flow.
 
 ghost use Rattle.std.specs.Prelude.{◌≡◌, IfOk};
 ghost use Rattle.pc_tree.specs.Tree.{module_of};
-ghost use Rattle.pc_scope.specs.Scoped.{AreScopes};
-ghost use Rattle.pc_types.specs.Store.{Keeps};
+ghost use Rattle.pc_scope.specs.ModuleScopes.{AreScopes};
+ghost use Rattle.pc_types.specs.Store.{KeepsTypes};
 ghost use Rattle.pc_class.specs.Bases.{bases_of};
 ghost use Rattle.pc_class.specs.Facts.{classes_of};
 ghost use Rattle.pc_class.specs.Tables.{HasEntries, classes_with};
-ghost use Rattle.pc_notes.specs.Notes.{Explains};
+ghost use Rattle.pc_notes.specs.Notes.{ExplainsFlow};
 ghost use Rattle.pc_check.specs.DynamicFlows.{dynamic_flow};
 
 use crate::modules::check_module;
@@ -40,8 +40,8 @@ pub fn explain_flow<S: TypeStore>(
     requires parents { parents.now ≡ bases_of (module_of tree.now) }
     requires classes { classes_with S.tree classes.now ≡ classes_of (module_of tree.now) }
     requires entries { HasEntries (S.has store.old) classes.now }
-    ensures explained { IfOk result (λ found. Explains S.has S.tree store.new found (dynamic_flow (module_of tree.now) place)) }
-    ensures kept { Keeps S.has store.old store.new }
+    ensures explained { IfOk result (λ found. ExplainsFlow S.has S.tree store.new found (dynamic_flow (module_of tree.now) place)) }
+    ensures kept { KeepsTypes S.has store.old store.new }
 {
     let mut found = Notes::new(alloc);
     check_module(store, alloc, parents, tree, scopes, classes, &mut found)?;

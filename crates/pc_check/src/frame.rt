@@ -1,3 +1,5 @@
+//! What the statements of a function stand in.
+
 use pc_class::ClassTable;
 use pc_expr::Signature;
 use pc_flow::Resolver;

@@ -1,18 +1,18 @@
-// What a `for` goes over.
+//! What a `for` goes over.
 
 ghost use Rattle.std.specs.Prelude.{◌≡◌, ◌++◌, IfOk, OnOk, MatchOption, None, true, false};
 ghost use Rattle.pc_source.specs.declared.place.Place.{Place as PlaceOf};
 ghost use Rattle.pc_tree.specs.Tree.{Exprs, Keywords, expr_of, call};
 ghost use Rattle.pc_tree.specs.Lists.{exprs_of_list, keywords_of_list};
 ghost use Rattle.pc_tree.specs.Depth.{place_of};
-ghost use Rattle.pc_types.specs.Store.{Keeps};
+ghost use Rattle.pc_types.specs.Store.{KeepsTypes};
 ghost use Rattle.pc_flow.specs.Stored.{env_of};
 ghost use Rattle.pc_notes.specs.Notes.{notes_of};
 ghost use Rattle.pc_expr.specs.Found.{codes_at};
 ghost use Rattle.pc_expr.specs.Standing.{finds_in};
-ghost use Rattle.pc_check.specs.ComputedStatements.{at, item_of, values_item, iterable_finds};
-ghost use Rattle.pc_check.specs.Ranging.{over_range};
-ghost use Rattle.pc_check.specs.Walking.{frame_with, HoldsFrame, HoldsType, HoldsTypes, GivesLabel};
+ghost use Rattle.pc_check.specs.ComputedStatements.{at, item_mark_of, values_item, iterable_finds};
+ghost use Rattle.pc_check.specs.Internal.Ranges.{over_range};
+ghost use Rattle.pc_check.specs.Internal.StatementWalk.{frame_with, HoldsFrame, HoldsType, HoldsTypes, GivesLabel};
 
 use crate::frame::Frame;
 use crate::typing::type_in;
@@ -76,7 +76,7 @@ fn label_values<S: TypeStore, R: Resolver>(
     requires env { HoldsTypes (S.has store.old) S.tree frame.now.parents.now env.now }
     ensures labelled { IfOk result (λ l. GivesLabel S.has S.tree frame.now.parents.now store.new l (values_item (frame_with S.tree R.meaning frame.now) (at (frame_with S.tree R.meaning frame.now) (env_of S.tree declared.now) (env_of S.tree env.now)) (expr_of iterable.now))) }
     ensures pushed { OnOk result (notes_of found.new ≡ notes_of found.old ++ finds_in (at (frame_with S.tree R.meaning frame.now) (env_of S.tree declared.now) (env_of S.tree env.now)) None (expr_of iterable.now)) }
-    ensures kept { Keeps S.has store.old store.new }
+    ensures kept { KeepsTypes S.has store.old store.new }
 {
     let label = type_in(store, alloc, frame, declared, env, &None, iterable, found)?;
     item_label(store, alloc, frame.parents, frame.classes, &label.ty)
@@ -96,9 +96,9 @@ fn label_range<S: TypeStore, R: Resolver>(
     requires declared { HoldsTypes (S.has store.old) S.tree frame.now.parents.now declared.now }
     requires env { HoldsTypes (S.has store.old) S.tree frame.now.parents.now env.now }
     requires range { over_range (R.meaning frame.now.names.now) (call iterable.now.place (expr_of iterable.now.callee.now) (exprs_of_list iterable.now.arguments.now) (keywords_of_list iterable.now.by_name.now)) ≡ true }
-    ensures labelled { IfOk result (λ l. GivesLabel S.has S.tree frame.now.parents.now store.new l (item_of (frame_with S.tree R.meaning frame.now) (at (frame_with S.tree R.meaning frame.now) (env_of S.tree declared.now) (env_of S.tree env.now)) (call iterable.now.place (expr_of iterable.now.callee.now) (exprs_of_list iterable.now.arguments.now) (keywords_of_list iterable.now.by_name.now)))) }
+    ensures labelled { IfOk result (λ l. GivesLabel S.has S.tree frame.now.parents.now store.new l (item_mark_of (frame_with S.tree R.meaning frame.now) (at (frame_with S.tree R.meaning frame.now) (env_of S.tree declared.now) (env_of S.tree env.now)) (call iterable.now.place (expr_of iterable.now.callee.now) (exprs_of_list iterable.now.arguments.now) (keywords_of_list iterable.now.by_name.now)))) }
     ensures pushed { OnOk result (notes_of found.new ≡ notes_of found.old ++ iterable_finds (frame_with S.tree R.meaning frame.now) (at (frame_with S.tree R.meaning frame.now) (env_of S.tree declared.now) (env_of S.tree env.now)) (call iterable.now.place (expr_of iterable.now.callee.now) (exprs_of_list iterable.now.arguments.now) (keywords_of_list iterable.now.by_name.now))) }
-    ensures kept { Keeps S.has store.old store.new }
+    ensures kept { KeepsTypes S.has store.old store.new }
 {
     let setting = Setting {
         parents: frame.parents,
@@ -136,9 +136,9 @@ fn label_item<S: TypeStore, R: Resolver>(
     requires frame { HoldsFrame (S.has store.old) S.tree R.meaning frame.now }
     requires declared { HoldsTypes (S.has store.old) S.tree frame.now.parents.now declared.now }
     requires env { HoldsTypes (S.has store.old) S.tree frame.now.parents.now env.now }
-    ensures labelled { IfOk result (λ l. GivesLabel S.has S.tree frame.now.parents.now store.new l (item_of (frame_with S.tree R.meaning frame.now) (at (frame_with S.tree R.meaning frame.now) (env_of S.tree declared.now) (env_of S.tree env.now)) (expr_of iterable.now))) }
+    ensures labelled { IfOk result (λ l. GivesLabel S.has S.tree frame.now.parents.now store.new l (item_mark_of (frame_with S.tree R.meaning frame.now) (at (frame_with S.tree R.meaning frame.now) (env_of S.tree declared.now) (env_of S.tree env.now)) (expr_of iterable.now))) }
     ensures pushed { OnOk result (notes_of found.new ≡ notes_of found.old ++ iterable_finds (frame_with S.tree R.meaning frame.now) (at (frame_with S.tree R.meaning frame.now) (env_of S.tree declared.now) (env_of S.tree env.now)) (expr_of iterable.now)) }
-    ensures kept { Keeps S.has store.old store.new }
+    ensures kept { KeepsTypes S.has store.old store.new }
 {
     match range_call(frame.names, iterable) {
         Some(range) => label_range(store, alloc, frame, declared, env, &range, found),
@@ -159,9 +159,9 @@ pub(crate) fn item_type<S: TypeStore, R: Resolver>(
     requires frame { HoldsFrame (S.has store.old) S.tree R.meaning frame.now }
     requires declared { HoldsTypes (S.has store.old) S.tree frame.now.parents.now declared.now }
     requires env { HoldsTypes (S.has store.old) S.tree frame.now.parents.now env.now }
-    ensures typed { IfOk result (λ t. HoldsType (S.has store.new) S.tree frame.now.parents.now t × (S.tree t ≡ (item_of (frame_with S.tree R.meaning frame.now) (at (frame_with S.tree R.meaning frame.now) (env_of S.tree declared.now) (env_of S.tree env.now)) (expr_of iterable.now)).type)) }
-    ensures pushed { OnOk result (notes_of found.new ≡ (notes_of found.old ++ iterable_finds (frame_with S.tree R.meaning frame.now) (at (frame_with S.tree R.meaning frame.now) (env_of S.tree declared.now) (env_of S.tree env.now)) (expr_of iterable.now)) ++ codes_at (place_of (expr_of iterable.now)) (item_of (frame_with S.tree R.meaning frame.now) (at (frame_with S.tree R.meaning frame.now) (env_of S.tree declared.now) (env_of S.tree env.now)) (expr_of iterable.now)).codes) }
-    ensures kept { Keeps S.has store.old store.new }
+    ensures typed { IfOk result (λ t. HoldsType (S.has store.new) S.tree frame.now.parents.now t × (S.tree t ≡ (item_mark_of (frame_with S.tree R.meaning frame.now) (at (frame_with S.tree R.meaning frame.now) (env_of S.tree declared.now) (env_of S.tree env.now)) (expr_of iterable.now)).type)) }
+    ensures pushed { OnOk result (notes_of found.new ≡ (notes_of found.old ++ iterable_finds (frame_with S.tree R.meaning frame.now) (at (frame_with S.tree R.meaning frame.now) (env_of S.tree declared.now) (env_of S.tree env.now)) (expr_of iterable.now)) ++ codes_at (place_of (expr_of iterable.now)) (item_mark_of (frame_with S.tree R.meaning frame.now) (at (frame_with S.tree R.meaning frame.now) (env_of S.tree declared.now) (env_of S.tree env.now)) (expr_of iterable.now)).codes) }
+    ensures kept { KeepsTypes S.has store.old store.new }
 {
     let label = label_item(store, alloc, frame, declared, env, iterable, found)?;
     find_codes(iterable.place(), &label.codes, found)?;

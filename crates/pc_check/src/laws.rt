@@ -1,8 +1,10 @@
+//! The laws on lawful labellings of statements and modules.
+
 ghost use Rattle.pc_tree.specs.declared.code.Finding.{Finding};
 ghost use Rattle.pc_tree.specs.Tree.{Module};
 ghost use Rattle.pc_scope.specs.Findings.{ScopeFinds};
 ghost use Rattle.pc_check.specs.Agreement.{AgreesWithScopes};
-ghost use Rattle.pc_check.specs.Labelled.{StatementsAreLabelled, SuitesAreLabelled, FunctionsAreLabelled, ClassesAreLabelled};
+ghost use Rattle.pc_check.specs.LabellingLaws.{StatementsAreLabelled, SuitesAreLabelled, FunctionsAreLabelled, ClassesAreLabelled};
 ghost use Rattle.pc_check.specs.WalkLaw.{WalksOfStatementsSayWhatLabelsSay, WalksOfSuitesSayWhatLabelsSay, BodiesFindWhatLabelsSay};
 ghost use Rattle.pc_check.specs.ModuleLaw.{ConstantsHaveTheTypesOfLabels, ModulesFindWhatLabelsSay, ModulesFindWhatLabelsFind, FindingsOfModulesAreComputed};
 ghost use Rattle.pc_check.specs.Modules.{Labelling, IsLawful, IsFinding, HasLabelling, HasOneLabelling, HasExactlyOneLabelling};

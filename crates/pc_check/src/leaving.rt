@@ -1,14 +1,14 @@
-// Ways that part and meet: `break`, `return`, `assert`, and the ways out of branches.
+//! Ways that part and meet: `break`, `return`, `assert`, and the ways out of branches.
 
 ghost use Rattle.std.specs.Prelude.{◌≡◌, ◌++◌, ◌∷◌, [], IfOk, OnOk, true, false, Option, None, Some};
 ghost use Rattle.std.specs.Option.{option_map};
 ghost use Rattle.pc_tree.specs.Tree.{expr_of, option_expr_of};
-ghost use Rattle.pc_types.specs.Store.{Keeps};
+ghost use Rattle.pc_types.specs.Store.{KeepsTypes};
 ghost use Rattle.pc_flow.specs.Stored.{env_of};
 ghost use Rattle.pc_notes.specs.Notes.{notes_of};
 ghost use Rattle.pc_expr.specs.Standing.{finds_in};
 ghost use Rattle.pc_check.specs.ComputedStatements.{at, narrowed_at, join_onto_way, with_way, return_finds, option_finds};
-ghost use Rattle.pc_check.specs.Walking.{frame_with, HoldsFrame, HoldsTypes, HoldsTypesIfAny, GivesTypes, GivesTypesIfAny};
+ghost use Rattle.pc_check.specs.Internal.StatementWalk.{frame_with, HoldsFrame, HoldsTypes, HoldsTypesIfAny, GivesTypes, GivesTypesIfAny};
 
 use crate::frame::Frame;
 use crate::typing::{flow_in, join_in, narrow_in, type_in};
@@ -34,7 +34,7 @@ pub(crate) fn break_out<S: TypeStore, R: Resolver>(
     requires env { HoldsTypes (S.has store.old) S.tree frame.now.parents.now env.now }
     requires broken { HoldsTypesIfAny (S.has store.old) S.tree frame.now.parents.now broken.old }
     ensures joined { OnOk result (GivesTypesIfAny S.has S.tree frame.now.parents.now store.new broken.new (join_onto_way frame.now.parents.now (env_of S.tree declared.now) (option_map (env_of S.tree) broken.old) (env_of S.tree env.now))) }
-    ensures kept { Keeps S.has store.old store.new }
+    ensures kept { KeepsTypes S.has store.old store.new }
 {
     let joined = match broken {
         None => None,
@@ -57,7 +57,7 @@ pub(crate) fn meet<S: TypeStore, R: Resolver>(
     requires ways { HoldsTypesIfAny (S.has store.old) S.tree frame.now.parents.now ways }
     requires out { HoldsTypesIfAny (S.has store.old) S.tree frame.now.parents.now out }
     ensures joined { IfOk result (λ w. GivesTypesIfAny S.has S.tree frame.now.parents.now store.new w (with_way frame.now.parents.now (env_of S.tree declared.now) (option_map (env_of S.tree) ways) (option_map (env_of S.tree) out))) }
-    ensures kept { Keeps S.has store.old store.new }
+    ensures kept { KeepsTypes S.has store.old store.new }
 {
     match out {
         None => Ok(ways),
@@ -84,7 +84,7 @@ pub(crate) fn find_return<S: TypeStore, R: Resolver>(
     requires declared { HoldsTypes (S.has store.old) S.tree frame.now.parents.now declared.now }
     requires env { HoldsTypes (S.has store.old) S.tree frame.now.parents.now env.now }
     ensures pushed { OnOk result (notes_of found.new ≡ notes_of found.old ++ return_finds (frame_with S.tree R.meaning frame.now) (at (frame_with S.tree R.meaning frame.now) (env_of S.tree declared.now) (env_of S.tree env.now)) first (option_expr_of value.now)) }
-    ensures kept { Keeps S.has store.old store.new }
+    ensures kept { KeepsTypes S.has store.old store.new }
 {
     match value {
         None => {
@@ -135,7 +135,7 @@ fn find_option<S: TypeStore, R: Resolver>(
     requires declared { HoldsTypes (S.has store.old) S.tree frame.now.parents.now declared.now }
     requires env { HoldsTypes (S.has store.old) S.tree frame.now.parents.now env.now }
     ensures pushed { OnOk result (notes_of found.new ≡ notes_of found.old ++ option_finds (frame_with S.tree R.meaning frame.now) (at (frame_with S.tree R.meaning frame.now) (env_of S.tree declared.now) (env_of S.tree env.now)) None (option_expr_of e.now)) }
-    ensures kept { Keeps S.has store.old store.new }
+    ensures kept { KeepsTypes S.has store.old store.new }
 {
     match e {
         None => Ok(()),
@@ -163,7 +163,7 @@ pub(crate) fn check_assert<S: TypeStore, R: Resolver>(
     requires env { HoldsTypes (S.has store.old) S.tree frame.now.parents.now env }
     ensures behind { IfOk result (λ e. GivesTypes S.has S.tree frame.now.parents.now store.new e (narrowed_at (frame_with S.tree R.meaning frame.now) (env_of S.tree declared.now) true (expr_of condition.now) (env_of S.tree env))) }
     ensures pushed { OnOk result (notes_of found.new ≡ (notes_of found.old ++ finds_in (at (frame_with S.tree R.meaning frame.now) (env_of S.tree declared.now) (env_of S.tree env)) None (expr_of condition.now)) ++ option_finds (frame_with S.tree R.meaning frame.now) (at (frame_with S.tree R.meaning frame.now) (env_of S.tree declared.now) (narrowed_at (frame_with S.tree R.meaning frame.now) (env_of S.tree declared.now) false (expr_of condition.now) (env_of S.tree env))) None (option_expr_of message.now)) }
-    ensures kept { Keeps S.has store.old store.new }
+    ensures kept { KeepsTypes S.has store.old store.new }
 {
     type_in(store, alloc, frame, declared, &env, &None, condition, found)?;
     let BothWays {

@@ -1,4 +1,4 @@
-// The locals that statements bind.
+//! The locals that statements bind.
 
 ghost use Rattle.std.specs.Prelude.{◌≡◌, ◌++◌, ◌∷◌, ◌||◌, [], ℕ, map, nat_eq, IfOk, OnOk, false, slice_index_or};
 ghost use Rattle.std.specs.List.{list_any};
@@ -6,8 +6,8 @@ ghost use Rattle.pc_source.specs.declared.place.Place.{Place as PlaceOf};
 ghost use Rattle.pc_tree.specs.Tree.{stmts_of_list, stmt_of_kind, target_of, name_of};
 ghost use Rattle.pc_tree.specs.Lists.{branches_of_list};
 ghost use Rattle.pc_tree.specs.Stopping.{bound_by, bound_by_stmt, bound_by_branches, name_of_target};
-ghost use Rattle.pc_scope.specs.Walking.{name_seen};
-ghost use Rattle.pc_check.specs.Walking.{numbers_of};
+ghost use Rattle.pc_scope.specs.Internal.WalkViews.{name_seen};
+ghost use Rattle.pc_check.specs.Internal.StatementWalk.{numbers_of};
 
 use pc_flow::Resolver;
 use pc_scope::Res;

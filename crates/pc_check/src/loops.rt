@@ -1,15 +1,15 @@
-// Heads of loops, and the targets of `for`.
+//! Heads of loops, and the targets of `for`.
 
 ghost use Rattle.std.specs.Prelude.{◌≡◌, ◌∷◌, List, IfOk};
 ghost use Rattle.std.specs.Option.{option_map};
 ghost use Rattle.pc_tree.specs.Tree.{Name as NameOf, name_of, stmts_of_list};
 ghost use Rattle.pc_tree.specs.Stopping.{bound_by};
-ghost use Rattle.pc_types.specs.Store.{Keeps};
+ghost use Rattle.pc_types.specs.Store.{KeepsTypes};
 ghost use Rattle.pc_flow.specs.Stored.{env_of};
 ghost use Rattle.pc_notes.specs.Notes.{notes_of};
 ghost use Rattle.pc_expr.specs.Found.{codes_at};
-ghost use Rattle.pc_check.specs.ComputedStatements.{at, head_at, bind_item, item_of, iterable_finds};
-ghost use Rattle.pc_check.specs.Walking.{frame_with, HoldsFrame, HoldsType, HoldsTypes, GivesTypes, GivesBound, numbers_of};
+ghost use Rattle.pc_check.specs.ComputedStatements.{at, head_at, bind_item, item_mark_of, iterable_finds};
+ghost use Rattle.pc_check.specs.Internal.StatementWalk.{frame_with, HoldsFrame, HoldsType, HoldsTypes, GivesTypes, GivesBound, numbers_of};
 
 use crate::binding::{bind_label, known_type};
 use crate::frame::Frame;
@@ -37,7 +37,7 @@ fn loop_start<S: TypeStore, R: Resolver>(
     requires declared { HoldsTypes (S.has store.old) S.tree frame.now.parents.now declared.now }
     requires env { HoldsTypes (S.has store.old) S.tree frame.now.parents.now env.now }
     ensures value { (names : List NameOf) → locals.now ≡ numbers_of (R.meaning frame.now.names.now) names → IfOk result (λ e. GivesTypes S.has S.tree frame.now.parents.now store.new e (head_at (frame_with S.tree R.meaning frame.now) (env_of S.tree declared.now) names (env_of S.tree env.now))) }
-    ensures kept { Keeps S.has store.old store.new }
+    ensures kept { KeepsTypes S.has store.old store.new }
 {
     let marks = marks_of(alloc, locals)?;
     head_in(store, alloc, frame, &marks, declared, env)
@@ -55,7 +55,7 @@ pub(crate) fn while_start<S: TypeStore, R: Resolver>(
     requires declared { HoldsTypes (S.has store.old) S.tree frame.now.parents.now declared.now }
     requires env { HoldsTypes (S.has store.old) S.tree frame.now.parents.now env.now }
     ensures value { IfOk result (λ e. GivesTypes S.has S.tree frame.now.parents.now store.new e (head_at (frame_with S.tree R.meaning frame.now) (env_of S.tree declared.now) (bound_by (stmts_of_list body.now)) (env_of S.tree env.now))) }
-    ensures kept { Keeps S.has store.old store.new }
+    ensures kept { KeepsTypes S.has store.old store.new }
 {
     let mut bound = Vec::new(alloc);
     add_bound(&mut bound, body)?;
@@ -76,7 +76,7 @@ pub(crate) fn for_start<S: TypeStore, R: Resolver>(
     requires declared { HoldsTypes (S.has store.old) S.tree frame.now.parents.now declared.now }
     requires env { HoldsTypes (S.has store.old) S.tree frame.now.parents.now env.now }
     ensures value { IfOk result (λ e. GivesTypes S.has S.tree frame.now.parents.now store.new e (head_at (frame_with S.tree R.meaning frame.now) (env_of S.tree declared.now) (name_of target.now ∷ bound_by (stmts_of_list body.now)) (env_of S.tree env.now))) }
-    ensures kept { Keeps S.has store.old store.new }
+    ensures kept { KeepsTypes S.has store.old store.new }
 {
     let mut bound = Vec::new(alloc);
     add_name(&mut bound, target)?;
@@ -101,7 +101,7 @@ pub(crate) fn bind_item<S: TypeStore, R: Resolver>(
     requires head { HoldsTypes (S.has store.old) S.tree frame.now.parents.now head }
     requires item { HoldsType (S.has store.old) S.tree frame.now.parents.now item }
     ensures bound { IfOk result (λ e. GivesBound S.has S.tree frame.now.parents.now store.new declared.new e (notes_of found.new) (bind_item (frame_with S.tree R.meaning frame.now) (env_of S.tree declared.old) (env_of S.tree head) (R.meaning frame.now.names.now (name_of target.now).text) place (S.tree item) (notes_of found.old))) }
-    ensures kept { Keeps S.has store.old store.new }
+    ensures kept { KeepsTypes S.has store.old store.new }
 {
     match frame.names.resolve(target.text.as_str()) {
         Res::Local(local) => {

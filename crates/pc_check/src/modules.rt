@@ -1,15 +1,17 @@
+//! The check of a module.
+
 ghost use Rattle.std.specs.Prelude.{◌≡◌, ◌++◌, length, map, slice_get, OnOk, Some};
 ghost use Rattle.pc_tree.specs.Tree.{class_of, item_of, module_of};
 ghost use Rattle.pc_scope.specs.Bindings.{classes_in};
-ghost use Rattle.pc_scope.specs.Scoped.{AreScopes};
-ghost use Rattle.pc_types.specs.Store.{Keeps};
+ghost use Rattle.pc_scope.specs.ModuleScopes.{AreScopes};
+ghost use Rattle.pc_types.specs.Store.{KeepsTypes};
 ghost use Rattle.pc_class.specs.Bases.{bases_of};
 ghost use Rattle.pc_class.specs.Facts.{classes_of};
 ghost use Rattle.pc_class.specs.Tables.{HasEntries, classes_with};
 ghost use Rattle.pc_notes.specs.Notes.{notes_of};
 ghost use Rattle.pc_expr.specs.SignaturesFound.{constants_of};
 ghost use Rattle.pc_check.specs.ComputedModules.{methods_find, bodies_find, module_finds};
-ghost use Rattle.pc_check.specs.Checking.{module_in, IsModuleSetting};
+ghost use Rattle.pc_check.specs.Internal.ModuleWalk.{module_in, IsModuleSetting};
 
 use crate::bodies::{ModuleSetting, check_owned};
 use pc_class::ClassTable;
@@ -49,7 +51,7 @@ fn check_methods<S: TypeStore>(
     requires setting { IsModuleSetting (S.has store.old) S.tree setting.now }
     requires class { slice_get (classes_in (module_in setting.now).items) class ≡ Some (class_of def.now) }
     ensures pushed { OnOk result (notes_of found.new ≡ methods_find (module_in setting.now) (constants_of (module_in setting.now)) class 0 (class_of def.now).members (notes_of found.old)) }
-    ensures kept { Keeps S.has store.old store.new }
+    ensures kept { KeepsTypes S.has store.old store.new }
 {
     let mut methods = 0;
     let members = def.members.as_slice();
@@ -75,7 +77,7 @@ fn check_bodies<S: TypeStore>(
 ) -> Result<(), OutOfMemory>
     requires { IsModuleSetting (S.has store.old) S.tree setting.now }
     ensures pushed { OnOk result (notes_of found.new ≡ bodies_find (module_in setting.now) (constants_of (module_in setting.now)) 0 0 (module_in setting.now).items (notes_of found.old)) }
-    ensures kept { Keeps S.has store.old store.new }
+    ensures kept { KeepsTypes S.has store.old store.new }
 {
     let mut classes = 0;
     let mut functions = 0;
@@ -115,7 +117,7 @@ pub fn check_module<S: TypeStore>(
     requires classes { classes_with S.tree classes.now ≡ classes_of (module_of tree.now) }
     requires entries { HasEntries (S.has store.old) classes.now }
     ensures found { OnOk result (notes_of found.new ≡ module_finds (module_of tree.now) (notes_of found.old)) }
-    ensures kept { Keeps S.has store.old store.new }
+    ensures kept { KeepsTypes S.has store.old store.new }
 {
     let signatures = read_signatures(store, alloc, parents, tree, scopes, classes, found)?;
     let known = count_classes(tree.items.as_slice());

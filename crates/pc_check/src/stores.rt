@@ -1,15 +1,15 @@
-// Stores to attributes and items.
+//! Stores to attributes and items.
 
 ghost use Rattle.std.specs.Prelude.{◌≡◌, ◌++◌, All, map, OnOk};
 ghost use Rattle.pc_tree.specs.Tree.{expr_of, target_of, name_of, to_attribute, to_index};
-ghost use Rattle.pc_types.specs.Store.{Keeps};
+ghost use Rattle.pc_types.specs.Store.{KeepsTypes};
 ghost use Rattle.pc_flow.specs.WellFormed.{AreWellFormed};
 ghost use Rattle.pc_flow.specs.Stored.{env_of};
 ghost use Rattle.pc_notes.specs.Notes.{notes_of};
 ghost use Rattle.pc_expr.specs.Operations.{stored_types};
 ghost use Rattle.pc_expr.specs.Storing.{HasStoreOffer, store_offer_with};
 ghost use Rattle.pc_check.specs.ComputedStatements.{at, store_finds, stored_finds};
-ghost use Rattle.pc_check.specs.Walking.{frame_with, HoldsFrame, HoldsTypes};
+ghost use Rattle.pc_check.specs.Internal.StatementWalk.{frame_with, HoldsFrame, HoldsTypes};
 
 use crate::frame::Frame;
 use crate::typing::type_in;
@@ -42,7 +42,7 @@ fn find_stored<S: TypeStore, R: Resolver>(
     requires offers { All (HasStoreOffer (S.has store.old)) offers.now }
     requires well_formed { AreWellFormed frame.now.parents.now (stored_types (map (store_offer_with S.tree) offers.now)) }
     ensures pushed { OnOk result (notes_of found.new ≡ notes_of found.old ++ stored_finds (frame_with S.tree R.meaning frame.now) (at (frame_with S.tree R.meaning frame.now) (env_of S.tree declared.now) (env_of S.tree env.now)) (map (store_offer_with S.tree) offers.now) place (expr_of value.now)) }
-    ensures kept { Keeps S.has store.old store.new }
+    ensures kept { KeepsTypes S.has store.old store.new }
 {
     let codes = store_codes(alloc, offers)?;
     find_codes(place, &codes, found)?;
@@ -77,7 +77,7 @@ fn find_attribute_store<S: TypeStore, R: Resolver>(
     requires declared { HoldsTypes (S.has store.old) S.tree frame.now.parents.now declared.now }
     requires env { HoldsTypes (S.has store.old) S.tree frame.now.parents.now env.now }
     ensures pushed { OnOk result (notes_of found.new ≡ notes_of found.old ++ store_finds (frame_with S.tree R.meaning frame.now) (at (frame_with S.tree R.meaning frame.now) (env_of S.tree declared.now) (env_of S.tree env.now)) (to_attribute place (expr_of object.now) (name_of field.now)) (expr_of value.now)) }
-    ensures kept { Keeps S.has store.old store.new }
+    ensures kept { KeepsTypes S.has store.old store.new }
 {
     let label = type_in(store, alloc, frame, declared, env, &None, object, found)?;
     let target = StoreTarget::Attribute(field.text.as_str());
@@ -104,7 +104,7 @@ fn find_item_store<S: TypeStore, R: Resolver>(
     requires declared { HoldsTypes (S.has store.old) S.tree frame.now.parents.now declared.now }
     requires env { HoldsTypes (S.has store.old) S.tree frame.now.parents.now env.now }
     ensures pushed { OnOk result (notes_of found.new ≡ notes_of found.old ++ store_finds (frame_with S.tree R.meaning frame.now) (at (frame_with S.tree R.meaning frame.now) (env_of S.tree declared.now) (env_of S.tree env.now)) (to_index place (expr_of object.now) (expr_of index.now)) (expr_of value.now)) }
-    ensures kept { Keeps S.has store.old store.new }
+    ensures kept { KeepsTypes S.has store.old store.new }
 {
     let label = type_in(store, alloc, frame, declared, env, &None, object, found)?;
     let offers = store_offers(store, alloc, frame.classes, StoreTarget::Index, &label.ty)?;
@@ -139,7 +139,7 @@ pub(crate) fn find_store<S: TypeStore, R: Resolver>(
     requires declared { HoldsTypes (S.has store.old) S.tree frame.now.parents.now declared.now }
     requires env { HoldsTypes (S.has store.old) S.tree frame.now.parents.now env.now }
     ensures pushed { OnOk result (notes_of found.new ≡ notes_of found.old ++ store_finds (frame_with S.tree R.meaning frame.now) (at (frame_with S.tree R.meaning frame.now) (env_of S.tree declared.now) (env_of S.tree env.now)) (target_of target.now) (expr_of value.now)) }
-    ensures kept { Keeps S.has store.old store.new }
+    ensures kept { KeepsTypes S.has store.old store.new }
 {
     match target {
         Target::Name(_) => Ok(()),

@@ -1,12 +1,12 @@
-// What is assigned to: a name, an attribute or an item.
+//! What is assigned to: a name, an attribute or an item.
 
 ghost use Rattle.std.specs.Prelude.{◌≡◌, ◌++◌, IfOk, OnOk, None};
 ghost use Rattle.pc_tree.specs.Tree.{expr_of, target_of};
-ghost use Rattle.pc_types.specs.Store.{Keeps};
+ghost use Rattle.pc_types.specs.Store.{KeepsTypes};
 ghost use Rattle.pc_flow.specs.Stored.{env_of};
 ghost use Rattle.pc_notes.specs.Notes.{notes_of};
 ghost use Rattle.pc_check.specs.ComputedStatements.{at, assign_target, store_finds};
-ghost use Rattle.pc_check.specs.Walking.{frame_with, HoldsFrame, HoldsTypes, GivesBound};
+ghost use Rattle.pc_check.specs.Internal.StatementWalk.{frame_with, HoldsFrame, HoldsTypes, GivesBound};
 
 use crate::binding::bind_value;
 use crate::frame::Frame;
@@ -33,7 +33,7 @@ pub(crate) fn assign_target<S: TypeStore, R: Resolver>(
     requires declared { HoldsTypes (S.has store.old) S.tree frame.now.parents.now declared.old }
     requires env { HoldsTypes (S.has store.old) S.tree frame.now.parents.now env }
     ensures bound { IfOk result (λ b. GivesBound S.has S.tree frame.now.parents.now store.new declared.new b (notes_of found.new) (assign_target (frame_with S.tree R.meaning frame.now) (env_of S.tree declared.old) (env_of S.tree env) (target_of target.now) (expr_of value.now) (notes_of found.old))) }
-    ensures kept { Keeps S.has store.old store.new }
+    ensures kept { KeepsTypes S.has store.old store.new }
 {
     match target {
         Target::Name(name) => {

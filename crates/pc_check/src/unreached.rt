@@ -1,14 +1,14 @@
-// Locals that are first bound where no run comes.
+//! Locals that are first bound where no run comes.
 
 ghost use Rattle.std.specs.Prelude.{◌≡◌, OnOk};
 ghost use Rattle.pc_source.specs.declared.place.Place.{Place as PlaceOf};
 ghost use Rattle.pc_tree.specs.Tree.{stmt_of_kind};
 ghost use Rattle.pc_tree.specs.Stopping.{bound_by_stmt};
 ghost use Rattle.pc_types.specs.Tree.{Any};
-ghost use Rattle.pc_types.specs.Store.{Keeps};
+ghost use Rattle.pc_types.specs.Store.{KeepsTypes};
 ghost use Rattle.pc_flow.specs.Stored.{env_of};
-ghost use Rattle.pc_check.specs.ComputedStatements.{bound_type, settled, unreached_names};
-ghost use Rattle.pc_check.specs.Walking.{frame_with, unreached_numbers, HoldsTypes, GivesTypes};
+ghost use Rattle.pc_check.specs.ComputedStatements.{bound_type, with_declared, unreached_names};
+ghost use Rattle.pc_check.specs.Internal.StatementWalk.{frame_with, unreached_numbers, HoldsTypes, GivesTypes};
 
 use crate::binding::settle;
 use crate::frame::Frame;
@@ -28,8 +28,8 @@ fn declare_any<S: TypeStore>(
     local: usize,
 ) -> Result<(), OutOfMemory>
     requires { HoldsTypes (S.has store.old) S.tree parents.now declared.old }
-    ensures declared { OnOk result (GivesTypes S.has S.tree parents.now store.new declared.new (settled (bound_type (env_of S.tree declared.old) local) (env_of S.tree declared.old) local Any)) }
-    ensures kept { Keeps S.has store.old store.new }
+    ensures declared { OnOk result (GivesTypes S.has S.tree parents.now store.new declared.new (with_declared (bound_type (env_of S.tree declared.old) local) (env_of S.tree declared.old) local Any)) }
+    ensures kept { KeepsTypes S.has store.old store.new }
 {
     let any = store.any(alloc)?;
     settle(declared, local, any);
@@ -46,7 +46,7 @@ fn declare_each<S: TypeStore>(
 ) -> Result<(), OutOfMemory>
     requires { HoldsTypes (S.has store.old) S.tree parents.now declared.old }
     ensures declared { OnOk result (GivesTypes S.has S.tree parents.now store.new declared.new (unreached_numbers (env_of S.tree declared.old) locals.now)) }
-    ensures kept { Keeps S.has store.old store.new }
+    ensures kept { KeepsTypes S.has store.old store.new }
 {
     for local in locals {
         declare_any(store, alloc, parents, declared, *local)?;
@@ -64,7 +64,7 @@ pub(crate) fn declare_unreached<S: TypeStore, R: Resolver>(
 ) -> Result<(), OutOfMemory>
     requires { HoldsTypes (S.has store.old) S.tree frame.now.parents.now declared.old }
     ensures declared { (p : PlaceOf) → OnOk result (GivesTypes S.has S.tree frame.now.parents.now store.new declared.new (unreached_names (frame_with S.tree R.meaning frame.now) (env_of S.tree declared.old) (bound_by_stmt (stmt_of_kind p kind.now)))) }
-    ensures kept { Keeps S.has store.old store.new }
+    ensures kept { KeepsTypes S.has store.old store.new }
 {
     let mut bound = Vec::new(alloc);
     add_bound_by(&mut bound, kind)?;

@@ -12,9 +12,9 @@ use Rattle.pc_types.specs.Tree.{Tree}
 use Rattle.pc_types.specs.Below.{Bases}
 use Rattle.pc_types.specs.Bases.{base_named}
 use Rattle.pc_class.specs.declared.table.Method.{Method as RustMethod}
-use Rattle.pc_class.specs.Facts.{Method, Class, class_at, inherited, own_methods, class_behind, classes_behind, classes_of}
-use Rattle.pc_class.specs.Overriding.{found_at_method, found_at_methods, class_overrides, overrides_from, override_findings}
-use Rattle.pc_class.specs.Tables.{Entry, empty_entry, inherited_entry, class_with, classes_with, method_with, HasParameter, HasMethod, HasEntry, HasEntries}
+use Rattle.pc_class.specs.Facts.{Method, ClassFacts, class_facts_at, base_facts, own_methods, class_facts_behind, classes_behind, classes_of}
+use Rattle.pc_class.specs.OverrideFindings.{found_at_method, found_at_methods, class_overrides, overrides_from, override_findings}
+use Rattle.pc_class.specs.Tables.{ClassEntry, empty_entry, inherited_entry, class_with, classes_with, method_with, HasParameter, HasMethod, HasEntry, HasEntries}
 use Rattle.pc_class.proofs.ClassesBuilt.{class_is, class_over}
 use Rattle.pc_class.proofs.TableReads.{inherits_there}
 use Rattle.pc_class.proofs.TableFields.{entry_listed}
@@ -22,14 +22,14 @@ use Rattle.pc_class.proofs.OverrideWalk.{method_keeps}
 
 module _ {Ty : Type 0} where
   -- the store has the types of a table still
-  pub entries_keep : (has later : Ty → Type 0) (es : List (Entry Ty)) → ((t : Ty) → has t → later t) → HasEntries has es → HasEntries later es
+  pub entries_keep : (has later : Ty → Type 0) (es : List (ClassEntry Ty)) → ((t : Ty) → has t → later t) → HasEntries has es → HasEntries later es
   entries_keep has later es keeps = All-weaker (HasEntry has) (HasEntry later) (λ e h. record {
     fields = All-weaker (HasParameter has) (HasParameter later) (λ p q. keeps p.ty q) e.fields h.fields;
     methods = All-weaker (HasMethod has) (HasMethod later) (λ x q. method_keeps has later x keeps q) e.methods h.methods;
   }) es
 
   -- it gave those of the methods that a class of the table binds itself
-  pub own_given : (has : Ty → Type 0) (es : List (Entry Ty)) (c : ℕ) (own : List (RustMethod Ty)) (rest : List (RustMethod Ty)) → HasEntries has es → c < length es → (slice_index_or es c empty_entry).methods ≡ own ++ rest
+  pub own_given : (has : Ty → Type 0) (es : List (ClassEntry Ty)) (c : ℕ) (own : List (RustMethod Ty)) (rest : List (RustMethod Ty)) → HasEntries has es → c < length es → (slice_index_or es c empty_entry).methods ≡ own ++ rest
       → (i : ℕ) (x : RustMethod Ty) → i < length own → x ≡ get_or own i x → HasMethod has x
   own_given has es c own rest given less over i x within is =
       let all : All (HasMethod has) (own ++ rest) = subst (All (HasMethod has)) over (All-contains (HasEntry has) es (slice_index_or es c empty_entry) given (entry_listed es c empty_entry less)).methods in
@@ -42,31 +42,31 @@ module _ {Ty : Type 0} where
       get_front (y ∷ ys) (suc k) l = get_front ys k (omega arith)
 
   -- the methods that the table has of a class beside its base's are those that the class binds
-  pub own_there : (tree : Ty → Tree) (es : List (Entry Ty)) (m : Module) (c : ℕ) (class : ClassDef) → slice_get (classes_in m.items) c ≡ Some class → classes_with tree es ≡ classes_of m
+  pub own_there : (tree : Ty → Tree) (es : List (ClassEntry Ty)) (m : Module) (c : ℕ) (class : ClassDef) → slice_get (classes_in m.items) c ≡ Some class → classes_with tree es ≡ classes_of m
       → (own : List (RustMethod Ty)) → (slice_index_or es c empty_entry).methods ≡ own ++ (inherited_entry es (slice_index_or es c empty_entry).base).methods
-      → map (method_with tree) own ≡ own_methods m (inherited (classes_of m) (base_named m c class.base)) c 0 [] class.members
+      → map (method_with tree) own ≡ own_methods m (base_facts (classes_of m) (base_named m c class.base)) c 0 [] class.members
   own_there tree es m c class is same own over = append_cancel_right _ _ parent.methods all
     where
-      entry : Entry Ty
+      entry : ClassEntry Ty
       entry = slice_index_or es c empty_entry
 
-      parent : Class
-      parent = inherited (classes_of m) (base_named m c class.base)
+      parent : ClassFacts
+      parent = base_facts (classes_of m) (base_named m c class.base)
 
       whole : class_with tree entry ≡ class_over m c class parent
-      whole = sym (inherits_there tree es (Some c)) ∙ ap (λ (cs : List Class). class_at cs c) same ∙ class_is m c class is
+      whole = sym (inherits_there tree es (Some c)) ∙ ap (λ (cs : List ClassFacts). class_facts_at cs c) same ∙ class_is m c class is
 
       above : map (method_with tree) (inherited_entry es entry.base).methods ≡ parent.methods
       above =
-          ap (λ (k : Class). k.methods) (sym (inherits_there tree es entry.base) ∙ ap (λ (cs : List Class). inherited cs entry.base) same)
-          ∙ ap (λ o. (inherited (classes_of m) o).methods) (ap (λ (k : Class). k.base) whole)
+          ap (λ (k : ClassFacts). k.methods) (sym (inherits_there tree es entry.base) ∙ ap (λ (cs : List ClassFacts). base_facts cs entry.base) same)
+          ∙ ap (λ o. (base_facts (classes_of m) o).methods) (ap (λ (k : ClassFacts). k.base) whole)
 
       all : map (method_with tree) own ++ parent.methods ≡ own_methods m parent c 0 [] class.members ++ parent.methods
       all =
           ap (λ (xs : List Method). map (method_with tree) own ++ xs) (sym above)
           ∙ sym (map-append (method_with tree) own (inherited_entry es entry.base).methods)
           ∙ ap (map (method_with tree)) (sym over)
-          ∙ ap (λ (k : Class). k.methods) whole
+          ∙ ap (λ (k : ClassFacts). k.methods) whole
 
   -- what is found of one more method
   pub methods_next : (tree : Ty → Tree) (bases : Bases) (above : List Method) (own : List (RustMethod Ty)) (i : ℕ) (x : RustMethod Ty) → i < length own → x ≡ get_or own i x → (old mid total : List Finding)
@@ -82,18 +82,18 @@ module _ {Ty : Type 0} where
 
 -- ---- classes
 
-many_behind : (m : Module) (earlier : List Class) (c : ℕ) (cs : List ClassDef) → length (classes_behind m earlier c cs) ≡ length earlier + length cs
+many_behind : (m : Module) (earlier : List ClassFacts) (c : ℕ) (cs : List ClassDef) → length (classes_behind m earlier c cs) ≡ length earlier + length cs
 many_behind m earlier c [] = omega arith
 many_behind m earlier c (class ∷ rest) =
-    let more = length-append earlier (class_behind m earlier c class ∷ []) in
-    many_behind m (earlier ++ class_behind m earlier c class ∷ []) (suc c) rest ∙ omega arith
+    let more = length-append earlier (class_facts_behind m earlier c class ∷ []) in
+    many_behind m (earlier ++ class_facts_behind m earlier c class ∷ []) (suc c) rest ∙ omega arith
 
 many_classes : (m : Module) → length (classes_of m) ≡ length (classes_in m.items)
 unfolding classes_of
 many_classes m = many_behind m [] 0 (classes_in m.items) ∙ omega arith
 
 -- a table has as many classes as its module
-pub as_many : {Ty : Type 0} (tree : Ty → Tree) (es : List (Entry Ty)) (m : Module) → classes_with tree es ≡ classes_of m → length es ≡ length (classes_in m.items)
+pub as_many : {Ty : Type 0} (tree : Ty → Tree) (es : List (ClassEntry Ty)) (m : Module) → classes_with tree es ≡ classes_of m → length es ≡ length (classes_in m.items)
 as_many tree es m same = sym (length-map es (class_with tree)) ∙ ap length same ∙ many_classes m
 
 -- what is found of one more class

@@ -12,9 +12,9 @@ use Rattle.pc_tree.specs.Tree.{ClassDef, Item, constant_item, class_item, def_it
 use Rattle.pc_scope.specs.declared.resolution.Builtin.{Builtin}
 use Rattle.pc_scope.specs.declared.resolution.Res.{Res}
 use Rattle.pc_scope.specs.declared.resolution.Res.TheVariants as res
-use Rattle.pc_scope.specs.Reserved.{builtin_of, is_reserved}
+use Rattle.pc_scope.specs.Reserved.{builtin_of, is_builtin_name}
 use Rattle.pc_scope.specs.Bindings.{classes_in}
-use Rattle.pc_scope.specs.Resolution.{bound_first, or_else, builtin_res, resolve_in_module}
+use Rattle.pc_scope.specs.Resolution.{bound_first, or_meaning, builtin_meaning, resolve_in_module}
 use Rattle.pc_types.specs.Bases.{earlier_class}
 use Rattle.pc_class.proofs.ReservedNames.{reserved_same}
 
@@ -170,10 +170,10 @@ module _ (m : Module) (before : List Item) (c : ClassDef) where
       let b = and_parts (not (is_among (names_of before) c.name.text)) (not (keywords.is_reserved c.name.text)) a.1 in
       let same : c.name.text ≡ w = (bytes_eq-Decides c.name.text w).0 a.0 in
       let new : is_among (names_of before) w ≡ false = ap (is_among (names_of before)) (sym same) ∙ not_true (is_among (names_of before) c.name.text) b.0 in
-      let free : is_reserved w ≡ false = sym (reserved_same w) ∙ (ap keywords.is_reserved (sym same) ∙ not_true (keywords.is_reserved c.name.text) b.1) in
-      ap (λ o. or_else (builtin_res o) (or_else (bound_first 0 0 0 m.items w) res.None)) (none_of (builtin_of w) free)
-      ∙ ap (λ (items : List Item). or_else (bound_first 0 0 0 items w) res.None) (sym whole)
-      ∙ ap (λ o. or_else o res.None) (passed before (class_item p c ∷ rest) w new
+      let free : is_builtin_name w ≡ false = sym (reserved_same w) ∙ (ap keywords.is_reserved (sym same) ∙ not_true (keywords.is_reserved c.name.text) b.1) in
+      ap (λ o. or_meaning (builtin_meaning o) (or_meaning (bound_first 0 0 0 m.items w) res.None)) (none_of (builtin_of w) free)
+      ∙ ap (λ (items : List Item). or_meaning (bound_first 0 0 0 items w) res.None) (sym whole)
+      ∙ ap (λ o. or_meaning o res.None) (passed before (class_item p c ∷ rest) w new
       ∙ ap (λ t. if t then Some (res.Class (class_count before)) else bound_first (constant_count before) (function_count before) (suc (class_count before)) rest w) a.0)
 
   -- and only so
@@ -192,11 +192,11 @@ module _ (m : Module) (before : List Item) (c : ClassDef) where
       by_among none h true f = let l = early before (class_item p c ∷ rest) w (class_count before) f h in absurd (omega arith)
       by_among none h false f = by_name none f (bytes_eq c.name.text w) refl (sym (passed before (class_item p c ∷ rest) w f) ∙ h)
 
-      by_item : builtin_of w ≡ None → (o : Option Res) → bound_first 0 0 0 m.items w ≡ o → or_else o res.None ≡ res.Class (class_count before) → is_meant w ≡ true
+      by_item : builtin_of w ≡ None → (o : Option Res) → bound_first 0 0 0 m.items w ≡ o → or_meaning o res.None ≡ res.Class (class_count before) → is_meant w ≡ true
       by_item none None is h = not_class refl h
       by_item none (Some r) is h = by_among none (ap (λ (items : List Item). bound_first 0 0 0 items w) whole ∙ (is ∙ ap Some h)) (is_among (names_of before) w) refl
 
-      by_builtin : (o : Option Builtin) → builtin_of w ≡ o → or_else (builtin_res o) (or_else (bound_first 0 0 0 m.items w) res.None) ≡ res.Class (class_count before) → is_meant w ≡ true
+      by_builtin : (o : Option Builtin) → builtin_of w ≡ o → or_meaning (builtin_meaning o) (or_meaning (bound_first 0 0 0 m.items w) res.None) ≡ res.Class (class_count before) → is_meant w ≡ true
       by_builtin None none h = by_item none (bound_first 0 0 0 m.items w) refl h
       by_builtin (Some b) some h = not_class refl h
 

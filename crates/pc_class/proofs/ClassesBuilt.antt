@@ -7,7 +7,7 @@ use Rattle.pc_scope.specs.Bindings.{classes_in}
 use Rattle.pc_types.specs.Below.{base_of}
 use Rattle.pc_types.specs.Bases.{base_named, bases_from, bases_of}
 use Rattle.pc_types.proofs.Earlier.{smaller}
-use Rattle.pc_class.specs.Facts.{Class, class_in, class_at, inherited, own_fields, own_methods, class_behind, classes_behind, classes_of}
+use Rattle.pc_class.specs.Facts.{ClassFacts, class_in, class_facts_at, base_facts, own_fields, own_methods, class_facts_behind, classes_behind, classes_of}
 
 get_at_end : {A : Type 0} (xs : List A) (y : A) (ys : List A) → slice_get (xs ++ y ∷ ys) (length xs) ≡ Some y
 get_at_end [] y ys = refl
@@ -22,43 +22,43 @@ get_front (x ∷ xs) ys (suc i) h = get_front xs ys i (omega arith)
 
 module _ (m : Module) where
   -- classes that stand before others stay
-  pub kept : (earlier : List Class) (c : ℕ) (cs : List ClassDef) (i : ℕ) → i < length earlier → slice_get (classes_behind m earlier c cs) i ≡ slice_get earlier i
+  pub kept : (earlier : List ClassFacts) (c : ℕ) (cs : List ClassDef) (i : ℕ) → i < length earlier → slice_get (classes_behind m earlier c cs) i ≡ slice_get earlier i
   kept earlier c [] i h = refl
   kept earlier c (class ∷ rest) i h =
-      let more = earlier ++ class_behind m earlier c class ∷ [] in
-      kept more (suc c) rest i (let e = length-append earlier (class_behind m earlier c class ∷ []) in omega arith)
-      ∙ get_front earlier (class_behind m earlier c class ∷ []) i h
+      let more = earlier ++ class_facts_behind m earlier c class ∷ [] in
+      kept more (suc c) rest i (let e = length-append earlier (class_facts_behind m earlier c class ∷ []) in omega arith)
+      ∙ get_front earlier (class_facts_behind m earlier c class ∷ []) i h
 
   -- a class by its base and its members, over the classes before it
-  record Made (all : List Class) (c : ℕ) (class : ClassDef) : Type 0 where
-    earlier : List Class
-    is : slice_get all c ≡ Some (class_behind m earlier c class)
+  record Made (all : List ClassFacts) (c : ℕ) (class : ClassDef) : Type 0 where
+    earlier : List ClassFacts
+    is : slice_get all c ≡ Some (class_facts_behind m earlier c class)
     same : (b : ℕ) → b < c → slice_get earlier b ≡ slice_get all b
 
-  made : (earlier : List Class) (c : ℕ) (cs : List ClassDef) (i : ℕ) (class : ClassDef) → length earlier ≡ c → slice_get cs i ≡ Some class → Made (classes_behind m earlier c cs) (c + i) class
+  made : (earlier : List ClassFacts) (c : ℕ) (cs : List ClassDef) (i : ℕ) (class : ClassDef) → length earlier ≡ c → slice_get cs i ≡ Some class → Made (classes_behind m earlier c cs) (c + i) class
   made earlier c [] i class long e = absurd (grind (arith, e))
   made earlier c (d ∷ rest) zero class long e =
-      let more = earlier ++ class_behind m earlier c d ∷ [] in
-      let longer : length more ≡ suc c = length-append earlier (class_behind m earlier c d ∷ []) ∙ omega arith in
+      let more = earlier ++ class_facts_behind m earlier c d ∷ [] in
+      let longer : length more ≡ suc c = length-append earlier (class_facts_behind m earlier c d ∷ []) ∙ omega arith in
       record {
         earlier = earlier;
         is = ap (slice_get (classes_behind m more (suc c) rest)) (omega arith) ∙ kept more (suc c) rest c (omega arith)
-            ∙ ap (slice_get more) (sym long) ∙ get_at_end earlier (class_behind m earlier c d) []
-            ∙ ap (λ x. Some (class_behind m earlier c x)) (same_Some _ _ e) ∙ ap (λ n. Some (class_behind m earlier n class)) (omega arith);
-        same = λ b h. sym (kept more (suc c) rest b (omega arith) ∙ get_front earlier (class_behind m earlier c d ∷ []) b (omega arith));
+            ∙ ap (slice_get more) (sym long) ∙ get_at_end earlier (class_facts_behind m earlier c d) []
+            ∙ ap (λ x. Some (class_facts_behind m earlier c x)) (same_Some _ _ e) ∙ ap (λ n. Some (class_facts_behind m earlier n class)) (omega arith);
+        same = λ b h. sym (kept more (suc c) rest b (omega arith) ∙ get_front earlier (class_facts_behind m earlier c d ∷ []) b (omega arith));
       }
   made earlier c (d ∷ rest) (suc i) class long e =
-      let more = earlier ++ class_behind m earlier c d ∷ [] in
-      let longer : length more ≡ suc c = length-append earlier (class_behind m earlier c d ∷ []) ∙ omega arith in
+      let more = earlier ++ class_facts_behind m earlier c d ∷ [] in
+      let longer : length more ≡ suc c = length-append earlier (class_facts_behind m earlier c d ∷ []) ∙ omega arith in
       subst (λ n. Made (classes_behind m more (suc c) rest) n class) (omega arith) (made more (suc c) rest i class longer e)
 
   -- past the classes of the text there is none
-  past : (earlier : List Class) (c : ℕ) (cs : List ClassDef) (i : ℕ) → length earlier ≡ c → slice_get cs i ≡ None → slice_get (classes_behind m earlier c cs) (c + i) ≡ None
+  past : (earlier : List ClassFacts) (c : ℕ) (cs : List ClassDef) (i : ℕ) → length earlier ≡ c → slice_get cs i ≡ None → slice_get (classes_behind m earlier c cs) (c + i) ≡ None
   past earlier c [] i long e = slice_get_past earlier (c + i) (omega arith)
   past earlier c (d ∷ rest) zero long e = absurd (grind (arith, e))
   past earlier c (d ∷ rest) (suc i) long e =
-      let more = earlier ++ class_behind m earlier c d ∷ [] in
-      let longer : length more ≡ suc c = length-append earlier (class_behind m earlier c d ∷ []) ∙ omega arith in
+      let more = earlier ++ class_facts_behind m earlier c d ∷ [] in
+      let longer : length more ≡ suc c = length-append earlier (class_facts_behind m earlier c d ∷ []) ∙ omega arith in
       subst (λ n. slice_get (classes_behind m more (suc c) rest) n ≡ None) (omega arith) (past more (suc c) rest i longer e)
 
   pub no_class_past : (c : ℕ) → slice_get (classes_in m.items) c ≡ None → slice_get (classes_of m) c ≡ None
@@ -106,7 +106,7 @@ module _ (m : Module) where
   below_class c b class is e = smaller m c b (base_known c b class is e)
 
   -- a class by its members, over its base
-  abbrev pub class_over : ℕ → ClassDef → Class → Class
+  abbrev pub class_over : ℕ → ClassDef → ClassFacts → ClassFacts
   class_over c class base = record {
     base = base_named m c class.base;
     fields = base.fields ++ own_fields m base [] class.members;
@@ -114,13 +114,13 @@ module _ (m : Module) where
   }
 
   -- what stands at each class
-  pub class_is : (c : ℕ) (class : ClassDef) → slice_get (classes_in m.items) c ≡ Some class → class_at (classes_of m) c ≡ class_over c class (inherited (classes_of m) (base_named m c class.base))
+  pub class_is : (c : ℕ) (class : ClassDef) → slice_get (classes_in m.items) c ≡ Some class → class_facts_at (classes_of m) c ≡ class_over c class (base_facts (classes_of m) (base_named m c class.base))
   unfolding classes_of
   class_is c class is = go (base_named m c class.base) refl
     where
       at : Made (classes_of m) c class
       at = subst (λ n. Made (classes_of m) n class) (omega arith) (made [] 0 (classes_in m.items) c class refl is)
 
-      go : (o : Option ℕ) → base_named m c class.base ≡ o → class_at (classes_of m) c ≡ class_over c class (inherited (classes_of m) (base_named m c class.base))
-      go None e = ap class_in at.is ∙ ap (class_over c class) (ap (inherited at.earlier) e ∙ sym (ap (inherited (classes_of m)) e))
-      go (Some b) e = ap class_in at.is ∙ ap (class_over c class) (ap (inherited at.earlier) e ∙ ap class_in (at.same b (below_class c b class is e)) ∙ sym (ap (inherited (classes_of m)) e))
+      go : (o : Option ℕ) → base_named m c class.base ≡ o → class_facts_at (classes_of m) c ≡ class_over c class (base_facts (classes_of m) (base_named m c class.base))
+      go None e = ap class_in at.is ∙ ap (class_over c class) (ap (base_facts at.earlier) e ∙ sym (ap (base_facts (classes_of m)) e))
+      go (Some b) e = ap class_in at.is ∙ ap (class_over c class) (ap (base_facts at.earlier) e ∙ ap class_in (at.same b (below_class c b class is e)) ∙ sym (ap (base_facts (classes_of m)) e))

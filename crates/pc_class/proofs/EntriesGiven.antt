@@ -7,7 +7,7 @@ use Rattle.pc_class.specs.declared.table.Method.{Method as RustMethod}
 use Rattle.pc_class.specs.declared.parts.Span.{Span}
 use Rattle.pc_class.specs.declared.parts.ClassNode.{ClassNode}
 use Rattle.pc_class.specs.declared.parts.TableParts.{TableParts}
-use Rattle.pc_class.specs.Tables.{Entry, inherited_entry, HasParameter, HasMethod, HasEntry, HasEntries}
+use Rattle.pc_class.specs.Tables.{ClassEntry, inherited_entry, HasParameter, HasMethod, HasEntry, HasEntries}
 use Rattle.pc_class.specs.Parts.{part, entry_over, entries_behind, entries_in, HasParts}
 use Rattle.pc_class.proofs.ClassAdded.{entries_are_behind}
 
@@ -15,13 +15,13 @@ all_part : {X : Type 0} (P : X → Type 0) (xs : List X) (s : Span) → All P xs
 all_part P xs s h = All-take P _ _ (All-drop P s.start xs h)
 
 module _ {Ty : Type 0} (has : Ty → Type 0) (F : List (RustParameter Ty)) (M : List (RustMethod Ty)) (f : All (HasParameter has) F) (g : All (HasMethod has) M) where
-  inherited_given : (es : List (Entry Ty)) (o : Option ℕ) → HasEntries has es → HasEntry has (inherited_entry es o)
+  inherited_given : (es : List (ClassEntry Ty)) (o : Option ℕ) → HasEntries has es → HasEntry has (inherited_entry es o)
   inherited_given es None h = record { fields = All-nil (HasParameter has); methods = All-nil (HasMethod has) }
   inherited_given [] (Some b) h = record { fields = All-nil (HasParameter has); methods = All-nil (HasMethod has) }
   inherited_given (e ∷ es) (Some zero) h = All-head (HasEntry has) e es h
   inherited_given (e ∷ es) (Some (suc b)) h = inherited_given es (Some b) (All-tail (HasEntry has) e es h)
 
-  entries_given : (es : List (Entry Ty)) (ns : List ClassNode) → HasEntries has es → HasEntries has (entries_behind F M es ns)
+  entries_given : (es : List (ClassEntry Ty)) (ns : List ClassNode) → HasEntries has es → HasEntries has (entries_behind F M es ns)
   entries_given es [] h = h
   entries_given es (n ∷ ns) h =
       let b = inherited_given es n.base h in

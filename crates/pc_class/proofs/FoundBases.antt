@@ -8,14 +8,14 @@ use Rattle.pc_tree.specs.declared.code.Finding.{Finding}
 use Rattle.pc_tree.specs.Code.{finding}
 use Rattle.pc_tree.specs.Tree.{Name, ClassDef, Module}
 use Rattle.pc_scope.specs.Bindings.{classes_in}
-use Rattle.pc_scope.specs.Found.{at_code}
+use Rattle.pc_scope.specs.Internal.FindingLists.{at_code}
 use Rattle.pc_scope.proofs.Among.{none_among, first_among, among_first, either}
 use Rattle.pc_scope.proofs.Finds.{at_both}
 use Rattle.pc_types.specs.Below.{base_of}
 use Rattle.pc_types.specs.Bases.{base_named, bases_of}
 use Rattle.pc_class.specs.Findings.{ClassNumbered, HasNoBase}
 use Rattle.pc_class.specs.Entries.{missing_base, missing_bases}
-use Rattle.pc_class.specs.NamesFound.{FindsBase}
+use Rattle.pc_class.specs.NameFindings.{FindsBase}
 use Rattle.pc_class.proofs.ClassesBuilt.{base_here}
 use Rattle.pc_class.proofs.ItemsBuilt.{AreAhead}
 

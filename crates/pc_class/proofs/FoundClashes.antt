@@ -9,22 +9,22 @@ use Rattle.pc_source.specs.declared.place.Place.{Place}
 use Rattle.pc_tree.specs.declared.code.Code.TheVariants.{E06}
 use Rattle.pc_tree.specs.declared.code.Finding.{Finding}
 use Rattle.pc_tree.specs.Code.{finding}
-use Rattle.pc_tree.specs.Stopping.{Held, option_text, own_members, members_of, clashing_in, clashing_members}
+use Rattle.pc_tree.specs.Stopping.{HeldMember, option_text, own_members, members_of, clashing_in, clashing_members}
 use Rattle.pc_tree.specs.Tree.{Name, ClassDef, Item, constant_item, class_item, def_item, Module}
 use Rattle.pc_scope.specs.Bindings.{classes_in}
-use Rattle.pc_scope.specs.Found.{at_code}
+use Rattle.pc_scope.specs.Internal.FindingLists.{at_code}
 use Rattle.pc_scope.specs.Resolution.{resolve_in_module}
 use Rattle.pc_scope.proofs.Among.{none_among, in_code, to_code}
 use Rattle.pc_types.specs.Bases.{earlier_class, base_named}
 use Rattle.pc_class.specs.Built.{class_findings}
 use Rattle.pc_class.specs.ClassFindingsLaw.{clashes_from}
 use Rattle.pc_class.specs.Entries.{inherited_by, class_entries, clash_places}
-use Rattle.pc_class.specs.Facts.{Class, inherited, classes_of}
+use Rattle.pc_class.specs.Facts.{ClassFacts, base_facts, classes_of}
 use Rattle.pc_class.specs.Findings as classes
 use Rattle.pc_class.specs.Findings.{ClassFinds, ClassNumbered, IsTwiceMember, base_class}
-use Rattle.pc_class.specs.NamesFound as names
-use Rattle.pc_class.specs.NamesFound.{NamesFind}
-use Rattle.pc_class.specs.Overriding.{override_findings}
+use Rattle.pc_class.specs.NameFindings as names
+use Rattle.pc_class.specs.NameFindings.{NamesFind}
+use Rattle.pc_class.specs.OverrideFindings.{override_findings}
 use Rattle.pc_class.proofs.ClassesBuilt.{class_is}
 use Rattle.pc_class.proofs.ClassesBefore.{onto, class_count, class_numbered, is_meant, meant_class, class_meant, never_earlier, just_before, not_the_one}
 use Rattle.pc_class.proofs.FoundOfClasses.{findings_listed}
@@ -41,30 +41,30 @@ module _ (m : Module) where
       ∙ ap (slice_get (classes_in (onto before (class_item p c ∷ rest)))) (omega arith) ∙ class_numbered before (class_item p c ∷ rest) 0
 
   -- what is held of the class that a name means among the items before is what that class has
-  tells : (before rest : List Item) → onto before rest ≡ m.items → (o : Option Name) → Tells (members_of before (option_text o)) (inherited (classes_of m) (base_named m (class_count before) o))
+  tells : (before rest : List Item) → onto before rest ≡ m.items → (o : Option Name) → Tells (members_of before (option_text o)) (base_facts (classes_of m) (base_named m (class_count before) o))
   tells [] rest whole None = nothing_tells
   tells (i ∷ before) rest whole None = nothing_tells
-  tells [] rest whole (Some n) = subst (λ o. Tells [] (inherited (classes_of m) o)) (sym (never_earlier (resolve_in_module m n.text))) nothing_tells
+  tells [] rest whole (Some n) = subst (λ o. Tells [] (base_facts (classes_of m) o)) (sym (never_earlier (resolve_in_module m n.text))) nothing_tells
   tells (constant_item p c ∷ before) rest whole (Some n) = tells before (constant_item p c ∷ rest) whole (Some n)
   tells (def_item p f ∷ before) rest whole (Some n) = tells before (def_item p f ∷ rest) whole (Some n)
   tells (class_item p c ∷ before) rest whole (Some n) = go (is_meant m before c n.text) refl (tells before (class_item p c ∷ rest) whole c.base) (tells before (class_item p c ∷ rest) whole (Some n))
     where
-      held : List Held
+      held : List HeldMember
       held = members_of before (option_text c.base)
 
-      base : Class
+      base : ClassFacts
       base = base_class m (class_count before) c
 
-      go : (b : Bool) → is_meant m before c n.text ≡ b → Tells held base → Tells (members_of before (Some n.text)) (inherited (classes_of m) (base_named m (class_count before) (Some n)))
-          → Tells (if b then held ++ own_members [] held c.members else members_of before (Some n.text)) (inherited (classes_of m) (base_named m (suc (class_count before)) (Some n)))
+      go : (b : Bool) → is_meant m before c n.text ≡ b → Tells held base → Tells (members_of before (Some n.text)) (base_facts (classes_of m) (base_named m (class_count before) (Some n)))
+          → Tells (if b then held ++ own_members [] held c.members else members_of before (Some n.text)) (base_facts (classes_of m) (base_named m (suc (class_count before)) (Some n)))
       go true e here others =
           subst (Tells (held ++ own_members [] held c.members))
-          (sym (ap (λ r. inherited (classes_of m) (earlier_class (suc (class_count before)) r)) (meant_class m before c rest p whole n.text e)
-          ∙ ap (inherited (classes_of m)) (just_before (class_count before))
+          (sym (ap (λ r. base_facts (classes_of m) (earlier_class (suc (class_count before)) r)) (meant_class m before c rest p whole n.text e)
+          ∙ ap (base_facts (classes_of m)) (just_before (class_count before))
           ∙ class_is m (class_count before) c (numbered_here before p c rest whole)))
           (tells_over m base held here (class_count before) c)
       go false e here others =
-          subst (λ o. Tells (members_of before (Some n.text)) (inherited (classes_of m) o))
+          subst (λ o. Tells (members_of before (Some n.text)) (base_facts (classes_of m) o))
           (sym (not_the_one (class_count before) (resolve_in_module m n.text) (λ h. false≢true (sym e ∙ class_meant m before c rest p whole n.text h))))
           others
 

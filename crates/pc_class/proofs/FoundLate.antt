@@ -11,11 +11,11 @@ use Rattle.pc_tree.specs.declared.code.Finding.{Finding}
 use Rattle.pc_tree.specs.Code.{finding}
 use Rattle.pc_tree.specs.Stopping.{one_if, name_of_member}
 use Rattle.pc_tree.specs.Tree.{Field, Member, field_member, method_member, ClassDef, Module}
-use Rattle.pc_scope.specs.Resolution.{is_among}
-use Rattle.pc_scope.specs.Found.{at_code}
+use Rattle.pc_scope.specs.Resolution.{is_one_of}
+use Rattle.pc_scope.specs.Internal.FindingLists.{at_code}
 use Rattle.pc_scope.proofs.Among.{none_among, first_among, among_first, either}
 use Rattle.pc_scope.proofs.Finds.{at_both}
-use Rattle.pc_class.specs.Facts.{Parameter, Class}
+use Rattle.pc_class.specs.Facts.{TypedParameter, ClassFacts}
 use Rattle.pc_class.specs.Findings.{IsFieldBehind, base_class, member_texts, has_default_before}
 use Rattle.pc_class.specs.Entries.{Inherited, inherited_by, member_binds, entry_of, number_after, entries_of, class_entries, member_default, entry_default, defaulted_after, is_late, late_places, defaulted_in}
 use Rattle.pc_class.proofs.EntryWalk.{same_binds}
@@ -27,9 +27,9 @@ names_after before [] = before
 names_after before (x ∷ xs) = names_after ((name_of_member x).text ∷ before) xs
 
 -- they are those of the members and those before, in some order
-pub after_same : (t : List ℕ) (before : List (List ℕ)) (xs : List Member) → is_among t (names_after before xs) ≡ (is_among t (member_texts xs) || is_among t before)
+pub after_same : (t : List ℕ) (before : List (List ℕ)) (xs : List Member) → is_one_of t (names_after before xs) ≡ (is_one_of t (member_texts xs) || is_one_of t before)
 after_same t before [] = refl
-after_same t before (x ∷ xs) = after_same t ((name_of_member x).text ∷ before) xs ∙ turned (is_among t (member_texts xs)) (bytes_eq t (name_of_member x).text) (is_among t before)
+after_same t before (x ∷ xs) = after_same t ((name_of_member x).text ∷ before) xs ∙ turned (is_one_of t (member_texts xs)) (bytes_eq t (name_of_member x).text) (is_one_of t before)
   where
     turned : (a b c : Bool) → (a || (b || c)) ≡ ((b || a) || c)
     turned true true c = refl
@@ -132,20 +132,20 @@ module _ (h : Inherited) (f : Finding) where
 
 -- ---- by the rule
 
-module _ (m : Module) (base : Class) where
+module _ (m : Module) (base : ClassFacts) where
   -- a default before a member, by entries
-  default_before : (ms : List Member) → defaulted_in (list_any (λ (p : Parameter). p.has_default) base.fields) (entries_of (inherited_by base) [] 0 ms) ≡ has_default_before m base ms
-  default_before ms = defaults_are m (list_any (λ (p : Parameter). p.has_default) base.fields) (entries_of (inherited_by base) [] 0 ms)
-      ∙ ap (λ (ps : List Parameter). list_any (λ (p : Parameter). p.has_default) base.fields || list_any (λ (p : Parameter). p.has_default) ps) (sym (fields_are m base [] 0 ms))
+  default_before : (ms : List Member) → defaulted_in (list_any (λ (p : TypedParameter). p.has_default) base.fields) (entries_of (inherited_by base) [] 0 ms) ≡ has_default_before m base ms
+  default_before ms = defaults_are m (list_any (λ (p : TypedParameter). p.has_default) base.fields) (entries_of (inherited_by base) [] 0 ms)
+      ∙ ap (λ (ps : List TypedParameter). list_any (λ (p : TypedParameter). p.has_default) base.fields || list_any (λ (p : TypedParameter). p.has_default) ps) (sym (fields_are m base [] 0 ms))
 
   -- names in text order
   binds_in_order : (ms : List Member) (x : Member) → member_binds (inherited_by base) (names_after [] ms) x ≡ member_binds (inherited_by base) (member_texts ms) x
-  binds_in_order ms x = same_binds (inherited_by base) (names_after [] ms) (member_texts ms) (λ t. after_same t [] ms ∙ or_none (is_among t (member_texts ms))) x
+  binds_in_order ms x = same_binds (inherited_by base) (names_after [] ms) (member_texts ms) (λ t. after_same t [] ms ∙ or_none (is_one_of t (member_texts ms))) x
 
 -- the fields that are found late are those of the rule
-pub late_found : (m : Module) (c : ℕ) (class : ClassDef) (f : Finding) → Contains (at_code E08 (late_places (list_any (λ (p : Parameter). p.has_default) (base_class m c class).fields) (class_entries (inherited_by (base_class m c class)) class))) f ↔ IsFieldBehind m class c f
+pub late_found : (m : Module) (c : ℕ) (class : ClassDef) (f : Finding) → Contains (at_code E08 (late_places (list_any (λ (p : TypedParameter). p.has_default) (base_class m c class).fields) (class_entries (inherited_by (base_class m c class)) class))) f ↔ IsFieldBehind m class c f
 late_found m c class f = (
-  λ h. let r = late_at (inherited_by base) f [] 0 (list_any (λ (p : Parameter). p.has_default) base.fields) class.members h in record {
+  λ h. let r = late_at (inherited_by base) f [] 0 (list_any (λ (p : TypedParameter). p.has_default) base.fields) class.members h in record {
     at = r.at;
     field = r.field;
     here = r.here;
@@ -154,8 +154,8 @@ late_found m c class f = (
     behind = sym (default_before m base (take r.at class.members)) ∙ r.behind;
     is = r.is;
   },
-  λ r. to_late (inherited_by base) f [] 0 (list_any (λ (p : Parameter). p.has_default) base.fields) class.members r.at r.field r.here (binds_in_order m base (take r.at class.members) (field_member r.field) ∙ r.binds) r.none (default_before m base (take r.at class.members) ∙ r.behind) r.is,
+  λ r. to_late (inherited_by base) f [] 0 (list_any (λ (p : TypedParameter). p.has_default) base.fields) class.members r.at r.field r.here (binds_in_order m base (take r.at class.members) (field_member r.field) ∙ r.binds) r.none (default_before m base (take r.at class.members) ∙ r.behind) r.is,
 )
   where
-    base : Class
+    base : ClassFacts
     base = base_class m c class

@@ -8,14 +8,14 @@ use Rattle.pc_tree.specs.declared.code.Code.TheVariants.{E06, E07, E08}
 use Rattle.pc_tree.specs.declared.code.Finding.{Finding}
 use Rattle.pc_tree.specs.Tree.{ClassDef, Module}
 use Rattle.pc_scope.specs.Bindings.{classes_in}
-use Rattle.pc_scope.specs.Found.{at_code}
+use Rattle.pc_scope.specs.Internal.FindingLists.{at_code}
 use Rattle.pc_types.specs.Bases.{bases_of}
-use Rattle.pc_class.specs.Facts.{Parameter}
+use Rattle.pc_class.specs.Facts.{TypedParameter}
 use Rattle.pc_class.specs.Entries.{inherited_by, class_entries, clash_places, late_places, missing_bases}
 use Rattle.pc_class.specs.Findings.{ClassNumbered, base_class}
 use Rattle.pc_class.specs.Outlines.{class_found, classes_found}
 use Rattle.pc_class.specs.Built.{class_findings}
-use Rattle.pc_class.specs.NamesFound.{NamesFind, base, clash, order}
+use Rattle.pc_class.specs.NameFindings.{NamesFind, base, clash, order}
 use Rattle.pc_class.proofs.ItemsBuilt.{AreAhead}
 use Rattle.pc_class.proofs.FoundBases.{bases_found}
 use Rattle.pc_class.proofs.FoundLate.{late_found}
@@ -26,7 +26,7 @@ module _ (m : Module) (f : Finding) where
   clashes c class = at_code E06 (clash_places (class_entries (inherited_by (base_class m c class)) class))
 
   abbrev lates : ℕ → ClassDef → List Finding
-  lates c class = at_code E08 (late_places (list_any (λ (p : Parameter). p.has_default) (base_class m c class).fields) (class_entries (inherited_by (base_class m c class)) class))
+  lates c class = at_code E08 (late_places (list_any (λ (p : TypedParameter). p.has_default) (base_class m c class).fields) (class_entries (inherited_by (base_class m c class)) class))
 
   -- at the classes from a number on
   found_there : (c : ℕ) (classes : List ClassDef) → AreAhead (classes_in m.items) c classes → Contains (classes_found m c classes) f → NamesFind m f

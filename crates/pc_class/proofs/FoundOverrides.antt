@@ -11,7 +11,7 @@ use Rattle.pc_tree.specs.declared.code.Finding.{Finding}
 use Rattle.pc_tree.specs.Code.{finding}
 use Rattle.pc_tree.specs.Tree.{FuncDef, Member, field_member, method_member, ClassDef, Module}
 use Rattle.pc_scope.specs.Bindings.{classes_in, methods_in}
-use Rattle.pc_scope.specs.Resolution.{is_among}
+use Rattle.pc_scope.specs.Resolution.{is_one_of}
 use Rattle.pc_scope.proofs.Among.{none_among, first_among, among_first}
 use Rattle.pc_types.specs.Below.{Bases, AreSmaller, Static}
 use Rattle.pc_types.specs.Assignable.{Assignable}
@@ -19,12 +19,12 @@ use Rattle.pc_types.specs.Bases.{bases_of}
 use Rattle.pc_types.proofs.Truth.{yes_is, is_no}
 use Rattle.pc_types.proofs.DecidedSubtyping.{static_decided, assignable_decided}
 use Rattle.pc_types.proofs.Earlier.{smaller}
-use Rattle.pc_class.specs.Facts.{Method, Class, binds_method, method_made, own_methods}
-use Rattle.pc_class.specs.Overrides.{has_shape_of, Flow, override_flows, IsGood, IsStatic, Judges, static, dynamic, wrong, overridden}
+use Rattle.pc_class.specs.Facts.{Method, ClassFacts, binds_method, method_made, own_methods}
+use Rattle.pc_class.specs.Overrides.{has_shape_of, TypeFlow, override_flows, IsGood, IsStatic, Judges, static, dynamic, wrong, overridden}
 use Rattle.pc_class.specs.Findings.{ClassNumbered, IsOverride, base_class, member_texts}
 use Rattle.pc_class.specs.WellFormed.{MethodWellFormed, MethodsWellFormed}
 use Rattle.pc_class.specs.Entries.{inherited_by}
-use Rattle.pc_class.specs.Overriding.{flow_is_static, flow_is_good, is_static_to, is_good_to, code_where, override_code, code_at, found_at_method, found_at_methods, class_overrides, overrides_from, override_findings, FindsOverride}
+use Rattle.pc_class.specs.OverrideFindings.{flow_is_static, flow_is_good, is_static_to, is_good_to, code_where, override_code, override_finding, found_at_method, found_at_methods, class_overrides, overrides_from, override_findings, FindsOverride}
 use Rattle.pc_class.proofs.EntryWalk.{same_binds}
 use Rattle.pc_class.proofs.FoundLate.{names_after, after_same, or_none}
 use Rattle.pc_class.proofs.ItemsBuilt.{AreAhead}
@@ -41,11 +41,11 @@ cons_are P x xs a b f g = (
 )
 
 module _ (bases : Bases) (o : AreSmaller bases) where
-  static_flows_are : (fs : List Flow) → AreNormalFlows fs → IsTrue (list_all (flow_is_static bases) fs) ↔ All (λ f. Static bases f.from f.into) fs
+  static_flows_are : (fs : List TypeFlow) → AreNormalFlows fs → IsTrue (list_all (flow_is_static bases) fs) ↔ All (λ f. Static bases f.from f.into) fs
   static_flows_are [] h = yes_is (All-nil (λ f. Static bases f.from f.into))
   static_flows_are (f ∷ fs) h = cons_are (λ f. Static bases f.from f.into) f fs (flow_is_static bases f) (list_all (flow_is_static bases) fs) (static_decided bases f.from f.into o h.0.0 h.0.1) (static_flows_are fs h.1)
 
-  good_flows_are : (fs : List Flow) → AreNormalFlows fs → IsTrue (list_all (flow_is_good bases) fs) ↔ All (λ f. Assignable bases f.from f.into) fs
+  good_flows_are : (fs : List TypeFlow) → AreNormalFlows fs → IsTrue (list_all (flow_is_good bases) fs) ↔ All (λ f. Assignable bases f.from f.into) fs
   good_flows_are [] h = yes_is (All-nil (λ f. Assignable bases f.from f.into))
   good_flows_are (f ∷ fs) h = cons_are (λ f. Assignable bases f.from f.into) f fs (flow_is_good bases f) (list_all (flow_is_good bases) fs) (assignable_decided bases f.from f.into o h.0.0 h.0.1) (good_flows_are fs h.1)
 
@@ -93,17 +93,17 @@ record CodeAt (o : Option Code) (p : Place) (f : Finding) : Type 0 where
   some : o ≡ Some code
   is : f ≡ finding p code
 
-in_code_at : (o : Option Code) (p : Place) (f : Finding) → Contains (code_at o p) f → CodeAt o p f
+in_code_at : (o : Option Code) (p : Place) (f : Finding) → Contains (override_finding o p) f → CodeAt o p f
 in_code_at None p f h = absurd (none_among f h)
 in_code_at (Some code) p f h = record { code = code; some = refl; is = elim (among_first (finding p code) [] f h) [ inl e ↦ sym e | inr x ↦ absurd (none_among f x) ] }
 
-to_code_at : (o : Option Code) (p : Place) (code : Code) (f : Finding) → o ≡ Some code → f ≡ finding p code → Contains (code_at o p) f
+to_code_at : (o : Option Code) (p : Place) (code : Code) (f : Finding) → o ≡ Some code → f ≡ finding p code → Contains (override_finding o p) f
 to_code_at None p code f e is = absurd (grind (arith, e))
 to_code_at (Some d) p code f e is = subst (Contains (finding p d ∷ [])) (ap (finding p) (same_Some _ _ e) ∙ sym is) (first_among (finding p d) [])
 
 -- ---- at the members of a class
 
-module _ (m : Module) (base : Class) (c : ℕ) (f : Finding) where
+module _ (m : Module) (base : ClassFacts) (c : ℕ) (f : Finding) where
   abbrev found : ℕ → FuncDef → List Finding
   found n method = found_at_method (bases_of m) base.methods (method_made m c n method)
 
@@ -154,7 +154,7 @@ module _ (m : Module) (base : Class) (c : ℕ) (f : Finding) where
 
   -- names in text order
   binds_in_order : (ms : List Member) (x : FuncDef) → binds_method base (names_after [] ms) x.name.text ≡ binds_method base (member_texts ms) x.name.text
-  binds_in_order ms x = same_binds (inherited_by base) (names_after [] ms) (member_texts ms) (λ t. after_same t [] ms ∙ or_none (is_among t (member_texts ms))) (method_member x)
+  binds_in_order ms x = same_binds (inherited_by base) (names_after [] ms) (member_texts ms) (λ t. after_same t [] ms ∙ or_none (is_one_of t (member_texts ms))) (method_member x)
 
 -- ---- by the rule
 
@@ -162,7 +162,7 @@ module _ (m : Module) (f : Finding) where
   class_found : (c : ℕ) (class : ClassDef) → Contains (class_overrides m c class) f ↔ IsOverride m class c f
   class_found c class = (there, back)
     where
-      base : Class
+      base : ClassFacts
       base = base_class m c class
 
       judged : (n : ℕ) (x : FuncDef) → Judges (bases_of m) (overridden base.methods x.name.text) (method_made m c n x) (override_code (bases_of m) (overridden base.methods x.name.text) (method_made m c n x))

@@ -4,8 +4,8 @@ use Rattle.std.specs.Prelude.{Bool, true, false, cond, if◌then◌else◌, Opti
 use Rattle.std.specs.Option.{option_or}
 use Rattle.std.proofs.lemmas.List.Folds.{find-append}
 use Rattle.std.proofs.lemmas.Slice.Eq.{bytes_eq-Decides}
-use Rattle.pc_class.specs.Named.{Named, IsMap, named_at, KeepsNamed}
-use Rattle.pc_class.specs.Outlines.{at_number, IsNumberIn, first_named, IsHeld}
+use Rattle.pc_class.specs.NameMaps.{NameMaps, IsMap, named_at, KeepsNamed}
+use Rattle.pc_class.specs.Outlines.{at_number, IsNumberIn, first_named, IsMapOf}
 
 get_left : {A : Type 0} (xs ys : List A) (i : ℕ) → i < length xs → slice_get (xs ++ ys) i ≡ slice_get xs i
 get_left [] ys i h = absurd (omega arith)
@@ -26,7 +26,7 @@ within_left xs ys (Some i) h = let e = length-append xs ys in omega arith
 
 module _ {X : Type 0} (name : X → List ℕ) where
   -- maps and lists that only grow
-  pub held_kept : (d d' : Named) (all more : List X) (at : ℕ) (these : List X) → IsHeld name d all at these → KeepsNamed d d' → IsHeld name d' (all ++ more) at these
+  pub held_kept : (d d' : NameMaps) (all more : List X) (at : ℕ) (these : List X) → IsMapOf name d all at these → KeepsNamed d d' → IsMapOf name d' (all ++ more) at these
   held_kept d d' all more at these h k = record {
     is_map = let i = h.is_map in let l = k.more in omega arith;
     within = λ n. subst (IsNumberIn (all ++ more)) (sym (k.same at n h.is_map)) (within_left all more (named_at d at n) (h.within n));
@@ -34,10 +34,10 @@ module _ {X : Type 0} (name : X → List ℕ) where
   }
 
   -- one more
-  pub held_more : (d d' : Named) (all : List X) (at at' : ℕ) (these these' : List X) (x : X) → IsHeld name d all at these → IsMap d' at'
+  pub held_more : (d d' : NameMaps) (all : List X) (at at' : ℕ) (these these' : List X) (x : X) → IsMapOf name d all at these → IsMap d' at'
       → ((n : List ℕ) → named_at d' at' n ≡ (if bytes_eq n (name x) then Some (length all) else named_at d at n))
       → ((n : List ℕ) → first_named name these' n ≡ (if bytes_eq n (name x) then Some x else first_named name these n))
-      → IsHeld name d' (all ++ x ∷ []) at' these'
+      → IsMapOf name d' (all ++ x ∷ []) at' these'
   held_more d d' all at at' these these' x h is_map put next = record {
     is_map = is_map;
     within = λ n. subst (IsNumberIn (all ++ x ∷ [])) (sym (put n)) (go_within n (bytes_eq n (name x)));
@@ -73,10 +73,10 @@ module _ {X : Type 0} (name : X → List ℕ) where
       go false = sym (find-append (λ y. bytes_eq n (name y)) own others)
 
 -- maps that stay, stay on
-pub named_same : (d : Named) → KeepsNamed d d
+pub named_same : (d : NameMaps) → KeepsNamed d d
 named_same d = record { more = omega arith; same = λ at n h. refl }
 
-pub named_on : (a b c : Named) → KeepsNamed a b → KeepsNamed b c → KeepsNamed a c
+pub named_on : (a b c : NameMaps) → KeepsNamed a b → KeepsNamed b c → KeepsNamed a c
 named_on a b c k l = let x = k.more in let y = l.more in record {
   more = omega arith;
   same = λ at n h. l.same at n (omega arith) ∙ k.same at n h;

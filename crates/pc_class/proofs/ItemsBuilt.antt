@@ -10,29 +10,29 @@ use Rattle.std.proofs.lemmas.List.{map-append}
 use Rattle.pc_scope.specs.Bindings.{as_class, classes_in}
 use Rattle.pc_types.specs.Bases.{base_named, bases_from, bases_of}
 use Rattle.pc_types.specs.Tree.{Tree}
-use Rattle.pc_class.specs.Tables.{Entry, classes_with}
+use Rattle.pc_class.specs.Tables.{ClassEntry, classes_with}
 use Rattle.pc_class.specs.Parts.{bases_in}
-use Rattle.pc_class.specs.Facts.{Class, class_in, inherited, class_behind, classes_behind, classes_of}
+use Rattle.pc_class.specs.Facts.{ClassFacts, class_in, base_facts, class_facts_behind, classes_behind, classes_of}
 use Rattle.pc_class.specs.Outlines.{found_over, classes_found}
 use Rattle.pc_class.specs.Built.{found_behind}
 use Rattle.pc_class.proofs.ClassesBuilt.{kept, below_class}
 
 module _ (m : Module) where
-  classes_on : (e : List Class) (n : ℕ) (o : Option ClassDef) (rest : List ClassDef) → classes_behind m e n (cons_option o rest) ≡ classes_behind m (classes_behind m e n (cons_option o [])) (n + length (cons_option o [])) rest
+  classes_on : (e : List ClassFacts) (n : ℕ) (o : Option ClassDef) (rest : List ClassDef) → classes_behind m e n (cons_option o rest) ≡ classes_behind m (classes_behind m e n (cons_option o [])) (n + length (cons_option o [])) rest
   classes_on e n None rest = ap (λ k. classes_behind m e k rest) (omega arith)
-  classes_on e n (Some class) rest = ap (λ k. classes_behind m (e ++ class_behind m e n class ∷ []) k rest) (omega arith)
+  classes_on e n (Some class) rest = ap (λ k. classes_behind m (e ++ class_facts_behind m e n class ∷ []) k rest) (omega arith)
 
-  found_on : (e : List Class) (n : ℕ) (o : Option ClassDef) (rest : List ClassDef)
+  found_on : (e : List ClassFacts) (n : ℕ) (o : Option ClassDef) (rest : List ClassDef)
       → found_behind m e n (cons_option o rest) ≡ found_behind m e n (cons_option o []) ++ found_behind m (classes_behind m e n (cons_option o [])) (n + length (cons_option o [])) rest
   found_on e n None rest = ap (λ k. found_behind m e k rest) (omega arith)
   found_on e n (Some class) rest =
-      let here = found_over (inherited e (base_named m n class.base)) class in
-      ap (λ k. here ++ found_behind m (e ++ class_behind m e n class ∷ []) k rest) (omega arith)
-      ∙ ap (λ (fs : List Finding). fs ++ found_behind m (e ++ class_behind m e n class ∷ []) (n + 1) rest) (sym (append-nil here))
+      let here = found_over (base_facts e (base_named m n class.base)) class in
+      ap (λ k. here ++ found_behind m (e ++ class_facts_behind m e n class ∷ []) k rest) (omega arith)
+      ∙ ap (λ (fs : List Finding). fs ++ found_behind m (e ++ class_facts_behind m e n class ∷ []) (n + 1) rest) (sym (append-nil here))
 
-  module _ (e : List Class) (n : ℕ) (items : List RustItem) (i : ℕ) (x : RustItem) (less : i < length items) (is : x ≡ get_or items i x) (e2 : List Class) (e2_is : e2 ≡ classes_behind m e n (classes_in (item_of x ∷ []))) (k : ℕ) (number : k ≡ n + length (classes_in (item_of x ∷ []))) where
+  module _ (e : List ClassFacts) (n : ℕ) (items : List RustItem) (i : ℕ) (x : RustItem) (less : i < length items) (is : x ≡ get_or items i x) (e2 : List ClassFacts) (e2_is : e2 ≡ classes_behind m e n (classes_in (item_of x ∷ []))) (k : ℕ) (number : k ≡ n + length (classes_in (item_of x ∷ []))) where
     -- the classes with those of an item more
-    pub classes_next : (total : List Class) → classes_behind m e n (classes_in (map item_of (drop i items))) ≡ total → classes_behind m e2 k (classes_in (map item_of (drop (i + 1) items))) ≡ total
+    pub classes_next : (total : List ClassFacts) → classes_behind m e n (classes_in (map item_of (drop i items))) ≡ total → classes_behind m e2 k (classes_in (map item_of (drop (i + 1) items))) ≡ total
     classes_next total inv =
         let rest = classes_in (map item_of (drop (i + 1) items)) in
         ap (λ c. classes_behind m c k rest) e2_is
@@ -59,21 +59,21 @@ module _ (m : Module) where
   classes_are_behind = refl
 
   -- what is found given the classes before is what is found given all
-  found_same : (e : List Class) (c : ℕ) (cs : List ClassDef) → length e ≡ c → classes_behind m e c cs ≡ classes_of m → ((j : ℕ) → slice_get (classes_in m.items) (c + j) ≡ slice_get cs j) → found_behind m e c cs ≡ classes_found m c cs
+  found_same : (e : List ClassFacts) (c : ℕ) (cs : List ClassDef) → length e ≡ c → classes_behind m e c cs ≡ classes_of m → ((j : ℕ) → slice_get (classes_in m.items) (c + j) ≡ slice_get cs j) → found_behind m e c cs ≡ classes_found m c cs
   found_same e c [] long all ahead = refl
   found_same e c (class ∷ rest) long all ahead =
-      let more = length-append e (class_behind m e c class ∷ []) in
-      ap (λ (b : Class). found_over b class ++ found_behind m (e ++ class_behind m e c class ∷ []) (suc c) rest) (go (base_named m c class.base) refl)
-      ∙ ap (λ (fs : List Finding). found_over (inherited (classes_of m) (base_named m c class.base)) class ++ fs) (found_same (e ++ class_behind m e c class ∷ []) (suc c) rest (omega arith) all (λ j. ap (slice_get (classes_in m.items)) (omega arith) ∙ ahead (suc j)))
+      let more = length-append e (class_facts_behind m e c class ∷ []) in
+      ap (λ (b : ClassFacts). found_over b class ++ found_behind m (e ++ class_facts_behind m e c class ∷ []) (suc c) rest) (go (base_named m c class.base) refl)
+      ∙ ap (λ (fs : List Finding). found_over (base_facts (classes_of m) (base_named m c class.base)) class ++ fs) (found_same (e ++ class_facts_behind m e c class ∷ []) (suc c) rest (omega arith) all (λ j. ap (slice_get (classes_in m.items)) (omega arith) ∙ ahead (suc j)))
     where
       here : slice_get (classes_in m.items) c ≡ Some class
       here = ap (slice_get (classes_in m.items)) (omega arith) ∙ ahead 0
 
-      go : (o : Option ℕ) → base_named m c class.base ≡ o → inherited e o ≡ inherited (classes_of m) o
+      go : (o : Option ℕ) → base_named m c class.base ≡ o → base_facts e o ≡ base_facts (classes_of m) o
       go None f = refl
       go (Some b) f =
           let l = below_class m c b class here f in
-          ap class_in (sym (kept m e c (class ∷ rest) b (omega arith)) ∙ ap (λ (cs : List Class). slice_get cs b) all)
+          ap class_in (sym (kept m e c (class ∷ rest) b (omega arith)) ∙ ap (λ (cs : List ClassFacts). slice_get cs b) all)
 
   pub found_listed : found_behind m [] 0 (classes_in m.items) ≡ classes_found m 0 (classes_in m.items)
   found_listed = found_same [] 0 (classes_in m.items) refl (sym classes_are_behind) (λ j. ap (slice_get (classes_in m.items)) (omega arith))
@@ -102,17 +102,17 @@ module _ (all : List ClassDef) (n : ℕ) (items : List RustItem) (i : ℕ) (x : 
   items_ahead k e j = ap (λ q. slice_get all (q + j)) e ∙ later_ahead all n (as_class (item_of x)) (classes_in (map item_of (drop (i + 1) items))) here j
 
 -- the bases of classes
-bases_behind : (m : Module) (e : List Class) (c : ℕ) (cs : List ClassDef) → map (λ (x : Class). x.base) (classes_behind m e c cs) ≡ map (λ (x : Class). x.base) e ++ bases_from m c cs
-bases_behind m e c [] = sym (append-nil (map (λ (x : Class). x.base) e))
+bases_behind : (m : Module) (e : List ClassFacts) (c : ℕ) (cs : List ClassDef) → map (λ (x : ClassFacts). x.base) (classes_behind m e c cs) ≡ map (λ (x : ClassFacts). x.base) e ++ bases_from m c cs
+bases_behind m e c [] = sym (append-nil (map (λ (x : ClassFacts). x.base) e))
 bases_behind m e c (class ∷ rest) =
-    bases_behind m (e ++ class_behind m e c class ∷ []) (suc c) rest
-    ∙ ap (λ os. os ++ bases_from m (suc c) rest) (map-append (λ (x : Class). x.base) e (class_behind m e c class ∷ []))
-    ∙ append_assoc (map (λ (x : Class). x.base) e) (base_named m c class.base ∷ []) (bases_from m (suc c) rest)
+    bases_behind m (e ++ class_facts_behind m e c class ∷ []) (suc c) rest
+    ∙ ap (λ os. os ++ bases_from m (suc c) rest) (map-append (λ (x : ClassFacts). x.base) e (class_facts_behind m e c class ∷ []))
+    ∙ append_assoc (map (λ (x : ClassFacts). x.base) e) (base_named m c class.base ∷ []) (bases_from m (suc c) rest)
 
-pub bases_are : (m : Module) → map (λ (x : Class). x.base) (classes_of m) ≡ bases_of m
+pub bases_are : (m : Module) → map (λ (x : ClassFacts). x.base) (classes_of m) ≡ bases_of m
 unfolding classes_of bases_of
 bases_are m = bases_behind m [] 0 (classes_in m.items)
 
-pub bases_there : {Ty : Type 0} (tree : Ty → Tree) (es : List (Entry Ty)) → map (λ (x : Class). x.base) (classes_with tree es) ≡ bases_in es
+pub bases_there : {Ty : Type 0} (tree : Ty → Tree) (es : List (ClassEntry Ty)) → map (λ (x : ClassFacts). x.base) (classes_with tree es) ≡ bases_in es
 bases_there tree [] = refl
 bases_there tree (e ∷ es) = ap (λ os. e.base ∷ os) (bases_there tree es)

@@ -10,8 +10,8 @@ use Rattle.pc_types.specs.Normal.{IsNormal}
 use Rattle.pc_types.proofs.Consistent.{static_assignable}
 use Rattle.pc_types.proofs.DecidedSubtyping.{Decision, tells, decide_static, decide_assignable}
 use Rattle.pc_class.specs.Bases.{bases_of}
-use Rattle.pc_class.specs.Facts.{Parameter, Method, method_made}
-use Rattle.pc_class.specs.Overrides.{has_shape_of, Flow, parameter_flows, override_flows, IsGood, IsStatic, Judges, static, dynamic, wrong, IsJudgedOnce, overridden}
+use Rattle.pc_class.specs.Facts.{TypedParameter, Method, method_made}
+use Rattle.pc_class.specs.Overrides.{has_shape_of, TypeFlow, parameter_flows, override_flows, IsGood, IsStatic, Judges, static, dynamic, wrong, IsJudgedOnce, overridden}
 use Rattle.pc_class.specs.Findings.{base_class}
 use Rattle.pc_types.proofs.Earlier.{smaller}
 use Rattle.pc_class.specs.WellFormed.{ParametersWellFormed, MethodWellFormed, MethodsWellFormed}
@@ -31,11 +31,11 @@ all_or_not P x xs (inl a) (inr n) = inr (λ h. n (all_rest P x xs h))
 -- ---- one override
 
 -- the flows of an override are of types in normal form
-abbrev pub AreNormalFlows : List Flow → Type 0
+abbrev pub AreNormalFlows : List TypeFlow → Type 0
 AreNormalFlows [] = Unit {0}
 AreNormalFlows (f ∷ fs) = (IsNormal f.from × IsNormal f.into) × AreNormalFlows fs
 
-parameters_flow_normal : (bases : Bases) (ps qs : List Parameter) → ParametersWellFormed bases ps → ParametersWellFormed bases qs → AreNormalFlows (parameter_flows ps qs)
+parameters_flow_normal : (bases : Bases) (ps qs : List TypedParameter) → ParametersWellFormed bases ps → ParametersWellFormed bases qs → AreNormalFlows (parameter_flows ps qs)
 parameters_flow_normal bases (p ∷ ps) (q ∷ qs) h k = ((h.0.0, k.0.0), parameters_flow_normal bases ps qs h.1 k.1)
 parameters_flow_normal bases [] qs h k = tt
 parameters_flow_normal bases (p ∷ ps) [] h k = tt
@@ -44,11 +44,11 @@ pub flows_normal : (bases : Bases) (old new : Method) → MethodWellFormed bases
 flows_normal bases old new h k = ((k.returns.0, h.returns.0), parameters_flow_normal bases old.parameters new.parameters h.parameters k.parameters)
 
 module _ (bases : Bases) (o : AreSmaller bases) where
-  static_flows : (fs : List Flow) → AreNormalFlows fs → Decision (All (λ f. Static bases f.from f.into) fs)
+  static_flows : (fs : List TypeFlow) → AreNormalFlows fs → Decision (All (λ f. Static bases f.from f.into) fs)
   static_flows [] h = inl (All-nil (λ f. Static bases f.from f.into))
   static_flows (f ∷ fs) h = all_or_not (λ f. Static bases f.from f.into) f fs (decide_static bases o f.from f.into h.0.0 h.0.1) (static_flows fs h.1)
 
-  good_flows : (fs : List Flow) → AreNormalFlows fs → Decision (All (λ f. Assignable bases f.from f.into) fs)
+  good_flows : (fs : List TypeFlow) → AreNormalFlows fs → Decision (All (λ f. Assignable bases f.from f.into) fs)
   good_flows [] h = inl (All-nil (λ f. Assignable bases f.from f.into))
   good_flows (f ∷ fs) h = all_or_not (λ f. Assignable bases f.from f.into) f fs (decide_assignable bases o f.from f.into h.0.0 h.0.1) (good_flows fs h.1)
 

@@ -5,10 +5,10 @@ use Rattle.std.specs.Option.{option_map}
 use Rattle.std.proofs.lemmas.Bool.{false≢true}
 use Rattle.std.proofs.lemmas.Bool.Decides.{nat_tests}
 use Rattle.std.proofs.lemmas.Slice.Eq.{bytes_eq-Decides}
-use Rattle.pc_scope.specs.Resolution.{index_of, is_among}
+use Rattle.pc_scope.specs.Resolution.{index_of, is_one_of}
 use Rattle.pc_class.specs.declared.shared.Node.{Node}
-use Rattle.pc_class.specs.Shared.{held_at, Keeps, HasBelow}
-use Rattle.pc_class.specs.Named.{Named, number_at, named_at, with_text, IsNumbered, KeepsNamed}
+use Rattle.pc_class.specs.SharedMaps.{held_at, KeepsMaps, HasBelow}
+use Rattle.pc_class.specs.NameMaps.{NameMaps, number_at, named_at, with_text, IsNumbered, KeepsNamed}
 use Rattle.pc_class.proofs.SharedParts.{IsPut}
 
 same_text : (t : List ℕ) → bytes_eq t t ≡ true
@@ -50,27 +50,27 @@ number_less t (n ∷ names) i e = go (bytes_eq t n) i e (λ j g. number_less t n
     go false (suc i) e rest = let h = rest i (later_is (index_of t names) i e) in omega arith
 
 -- a name that is not among others has no number, and the next one behind them
-pub no_number : (t : List ℕ) (names : List (List ℕ)) → is_among t names ≡ false → index_of t names ≡ None
+pub no_number : (t : List ℕ) (names : List (List ℕ)) → is_one_of t names ≡ false → index_of t names ≡ None
 no_number t [] e = refl
 no_number t (n ∷ names) e = go (bytes_eq t n) e (λ g. no_number t names g)
   where
-    go : (a : Bool) → (a || is_among t names) ≡ false → (is_among t names ≡ false → index_of t names ≡ None) → (if a then Some 0 else option_map suc (index_of t names)) ≡ None
+    go : (a : Bool) → (a || is_one_of t names) ≡ false → (is_one_of t names ≡ false → index_of t names ≡ None) → (if a then Some 0 else option_map suc (index_of t names)) ≡ None
     go true e rest = absurd (false≢true (sym e))
     go false e rest = ap (option_map suc) (rest e)
 
-pub next_number : (t : List ℕ) (names : List (List ℕ)) → is_among t names ≡ false → index_of t (names ++ t ∷ []) ≡ Some (length names)
+pub next_number : (t : List ℕ) (names : List (List ℕ)) → is_one_of t names ≡ false → index_of t (names ++ t ∷ []) ≡ Some (length names)
 next_number t [] e = ap (λ b. if b then Some 0 else None) (same_text t)
 next_number t (n ∷ names) e = go (bytes_eq t n) e (λ g. next_number t names g)
   where
-    go : (a : Bool) → (a || is_among t names) ≡ false → (is_among t names ≡ false → index_of t (names ++ t ∷ []) ≡ Some (length names)) → (if a then Some 0 else option_map suc (index_of t (names ++ t ∷ []))) ≡ Some (suc (length names))
+    go : (a : Bool) → (a || is_one_of t names) ≡ false → (is_one_of t names ≡ false → index_of t (names ++ t ∷ []) ≡ Some (length names)) → (if a then Some 0 else option_map suc (index_of t (names ++ t ∷ []))) ≡ Some (suc (length names))
     go true e rest = absurd (false≢true (sym e))
     go false e rest = ap (option_map suc) (rest e)
 
 -- a name that is among others has a number
-pub some_number : (t : List ℕ) (names : List (List ℕ)) (i : ℕ) → index_of t names ≡ Some i → is_among t names ≡ true
-some_number t names i e = go (is_among t names) refl
+pub some_number : (t : List ℕ) (names : List (List ℕ)) (i : ℕ) → index_of t names ≡ Some i → is_one_of t names ≡ true
+some_number t names i e = go (is_one_of t names) refl
   where
-    go : (b : Bool) → is_among t names ≡ b → is_among t names ≡ true
+    go : (b : Bool) → is_one_of t names ≡ b → is_one_of t names ≡ true
     go true f = f
     go false f = absurd (grind (arith, sym (no_number t names f) ∙ e))
 
@@ -81,7 +81,7 @@ other_number t u (n ∷ names) e = ap (λ o. if bytes_eq t n then Some 0 else op
 
 -- with one more name at most, another one keeps its number
 pub other_with : (t u : List ℕ) (names : List (List ℕ)) → bytes_eq t u ≡ false → index_of t (with_text names u) ≡ index_of t names
-other_with t u names e = go (is_among u names)
+other_with t u names e = go (is_one_of u names)
   where
     go : (b : Bool) → index_of t (if b then names else names ++ u ∷ []) ≡ index_of t names
     go true = refl
@@ -89,7 +89,7 @@ other_with t u names e = go (is_among u names)
 
 -- and there are no fewer
 pub longer_with : (u : List ℕ) (names : List (List ℕ)) → length names ≤ length (with_text names u)
-longer_with u names = go (is_among u names)
+longer_with u names = go (is_one_of u names)
   where
     go : (b : Bool) → length names ≤ length (if b then names else names ++ u ∷ [])
     go true = omega arith
@@ -97,12 +97,12 @@ longer_with u names = go (is_among u names)
 
 -- a new name had no number, one that has kept it has the same
 pub number_before : (t u : List ℕ) (names : List (List ℕ)) (i : ℕ) → bytes_eq t u ≡ true → index_of u (with_text names u) ≡ Some i → (index_of t names ≡ Some i) ⊎ ((index_of t names ≡ None) × (length names ≤ i))
-number_before t u names i e is = go (is_among u names) refl is
+number_before t u names i e is = go (is_one_of u names) refl is
   where
     same : t ≡ u
     same = (bytes_eq-Decides t u).0 e
 
-    go : (b : Bool) → is_among u names ≡ b → index_of u (if b then names else names ++ u ∷ []) ≡ Some i → (index_of t names ≡ Some i) ⊎ ((index_of t names ≡ None) × (length names ≤ i))
+    go : (b : Bool) → is_one_of u names ≡ b → index_of u (if b then names else names ++ u ∷ []) ≡ Some i → (index_of t names ≡ Some i) ⊎ ((index_of t names ≡ None) × (length names ≤ i))
     go true f is = inl (ap (λ x. index_of x names) same ∙ is)
     go false f is = inr (ap (λ x. index_of x names) same ∙ no_number u names f, (let g : Some i ≡ Some (length names) = sym is ∙ next_number u names f in let h : i ≡ length names = grind arith in omega arith))
 
@@ -110,22 +110,22 @@ number_before t u names i e is = go (is_among u names) refl is
 pub with_present : (t : List ℕ) (names : List (List ℕ)) (i : ℕ) → index_of t names ≡ Some i → names ≡ with_text names t
 with_present t names i e = sym (ap (λ b. if b then names else names ++ t ∷ []) (some_number t names i e))
 
-pub with_absent : (t : List ℕ) (names : List (List ℕ)) → is_among t names ≡ false → names ++ t ∷ [] ≡ with_text names t
+pub with_absent : (t : List ℕ) (names : List (List ℕ)) → is_one_of t names ≡ false → names ++ t ∷ [] ≡ with_text names t
 with_absent t names e = sym (ap (λ b. if b then names else names ++ t ∷ []) e)
 
 -- ---- maps
 
 -- what a map has at the number of a name, or where it has none
-pub held_named : (d : Named) (map k : ℕ) (name : List ℕ) → index_of name d.texts ≡ Some k → held_at d.nodes map k ≡ named_at d map name
+pub held_named : (d : NameMaps) (map k : ℕ) (name : List ℕ) → index_of name d.texts ≡ Some k → held_at d.nodes map k ≡ named_at d map name
 unfolding named_at
 held_named d map k name e = sym (ap (number_at d.nodes map) e)
 
-pub none_named : (d : Named) (map : ℕ) (name : List ℕ) → index_of name d.texts ≡ None → None ≡ named_at d map name
+pub none_named : (d : NameMaps) (map : ℕ) (name : List ℕ) → index_of name d.texts ≡ None → None ≡ named_at d map name
 unfolding named_at
 none_named d map name e = sym (ap (number_at d.nodes map) e)
 
 -- what a map that has a value at a name has at each name
-pub put_named : (old new : Named) (name : List ℕ) (number map value at : ℕ) → IsNumbered old → new.texts ≡ with_text old.texts name → index_of name new.texts ≡ Some number → map < length old.nodes
+pub put_named : (old new : NameMaps) (name : List ℕ) (number map value at : ℕ) → IsNumbered old → new.texts ≡ with_text old.texts name → index_of name new.texts ≡ Some number → map < length old.nodes
     → IsPut old.nodes map number value new.nodes at → (t : List ℕ) → named_at new at t ≡ (if bytes_eq t name then Some value else named_at old map t)
 unfolding named_at
 put_named old new name number map value at numbered texts is h put t = go (bytes_eq t name) refl
@@ -146,7 +146,7 @@ put_named old new name number map value at numbered texts is h put t = go (bytes
     go false e = by_number (index_of t new.texts) (λ k f. other e k f (k == number) refl) ∙ ap (number_at old.nodes map) (ap (index_of t) texts ∙ other_with t name old.texts e)
 
 -- what the maps that were there have
-pub kept_named : (old new : Named) (name : List ℕ) (number : ℕ) → IsNumbered old → new.texts ≡ with_text old.texts name → index_of name new.texts ≡ Some number → Keeps old.nodes new.nodes → KeepsNamed old new
+pub kept_named : (old new : NameMaps) (name : List ℕ) (number : ℕ) → IsNumbered old → new.texts ≡ with_text old.texts name → index_of name new.texts ≡ Some number → KeepsMaps old.nodes new.nodes → KeepsNamed old new
 unfolding named_at
 kept_named old new name number numbered texts is keeps = record {
   more = keeps.more;
@@ -166,7 +166,7 @@ kept_named old new name number numbered texts is keeps = record {
     go map t h false e = ap (number_at new.nodes map) (ap (index_of t) texts ∙ other_with t name old.texts e) ∙ by_number map (index_of t old.texts) h
 
 -- the numbers in maps stay those of names
-pub numbered_more : (old new : Named) (name : List ℕ) (number : ℕ) → IsNumbered old → new.texts ≡ with_text old.texts name → index_of name new.texts ≡ Some number
+pub numbered_more : (old new : NameMaps) (name : List ℕ) (number : ℕ) → IsNumbered old → new.texts ≡ with_text old.texts name → index_of name new.texts ≡ Some number
     → ((limit : ℕ) → number < limit → HasBelow limit old.nodes → HasBelow limit new.nodes) → IsNumbered new
 numbered_more old new name number numbered texts is below = below (length new.texts) (number_less name new.texts number is) (record {
   nothing = λ map k h g. numbered.nothing map k h (let l : length old.texts ≤ length new.texts = subst (λ (x : List (List ℕ)). length old.texts ≤ length x) (sym texts) (longer_with name old.texts) in omega arith);
@@ -176,7 +176,7 @@ numbered_more old new name number numbered texts is below = below (length new.te
 pub numbered_names : (texts more : List (List ℕ)) (nodes : List Node) → length texts ≤ length more → HasBelow (length texts) nodes → HasBelow (length more) nodes
 numbered_names texts more nodes l numbered = record { nothing = λ map k h g. numbered.nothing map k h (omega arith) }
 
-pub nothing_named : (d : Named) → ((key : ℕ) → held_at d.nodes 0 key ≡ None) → (name : List ℕ) → named_at d 0 name ≡ None
+pub nothing_named : (d : NameMaps) → ((key : ℕ) → held_at d.nodes 0 key ≡ None) → (name : List ℕ) → named_at d 0 name ≡ None
 unfolding named_at
 nothing_named d none name = go (index_of name d.texts)
   where

@@ -9,10 +9,10 @@ use Rattle.std.proofs.lemmas.Option.{same_Some}
 use Rattle.std.proofs.lemmas.Slice.Eq.{bytes_eq-Decides}
 use Rattle.pc_tree.specs.Tree.{Member, field_member, method_member, ClassDef, Module}
 use Rattle.pc_scope.specs.Bindings.{classes_in}
-use Rattle.pc_scope.specs.Resolution.{is_among}
+use Rattle.pc_scope.specs.Resolution.{is_one_of}
 use Rattle.pc_types.specs.Below.{base_of}
 use Rattle.pc_types.specs.Bases.{base_named, bases_of}
-use Rattle.pc_class.specs.Facts.{Method, Class, class_in, class_at, inherited, method_of, binds_method, method_made, own_methods, classes_of}
+use Rattle.pc_class.specs.Facts.{Method, ClassFacts, class_in, class_facts_at, base_facts, method_by_name, binds_method, method_made, own_methods, classes_of}
 use Rattle.pc_class.specs.Entries.{inherited_by}
 use Rattle.pc_class.specs.Overrides.{overridden}
 use Rattle.pc_class.proofs.ClassesBuilt.{no_class_past, base_here, below_class, class_is}
@@ -30,12 +30,12 @@ none_kept p (x ∷ xs) e = go (p x) (λ f. none_kept p xs f) e
     go true on f = absurd (none_some x (sym f))
     go false on f = on f
 
-module _ (m : Module) (base : Class) (c : ℕ) (name : List ℕ) where
+module _ (m : Module) (base : ClassFacts) (c : ℕ) (name : List ℕ) where
   abbrev named : Method → Bool
   named x = bytes_eq name x.name
 
   -- behind a member of the name no method is of that name
-  none_again : (n : ℕ) (before : List (List ℕ)) (ms : List Member) → is_among name before ≡ true → filter named (own_methods m base c n before ms) ≡ []
+  none_again : (n : ℕ) (before : List (List ℕ)) (ms : List Member) → is_one_of name before ≡ true → filter named (own_methods m base c n before ms) ≡ []
   none_again n before [] e = refl
   none_again n before (field_member f ∷ ms) e = none_again n (f.name.text ∷ before) ms (second (bytes_eq name f.name.text) e)
     where
@@ -51,7 +51,7 @@ module _ (m : Module) (base : Class) (c : ℕ) (name : List ℕ) where
       go : (b : Bool) → binds_method base before f.name.text ≡ b → (d : Bool) → bytes_eq name f.name.text ≡ d → filter named (own_methods m base c (suc n) (f.name.text ∷ before) ms) ≡ []
           → filter named ((if b then method_made m c n f ∷ [] else []) ++ own_methods m base c (suc n) (f.name.text ∷ before) ms) ≡ []
       go false i d j rest = rest
-      go true i true j rest = absurd (false≢true (sym (field_new (inherited_by base) before n (method_member f) i).0 ∙ ap (λ t. is_among t before) (sym ((bytes_eq-Decides name f.name.text).0 j)) ∙ e))
+      go true i true j rest = absurd (false≢true (sym (field_new (inherited_by base) before n (method_member f) i).0 ∙ ap (λ t. is_one_of t before) (sym ((bytes_eq-Decides name f.name.text).0 j)) ∙ e))
       go true i false j rest = ap (λ b. cond b (method_made m c n f ∷ filter named (own_methods m base c (suc n) (f.name.text ∷ before) ms)) (filter named (own_methods m base c (suc n) (f.name.text ∷ before) ms))) j ∙ rest
 
   -- of the methods of a class at most one is of the name, and it is the class's own
@@ -63,7 +63,7 @@ module _ (m : Module) (base : Class) (c : ℕ) (name : List ℕ) where
   one_of n before [] = no_one refl refl
   one_of n before (field_member f ∷ ms) = one_of n (f.name.text ∷ before) ms
   one_of n before (method_member f ∷ ms) =
-      go (binds_method base before f.name.text) (bytes_eq name f.name.text) refl (one_of (suc n) (f.name.text ∷ before) ms) (λ e. none_again (suc n) (f.name.text ∷ before) ms (ap (λ b. b || is_among name before) e))
+      go (binds_method base before f.name.text) (bytes_eq name f.name.text) refl (one_of (suc n) (f.name.text ∷ before) ms) (λ e. none_again (suc n) (f.name.text ∷ before) ms (ap (λ b. b || is_one_of name before) e))
     where
       rest : List Method
       rest = own_methods m base c (suc n) (f.name.text ∷ before) ms
@@ -80,22 +80,22 @@ module _ (m : Module) (base : Class) (c : ℕ) (name : List ℕ) where
 module _ (m : Module) (name : List ℕ) where
   -- the methods of the name that a class of this base inherits
   abbrev above : Option ℕ → List Method
-  above o = overridden (inherited (classes_of m) o).methods name
+  above o = overridden (base_facts (classes_of m) o).methods name
 
   -- the nearest method, and the others behind it
   pub record IsNearest (c : ℕ) (x : Method) : Type 0 where
     pub owner : x.owner ≤ c
     pub all : above (Some c) ≡ x ∷ above (base_of (bases_of m) x.owner)
 
-  nearest_in : (limit c : ℕ) → c < limit → (x : Method) → method_of (class_at (classes_of m) c).methods name ≡ Some x → IsNearest c x
+  nearest_in : (limit c : ℕ) → c < limit → (x : Method) → method_by_name (class_facts_at (classes_of m) c).methods name ≡ Some x → IsNearest c x
   nearest_in zero c less x e = absurd (omega arith)
   nearest_in (suc limit) c less x e = at (slice_get (classes_in m.items) c) refl (λ b l f. nearest_in limit b (omega arith) x f)
     where
-      over : (class : ClassDef) → slice_get (classes_in m.items) c ≡ Some class → (o : Option ℕ) → base_named m c class.base ≡ o → ((b : ℕ) → b < c → method_of (class_at (classes_of m) b).methods name ≡ Some x → IsNearest b x) → IsNearest c x
-      over class is o named on = go (one_of m (inherited (classes_of m) (base_named m c class.base)) c name 0 [] class.members) o named
+      over : (class : ClassDef) → slice_get (classes_in m.items) c ≡ Some class → (o : Option ℕ) → base_named m c class.base ≡ o → ((b : ℕ) → b < c → method_by_name (class_facts_at (classes_of m) b).methods name ≡ Some x → IsNearest b x) → IsNearest c x
+      over class is o named on = go (one_of m (base_facts (classes_of m) (base_named m c class.base)) c name 0 [] class.members) o named
         where
-          parent : Class
-          parent = inherited (classes_of m) (base_named m c class.base)
+          parent : ClassFacts
+          parent = base_facts (classes_of m) (base_named m c class.base)
 
           own : List Method
           own = own_methods m parent c 0 [] class.members
@@ -103,8 +103,8 @@ module _ (m : Module) (name : List ℕ) where
           is_named : Method → Bool
           is_named y = bytes_eq name y.name
 
-          methods : (class_at (classes_of m) c).methods ≡ own ++ parent.methods
-          methods = ap (λ (k : Class). k.methods) (class_is m c class is)
+          methods : (class_facts_at (classes_of m) c).methods ≡ own ++ parent.methods
+          methods = ap (λ (k : ClassFacts). k.methods) (class_is m c class is)
 
           found : option_or (find is_named own) (find is_named parent.methods) ≡ Some x
           found = sym (find-append is_named own parent.methods) ∙ ap (find is_named) (sym methods) ∙ e
@@ -120,19 +120,19 @@ module _ (m : Module) (name : List ℕ) where
                 all = kept ∙ ap (λ (ys : List Method). ys ++ filter is_named parent.methods) g ∙ ap (λ (z : Method). z ∷ filter is_named parent.methods) same
                     ∙ ap (λ q. x ∷ above q) (sym (base_here m c class is) ∙ ap (base_of (bases_of m)) (sym owner));
               }
-          go (no_one f g) None b = absurd (none_some x (sym (ap (λ q. option_or q (find is_named parent.methods)) f ∙ ap (λ q. find is_named (inherited (classes_of m) q).methods) b) ∙ found))
+          go (no_one f g) None b = absurd (none_some x (sym (ap (λ q. option_or q (find is_named parent.methods)) f ∙ ap (λ q. find is_named (base_facts (classes_of m) q).methods) b) ∙ found))
           go (no_one f g) (Some d) b =
               let less : d < c = below_class m c d class is b in
-              let r = on d less (sym (ap (λ q. option_or q (find is_named parent.methods)) f ∙ ap (λ q. find is_named (inherited (classes_of m) q).methods) b) ∙ found) in record {
+              let r = on d less (sym (ap (λ q. option_or q (find is_named parent.methods)) f ∙ ap (λ q. find is_named (base_facts (classes_of m) q).methods) b) ∙ found) in record {
                 owner = let l = r.owner in omega arith;
                 all = kept ∙ ap (λ (ys : List Method). ys ++ filter is_named parent.methods) g ∙ ap above b ∙ r.all;
               }
 
-      at : (o : Option ClassDef) → slice_get (classes_in m.items) c ≡ o → ((b : ℕ) → b < c → method_of (class_at (classes_of m) b).methods name ≡ Some x → IsNearest b x) → IsNearest c x
-      at None is on = absurd (none_some x (sym (ap (λ q. method_of (class_in q).methods name) (no_class_past m c is)) ∙ e))
+      at : (o : Option ClassDef) → slice_get (classes_in m.items) c ≡ o → ((b : ℕ) → b < c → method_by_name (class_facts_at (classes_of m) b).methods name ≡ Some x → IsNearest b x) → IsNearest c x
+      at None is on = absurd (none_some x (sym (ap (λ q. method_by_name (class_in q).methods name) (no_class_past m c is)) ∙ e))
       at (Some class) is on = over class is (base_named m c class.base) refl on
 
-  pub nearest : (c : ℕ) (x : Method) → method_of (class_at (classes_of m) c).methods name ≡ Some x → IsNearest c x
+  pub nearest : (c : ℕ) (x : Method) → method_by_name (class_facts_at (classes_of m) c).methods name ≡ Some x → IsNearest c x
   nearest c x e = nearest_in (suc c) c (omega arith) x e
 
 -- tests of all, where one more is tested

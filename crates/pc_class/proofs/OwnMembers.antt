@@ -7,17 +7,17 @@ use Rattle.std.proofs.lemmas.Bool.{false≢true}
 use Rattle.std.proofs.lemmas.List.Folds.{find-append, list_any-append}
 use Rattle.pc_tree.specs.Tree.{Member, field_member, method_member, Module}
 use Rattle.pc_tree.specs.Stopping.{name_of_member}
-use Rattle.pc_scope.specs.Reserved.{is_reserved}
-use Rattle.pc_scope.specs.Resolution.{is_among}
-use Rattle.pc_class.specs.Facts.{Parameter, Method, Class, field_of, own_fields, own_methods}
-use Rattle.pc_class.specs.Entries.{Inherited, Entry, inherited_by, member_binds, member_clashes, entry_of, number_after, entries_of, entry_default, defaulted_after, defaulted_in}
+use Rattle.pc_scope.specs.Reserved.{is_builtin_name}
+use Rattle.pc_scope.specs.Resolution.{is_one_of}
+use Rattle.pc_class.specs.Facts.{TypedParameter, Method, ClassFacts, field_by_name, own_fields, own_methods}
+use Rattle.pc_class.specs.Entries.{Inherited, MemberEntry, inherited_by, member_binds, member_clashes, entry_of, number_after, entries_of, entry_default, defaulted_after, defaulted_in}
 use Rattle.pc_class.specs.Outlines.{first_named, field_name, method_name, own_field, own_method, all_own, AreOther, AreNew}
 
-module _ (m : Module) (base : Class) where
+module _ (m : Module) (base : ClassFacts) where
   -- what the rules say that members bind is what their entries bind
   pub fields_are : (before : List (List ℕ)) (n : ℕ) (ms : List Member) → own_fields m base before ms ≡ all_own (own_field m) (entries_of (inherited_by base) before n ms)
   fields_are before n [] = refl
-  fields_are before n (field_member f ∷ ms) = ap (λ (ps : List Parameter). own_field m (entry_of (inherited_by base) before n (field_member f)) ++ ps) (fields_are (f.name.text ∷ before) n ms)
+  fields_are before n (field_member f ∷ ms) = ap (λ (ps : List TypedParameter). own_field m (entry_of (inherited_by base) before n (field_member f)) ++ ps) (fields_are (f.name.text ∷ before) n ms)
   fields_are before n (method_member f ∷ ms) = fields_are (f.name.text ∷ before) (suc n) ms ∙ nothing (member_binds (inherited_by base) before (method_member f))
     where
       nothing : (b : Bool) → all_own (own_field m) (entries_of (inherited_by base) (f.name.text ∷ before) (suc n) ms) ≡ (if b then [] else []) ++ all_own (own_field m) (entries_of (inherited_by base) (f.name.text ∷ before) (suc n) ms)
@@ -41,22 +41,22 @@ pub record SameInherited (h k : Inherited) : Type 0 where
 
 module _ (h k : Inherited) (s : SameInherited h k) where
   binds_same : (b : List (List ℕ)) (x : Member) → member_binds h b x ≡ member_binds k b x
-  binds_same b (field_member f) = ap (λ a. not (is_reserved f.name.text || bytes_eq f.name.text (codes "mro")) && (not (is_among f.name.text b) && not (a || h.has_method f.name.text))) (s.fields f.name.text)
-      ∙ ap (λ a. not (is_reserved f.name.text || bytes_eq f.name.text (codes "mro")) && (not (is_among f.name.text b) && not (k.has_field f.name.text || a))) (s.methods f.name.text)
-  binds_same b (method_member f) = ap (λ a. not (is_reserved f.name.text) && (not (is_among f.name.text b) && not a)) (s.fields f.name.text)
+  binds_same b (field_member f) = ap (λ a. not (is_builtin_name f.name.text || bytes_eq f.name.text (codes "mro")) && (not (is_one_of f.name.text b) && not (a || h.has_method f.name.text))) (s.fields f.name.text)
+      ∙ ap (λ a. not (is_builtin_name f.name.text || bytes_eq f.name.text (codes "mro")) && (not (is_one_of f.name.text b) && not (k.has_field f.name.text || a))) (s.methods f.name.text)
+  binds_same b (method_member f) = ap (λ a. not (is_builtin_name f.name.text) && (not (is_one_of f.name.text b) && not a)) (s.fields f.name.text)
 
   clashes_same : (b : List (List ℕ)) (x : Member) → member_clashes h b x ≡ member_clashes k b x
-  clashes_same b (field_member f) = ap (λ a. is_among f.name.text b || (a || h.has_method f.name.text)) (s.fields f.name.text) ∙ ap (λ a. is_among f.name.text b || (k.has_field f.name.text || a)) (s.methods f.name.text)
-  clashes_same b (method_member f) = ap (λ a. is_among f.name.text b || a) (s.fields f.name.text)
+  clashes_same b (field_member f) = ap (λ a. is_one_of f.name.text b || (a || h.has_method f.name.text)) (s.fields f.name.text) ∙ ap (λ a. is_one_of f.name.text b || (k.has_field f.name.text || a)) (s.methods f.name.text)
+  clashes_same b (method_member f) = ap (λ a. is_one_of f.name.text b || a) (s.fields f.name.text)
 
   entry_same : (b : List (List ℕ)) (n : ℕ) (x : Member) → entry_of h b n x ≡ entry_of k b n x
-  entry_same b n x = ap (λ y. let e : Entry = record { member = x; number = n; binds = y; clashes = member_clashes h b x } in e) (binds_same b x) ∙ ap (λ y. let e : Entry = record { member = x; number = n; binds = member_binds k b x; clashes = y } in e) (clashes_same b x)
+  entry_same b n x = ap (λ y. let e : MemberEntry = record { member = x; number = n; binds = y; clashes = member_clashes h b x } in e) (binds_same b x) ∙ ap (λ y. let e : MemberEntry = record { member = x; number = n; binds = member_binds k b x; clashes = y } in e) (clashes_same b x)
 
   pub entries_same : (b : List (List ℕ)) (n : ℕ) (xs : List Member) → entries_of h b n xs ≡ entries_of k b n xs
   entries_same b n [] = refl
   entries_same b n (x ∷ xs) =
-      ap (λ (e : Entry). e ∷ entries_of h ((name_of_member x).text ∷ b) (number_after n x) xs) (entry_same b n x)
-      ∙ ap (λ (es : List Entry). entry_of k b n x ∷ es) (entries_same ((name_of_member x).text ∷ b) (number_after n x) xs)
+      ap (λ (e : MemberEntry). e ∷ entries_of h ((name_of_member x).text ∷ b) (number_after n x) xs) (entry_same b n x)
+      ∙ ap (λ (es : List MemberEntry). entry_of k b n x ∷ es) (entries_same ((name_of_member x).text ∷ b) (number_after n x) xs)
 
 -- ---- names of their own
 
@@ -77,16 +77,16 @@ neither_left true b e = absurd (false≢true e)
 neither_left false b e = refl
 
 -- what binds a name finds it new
-pub field_new : (h : Inherited) (before : List (List ℕ)) (n : ℕ) (x : Member) → member_binds h before x ≡ true → (is_among (name_of_member x).text before ≡ false) × (h.has_field (name_of_member x).text ≡ false)
+pub field_new : (h : Inherited) (before : List (List ℕ)) (n : ℕ) (x : Member) → member_binds h before x ≡ true → (is_one_of (name_of_member x).text before ≡ false) × (h.has_field (name_of_member x).text ≡ false)
 field_new h before n (field_member f) e =
-    let r = and_right (not (is_reserved f.name.text || bytes_eq f.name.text (codes "mro"))) _ e in
-    (not_true (is_among f.name.text before) (and_left (not (is_among f.name.text before)) _ r), neither_left (h.has_field f.name.text) (h.has_method f.name.text) (and_right (not (is_among f.name.text before)) _ r))
+    let r = and_right (not (is_builtin_name f.name.text || bytes_eq f.name.text (codes "mro"))) _ e in
+    (not_true (is_one_of f.name.text before) (and_left (not (is_one_of f.name.text before)) _ r), neither_left (h.has_field f.name.text) (h.has_method f.name.text) (and_right (not (is_one_of f.name.text before)) _ r))
 field_new h before n (method_member f) e =
-    let r = and_right (not (is_reserved f.name.text)) _ e in
-    (not_true (is_among f.name.text before) (and_left (not (is_among f.name.text before)) _ r), not_true (h.has_field f.name.text) (and_right (not (is_among f.name.text before)) _ r))
+    let r = and_right (not (is_builtin_name f.name.text)) _ e in
+    (not_true (is_one_of f.name.text before) (and_left (not (is_one_of f.name.text before)) _ r), not_true (h.has_field f.name.text) (and_right (not (is_one_of f.name.text before)) _ r))
 
 -- what an entry binds: nothing, or one of the member's name where it binds its name
-data OwnOf {X : Type 0} (name : X → List ℕ) (own : Entry → List X) (e : Entry) : Type 0 where
+data OwnOf {X : Type 0} (name : X → List ℕ) (own : MemberEntry → List X) (e : MemberEntry) : Type 0 where
   nothing : own e ≡ [] → OwnOf name own e
   this : (x : X) → own e ≡ x ∷ [] → name x ≡ (name_of_member e.member).text → e.binds ≡ true → OwnOf name own e
 
@@ -115,27 +115,27 @@ or_assoc false b c = refl
 module _ {X : Type 0} (name : X → List ℕ) (has : List ℕ → Bool) where
   -- a name that stands before, or was there
   abbrev Known : List (List ℕ) → List ℕ → Bool
-  Known before n = is_among n before || has n
+  Known before n = is_one_of n before || has n
 
   -- the names of these are known
   abbrev AreKnown : List (List ℕ) → List X → Type 0
   AreKnown before xs = (n : List ℕ) → is_some (first_named name xs n) ≡ true → Known before n ≡ true
 
   known_later : (t : List ℕ) (before : List (List ℕ)) (n : List ℕ) → Known before n ≡ true → Known (t ∷ before) n ≡ true
-  known_later t before n e = sym (or_assoc (bytes_eq n t) (is_among n before) (has n)) ∙ or_second (bytes_eq n t) (Known before n) e
+  known_later t before n e = sym (or_assoc (bytes_eq n t) (is_one_of n before) (has n)) ∙ or_second (bytes_eq n t) (Known before n) e
 
   known_one : (xs : List X) (x : X) (t : List ℕ) (before : List (List ℕ)) → name x ≡ t → AreKnown before xs → AreKnown (t ∷ before) (xs ++ x ∷ [])
   known_one xs x t before e w n h = go (first_named name xs n) refl (ap is_some (sym (find-append (λ y. bytes_eq n (name y)) xs (x ∷ []))) ∙ h)
     where
       here : (b : Bool) → bytes_eq n (name x) ≡ b → is_some (cond b (Some x) None) ≡ true → Known (t ∷ before) n ≡ true
-      here true f g = ap (λ b. (b || is_among n before) || has n) (ap (bytes_eq n) (sym e) ∙ f)
+      here true f g = ap (λ b. (b || is_one_of n before) || has n) (ap (bytes_eq n) (sym e) ∙ f)
       here false f g = absurd (false≢true g)
 
       go : (o : Option X) → first_named name xs n ≡ o → is_some (option_or (first_named name xs n) (cond (bytes_eq n (name x)) (Some x) None)) ≡ true → Known (t ∷ before) n ≡ true
       go None f g = here (bytes_eq n (name x)) refl (ap (λ q. is_some (option_or q (cond (bytes_eq n (name x)) (Some x) None))) (sym f) ∙ g)
       go (Some y) f g = known_later t before n (w n (ap is_some f))
 
-  module _ (own : Entry → List X) (h : Inherited) (owns : (x : Member) (n : ℕ) (b c : Bool) → OwnOf name own (record { member = x; number = n; binds = b; clashes = c }))
+  module _ (own : MemberEntry → List X) (h : Inherited) (owns : (x : Member) (n : ℕ) (b c : Bool) → OwnOf name own (record { member = x; number = n; binds = b; clashes = c }))
       (free : (before : List (List ℕ)) (x : Member) → member_binds h before x ≡ true → has (name_of_member x).text ≡ false) where
     -- what entries bind is new to each other
     are_new : (before : List (List ℕ)) (n : ℕ) (ms : List Member) (those : List X) → AreKnown before those → AreNew name own those (entries_of h before n ms)
@@ -145,7 +145,7 @@ module _ {X : Type 0} (name : X → List ℕ) (has : List ℕ → Bool) where
         t : List ℕ
         t = (name_of_member x).text
 
-        rest : List Entry
+        rest : List MemberEntry
         rest = entries_of h (t ∷ before) (number_after n x) ms
 
         unknown : member_binds h before x ≡ true → Known before t ≡ false
@@ -162,16 +162,16 @@ module _ {X : Type 0} (name : X → List ℕ) (has : List ℕ → Bool) where
         )
 
 -- so the fields of a class are new to each other and to those of its base
-pub new_fields : (m : Module) (base : Class) (ms : List Member) → AreNew field_name (own_field m) base.fields (entries_of (inherited_by base) [] 0 ms)
-new_fields m base ms = are_new field_name (λ n. is_some (field_of base.fields n)) (own_field m) (inherited_by base) (owns_field m) (λ before x e. (field_new (inherited_by base) before 0 x e).1) [] 0 ms base.fields (λ n h. h)
+pub new_fields : (m : Module) (base : ClassFacts) (ms : List Member) → AreNew field_name (own_field m) base.fields (entries_of (inherited_by base) [] 0 ms)
+new_fields m base ms = are_new field_name (λ n. is_some (field_by_name base.fields n)) (own_field m) (inherited_by base) (owns_field m) (λ before x e. (field_new (inherited_by base) before 0 x e).1) [] 0 ms base.fields (λ n h. h)
 
 -- and its methods to each other
-pub new_methods : (m : Module) (c : ℕ) (base : Class) (ms : List Member) → AreNew method_name (own_method m c) [] (entries_of (inherited_by base) [] 0 ms)
+pub new_methods : (m : Module) (c : ℕ) (base : ClassFacts) (ms : List Member) → AreNew method_name (own_method m c) [] (entries_of (inherited_by base) [] 0 ms)
 new_methods m c base ms = are_new method_name (λ n. false) (own_method m c) (inherited_by base) (owns_method m c) (λ before x e. refl) [] 0 ms [] (λ n h. h)
 
 -- ---- defaults
 
-defaults_one : (m : Module) (x : Member) (n : ℕ) (b c d : Bool) → defaulted_after d (entry_default (record { member = x; number = n; binds = b; clashes = c })) ≡ (d || list_any (λ (p : Parameter). p.has_default) (own_field m (record { member = x; number = n; binds = b; clashes = c })))
+defaults_one : (m : Module) (x : Member) (n : ℕ) (b c d : Bool) → defaulted_after d (entry_default (record { member = x; number = n; binds = b; clashes = c })) ≡ (d || list_any (λ (p : TypedParameter). p.has_default) (own_field m (record { member = x; number = n; binds = b; clashes = c })))
 defaults_one m (field_member f) n true c d = ap (λ b. d || b) (or_none (is_some f.default))
   where
     or_none : (b : Bool) → b ≡ (b || false)
@@ -183,11 +183,11 @@ defaults_one m x n false c true = refl
 defaults_one m x n false c false = refl
 
 -- whether there was a default, after entries
-pub defaults_are : (m : Module) (d : Bool) (es : List Entry) → defaulted_in d es ≡ (d || list_any (λ (p : Parameter). p.has_default) (all_own (own_field m) es))
+pub defaults_are : (m : Module) (d : Bool) (es : List MemberEntry) → defaulted_in d es ≡ (d || list_any (λ (p : TypedParameter). p.has_default) (all_own (own_field m) es))
 defaults_are m true [] = refl
 defaults_are m false [] = refl
 defaults_are m d (e ∷ es) =
     defaults_are m (defaulted_after d (entry_default e)) es
-    ∙ ap (λ b. b || list_any (λ (p : Parameter). p.has_default) (all_own (own_field m) es)) (defaults_one m e.member e.number e.binds e.clashes d)
-    ∙ sym (or_assoc d (list_any (λ (p : Parameter). p.has_default) (own_field m e)) (list_any (λ (p : Parameter). p.has_default) (all_own (own_field m) es)))
-    ∙ ap (λ b. d || b) (sym (list_any-append (λ (p : Parameter). p.has_default) (own_field m e) (all_own (own_field m) es)))
+    ∙ ap (λ b. b || list_any (λ (p : TypedParameter). p.has_default) (all_own (own_field m) es)) (defaults_one m e.member e.number e.binds e.clashes d)
+    ∙ sym (or_assoc d (list_any (λ (p : TypedParameter). p.has_default) (own_field m e)) (list_any (λ (p : TypedParameter). p.has_default) (all_own (own_field m) es)))
+    ∙ ap (λ b. d || b) (sym (list_any-append (λ (p : TypedParameter). p.has_default) (own_field m e) (all_own (own_field m) es)))

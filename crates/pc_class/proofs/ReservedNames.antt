@@ -3,7 +3,7 @@ use Rattle.std.proofs.Common.{◌≡◌, ℕ, List, [], ◌∷◌, map, refl, sy
 use Rattle.std.specs.Prelude.{Bool, true, false, ◌||◌, if◌then◌else◌, Some, is_some, bytes_eq}
 use Rattle.std.specs.List.{list_any}
 use Rattle.pc_token.specs.Keywords as keywords
-use Rattle.pc_scope.specs.Reserved.{reserved, beside, builtin_of, is_reserved}
+use Rattle.pc_scope.specs.Reserved.{reserved_builtins, beside, builtin_of, is_builtin_name}
 use Rattle.pc_scope.proofs.TextMaps.{turned}
 
 found : {A : Type 0} (table : List (List ℕ × A)) (t : List ℕ) → is_some (beside table t) ≡ list_any (bytes_eq t) (map (λ e. e.0) table)
@@ -14,6 +14,6 @@ found (e ∷ rest) t = go (bytes_eq e.0 t) (found rest t) ∙ ap (λ b. b || lis
     go true h = refl
     go false h = h
 
-pub reserved_same : (t : List ℕ) → keywords.is_reserved t ≡ is_reserved t
+pub reserved_same : (t : List ℕ) → keywords.is_reserved t ≡ is_builtin_name t
 unfolding builtin_of
-reserved_same t = sym (found reserved t)
+reserved_same t = sym (found reserved_builtins t)

@@ -6,7 +6,7 @@ use Rattle.std.proofs.lemmas.List.{get_or_append_left, get_or_default}
 use Rattle.std.proofs.Math.Seq.{get_or-append_seam}
 use Rattle.std.proofs.lemmas.Bool.Decides.{nat_tests}
 use Rattle.pc_class.specs.declared.shared.Node.{Node}
-use Rattle.pc_class.specs.Shared.{empty_node, node_at, way_in, way, next, held_along, held_at, IsWithin, IsClosed, Keeps, HasBelow}
+use Rattle.pc_class.specs.SharedMaps.{empty_node, node_at, way_in, way, next, held_along, held_at, IsWithin, IsClosed, KeepsMaps, HasBelow}
 
 -- ---- ways
 
@@ -154,7 +154,7 @@ put_zero old closed map key value node h is within zero_key nodes new e n k =
         ∙ sym (ap (λ b. if b then Some value else held_at old map (suc k)) (other_zero (suc k) (omega arith)))
 
 -- behind it, where the part of the number's kind was made anew
-put_behind : (old mid : List Node) → IsClosed old → IsClosed mid → Keeps old mid → (map key value part : ℕ) (node : Node) → map < length old → 0 < key
+put_behind : (old mid : List Node) → IsClosed old → IsClosed mid → KeepsMaps old mid → (map key value part : ℕ) (node : Node) → map < length old → 0 < key
     → IsPut old (next (key % 2 == 1) (node_at old map)) ((key - 1) / 2) value mid part
     → node.held ≡ (node_at old map).held → next (key % 2 == 1) node ≡ part → ((b : Bool) → (b ≡ (key % 2 == 1) → ⊥) → next b node ≡ next b (node_at old map)) → IsWithin mid node
     → IsPut old map key value (mid ++ node ∷ []) (length mid)
@@ -184,7 +184,7 @@ put_behind old mid closed closed' keeps map key value part node h pos is held th
     go false true e f = differ (λ x. false≢true (sym e ∙ x ∙ f)) (λ x. false≢true (sym e ∙ ap (λ i. i == 1) x ∙ f))
 
 -- so where the number is of the one kind, or of the other
-pub put_odd : (old mid : List Node) → IsClosed old → IsClosed mid → Keeps old mid → (map key value part : ℕ) (node : Node) → map < length old → 0 < key → (key % 2 == 1) ≡ true
+pub put_odd : (old mid : List Node) → IsClosed old → IsClosed mid → KeepsMaps old mid → (map key value part : ℕ) (node : Node) → map < length old → 0 < key → (key % 2 == 1) ≡ true
     → node ≡ node_at old map → IsPut old node.odd ((key - 1) / 2) value mid part → IsWithin mid (record { held = node.held; odd = part; even = node.even })
     → (nodes : List Node) (new : ℕ) → nodes ≡ mid ++ record { held = node.held; odd = part; even = node.even } ∷ [] → new ≡ length mid → IsPut old map key value nodes new
 put_odd old mid closed closed' keeps map key value part node h pos kind is put within nodes new e n k =
@@ -200,7 +200,7 @@ put_odd old mid closed closed' keeps map key value part node h pos kind is put w
     same_other true d = absurd (d refl)
     same_other false d = ap (λ (x : Node). x.even) is
 
-pub put_even : (old mid : List Node) → IsClosed old → IsClosed mid → Keeps old mid → (map key value part : ℕ) (node : Node) → map < length old → 0 < key → (key % 2 == 1) ≡ false
+pub put_even : (old mid : List Node) → IsClosed old → IsClosed mid → KeepsMaps old mid → (map key value part : ℕ) (node : Node) → map < length old → 0 < key → (key % 2 == 1) ≡ false
     → node ≡ node_at old map → IsPut old node.even ((key - 1) / 2) value mid part → IsWithin mid (record { held = node.held; odd = node.odd; even = part })
     → (nodes : List Node) (new : ℕ) → nodes ≡ mid ++ record { held = node.held; odd = node.odd; even = part } ∷ [] → new ≡ length mid → IsPut old map key value nodes new
 put_even old mid closed closed' keeps map key value part node h pos kind is put within nodes new e n k =
@@ -233,16 +233,16 @@ ends_at nodes at zero node o h is held = ap (λ (x : Node). x.held) is ∙ sym (
 ends_at nodes at (suc rest) node o h is held = absurd (omega arith)
 
 -- a part more keeps each map
-pub more_keeps : (nodes : List Node) → IsClosed nodes → (node : Node) (new : List Node) → new ≡ nodes ++ node ∷ [] → Keeps nodes new
-more_keeps nodes closed node new e = subst (Keeps nodes) (sym e) (record {
+pub more_keeps : (nodes : List Node) → IsClosed nodes → (node : Node) (new : List Node) → new ≡ nodes ++ node ∷ [] → KeepsMaps nodes new
+more_keeps nodes closed node new e = subst (KeepsMaps nodes) (sym e) (record {
   more = let l = length-append nodes (node ∷ []) in omega arith;
   same = λ map key h. held_kept nodes closed (node ∷ []) map key h;
 })
 
-pub none_keeps : (nodes new : List Node) → new ≡ nodes → Keeps nodes new
-none_keeps nodes new e = subst (Keeps nodes) (sym e) (record { more = omega arith; same = λ map key h. refl })
+pub none_keeps : (nodes new : List Node) → new ≡ nodes → KeepsMaps nodes new
+none_keeps nodes new e = subst (KeepsMaps nodes) (sym e) (record { more = omega arith; same = λ map key h. refl })
 
-pub keeps_on : (a b c : List Node) → Keeps a b → Keeps b c → Keeps a c
+pub keeps_on : (a b c : List Node) → KeepsMaps a b → KeepsMaps b c → KeepsMaps a c
 keeps_on a b c k l = let x = k.more in let y = l.more in record {
   more = omega arith;
   same = λ map key h. l.same map key (omega arith) ∙ k.same map key h;

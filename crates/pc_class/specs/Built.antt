@@ -5,14 +5,14 @@ use Rattle.pc_tree.specs.Tree.{ClassDef, Module, module_of}
 use Rattle.pc_tree.specs.declared.code.Code.TheVariants.{E07}
 use Rattle.pc_tree.specs.declared.code.Finding.{Finding}
 use Rattle.pc_scope.specs.Bindings.{classes_in}
-use Rattle.pc_scope.specs.Found.{at_code}
-use Rattle.pc_scope.specs.Scoped.{AreScopes}
+use Rattle.pc_scope.specs.Internal.FindingLists.{at_code}
+use Rattle.pc_scope.specs.ModuleScopes.{AreScopes}
 use Rattle.pc_types.specs.Bases.{bases_of, base_named}
 use Rattle.pc_class.specs.declared.reading.Setting.{Setting}
-use Rattle.pc_class.specs.Named.{Named}
-use Rattle.pc_class.specs.Facts.{Class, inherited, class_behind}
+use Rattle.pc_class.specs.NameMaps.{NameMaps}
+use Rattle.pc_class.specs.Facts.{ClassFacts, base_facts, class_facts_behind}
 use Rattle.pc_class.specs.Entries.{missing_bases}
-use Rattle.pc_class.specs.Outlines.{IsHeld, found_over, classes_found}
+use Rattle.pc_class.specs.Outlines.{IsMapOf, found_over, classes_found}
 
 -- the module of a setting
 abbrev pub module_in : Setting → Module
@@ -24,21 +24,21 @@ pub record IsSetting (s : Setting) : Type 0 where
   pub parents : s.parents.now ≡ bases_of (module_in s)
 
 -- what was added to a list means these, each with what is asked of it; a map tells it by names, between what it told in front and behind
-pub record Added {X Y : Type 0} (name : X → List ℕ) (has : X → Type 0) (meaning : X → Y) (d : Named) (old new : List X) (at : ℕ) (front back : List X) (own : List Y) : Type 0 where
+pub record Added {X Y : Type 0} (name : X → List ℕ) (has : X → Type 0) (meaning : X → Y) (d : NameMaps) (old new : List X) (at : ℕ) (front back : List X) (own : List Y) : Type 0 where
   pub these : List X
   pub all : new ≡ old ++ these
   pub means : map meaning these ≡ own
   pub given : All has these
-  pub held : IsHeld name d new at ((front ++ these) ++ back)
+  pub held : IsMapOf name d new at ((front ++ these) ++ back)
 
 -- a class of the module, with its number
 abbrev pub IsClassAt : Module → ℕ → ClassDef → Type 0
 IsClassAt m c class = slice_get (classes_in m.items) c ≡ Some class
 
 -- what is found of the members of classes by their names, given the classes before them, each of them in turn: E06, E08
-abbrev pub found_behind : Module → List Class → ℕ → List ClassDef → List Finding
+abbrev pub found_behind : Module → List ClassFacts → ℕ → List ClassDef → List Finding
 found_behind m earlier c [] = []
-found_behind m earlier c (class ∷ rest) = found_over (inherited earlier (base_named m c class.base)) class ++ found_behind m (earlier ++ class_behind m earlier c class ∷ []) (suc c) rest
+found_behind m earlier c (class ∷ rest) = found_over (base_facts earlier (base_named m c class.base)) class ++ found_behind m (earlier ++ class_facts_behind m earlier c class ∷ []) (suc c) rest
 
 -- the findings of classes by names alone as a list: E07, then of each class E06 and E08
 unfoldable pub class_findings : Module → List Finding

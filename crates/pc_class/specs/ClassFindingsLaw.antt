@@ -9,7 +9,7 @@ use Rattle.pc_scope.specs.Bindings.{classes_in}
 use Rattle.pc_class.specs.Entries.{inherited_by, class_entries, clash_places}
 use Rattle.pc_class.specs.Findings.{ClassFinds, base_class}
 use Rattle.pc_class.specs.Built.{class_findings}
-use Rattle.pc_class.specs.Overriding.{override_findings}
+use Rattle.pc_class.specs.OverrideFindings.{override_findings}
 
 -- the names of members that clash in classes from this number on, by what the class of each base's number has
 abbrev pub clashes_from : Module → ℕ → List ClassDef → List Place

@@ -5,15 +5,15 @@ use Rattle.std.specs.Prelude.{ℕ, suc, List, [], ◌∷◌, ◌++◌, Bool, fal
 use Rattle.pc_source.specs.declared.place.Place.{Place}
 use Rattle.pc_tree.specs.Tree.{Name, Field, Member, field_member, method_member, ClassDef, member_of, Module}
 use Rattle.pc_tree.specs.Stopping.{one_if, name_of_member}
-use Rattle.pc_scope.specs.Reserved.{is_reserved}
-use Rattle.pc_scope.specs.Resolution.{is_among}
+use Rattle.pc_scope.specs.Reserved.{is_builtin_name}
+use Rattle.pc_scope.specs.Resolution.{is_one_of}
 use Rattle.pc_types.specs.Below.{Bases, base_of}
 use Rattle.pc_types.specs.Bases.{bases_of}
 use Rattle.pc_types.specs.Annotations.{read_ann}
 use Rattle.pc_class.specs.declared.entries.Entry.{Entry as RustEntry}
 use Rattle.pc_class.specs.declared.entries.Held.{Held}
-use Rattle.pc_class.specs.Facts.{Parameter, Method, Class, field_of, method_of, method_made}
-use Rattle.pc_class.specs.Named.{Named, IsMap, named_at}
+use Rattle.pc_class.specs.Facts.{TypedParameter, Method, ClassFacts, field_by_name, method_by_name, method_made}
+use Rattle.pc_class.specs.NameMaps.{NameMaps, IsMap, named_at}
 
 -- which names the ancestors of a class have as fields, and which as methods
 pub record Inherited : Type 0 where
@@ -21,20 +21,20 @@ pub record Inherited : Type 0 where
   pub has_method : List ℕ → Bool
 
 -- those of a base
-abbrev pub inherited_by : Class → Inherited
-inherited_by base = record { has_field = λ n. is_some (field_of base.fields n); has_method = λ n. is_some (method_of base.methods n) }
+abbrev pub inherited_by : ClassFacts → Inherited
+inherited_by base = record { has_field = λ n. is_some (field_by_name base.fields n); has_method = λ n. is_some (method_by_name base.methods n) }
 
 -- those that two maps have
-abbrev pub inherited_in : Named → Held → Inherited
+abbrev pub inherited_in : NameMaps → Held → Inherited
 inherited_in d held = record { has_field = λ n. is_some (named_at d held.fields n); has_method = λ n. is_some (named_at d held.methods n) }
 
 -- there are maps of these numbers
-pub record HasMaps (d : Named) (held : Held) : Type 0 where
+pub record HasMaps (d : NameMaps) (held : Held) : Type 0 where
   pub fields : IsMap d held.fields
   pub methods : IsMap d held.methods
 
 -- a member of a class: how many methods stand before it, whether it binds its name, and whether that clashes
-pub record Entry : Type 0 where
+pub record MemberEntry : Type 0 where
   pub member : Member
   pub number : ℕ
   pub binds : Bool
@@ -43,16 +43,16 @@ pub record Entry : Type 0 where
 -- a member binds its name, behind members of these names
 abbrev pub member_binds : Inherited → List (List ℕ) → Member → Bool
 member_binds h before (field_member f) =
-    not (is_reserved f.name.text || bytes_eq f.name.text (codes "mro")) && (not (is_among f.name.text before) && not (h.has_field f.name.text || h.has_method f.name.text))
-member_binds h before (method_member f) = not (is_reserved f.name.text) && (not (is_among f.name.text before) && not (h.has_field f.name.text))
+    not (is_builtin_name f.name.text || bytes_eq f.name.text (codes "mro")) && (not (is_one_of f.name.text before) && not (h.has_field f.name.text || h.has_method f.name.text))
+member_binds h before (method_member f) = not (is_builtin_name f.name.text) && (not (is_one_of f.name.text before) && not (h.has_field f.name.text))
 
 -- a member's name is that of an earlier one, or it clashes with an ancestor's
 abbrev pub member_clashes : Inherited → List (List ℕ) → Member → Bool
-member_clashes h before (field_member f) = is_among f.name.text before || (h.has_field f.name.text || h.has_method f.name.text)
-member_clashes h before (method_member f) = is_among f.name.text before || h.has_field f.name.text
+member_clashes h before (field_member f) = is_one_of f.name.text before || (h.has_field f.name.text || h.has_method f.name.text)
+member_clashes h before (method_member f) = is_one_of f.name.text before || h.has_field f.name.text
 
 -- a member as an entry
-abbrev pub entry_of : Inherited → List (List ℕ) → ℕ → Member → Entry
+abbrev pub entry_of : Inherited → List (List ℕ) → ℕ → Member → MemberEntry
 entry_of h before number x = record { member = x; number = number; binds = member_binds h before x; clashes = member_clashes h before x }
 
 -- so many methods and a member
@@ -61,26 +61,26 @@ number_after n (field_member f) = n
 number_after n (method_member f) = suc n
 
 -- the entries of members, behind members of these names and so many methods
-abbrev pub entries_of : Inherited → List (List ℕ) → ℕ → List Member → List Entry
+abbrev pub entries_of : Inherited → List (List ℕ) → ℕ → List Member → List MemberEntry
 entries_of h before number [] = []
 entries_of h before number (x ∷ rest) = entry_of h before number x ∷ entries_of h ((name_of_member x).text ∷ before) (number_after number x) rest
 
 -- the entries of a class whose ancestors have these names
-abbrev pub class_entries : Inherited → ClassDef → List Entry
+abbrev pub class_entries : Inherited → ClassDef → List MemberEntry
 class_entries h class = entries_of h [] 0 class.members
 
 -- an entry of the program
-abbrev pub entry_seen : RustEntry → Entry
+abbrev pub entry_seen : RustEntry → MemberEntry
 entry_seen e = record { member = member_of e.member.now; number = e.number; binds = e.binds; clashes = e.clashes }
 
 -- ---- fields and methods
 
 -- a field as a parameter of its class
-abbrev pub parameter_made : Module → Field → Parameter
+abbrev pub parameter_made : Module → Field → TypedParameter
 parameter_made m f = record { name = f.name.text; type = read_ann m (bases_of m) f.annotation; has_default = is_some f.default }
 
 -- the field that a member is, as a parameter of its class
-abbrev pub field_made : Module → Member → List Parameter
+abbrev pub field_made : Module → Member → List TypedParameter
 field_made m (field_member f) = parameter_made m f ∷ []
 field_made m (method_member f) = []
 
@@ -90,19 +90,19 @@ methods_made m c number (field_member f) = []
 methods_made m c number (method_member f) = method_made m c number f ∷ []
 
 -- the fields that entries bind
-abbrev pub entry_fields : Module → List Entry → List Parameter
+abbrev pub entry_fields : Module → List MemberEntry → List TypedParameter
 entry_fields m [] = []
 entry_fields m (e ∷ es) = (if e.binds then field_made m e.member else []) ++ entry_fields m es
 
 -- the methods that entries bind
-abbrev pub entry_methods : Module → ℕ → List Entry → List Method
+abbrev pub entry_methods : Module → ℕ → List MemberEntry → List Method
 entry_methods m c [] = []
 entry_methods m c (e ∷ es) = (if e.binds then methods_made m c e.number e.member else []) ++ entry_methods m c es
 
 -- ---- findings of names
 
 -- the names of members that clash
-abbrev pub clash_places : List Entry → List Place
+abbrev pub clash_places : List MemberEntry → List Place
 clash_places [] = []
 clash_places (e ∷ es) = one_if e.clashes (name_of_member e.member).place ++ clash_places es
 
@@ -112,7 +112,7 @@ member_default (field_member f) = Some (is_some f.default)
 member_default (method_member f) = None
 
 -- so of the field that an entry binds
-abbrev pub entry_default : Entry → Option Bool
+abbrev pub entry_default : MemberEntry → Option Bool
 entry_default e = if e.binds then member_default e.member else None
 
 -- whether there was a default, with one more field or none
@@ -126,12 +126,12 @@ is_late d None = false
 is_late d (Some b) = d && not b
 
 -- the names of fields without default behind one with default
-abbrev pub late_places : Bool → List Entry → List Place
+abbrev pub late_places : Bool → List MemberEntry → List Place
 late_places d [] = []
 late_places d (e ∷ es) = one_if (is_late d (entry_default e)) (name_of_member e.member).place ++ late_places (defaulted_after d (entry_default e)) es
 
 -- whether there was a default, after these entries
-abbrev pub defaulted_in : Bool → List Entry → Bool
+abbrev pub defaulted_in : Bool → List MemberEntry → Bool
 defaulted_in d [] = d
 defaulted_in d (e ∷ es) = defaulted_in (defaulted_after d (entry_default e)) es
 

@@ -3,15 +3,15 @@
 use Rattle.std.specs.Prelude.{ℕ, suc, List, [], ◌∷◌, ◌++◌, map, Bool, ◌&&◌, ◌||◌, not, if◌then◌else◌, Option, Some, None, is_some, slice_get, find, codes, bytes_eq}
 use Rattle.pc_source.specs.declared.place.Place.{Place}
 use Rattle.pc_tree.specs.Tree.{Param, FuncDef, Member, field_member, method_member, ClassDef, Module}
-use Rattle.pc_scope.specs.Reserved.{is_reserved}
+use Rattle.pc_scope.specs.Reserved.{is_builtin_name}
 use Rattle.pc_scope.specs.Bindings.{classes_in}
-use Rattle.pc_scope.specs.Resolution.{is_among}
+use Rattle.pc_scope.specs.Resolution.{is_one_of}
 use Rattle.pc_types.specs.Tree.{Tree}
 use Rattle.pc_types.specs.Annotations.{read_ann, read_option}
 use Rattle.pc_class.specs.Bases.{bases_of, base_named}
 
 -- a parameter of a function, or a field as a parameter of its class
-pub record Parameter : Type 0 where
+pub record TypedParameter : Type 0 where
   pub name : List ℕ
   pub type : Tree
   pub has_default : Bool
@@ -22,69 +22,69 @@ pub record Method : Type 0 where
   pub owner : ℕ
   pub number : ℕ
   pub place : Place
-  pub parameters : List Parameter
+  pub parameters : List TypedParameter
   pub returns : Tree
 
 -- a class: its base, its fields with those of its base first, and its methods with those of its base behind them
-pub record Class : Type 0 where
+pub record ClassFacts : Type 0 where
   pub base : Option ℕ
-  pub fields : List Parameter
+  pub fields : List TypedParameter
   pub methods : List Method
 
 -- a class without base, fields and methods
-abbrev pub empty_class : Class
+abbrev pub empty_class : ClassFacts
 empty_class = record { base = None; fields = []; methods = [] }
 
 -- the first field, and the nearest method, of a name
-abbrev pub field_of : List Parameter → List ℕ → Option Parameter
-field_of fields name = find (λ f. bytes_eq name f.name) fields
+abbrev pub field_by_name : List TypedParameter → List ℕ → Option TypedParameter
+field_by_name fields name = find (λ f. bytes_eq name f.name) fields
 
 -- the nearest method of a name, which stands first
-abbrev pub method_of : List Method → List ℕ → Option Method
-method_of methods name = find (λ f. bytes_eq name f.name) methods
+abbrev pub method_by_name : List Method → List ℕ → Option Method
+method_by_name methods name = find (λ f. bytes_eq name f.name) methods
 
 -- a class that was found, or an empty one
-abbrev pub class_in : Option Class → Class
+abbrev pub class_in : Option ClassFacts → ClassFacts
 class_in None = empty_class
 class_in (Some c) = c
 
 -- the class of a number among classes, an empty one where there is none
-abbrev pub class_at : List Class → ℕ → Class
-class_at classes c = class_in (slice_get classes c)
+abbrev pub class_facts_at : List ClassFacts → ℕ → ClassFacts
+class_facts_at classes c = class_in (slice_get classes c)
 
 -- what a class inherits: its base among the earlier classes, or an empty class where it has none
-abbrev pub inherited : List Class → Option ℕ → Class
-inherited earlier None = empty_class
-inherited earlier (Some b) = class_at earlier b
+abbrev pub base_facts : List ClassFacts → Option ℕ → ClassFacts
+base_facts earlier None = empty_class
+base_facts earlier (Some b) = class_facts_at earlier b
 
 -- a field binds its name: not reserved, not `mro`, no earlier member's, no field's or method's of an ancestor
-abbrev pub binds_field : Class → List (List ℕ) → List ℕ → Bool
+abbrev pub binds_field : ClassFacts → List (List ℕ) → List ℕ → Bool
 binds_field base before name =
-    not (is_reserved name || bytes_eq name (codes "mro")) && (not (is_among name before) && not (is_some (field_of base.fields name) || is_some (method_of base.methods name)))
+    not (is_builtin_name name || bytes_eq name (codes "mro")) && (not (is_one_of name before) && not (is_some (field_by_name base.fields name) || is_some (method_by_name base.methods name)))
 
 -- a method binds its name: not reserved, no earlier member's, no field's of an ancestor
-abbrev pub binds_method : Class → List (List ℕ) → List ℕ → Bool
-binds_method base before name = not (is_reserved name) && (not (is_among name before) && not (is_some (field_of base.fields name)))
+abbrev pub binds_method : ClassFacts → List (List ℕ) → List ℕ → Bool
+binds_method base before name = not (is_builtin_name name) && (not (is_one_of name before) && not (is_some (field_by_name base.fields name)))
 
 -- a parameter with the type that its annotation says, Any without one
-abbrev pub parameter_of : Module → Param → Parameter
-parameter_of m p = record { name = p.name.text; type = read_option m (bases_of m) p.annotation; has_default = is_some p.default }
+abbrev pub typed_parameter : Module → Param → TypedParameter
+typed_parameter m p = record { name = p.name.text; type = read_option m (bases_of m) p.annotation; has_default = is_some p.default }
 
 -- parameters with the types that their annotations say
-abbrev pub parameters_of : Module → List Param → List Parameter
-parameters_of m params = map (parameter_of m) params
+abbrev pub parameters_of : Module → List Param → List TypedParameter
+parameters_of m params = map (typed_parameter m) params
 
 -- the return type of a function, Any where it has no annotation
-abbrev pub returned : Module → FuncDef → Tree
-returned m f = read_option m (bases_of m) f.returns
+abbrev pub return_type : Module → FuncDef → Tree
+return_type m f = read_option m (bases_of m) f.returns
 
 -- a method of a class, with its number there, its parameters and what it returns
 abbrev pub method_made : Module → ℕ → ℕ → FuncDef → Method
-method_made m c number f = record { name = f.name.text; owner = c; number = number; place = f.name.place; parameters = parameters_of m f.params; returns = returned m f }
+method_made m c number f = record { name = f.name.text; owner = c; number = number; place = f.name.place; parameters = parameters_of m f.params; returns = return_type m f }
 
-module _ (m : Module) (base : Class) where
+module _ (m : Module) (base : ClassFacts) where
   -- the fields that members bind, behind members of these names
-  abbrev pub own_fields : List (List ℕ) → List Member → List Parameter
+  abbrev pub own_fields : List (List ℕ) → List Member → List TypedParameter
   own_fields before [] = []
   own_fields before (field_member f ∷ rest) =
       (if binds_field base before f.name.text then record { name = f.name.text; type = read_ann m (bases_of m) f.annotation; has_default = is_some f.default } ∷ [] else [])
@@ -99,9 +99,9 @@ module _ (m : Module) (base : Class) where
       (if binds_method base before f.name.text then method_made m c number f ∷ [] else []) ++ own_methods c (suc number) (f.name.text ∷ before) rest
 
 -- a class of this number, behind earlier ones
-abbrev pub class_behind : Module → List Class → ℕ → ClassDef → Class
-class_behind m earlier c class =
-    let base = inherited earlier (base_named m c class.base) in
+abbrev pub class_facts_behind : Module → List ClassFacts → ℕ → ClassDef → ClassFacts
+class_facts_behind m earlier c class =
+    let base = base_facts earlier (base_named m c class.base) in
     record {
       base = base_named m c class.base;
       fields = base.fields ++ own_fields m base [] class.members;
@@ -109,10 +109,10 @@ class_behind m earlier c class =
     }
 
 -- the earlier classes and then these, the first of them of this number, each built on those before it
-abbrev pub classes_behind : Module → List Class → ℕ → List ClassDef → List Class
+abbrev pub classes_behind : Module → List ClassFacts → ℕ → List ClassDef → List ClassFacts
 classes_behind m earlier c [] = earlier
-classes_behind m earlier c (class ∷ rest) = classes_behind m (earlier ++ class_behind m earlier c class ∷ []) (suc c) rest
+classes_behind m earlier c (class ∷ rest) = classes_behind m (earlier ++ class_facts_behind m earlier c class ∷ []) (suc c) rest
 
 -- the classes of a module
-unfoldable pub classes_of : Module → List Class
+unfoldable pub classes_of : Module → List ClassFacts
 classes_of m = classes_behind m [] 0 (classes_in m.items)

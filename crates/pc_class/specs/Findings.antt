@@ -10,7 +10,7 @@ use Rattle.pc_tree.specs.Stopping.{IsStopping, name_of_member}
 use Rattle.pc_tree.specs.Tree.{Name, FuncDef, Field, Member, field_member, method_member, ClassDef, Module}
 use Rattle.pc_scope.specs.Bindings.{classes_in, methods_in}
 use Rattle.pc_class.specs.Bases.{bases_of, base_named}
-use Rattle.pc_class.specs.Facts.{Class, inherited, classes_of, binds_field, binds_method, own_fields, method_made}
+use Rattle.pc_class.specs.Facts.{ClassFacts, base_facts, classes_of, binds_field, binds_method, own_fields, method_made}
 use Rattle.pc_class.specs.Overrides.{Judges, overridden}
 
 -- a class of the module, with its number
@@ -18,8 +18,8 @@ pub record ClassNumbered (m : Module) (c : ℕ) (class : ClassDef) : Type 0 wher
   pub is : slice_get (classes_in m.items) c ≡ Some class
 
 -- what the base of a class has
-abbrev pub base_class : Module → ℕ → ClassDef → Class
-base_class m c class = inherited (classes_of m) (base_named m c class.base)
+abbrev pub base_class : Module → ℕ → ClassDef → ClassFacts
+base_class m c class = base_facts (classes_of m) (base_named m c class.base)
 
 -- E07: a class names a base that is no earlier class
 pub record HasNoBase (m : Module) (class : ClassDef) (c : ℕ) (f : Finding) : Type 0 where
@@ -38,7 +38,7 @@ pub record IsTwiceMember (m : Module) (f : Finding) : Type 0 where
   pub stops : IsStopping m f.place E06
 
 -- a field before another one has a default
-abbrev pub has_default_before : Module → Class → List Member → Bool
+abbrev pub has_default_before : Module → ClassFacts → List Member → Bool
 has_default_before m base members = list_any (λ p. p.has_default) base.fields || list_any (λ p. p.has_default) (own_fields m base [] members)
 
 -- E08: a field without default stands behind one with default

@@ -10,13 +10,13 @@ use Rattle.pc_types.specs.Bases.{base_named}
 use Rattle.pc_tree.specs.declared.code.Code.TheVariants.{E06, E08}
 use Rattle.pc_tree.specs.declared.code.Finding.{Finding}
 use Rattle.pc_scope.specs.Bindings.{as_class, classes_in}
-use Rattle.pc_scope.specs.Found.{at_code}
-use Rattle.pc_class.specs.Facts.{Parameter, Method, Class, method_made, inherited, classes_of}
-use Rattle.pc_class.specs.Named.{Named, IsMap, named_at}
-use Rattle.pc_class.specs.Entries.{Entry, parameter_made, field_made, methods_made, inherited_by, class_entries, clash_places, late_places}
+use Rattle.pc_scope.specs.Internal.FindingLists.{at_code}
+use Rattle.pc_class.specs.Facts.{TypedParameter, Method, ClassFacts, method_made, base_facts, classes_of}
+use Rattle.pc_class.specs.NameMaps.{NameMaps, IsMap, named_at}
+use Rattle.pc_class.specs.Entries.{MemberEntry, parameter_made, field_made, methods_made, inherited_by, class_entries, clash_places, late_places}
 
 -- the field that there is, if there is one, as a parameter of its class
-abbrev pub fields_seen : Module → Option (Bor RustField) → List Parameter
+abbrev pub fields_seen : Module → Option (Bor RustField) → List TypedParameter
 fields_seen m None = []
 fields_seen m (Some f) = parameter_made m (field_of f.now) ∷ []
 
@@ -41,13 +41,13 @@ module _ {X : Type 0} (name : X → List ℕ) where
   first_named xs n = find (λ x. bytes_eq n (name x)) xs
 
   -- a map tells these by their names, as numbers among all
-  pub record IsHeld (d : Named) (all : List X) (at : ℕ) (these : List X) : Type 0 where
+  pub record IsMapOf (d : NameMaps) (all : List X) (at : ℕ) (these : List X) : Type 0 where
     pub is_map : IsMap d at
     pub within : (n : List ℕ) → IsNumberIn all (named_at d at n)
     pub same : (n : List ℕ) → at_number all (named_at d at n) ≡ first_named these n
 
 -- the name of a field, and of a method
-abbrev pub field_name : Parameter → List ℕ
+abbrev pub field_name : TypedParameter → List ℕ
 field_name p = p.name
 
 -- the name of a method
@@ -55,15 +55,15 @@ abbrev pub method_name : Method → List ℕ
 method_name x = x.name
 
 -- the field that an entry binds, if it binds one
-abbrev pub own_field : Module → Entry → List Parameter
+abbrev pub own_field : Module → MemberEntry → List TypedParameter
 own_field m e = if e.binds then field_made m e.member else []
 
 -- the method that an entry binds, if it binds one
-abbrev pub own_method : Module → ℕ → Entry → List Method
+abbrev pub own_method : Module → ℕ → MemberEntry → List Method
 own_method m c e = if e.binds then methods_made m c e.number e.member else []
 
 -- what entries bind, each of them these
-abbrev pub all_own : {X : Type 0} → (own : Entry → List X) → List Entry → List X
+abbrev pub all_own : {X : Type 0} → (own : MemberEntry → List X) → List MemberEntry → List X
 all_own own [] = []
 all_own own (e ∷ es) = own e ++ all_own own es
 
@@ -73,19 +73,19 @@ AreOther name those [] = Unit {0}
 AreOther name those (x ∷ xs) = (first_named name those (name x) ≡ None) × AreOther name those xs
 
 -- what each entry binds has another name than those, and than what earlier entries bind
-abbrev pub AreNew : {X : Type 0} → (name : X → List ℕ) → (own : Entry → List X) → (those : List X) → List Entry → Type 0
+abbrev pub AreNew : {X : Type 0} → (name : X → List ℕ) → (own : MemberEntry → List X) → (those : List X) → List MemberEntry → Type 0
 AreNew name own those [] = Unit {0}
 AreNew name own those (e ∷ es) = AreOther name those (own e) × AreNew name own (those ++ own e) es
 
 -- what is found of the members of a class by their names, given what its base has: E06, E08
-abbrev pub found_over : Class → ClassDef → List Finding
+abbrev pub found_over : ClassFacts → ClassDef → List Finding
 found_over base class =
     at_code E06 (clash_places (class_entries (inherited_by base) class))
-    ++ at_code E08 (late_places (list_any (λ (p : Parameter). p.has_default) base.fields) (class_entries (inherited_by base) class))
+    ++ at_code E08 (late_places (list_any (λ (p : TypedParameter). p.has_default) base.fields) (class_entries (inherited_by base) class))
 
 -- so of the class of a number
 abbrev pub class_found : Module → ℕ → ClassDef → List Finding
-class_found m c class = found_over (inherited (classes_of m) (base_named m c class.base)) class
+class_found m c class = found_over (base_facts (classes_of m) (base_named m c class.base)) class
 
 -- what is found of the members of classes from this number on
 abbrev pub classes_found : Module → ℕ → List ClassDef → List Finding
@@ -93,5 +93,5 @@ classes_found m c [] = []
 classes_found m c (class ∷ rest) = class_found m c class ++ classes_found m (suc c) rest
 
 -- an item that is a class is the one of this number
-abbrev pub IsAhead : Module → ℕ → Item → Type 0
-IsAhead m c item = (class : ClassDef) → as_class item ≡ Some class → slice_get (classes_in m.items) c ≡ Some class
+abbrev pub IsClassNumbered : Module → ℕ → Item → Type 0
+IsClassNumbered m c item = (class : ClassDef) → as_class item ≡ Some class → slice_get (classes_in m.items) c ≡ Some class

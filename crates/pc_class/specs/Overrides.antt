@@ -6,26 +6,26 @@ use Rattle.pc_tree.specs.declared.code.Code.TheVariants.{E11, A8}
 use Rattle.pc_types.specs.Tree.{Tree}
 use Rattle.pc_types.specs.Below.{Bases, Static}
 use Rattle.pc_types.specs.Assignable.{Assignable}
-use Rattle.pc_class.specs.Facts.{Parameter, Method}
+use Rattle.pc_class.specs.Facts.{TypedParameter, Method}
 
 -- the numbers of parameters agree, the names at each position, and there is a default wherever the ancestor's has one
-abbrev pub has_shape_of : List Parameter → List Parameter → Bool
+abbrev pub has_shape_of : List TypedParameter → List TypedParameter → Bool
 has_shape_of [] [] = true
 has_shape_of (p ∷ ps) (q ∷ qs) = bytes_eq p.name q.name && ((not p.has_default || q.has_default) && has_shape_of ps qs)
 has_shape_of _ _ = false
 
 -- a flow: from a type into another
-pub record Flow : Type 0 where
+pub record TypeFlow : Type 0 where
   pub from : Tree
   pub into : Tree
 
 -- each parameter's type of the ancestor's flows into the method's
-abbrev pub parameter_flows : List Parameter → List Parameter → List Flow
+abbrev pub parameter_flows : List TypedParameter → List TypedParameter → List TypeFlow
 parameter_flows (p ∷ ps) (q ∷ qs) = record { from = p.type; into = q.type } ∷ parameter_flows ps qs
 parameter_flows _ _ = []
 
 -- the method's return flows into the ancestor's
-abbrev pub override_flows : Method → Method → List Flow
+abbrev pub override_flows : Method → Method → List TypeFlow
 override_flows old new = record { from = new.returns; into = old.returns } ∷ parameter_flows old.parameters new.parameters
 
 -- the override is good against the ancestor's method

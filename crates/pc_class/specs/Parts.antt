@@ -9,9 +9,9 @@ use Rattle.pc_class.specs.declared.table.Method.{Method as RustMethod}
 use Rattle.pc_class.specs.declared.parts.Span.{Span}
 use Rattle.pc_class.specs.declared.parts.ClassNode.{ClassNode}
 use Rattle.pc_class.specs.declared.parts.TableParts.{TableParts}
-use Rattle.pc_class.specs.Named.{Named}
-use Rattle.pc_class.specs.Outlines.{IsHeld}
-use Rattle.pc_class.specs.Tables.{Entry, inherited_entry, HasParameter, HasMethod}
+use Rattle.pc_class.specs.NameMaps.{NameMaps}
+use Rattle.pc_class.specs.Outlines.{IsMapOf}
+use Rattle.pc_class.specs.Tables.{ClassEntry, inherited_entry, HasParameter, HasMethod}
 
 -- the items of a list from one place on and before another
 abbrev pub part : {X : Type 0} → List X → Span → List X
@@ -23,13 +23,13 @@ pub record IsSpan (n : ℕ) (s : Span) : Type 0 where
   pub within : s.end ≤ n
 
 -- nothing, as a base of classes without base
-abbrev pub empty_node : ClassNode
-empty_node = record { base = None; held = record { fields = 0; methods = 0 }; defaulted = false; fields = record { start = 0; end = 0 }; methods = record { start = 0; end = 0 } }
+abbrev pub empty_class_node : ClassNode
+empty_class_node = record { base = None; held = record { fields = 0; methods = 0 }; defaulted = false; fields = record { start = 0; end = 0 }; methods = record { start = 0; end = 0 } }
 
 -- the base among the classes before, or nothing where there is no base
 abbrev pub inherited_node : List ClassNode → Option ℕ → ClassNode
-inherited_node classes None = empty_node
-inherited_node classes (Some b) = slice_index_or classes b empty_node
+inherited_node classes None = empty_class_node
+inherited_node classes (Some b) = slice_index_or classes b empty_class_node
 
 module _ {Ty : Type 0} where
   -- the name of a parameter of the program
@@ -37,16 +37,16 @@ module _ {Ty : Type 0} where
   parameter_name p = string_bytes p.name
 
   -- a parameter that is lent
-  abbrev pub lent : Bor (RustParameter Ty) → RustParameter Ty
-  lent p = p.now
+  abbrev pub lent_parameter : Bor (RustParameter Ty) → RustParameter Ty
+  lent_parameter p = p.now
 
   -- the name of a method of the program
-  abbrev pub method_name : RustMethod Ty → List ℕ
-  method_name x = string_bytes x.name
+  abbrev pub stored_method_name : RustMethod Ty → List ℕ
+  stored_method_name x = string_bytes x.name
 
   module _ (fields : List (RustParameter Ty)) (methods : List (RustMethod Ty)) where
     -- a class over its base among the classes before it
-    abbrev pub entry_over : List (Entry Ty) → ClassNode → Entry Ty
+    abbrev pub entry_over : List (ClassEntry Ty) → ClassNode → ClassEntry Ty
     entry_over earlier n = record {
       base = n.base;
       fields = (inherited_entry earlier n.base).fields ++ part fields n.fields;
@@ -54,38 +54,38 @@ module _ {Ty : Type 0} where
     }
 
     -- the earlier classes and then these, each over its base
-    abbrev pub entries_behind : List (Entry Ty) → List ClassNode → List (Entry Ty)
+    abbrev pub entries_behind : List (ClassEntry Ty) → List ClassNode → List (ClassEntry Ty)
     entries_behind earlier [] = earlier
     entries_behind earlier (n ∷ ns) = entries_behind (earlier ++ entry_over earlier n ∷ []) ns
 
   -- the classes of a table
-  unfoldable pub entries_in : TableParts Ty → List (Entry Ty)
+  unfoldable pub entries_in : TableParts Ty → List (ClassEntry Ty)
   entries_in p = entries_behind p.fields.items p.methods.items [] p.classes.items
 
   -- the base of each class, if it has one
-  abbrev pub bases_in : List (Entry Ty) → List (Option ℕ)
-  bases_in es = map (λ (e : Entry Ty). e.base) es
+  abbrev pub bases_in : List (ClassEntry Ty) → List (Option ℕ)
+  bases_in es = map (λ (e : ClassEntry Ty). e.base) es
 
   -- a class of a table has its base before it, and its maps tell just what the class has by each name
-  pub record IsNode (d : Named) (fields : List (RustParameter Ty)) (methods : List (RustMethod Ty)) (es : List (Entry Ty)) (c : ℕ) (n : ClassNode) : Type 0 where
+  pub record IsClassNode (d : NameMaps) (fields : List (RustParameter Ty)) (methods : List (RustMethod Ty)) (es : List (ClassEntry Ty)) (c : ℕ) (n : ClassNode) : Type 0 where
     pub before : (b : ℕ) → n.base ≡ Some b → b < c
     pub own_fields : IsSpan (length fields) n.fields
     pub own_methods : IsSpan (length methods) n.methods
     pub is : slice_get es c ≡ Some (entry_over fields methods es n)
-    pub fields_held : IsHeld parameter_name d fields n.held.fields (entry_over fields methods es n).fields
-    pub methods_held : IsHeld method_name d methods n.held.methods (entry_over fields methods es n).methods
+    pub fields_held : IsMapOf parameter_name d fields n.held.fields (entry_over fields methods es n).fields
+    pub methods_held : IsMapOf stored_method_name d methods n.held.methods (entry_over fields methods es n).methods
     pub defaulted : n.defaulted ≡ list_any (λ (p : RustParameter Ty). p.has_default) (entry_over fields methods es n).fields
 
   -- so of each class, and the map 0 is empty
-  pub record AreNodes (d : Named) (fields : List (RustParameter Ty)) (methods : List (RustMethod Ty)) (ns : List ClassNode) (es : List (Entry Ty)) : Type 0 where
-    pub no_fields : IsHeld parameter_name d fields 0 []
-    pub no_methods : IsHeld method_name d methods 0 []
+  pub record AreNodes (d : NameMaps) (fields : List (RustParameter Ty)) (methods : List (RustMethod Ty)) (ns : List ClassNode) (es : List (ClassEntry Ty)) : Type 0 where
+    pub no_fields : IsMapOf parameter_name d fields 0 []
+    pub no_methods : IsMapOf stored_method_name d methods 0 []
     pub many : length es ≡ length ns
-    pub each : (c : ℕ) (n : ClassNode) → slice_get ns c ≡ Some n → IsNode d fields methods es c n
+    pub each : (c : ℕ) (n : ClassNode) → slice_get ns c ≡ Some n → IsClassNode d fields methods es c n
 
   -- so of a table
-  abbrev pub IsTable : TableParts Ty → Type 0
-  IsTable p = AreNodes p.named p.fields.items p.methods.items p.classes.items (entries_in p)
+  abbrev pub IsClassTable : TableParts Ty → Type 0
+  IsClassTable p = AreNodes p.named p.fields.items p.methods.items p.classes.items (entries_in p)
 
   -- the store gave the types of all these fields and methods
   pub record HasParts (has : Ty → Type 0) (p : TableParts Ty) : Type 0 where

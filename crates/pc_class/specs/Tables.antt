@@ -3,32 +3,32 @@
 use Rattle.std.specs.Prelude.{ℕ, List, [], map, Option, Some, None, All, Contains, slice_index_or, string_bytes}
 use Rattle.std.specs.Borrow.{Bor}
 use Rattle.pc_types.specs.Tree.{Tree}
-use Rattle.pc_class.specs.Facts.{Parameter, Method, Class}
+use Rattle.pc_class.specs.Facts.{TypedParameter, Method, ClassFacts}
 use Rattle.pc_class.specs.declared.table.Parameter.{Parameter as RustParameter}
 use Rattle.pc_class.specs.declared.table.Method.{Method as RustMethod}
 
 -- a class of a table: its base, its fields with those of its base first, and its methods with those of its base behind them
-pub record Entry (Ty : Type 0) : Type 0 where
+pub record ClassEntry (Ty : Type 0) : Type 0 where
   pub base : Option ℕ
   pub fields : List (RustParameter Ty)
   pub methods : List (RustMethod Ty)
 
 -- a class without base, fields and methods
-abbrev pub empty_entry : {Ty : Type 0} → Entry Ty
+abbrev pub empty_entry : {Ty : Type 0} → ClassEntry Ty
 empty_entry = record { base = None; fields = []; methods = [] }
 
 -- what a class inherits: its base among the classes before it, or nothing where it has none
-abbrev pub inherited_entry : {Ty : Type 0} → List (Entry Ty) → Option ℕ → Entry Ty
+abbrev pub inherited_entry : {Ty : Type 0} → List (ClassEntry Ty) → Option ℕ → ClassEntry Ty
 inherited_entry earlier None = empty_entry
 inherited_entry earlier (Some b) = slice_index_or earlier b empty_entry
 
 module _ {Ty : Type 0} (tree : Ty → Tree) where
   -- a parameter with the type that it means
-  abbrev pub parameter_with : RustParameter Ty → Parameter
+  abbrev pub parameter_with : RustParameter Ty → TypedParameter
   parameter_with p = record { name = string_bytes p.name; type = tree p.ty; has_default = p.has_default }
 
   -- parameters with the types that they mean
-  abbrev pub parameters_with : List (RustParameter Ty) → List Parameter
+  abbrev pub parameters_with : List (RustParameter Ty) → List TypedParameter
   parameters_with ps = map parameter_with ps
 
   -- a method with the types that it means
@@ -36,15 +36,15 @@ module _ {Ty : Type 0} (tree : Ty → Tree) where
   method_with x = record { name = string_bytes x.name; owner = x.owner; number = x.number; place = x.place; parameters = parameters_with x.params.items; returns = tree x.ret }
 
   -- a class with the types that it means
-  abbrev pub class_with : Entry Ty → Class
+  abbrev pub class_with : ClassEntry Ty → ClassFacts
   class_with c = record { base = c.base; fields = parameters_with c.fields; methods = map method_with c.methods }
 
   -- the classes that a table means
-  abbrev pub classes_with : List (Entry Ty) → List Class
+  abbrev pub classes_with : List (ClassEntry Ty) → List ClassFacts
   classes_with cs = map class_with cs
 
   -- a parameter that is lent, with the type that it means
-  abbrev pub parameter_lent : Bor (RustParameter Ty) → Parameter
+  abbrev pub parameter_lent : Bor (RustParameter Ty) → TypedParameter
   parameter_lent p = parameter_with p.now
 
   -- a method that is lent, with the types that it means
@@ -62,24 +62,24 @@ module _ {Ty : Type 0} (has : Ty → Type 0) where
     pub ret : has x.ret
 
   -- the store gave the types of a class
-  pub record HasEntry (c : Entry Ty) : Type 0 where
+  pub record HasEntry (c : ClassEntry Ty) : Type 0 where
     pub fields : All HasParameter c.fields
     pub methods : All HasMethod c.methods
 
   -- the store gave the types of a table
-  abbrev pub HasEntries : List (Entry Ty) → Type 0
+  abbrev pub HasEntries : List (ClassEntry Ty) → Type 0
   HasEntries cs = All HasEntry cs
 
-module _ {Ty : Type 0} (cs : List (Entry Ty)) where
+module _ {Ty : Type 0} (cs : List (ClassEntry Ty)) where
   -- a field of one of the classes of a table
   pub record IsField (p : RustParameter Ty) : Type 0 where
-    pub class : Entry Ty
+    pub class : ClassEntry Ty
     pub listed : Contains cs class
     pub among : Contains class.fields p
 
   -- a method of one of them
   pub record IsMethod (x : RustMethod Ty) : Type 0 where
-    pub class : Entry Ty
+    pub class : ClassEntry Ty
     pub listed : Contains cs class
     pub among : Contains class.methods x
 

@@ -6,10 +6,10 @@ use Rattle.pc_types.specs.Below.{Bases}
 use Rattle.pc_types.specs.WellFormed.{IsWellFormed}
 use Rattle.pc_class.specs.Bases.{bases_of}
 use Rattle.pc_class.specs.Facts as facts
-use Rattle.pc_class.specs.Facts.{Parameter, Method, classes_of}
+use Rattle.pc_class.specs.Facts.{TypedParameter, Method, classes_of}
 
 -- the types of parameters are well-formed
-abbrev pub ParametersWellFormed : Bases → List Parameter → Type 0
+abbrev pub ParametersWellFormed : Bases → List TypedParameter → Type 0
 ParametersWellFormed bases [] = Unit {0}
 ParametersWellFormed bases (p ∷ ps) = IsWellFormed bases p.type × ParametersWellFormed bases ps
 
@@ -24,12 +24,12 @@ MethodsWellFormed bases [] = Unit {0}
 MethodsWellFormed bases (m ∷ ms) = MethodWellFormed bases m × MethodsWellFormed bases ms
 
 -- the types of a class's fields and methods are well-formed
-pub record ClassWellFormed (bases : Bases) (c : facts.Class) : Type 0 where
+pub record ClassWellFormed (bases : Bases) (c : facts.ClassFacts) : Type 0 where
   pub fields : ParametersWellFormed bases c.fields
   pub methods : MethodsWellFormed bases c.methods
 
 -- so of each class
-abbrev pub ClassesWellFormed : Bases → List facts.Class → Type 0
+abbrev pub ClassesWellFormed : Bases → List facts.ClassFacts → Type 0
 ClassesWellFormed bases [] = Unit {0}
 ClassesWellFormed bases (c ∷ cs) = ClassWellFormed bases c × ClassesWellFormed bases cs
 

@@ -1,15 +1,15 @@
-// The class table of a module, one item after another.
+//! The class table of a module, one item after another.
 
 ghost use Rattle.std.specs.Prelude.{◌≡◌, ◌++◌, ◌∷◌, ◌+◌, [], length, OnOk, IfOk};
 ghost use Rattle.pc_tree.specs.Tree.{item_of, module_of};
 ghost use Rattle.pc_scope.specs.Bindings.{classes_in};
-ghost use Rattle.pc_scope.specs.Scoped.{AreScopes};
+ghost use Rattle.pc_scope.specs.ModuleScopes.{AreScopes};
 ghost use Rattle.pc_types.specs.Bases.{bases_of};
-ghost use Rattle.pc_types.specs.Store.{Keeps};
+ghost use Rattle.pc_types.specs.Store.{KeepsTypes};
 ghost use Rattle.pc_class.specs.Facts.{classes_behind, classes_of};
-ghost use Rattle.pc_class.specs.Outlines.{IsAhead};
+ghost use Rattle.pc_class.specs.Outlines.{IsClassNumbered};
 ghost use Rattle.pc_class.specs.Tables.{classes_with, HasEntries};
-ghost use Rattle.pc_class.specs.Parts.{entries_in, IsTable, HasParts};
+ghost use Rattle.pc_class.specs.Parts.{entries_in, IsClassTable, HasParts};
 ghost use Rattle.pc_class.specs.Built.{IsSetting, module_in, found_behind, class_findings};
 
 use crate::adding::add_class;
@@ -26,7 +26,7 @@ use std::alloc::Global as Allocator;
 
 /// What a table without classes is made of.
 fn no_classes<Ty: Drop>(alloc: Allocator) -> Result<TableParts<Ty>, OutOfMemory>
-    ensures table { IfOk result IsTable }
+    ensures table { IfOk result IsClassTable }
     ensures classes { IfOk result (λ p. p.classes.items ≡ []) }
     ensures fields { IfOk result (λ p. p.fields.items ≡ []) }
     ensures methods { IfOk result (λ p. p.methods.items ≡ []) }
@@ -50,11 +50,11 @@ fn add_item<S: TypeStore>(
     item: &Item,
 ) -> Result<(), OutOfMemory>
     requires setting { IsSetting setting.now }
-    requires table { IsTable parts.old }
+    requires table { IsClassTable parts.old }
     requires given { HasParts (S.has store.old) parts.old }
-    requires class { IsAhead (module_in setting.now) (length parts.old.classes.items) (item_of item.now) }
-    ensures store { Keeps S.has store.old store.new }
-    ensures table { OnOk result (IsTable parts.new) }
+    requires class { IsClassNumbered (module_in setting.now) (length parts.old.classes.items) (item_of item.now) }
+    ensures store { KeepsTypes S.has store.old store.new }
+    ensures table { OnOk result (IsClassTable parts.new) }
     ensures given { OnOk result (HasParts (S.has store.new) parts.new) }
     ensures more { OnOk result (length parts.new.classes.items ≡ length parts.old.classes.items + length (classes_in (item_of item.now ∷ []))) }
     ensures classes { OnOk result (classes_with S.tree (entries_in parts.new) ≡ classes_behind (module_in setting.now) (classes_with S.tree (entries_in parts.old)) (length parts.old.classes.items) (classes_in (item_of item.now ∷ []))) }
@@ -78,8 +78,8 @@ fn all_classes<S: TypeStore>(
     found: &mut Findings,
 ) -> Result<TableParts<S::Ty>, OutOfMemory>
     requires { IsSetting setting.now }
-    ensures store { Keeps S.has store.old store.new }
-    ensures table { IfOk result IsTable }
+    ensures store { KeepsTypes S.has store.old store.new }
+    ensures table { IfOk result IsClassTable }
     ensures given { IfOk result (HasParts (S.has store.new)) }
     ensures classes { IfOk result (λ p. classes_with S.tree (entries_in p) ≡ classes_of (module_in setting.now)) }
     ensures found { OnOk result (found.new.items ≡ found.old.items ++ found_behind (module_in setting.now) [] 0 (classes_in (module_in setting.now).items)) }
@@ -108,7 +108,7 @@ pub fn class_table<S: TypeStore>(
     requires parents { parents.now ≡ bases_of (module_of tree.now) }
     ensures classes { IfOk result (λ t. classes_with S.tree t ≡ classes_of (module_of tree.now)) }
     ensures given { IfOk result (HasEntries (S.has store.new)) }
-    ensures kept { Keeps S.has store.old store.new }
+    ensures kept { KeepsTypes S.has store.old store.new }
     ensures found { OnOk result (found.new.items ≡ found.old.items ++ class_findings (module_of tree.now)) }
 {
     find_missing_bases(found, parents, &tree.items)?;

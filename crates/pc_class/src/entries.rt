@@ -1,13 +1,14 @@
+//! The members of a class, with those that it inherits.
 #![tactic(auto, using(pc_scope::proofs::Finds::at_both, pc_scope::proofs::Joints::joined))]
 
 ghost use Rattle.std.specs.Prelude.{◌≡◌, ◌++◌, [], map, OnOk, IfOk};
 ghost use Rattle.pc_tree.specs.declared.code.Code.TheVariants.{E06, E08};
 ghost use Rattle.pc_tree.specs.Tree.{name_of, member_of};
 ghost use Rattle.pc_tree.specs.Stopping.{name_of_member};
-ghost use Rattle.pc_scope.specs.Reserved.{is_reserved};
-ghost use Rattle.pc_scope.specs.Resolution.{is_among};
-ghost use Rattle.pc_scope.specs.Found.{at_code};
-ghost use Rattle.pc_scope.specs.Walking.{texts_in};
+ghost use Rattle.pc_scope.specs.Reserved.{is_builtin_name};
+ghost use Rattle.pc_scope.specs.Resolution.{is_one_of};
+ghost use Rattle.pc_scope.specs.Internal.FindingLists.{at_code};
+ghost use Rattle.pc_scope.specs.Internal.WalkViews.{texts_in};
 ghost use Rattle.pc_class.specs.Entries.{HasMaps, inherited_in, member_binds, member_clashes, entry_of, entries_of, entry_seen, entry_default, clash_places, late_places, defaulted_in};
 
 use crate::found::find_if;
@@ -45,14 +46,14 @@ pub fn name_of(member: &Member) -> &Name
 
 /// A name is reserved.
 fn is_reserved(name: &str) -> bool
-    ensures { result ≡ is_reserved name.now }
+    ensures { result ≡ is_builtin_name name.now }
 {
     pc_tree::is_reserved(name)
 }
 
 /// A name is among those before.
 fn is_among(before: &Texts, name: &str) -> bool
-    ensures { result ≡ is_among name.now (texts_in before.now) }
+    ensures { result ≡ is_one_of name.now (texts_in before.now) }
 {
     before.contains(name)
 }

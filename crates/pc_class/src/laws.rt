@@ -1,11 +1,13 @@
+//! The laws on the findings of classes and on overrides.
+
 ghost use Rattle.std.specs.Prelude.{ℕ};
 ghost use Rattle.pc_tree.specs.Tree.{ClassDef, FuncDef, Module};
 ghost use Rattle.pc_class.specs.Bases.{bases_of};
 ghost use Rattle.pc_class.specs.ClassFindingsLaw.{ClashesStop, ClassesFindJustTheirLists};
 ghost use Rattle.pc_class.specs.Facts.{method_made};
-ghost use Rattle.pc_class.specs.NamesFound.{BasesAreFound, LateFieldsAreFound, ClassFindingsAreListed};
+ghost use Rattle.pc_class.specs.NameFindings.{BasesAreFound, LateFieldsAreFound, ClassFindingsAreListed};
 ghost use Rattle.pc_class.specs.Overrides.{IsJudgedOnce, overridden};
-ghost use Rattle.pc_class.specs.Overriding.{OverridesAreFound};
+ghost use Rattle.pc_class.specs.OverrideFindings.{OverridesAreFound};
 ghost use Rattle.pc_class.specs.Findings.{base_class};
 ghost use Rattle.pc_class.specs.WellFormed.{ClassesAreWellFormed};
 

@@ -1,7 +1,9 @@
+//! Maps from names to numbers that share what they have in common.
+
 ghost use Rattle.std.specs.Prelude.{◌≡◌, ◌≤◌, List, ℕ, Some, None, if◌then◌else◌, is_some, bytes_eq, length, IfOk, OnOk};
 ghost use Rattle.pc_scope.specs.Resolution.{index_of};
-ghost use Rattle.pc_scope.specs.Walking.{texts_in};
-ghost use Rattle.pc_class.specs.Named.{Named, IsMap, named_at, with_text, IsNumbered, KeepsNamed};
+ghost use Rattle.pc_scope.specs.Internal.WalkViews.{texts_in};
+ghost use Rattle.pc_class.specs.NameMaps.{NameMaps, IsMap, named_at, with_text, IsNumbered, KeepsNamed};
 
 use crate::shared::SharedMaps;
 use indexmap::IndexSet;
@@ -36,7 +38,7 @@ pub struct NamedMaps {
 }
 
 impl Model for NamedMaps {
-    ghost Value = { Named };
+    ghost Value = { NameMaps };
 
     ghost view = { λ s. record { texts = texts_in s.texts; nodes = s.maps } };
 

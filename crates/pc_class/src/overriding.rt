@@ -1,4 +1,4 @@
-// Overrides: each method that a class binds against those of its name that the class's ancestors have.
+//! Overrides: each method that a class binds against those of its name that the class's ancestors have.
 
 ghost use Rattle.std.specs.Prelude.{◌≡◌, ◌++◌, ◌&&◌, ◌||◌, ◌<◌, not, length, slice_get, All, Some, IsTrue, OnOk, bytes_eq};
 ghost use Rattle.std.specs.List.{list_all};
@@ -6,11 +6,11 @@ ghost use Rattle.pc_tree.specs.Tree.{ClassDef as ClassTree, module_of};
 ghost use Rattle.pc_scope.specs.Bindings.{classes_in};
 ghost use Rattle.pc_types.specs.Tree.{Tree};
 ghost use Rattle.pc_types.specs.Bases.{bases_of};
-ghost use Rattle.pc_types.specs.Store.{Keeps};
+ghost use Rattle.pc_types.specs.Store.{KeepsTypes};
 ghost use Rattle.pc_class.specs.Facts.{classes_of};
-ghost use Rattle.pc_class.specs.Overrides.{has_shape_of, Flow, parameter_flows, overridden};
-ghost use Rattle.pc_class.specs.Overriding.{override_code, found_at_method, class_overrides, override_findings};
-ghost use Rattle.pc_class.specs.Judging.{flow_fits, overrides_by, IsJudging, module_judged, methods_above};
+ghost use Rattle.pc_class.specs.Overrides.{has_shape_of, TypeFlow, parameter_flows, overridden};
+ghost use Rattle.pc_class.specs.OverrideFindings.{override_code, found_at_method, class_overrides, override_findings};
+ghost use Rattle.pc_class.specs.Internal.OverrideTests.{flow_fits, overrides_by, IsJudging, module_judged, methods_above};
 ghost use Rattle.pc_class.specs.Tables.{HasParameter, HasMethod, HasEntries, parameters_with, method_with, classes_with};
 ghost use Rattle.pc_class.specs.Parts.{parameter_name};
 
@@ -69,8 +69,8 @@ fn fits<S: TypeStore>(
 ) -> bool
     requires from { S.has store.old from.now }
     requires into { S.has store.old into.now }
-    ensures value { result ≡ flow_fits relation parents.now (let flow : Flow = record { from = S.tree from.now; into = S.tree into.now } in flow) }
-    ensures kept { Keeps S.has store.old store.new }
+    ensures value { result ≡ flow_fits relation parents.now (let flow : TypeFlow = record { from = S.tree from.now; into = S.tree into.now } in flow) }
+    ensures kept { KeepsTypes S.has store.old store.new }
 {
     match relation {
         Relation::Static => store.is_static(parents, from, into),
@@ -90,7 +90,7 @@ fn parameters_fit<S: TypeStore>(
     requires new { All (HasParameter (S.has store.old)) new.now }
     requires many { length old.now ≡ length new.now }
     ensures value { result ≡ list_all (flow_fits relation parents.now) (parameter_flows (parameters_with S.tree old.now) (parameters_with S.tree new.now)) }
-    ensures kept { Keeps S.has store.old store.new }
+    ensures kept { KeepsTypes S.has store.old store.new }
 {
     for number in 0..old.len() {
         if !fits(store, parents, relation, &old[number].ty, &new[number].ty) {
@@ -112,7 +112,7 @@ fn overrides<S: TypeStore>(
     requires new { HasMethod (S.has store.old) new.now }
     requires old { HasMethod (S.has store.old) old.now }
     ensures value { result ≡ overrides_by relation parents.now (method_with S.tree new.now) (method_with S.tree old.now) }
-    ensures kept { Keeps S.has store.old store.new }
+    ensures kept { KeepsTypes S.has store.old store.new }
 {
     if !has_shape(&old.params, &new.params) {
         return false;
@@ -135,7 +135,7 @@ fn code_of<S: TypeStore>(
     requires table { HasEntries (S.has store.old) judging.now.classes.now }
     requires method { HasMethod (S.has store.old) method.now }
     ensures value { result ≡ override_code judging.now.parents.now (overridden (methods_above judging.now base) (method_with S.tree method.now).name) (method_with S.tree method.now) }
-    ensures kept { Keeps S.has store.old store.new }
+    ensures kept { KeepsTypes S.has store.old store.new }
 {
     let mut is_static = true;
     let mut at = base;
@@ -169,7 +169,7 @@ fn find_override<S: TypeStore>(
     requires table { HasEntries (S.has store.old) judging.now.classes.now }
     requires method { HasMethod (S.has store.old) method.now }
     ensures found { OnOk result (found.new.items ≡ found.old.items ++ found_at_method judging.now.parents.now (methods_above judging.now base) (method_with S.tree method.now)) }
-    ensures kept { Keeps S.has store.old store.new }
+    ensures kept { KeepsTypes S.has store.old store.new }
 {
     match code_of(judging, store, base, method) {
         None => Ok(()),
@@ -194,7 +194,7 @@ fn find_class_overrides<S: TypeStore>(
     requires table { HasEntries (S.has store.old) judging.now.classes.now }
     requires class { class < length judging.now.classes.now }
     ensures found { (definition : ClassTree) → slice_get (classes_in (module_judged judging.now).items) class ≡ Some definition → OnOk result (found.new.items ≡ found.old.items ++ class_overrides (module_judged judging.now) class definition) }
-    ensures kept { Keeps S.has store.old store.new }
+    ensures kept { KeepsTypes S.has store.old store.new }
 {
     let base = judging.parents.base(class);
     let methods = judging.classes.own_methods(class);
@@ -219,7 +219,7 @@ pub fn override_findings<S: TypeStore>(
     requires classes { classes_with S.tree classes.now ≡ classes_of (module_of tree.now) }
     requires given { HasEntries (S.has store.old) classes.now }
     ensures found { OnOk result (found.new.items ≡ found.old.items ++ override_findings (module_of tree.now)) }
-    ensures kept { Keeps S.has store.old store.new }
+    ensures kept { KeepsTypes S.has store.old store.new }
 {
     let judging = Judging {
         tree,

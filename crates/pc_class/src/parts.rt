@@ -1,3 +1,5 @@
+//! What a class table is made of.
+
 use crate::entries::Held;
 use crate::named::NamedMaps;
 use crate::table::{Method, Parameter};

@@ -1,9 +1,9 @@
-// The types of members, as their annotations say. What is found in the annotations belongs to the signatures and is not asked for here.
+//! The types of members, as their annotations say. What is found in the annotations belongs to the signatures and is not asked for here.
 
 ghost use Rattle.std.specs.Prelude.{◌≡◌, map, All, IfOk};
 ghost use Rattle.pc_tree.specs.Tree.{param_of, func_of, field_of};
-ghost use Rattle.pc_types.specs.Store.{Keeps};
-ghost use Rattle.pc_class.specs.Facts.{parameter_of, parameters_of, method_made};
+ghost use Rattle.pc_types.specs.Store.{KeepsTypes};
+ghost use Rattle.pc_class.specs.Facts.{typed_parameter, parameters_of, method_made};
 ghost use Rattle.pc_class.specs.Entries.{parameter_made};
 ghost use Rattle.pc_class.specs.Built.{IsSetting, module_in};
 ghost use Rattle.pc_class.specs.Tables.{HasParameter, HasMethod, parameter_with, parameters_with, method_with};
@@ -33,8 +33,8 @@ fn read_param<S: TypeStore>(
 ) -> Result<Parameter<S::Ty>, OutOfMemory>
     requires { IsSetting setting.now }
     ensures given { IfOk result (λ p. HasParameter (S.has store.new) p) }
-    ensures means { IfOk result (λ p. parameter_with S.tree p ≡ parameter_of (module_in setting.now) (param_of param.now)) }
-    ensures kept { Keeps S.has store.old store.new }
+    ensures means { IfOk result (λ p. parameter_with S.tree p ≡ typed_parameter (module_in setting.now) (param_of param.now)) }
+    ensures kept { KeepsTypes S.has store.old store.new }
 {
     let mut aside = Vec::new(alloc);
     let ty = read_option(
@@ -64,7 +64,7 @@ fn read_params<S: TypeStore>(
     requires { IsSetting setting.now }
     ensures given { IfOk result (λ ps. All (HasParameter (S.has store.new)) ps.items) }
     ensures means { IfOk result (λ ps. parameters_with S.tree ps.items ≡ parameters_of (module_in setting.now) (map param_of params.now)) }
-    ensures kept { Keeps S.has store.old store.new }
+    ensures kept { KeepsTypes S.has store.old store.new }
 {
     let mut all = Vec::new(alloc);
     for param in params {
@@ -84,7 +84,7 @@ pub(crate) fn read_field<S: TypeStore>(
     requires { IsSetting setting.now }
     ensures given { IfOk result (λ p. HasParameter (S.has store.new) p) }
     ensures means { IfOk result (λ p. parameter_with S.tree p ≡ parameter_made (module_in setting.now) (field_of field.now)) }
-    ensures kept { Keeps S.has store.old store.new }
+    ensures kept { KeepsTypes S.has store.old store.new }
 {
     let mut aside = Vec::new(alloc);
     let ty = read_ann(
@@ -116,7 +116,7 @@ pub(crate) fn read_method<S: TypeStore>(
     requires { IsSetting setting.now }
     ensures given { IfOk result (λ x. HasMethod (S.has store.new) x) }
     ensures means { IfOk result (λ x. method_with S.tree x ≡ method_made (module_in setting.now) class number (func_of def.now)) }
-    ensures kept { Keeps S.has store.old store.new }
+    ensures kept { KeepsTypes S.has store.old store.new }
 {
     let params = read_params(setting, store, alloc, &def.params)?;
     let mut aside = Vec::new(alloc);

@@ -1,6 +1,8 @@
+//! Maps of numbers to numbers that share their parts.
+
 ghost use Rattle.std.specs.Prelude.{◌≡◌, ◌++◌, ◌∷◌, [], OnOk, OnErr, ◌<◌, ◌≤◌, ℕ, List, length, if◌then◌else◌, ◌==◌, Some, None, IfOk};
 ghost use Rattle.pc_class.specs.declared.shared.Node.{Node as NodeOf};
-ghost use Rattle.pc_class.specs.Shared.{held_at, node_at, IsWithin, IsClosed, Keeps, HasBelow};
+ghost use Rattle.pc_class.specs.SharedMaps.{held_at, node_at, IsWithin, IsClosed, KeepsMaps, HasBelow};
 
 use pc_source::OutOfMemory;
 use std::alloc::Global as Allocator;
@@ -61,7 +63,7 @@ impl SharedMaps {
         ensures added { OnOk result (self.new ≡ self.old ++ node ∷ []) }
         ensures place { IfOk result (λ at. at ≡ length self.old) }
         ensures closed { IsClosed self.old }
-        ensures kept { Keeps self.old self.new }
+        ensures kept { KeepsMaps self.old self.new }
         ensures unchanged { OnErr result (self.new ≡ self.old) }
     {
         let at = self.nodes.len();
@@ -89,7 +91,7 @@ impl SharedMaps {
         requires { map < length self.old }
         ensures within { IfOk result (λ new. new < length self.new) }
         ensures value { IfOk result (λ new. (k : ℕ) → held_at self.new new k ≡ (if k == key then Some value else held_at self.old map k)) }
-        ensures kept { Keeps self.old self.new }
+        ensures kept { KeepsMaps self.old self.new }
         ensures below { (limit : ℕ) → key < limit → HasBelow limit self.old → HasBelow limit self.new }
     {
         let mut node = self.node(map);

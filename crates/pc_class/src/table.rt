@@ -1,10 +1,12 @@
+//! The class table, its fields and its methods.
+
 ghost use Rattle.std.specs.Prelude.{◌≡◌, ◌↔◌, ◌<◌, ◌≤◌, ◌-◌, ◌++◌, List, take, drop, length, map, reverse, slice_index_or, Some, All, IsTrue, IfOk, OnOk};
 ghost use Rattle.std.specs.Option.{option_map};
 ghost use Rattle.pc_types.specs.Below.{Below};
 ghost use Rattle.pc_types.specs.Tree.{Tree, Class};
-ghost use Rattle.pc_class.specs.Facts.{field_of, method_of, class_at};
-ghost use Rattle.pc_class.specs.Parts.{part, lent, IsSpan, bases_in, entries_in, IsTable};
-ghost use Rattle.pc_class.specs.Tables.{Entry, empty_entry, inherited_entry, classes_with, parameter_lent, method_lent, IsLent, IsFieldIfAny, IsMethodIfAny};
+ghost use Rattle.pc_class.specs.Facts.{field_by_name, method_by_name, class_facts_at};
+ghost use Rattle.pc_class.specs.Parts.{part, lent_parameter, IsSpan, bases_in, entries_in, IsClassTable};
+ghost use Rattle.pc_class.specs.Tables.{ClassEntry, empty_entry, inherited_entry, classes_with, parameter_lent, method_lent, IsLent, IsFieldIfAny, IsMethodIfAny};
 
 use crate::parts::{Span, TableParts};
 use pc_source::{OutOfMemory, Place};
@@ -41,7 +43,7 @@ fn push_backwards<'t, Ty: Drop>(
     span: Span,
 ) -> Result<(), OutOfMemory>
     requires { IsSpan (length fields.now) span }
-    ensures { OnOk result (map lent all.new.items ≡ map lent all.old.items ++ reverse (part fields.entry.now span)) }
+    ensures { OnOk result (map lent_parameter all.new.items ≡ map lent_parameter all.old.items ++ reverse (part fields.entry.now span)) }
 {
     let mut end = span.end;
     while end > span.start {
@@ -57,9 +59,9 @@ fn fields_of<Ty: Drop>(
     alloc: Global,
     class: usize,
 ) -> Result<Vec<&Parameter<Ty>>, OutOfMemory>
-    requires table { IsTable parts.now }
+    requires table { IsClassTable parts.now }
     requires class { class < length parts.now.classes.items }
-    ensures { IfOk result (λ ps. map lent ps.items ≡ (inherited_entry (entries_in parts.entry.now) (Some class)).fields) }
+    ensures { IfOk result (λ ps. map lent_parameter ps.items ≡ (inherited_entry (entries_in parts.entry.now) (Some class)).fields) }
 {
     let mut all = Vec::new(alloc);
     let mut at = Some(class);
@@ -91,17 +93,17 @@ pub struct ClassTable<Ty: Drop> {
 }
 
 impl<Ty: Drop> Model for ClassTable<Ty> {
-    ghost Value = { List (Entry Ty) };
+    ghost Value = { List (ClassEntry Ty) };
 
     ghost view = { λ t. entries_in t.parts };
 
-    ghost invariant = { λ t. IsTable t.parts × (t.parents ≡ bases_in (entries_in t.parts)) };
+    ghost invariant = { λ t. IsClassTable t.parts × (t.parents ≡ bases_in (entries_in t.parts)) };
 }
 
 impl<Ty: Drop> ClassTable<Ty> {
     /// The table that is made of these, with the parents of its classes.
     pub(crate) fn of(parts: TableParts<Ty>, parents: Parents) -> ClassTable<Ty>
-        requires table { IsTable parts }
+        requires table { IsClassTable parts }
         requires parents { parents ≡ bases_in (entries_in parts) }
         ensures { result ≡ entries_in parts }
     {
@@ -124,7 +126,7 @@ impl<Ty: Drop> ClassTable<Ty> {
 
     /// The field of a name, which the class or an ancestor of it has, if one has.
     pub fn field(&self, class: usize, name: &str) -> Option<&Parameter<Ty>>
-        ensures value { (tree : Ty → Tree) → option_map (parameter_lent tree) result ≡ field_of (class_at (classes_with tree self.now) class).fields name.now }
+        ensures value { (tree : Ty → Tree) → option_map (parameter_lent tree) result ≡ field_by_name (class_facts_at (classes_with tree self.now) class).fields name.now }
         ensures listed { IsFieldIfAny self.now result }
     {
         let parts = &self.parts;
@@ -139,7 +141,7 @@ impl<Ty: Drop> ClassTable<Ty> {
 
     /// The nearest method of a name, on the way from the class to its ancestors, if there is one.
     pub fn method(&self, class: usize, name: &str) -> Option<&Method<Ty>>
-        ensures value { (tree : Ty → Tree) → option_map (method_lent tree) result ≡ method_of (class_at (classes_with tree self.now) class).methods name.now }
+        ensures value { (tree : Ty → Tree) → option_map (method_lent tree) result ≡ method_by_name (class_facts_at (classes_with tree self.now) class).methods name.now }
         ensures listed { IsMethodIfAny self.now result }
     {
         let parts = &self.parts;
@@ -170,7 +172,7 @@ impl<Ty: Drop> ClassTable<Ty> {
 
     /// The fields of a class, those of its ancestors first: the parameters of a call of it.
     pub fn fields(&self, alloc: Global, class: usize) -> Result<Vec<&Parameter<Ty>>, OutOfMemory>
-        ensures value { (tree : Ty → Tree) → IfOk result (λ ps. map (parameter_lent tree) ps.items ≡ (class_at (classes_with tree self.now) class).fields) }
+        ensures value { (tree : Ty → Tree) → IfOk result (λ ps. map (parameter_lent tree) ps.items ≡ (class_facts_at (classes_with tree self.now) class).fields) }
         ensures listed { IfOk result (λ ps. All (IsLent self.now) ps.items) }
     {
         if class >= self.parts.classes.len() {

@@ -63,7 +63,7 @@ on_fault (Usage text) P Q P2 Q2 f g p = f p
 on_fault (Help text) P Q P2 Q2 f g q = g q
 on_fault OutOfMemory P Q P2 Q2 f g u = tt
 
--- the kind of an error of `clap`, where it is not want of memory
+-- the kind of an error of `clap`, where it is not a failed allocation
 among : (kinds : Kinds) (k : ErrorKind) → (k ≡ kind.OutOfMemory) ⊎ IsAmong k kinds → (k ≡ kind.OutOfMemory → ⊥) → IsAmong k kinds
 among kinds k (inl is) not_memory = absurd (not_memory is)
 among kinds k (inr h) not_memory = h

@@ -35,7 +35,7 @@ abbrev pub mistaken_by : {A : Type 0} → Kinds → Option A → Bool
 mistaken_by [] found = not (is_some found)
 mistaken_by (fault ∷ more) found = list_any is_mistake (fault ∷ more)
 
--- where the words are at fault, P holds, and where they ask for help, Q; of want of memory nothing is said
+-- where the words are at fault, P holds, and where they ask for help, Q; of a failed allocation nothing is said
 abbrev pub OnFault : Type 0 → Type 0 → OptionFault → Type 0
 OnFault P Q (Usage text) = P
 OnFault P Q (Help text) = Q

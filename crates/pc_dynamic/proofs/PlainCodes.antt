@@ -15,14 +15,14 @@ use Rattle.pc_scope.specs.declared.resolution.Res.{Res}
 use Rattle.pc_scope.specs.declared.resolution.Res.TheVariants as res
 use Rattle.pc_types.specs.Tree.{Tree, Any, Never, Int, Bool, Str, NoneType, Class, ListOf, DictOf, TupleOf}
 use Rattle.pc_types.specs.Below.{Bases}
-use Rattle.pc_types.specs.Shape.{members, nodes, limit}
+use Rattle.pc_types.specs.Shape.{members, nodes, node_limit}
 use Rattle.pc_class.specs.Facts as facts
-use Rattle.pc_class.specs.Facts.{Parameter, Method, field_of, method_of, class_at}
+use Rattle.pc_class.specs.Facts.{TypedParameter, Method, field_by_name, method_by_name, class_facts_at}
 use Rattle.pc_flow.specs.Environment.{Env, current, join_or_object, join_all}
 use Rattle.pc_flow.specs.Narrowing.{Tested, for_none, for_type, for_list, test_of_argument, local_of_argument, first_argument, second_argument}
 use Rattle.pc_expr.specs.Operations.{Mark, clean, in_error, Offer, offers_mark, index_member, attribute_found, attribute_member, StoreOffer, store_found, store_attribute_member, store_index_member, store_codes, iterate_member, contain_member, length_member, negative_member, Kind, kind_of, row_of_kinds, pair_found, pair_offers, is_never, is_any, is_dynamic, pairs_mark, takes_kind, kind_type, binary_mark, order_mark, display_mark}
 use Rattle.pc_expr.specs.Context.{Context, Signature, local_mark, constant_mark, name_mark}
-use Rattle.pc_expr.specs.Calls.{Given, is_suited, CallOffer, plain_call, fails_at_call, called, value_offer, value_offers, class_signature, method_signature, builtin_signature, class_offers, list_offers, dict_offers, method_offers, is_one, is_two, CallRule, member_rule, length_rule, test_rule, Callee, function_offer, value_callee, good_callee, own_callee, builtin_callee, name_callee, method_callee, call_mark, length_mark, first_type, is_object_or_any, any_list_codes, current_of, test_codes, test_mark, second_code, range_signature, range_offers, range_item}
+use Rattle.pc_expr.specs.Calls.{GivenArguments, is_suited, CallOffer, plain_call, fails_at_call, signature_offer, value_offer, value_offers, class_signature, method_signature, builtin_signature, class_offers, list_offers, dict_offers, method_offers, is_one, is_two, CallRule, member_rule, length_rule, test_rule, CalleeLabel, function_offer, value_callee, good_callee, own_callee, builtin_callee, name_callee, method_callee, call_mark, length_mark, first_type, is_object_or_any, any_list_codes, current_of, test_codes, test_mark, second_code, range_signature, range_offers, range_item}
 use Rattle.pc_expr.specs.Labels.{Marks, ItemsMarks, mark_of, type_of}
 use Rattle.pc_expr.specs.Lawful.{KeyValue, list_mark, compare_mark, callee_of, whole_call_mark, early_second, whole_second_code}
 use Rattle.pc_expr.specs.Computed.{keys_mark, dict_mark}
@@ -90,13 +90,13 @@ index_plain bases i (DictOf k v) = tt
 index_plain bases i Any = (refl, tt)
 index_plain bases i _ = (refl, tt)
 
-attribute_found_plain : (f : Option Parameter) (m : Option Method) → OfferPlain (attribute_found f m)
+attribute_found_plain : (f : Option TypedParameter) (m : Option Method) → OfferPlain (attribute_found f m)
 attribute_found_plain (Some f) m = tt
 attribute_found_plain None (Some m) = (refl, tt)
 attribute_found_plain None None = (refl, tt)
 
-pub attribute_plain : (cs : List facts.Class) (word : List ℕ) (t : Tree) → OfferPlain (attribute_member cs word t)
-attribute_plain cs word (Class c) = attribute_found_plain (field_of (class_at cs c).fields word) (method_of (class_at cs c).methods word)
+pub attribute_plain : (cs : List facts.ClassFacts) (word : List ℕ) (t : Tree) → OfferPlain (attribute_member cs word t)
+attribute_plain cs word (Class c) = attribute_found_plain (field_by_name (class_facts_at cs c).fields word) (method_by_name (class_facts_at cs c).methods word)
 attribute_plain cs word Any = (refl, tt)
 attribute_plain cs word _ = (refl, tt)
 
@@ -136,13 +136,13 @@ negative_plain _ = (refl, tt)
 abbrev StorePlain : StoreOffer → Type 0
 StorePlain o = ArePlain o.found
 
-store_found_plain : (f : Option Parameter) (m : Option Method) → StorePlain (store_found f m)
+store_found_plain : (f : Option TypedParameter) (m : Option Method) → StorePlain (store_found f m)
 store_found_plain (Some f) m = tt
 store_found_plain None (Some m) = (refl, tt)
 store_found_plain None None = (refl, tt)
 
-attribute_store_plain : (cs : List facts.Class) (word : List ℕ) (t : Tree) → StorePlain (store_attribute_member cs word t)
-attribute_store_plain cs word (Class c) = store_found_plain (field_of (class_at cs c).fields word) (method_of (class_at cs c).methods word)
+attribute_store_plain : (cs : List facts.ClassFacts) (word : List ℕ) (t : Tree) → StorePlain (store_attribute_member cs word t)
+attribute_store_plain cs word (Class c) = store_found_plain (field_by_name (class_facts_at cs c).fields word) (method_by_name (class_facts_at cs c).methods word)
 attribute_store_plain cs word Any = (refl, tt)
 attribute_store_plain cs word _ = (refl, tt)
 
@@ -155,7 +155,7 @@ index_store_plain _ = (refl, tt)
 stores_plain : (f : Tree → StoreOffer) → ((t : Tree) → StorePlain (f t)) → (ts : List Tree) → ArePlain (store_codes (map f ts))
 stores_plain f h ts = all_flat StorePlain IsPlain (λ o. o.found) (λ o k. k) (map f ts) (all_map StorePlain f h ts)
 
-pub attribute_stores_plain : (cs : List facts.Class) (word : List ℕ) (ts : List Tree) → ArePlain (store_codes (map (store_attribute_member cs word) ts))
+pub attribute_stores_plain : (cs : List facts.ClassFacts) (word : List ℕ) (ts : List Tree) → ArePlain (store_codes (map (store_attribute_member cs word) ts))
 attribute_stores_plain cs word ts = stores_plain (store_attribute_member cs word) (attribute_store_plain cs word) ts
 
 pub index_stores_plain : (ts : List Tree) → ArePlain (store_codes (map store_index_member ts))
@@ -191,7 +191,7 @@ compare_plain bases NotIn s t = mapped_plain bases contain_member contain_plain 
 compare_plain bases _ s t = order_plain bases s t
 
 pub display_plain : (t : Tree) → MarkPlain (display_mark t)
-display_plain t = in_both MarkPlain (nat_le (nodes t) limit) (clean t) (in_error E26) tt (refl, tt)
+display_plain t = in_both MarkPlain (nat_le (nodes t) node_limit) (clean t) (in_error E26) tt (refl, tt)
 
 pub list_plain : (bases : Bases) (item : Option Tree) (types : List Tree) → MarkPlain (list_mark bases item types)
 list_plain bases (Some t) types = tt
@@ -242,7 +242,7 @@ CallsPlain os = AllByRecursion CallPlain os
 good : {o : CallOffer} → ArePlain o.at_callee → ArePlain o.at_call → CallPlain o
 good h k = record { at_callee = h; at_call = k }
 
-called_plain : (g : Given) (s : Signature) → CallPlain (called g s)
+called_plain : (g : GivenArguments) (s : Signature) → CallPlain (signature_offer g s)
 called_plain g s = in_both CallPlain (is_suited g s) (record { at_callee = []; at_call = []; gives = s.returns; calls = s ∷ [] }) (fails_at_call E14) (good tt tt) (good tt (refl, tt))
 
 value_plain : (t : Tree) → CallPlain (value_offer t)
@@ -252,33 +252,33 @@ value_plain _ = good tt (refl, tt)
 values_plain : (t : Tree) → CallsPlain (value_offers t)
 values_plain t = all_map CallPlain value_offer value_plain (members t)
 
-class_plain : (g : Given) (m : Option Method) (f : Option Parameter) → CallsPlain (class_offers g m f)
+class_plain : (g : GivenArguments) (m : Option Method) (f : Option TypedParameter) → CallsPlain (class_offers g m f)
 class_plain g (Some m) f = (called_plain g (method_signature m), tt)
 class_plain g None (Some f) = values_plain f.type
 class_plain g None None = (good (refl, tt) tt, tt)
 
-list_offers_plain : (g : Given) (word : List ℕ) (t : Tree) → CallsPlain (list_offers g word t)
+list_offers_plain : (g : GivenArguments) (word : List ℕ) (t : Tree) → CallsPlain (list_offers g word t)
 list_offers_plain g word t =
     in_both CallsPlain (bytes_eq word (codes "append")) _ _ (called_plain g (builtin_signature (t ∷ []) NoneType), tt)
     (in_both CallsPlain (bytes_eq word (codes "pop")) _ _ (called_plain g (builtin_signature [] t), tt) (good (refl, tt) tt, tt))
 
-dict_offers_plain : (bases : Bases) (g : Given) (word : List ℕ) (k v : Tree) → CallsPlain (dict_offers bases g word k v)
+dict_offers_plain : (bases : Bases) (g : GivenArguments) (word : List ℕ) (k v : Tree) → CallsPlain (dict_offers bases g word k v)
 dict_offers_plain bases g word k v =
     in_both CallsPlain (bytes_eq word (codes "get")) _ _ (called_plain g (builtin_signature (k ∷ []) (join_or_object bases v NoneType)), tt) (good (refl, tt) tt, tt)
 
-method_plain : (ctx : Context) (g : Given) (word : List ℕ) (t : Tree) → CallsPlain (method_offers ctx g word t)
-method_plain ctx g word (Class c) = class_plain g (method_of (class_at ctx.classes c).methods word) (field_of (class_at ctx.classes c).fields word)
+method_plain : (ctx : Context) (g : GivenArguments) (word : List ℕ) (t : Tree) → CallsPlain (method_offers ctx g word t)
+method_plain ctx g word (Class c) = class_plain g (method_by_name (class_facts_at ctx.classes c).methods word) (field_by_name (class_facts_at ctx.classes c).fields word)
 method_plain ctx g word (ListOf t) = list_offers_plain g word t
 method_plain ctx g word (DictOf k v) = dict_offers_plain ctx.bases g word k v
 method_plain ctx g word Any = (good (refl, tt) tt, tt)
 method_plain ctx g word _ = (good (refl, tt) tt, tt)
 
-function_plain : (g : Given) (s : Option Signature) → CallPlain (function_offer g s)
+function_plain : (g : GivenArguments) (s : Option Signature) → CallPlain (function_offer g s)
 function_plain g None = good tt (refl, tt)
 function_plain g (Some s) = called_plain g s
 
 -- so of a callee: at its label, and of what its call comes to
-record CalleePlain (c : Callee) : Type 0 where
+record CalleePlain (c : CalleeLabel) : Type 0 where
   mark : MarkPlain c.mark
   offers : CallsPlain c.offers
 
@@ -291,7 +291,7 @@ one_offer o h = record { mark = tt; offers = (h, tt) }
 own_plain : (rule : CallRule) → CalleePlain (own_callee rule)
 own_plain rule = record { mark = tt; offers = tt }
 
-builtin_plain : (g : Given) (b : Builtin) → CalleePlain (builtin_callee g b)
+builtin_plain : (g : GivenArguments) (b : Builtin) → CalleePlain (builtin_callee g b)
 builtin_plain g builtin.Print = one_offer _ (in_both CallPlain (has_none g.named) (plain_call NoneType) (fails_at_call E14) (good tt tt) (good tt (refl, tt)))
 builtin_plain g builtin.Str = one_offer _ (in_both CallPlain (is_one g) (plain_call Str) (fails_at_call E14) (good tt tt) (good tt (refl, tt)))
 builtin_plain g builtin.Len = in_both CalleePlain (is_one g) (own_callee length_rule) (good_callee (fails_at_call E14 ∷ [])) (own_plain length_rule) (one_offer (fails_at_call E14) (good tt (refl, tt)))
@@ -299,17 +299,17 @@ builtin_plain g builtin.IsInstance = in_both CalleePlain (is_two g) (own_callee 
 builtin_plain g builtin.Range = one_offer _ (in_both CallPlain (is_one g) (fails_at_call E27) (fails_at_call E14) (good tt (refl, tt)) (good tt (refl, tt)))
 builtin_plain g _ = called_value (in_error E20) (refl, tt)
 
-name_callee_plain : (ctx : Context) (env : Env) (g : Given) (r : Res) → CalleePlain (name_callee ctx env g r)
+name_callee_plain : (ctx : Context) (env : Env) (g : GivenArguments) (r : Res) → CalleePlain (name_callee ctx env g r)
 name_callee_plain ctx env g (res.Func i) =
     in_both CalleePlain ctx.in_body (good_callee (function_offer g (slice_get ctx.functions i) ∷ [])) (value_callee (in_error E03)) (one_offer (function_offer g (slice_get ctx.functions i)) (function_plain g (slice_get ctx.functions i))) (called_value (in_error E03) (refl, tt))
 name_callee_plain ctx env g (res.Class c) =
-    in_both CalleePlain (nat_lt c ctx.known) (good_callee (called g (class_signature ctx.classes c) ∷ [])) (value_callee (in_error E03)) (one_offer (called g (class_signature ctx.classes c)) (called_plain g (class_signature ctx.classes c))) (called_value (in_error E03) (refl, tt))
+    in_both CalleePlain (nat_lt c ctx.known) (good_callee (signature_offer g (class_signature ctx.classes c) ∷ [])) (value_callee (in_error E03)) (one_offer (signature_offer g (class_signature ctx.classes c)) (called_plain g (class_signature ctx.classes c))) (called_value (in_error E03) (refl, tt))
 name_callee_plain ctx env g (res.Builtin b) = builtin_plain g b
 name_callee_plain ctx env g (res.Local x) = called_value (name_mark ctx env (res.Local x)) (name_plain ctx env (res.Local x))
 name_callee_plain ctx env g (res.Const i) = called_value (name_mark ctx env (res.Const i)) (name_plain ctx env (res.Const i))
 name_callee_plain ctx env g res.None = called_value (name_mark ctx env res.None) (name_plain ctx env res.None)
 
-method_callee_plain : (ctx : Context) (g : Given) (word : List ℕ) (t : Tree) → CalleePlain (method_callee ctx g word t)
+method_callee_plain : (ctx : Context) (g : GivenArguments) (word : List ℕ) (t : Tree) → CalleePlain (method_callee ctx g word t)
 method_callee_plain ctx g word t =
     let offers = flat_map (method_offers ctx g word) (members t) in
     let each : CallsPlain offers = all_flat_any CallPlain (method_offers ctx g word) (method_plain ctx g word) (members t) in
@@ -319,7 +319,7 @@ method_callee_plain ctx g word t =
 other_callee_plain : (in_body : Test) (m : Mark) → MarkPlain m → CalleePlain (if in_body then value_callee m else value_callee (in_error E03))
 other_callee_plain b m h = in_both CalleePlain b (value_callee m) (value_callee (in_error E03)) (called_value m h) (called_value (in_error E03) (refl, tt))
 
-callee_plain : (ctx : Context) (env : Env) (g : Given) (e : Expr) (m : Marks e) → MarkPlain (mark_of e m) → CalleePlain (callee_of ctx env g e m)
+callee_plain : (ctx : Context) (env : Env) (g : GivenArguments) (e : Expr) (m : Marks e) → MarkPlain (mark_of e m) → CalleePlain (callee_of ctx env g e m)
 callee_plain ctx env g (name n) m h = name_callee_plain ctx env g (ctx.resolve n.text)
 callee_plain ctx env g (attribute p e field) m h =
     in_both CalleePlain ctx.in_body (method_callee ctx g field.text (type_of e m.object)) (value_callee (in_error E03)) (method_callee_plain ctx g field.text (type_of e m.object)) (called_value (in_error E03) (refl, tt))
@@ -341,7 +341,7 @@ callee_plain ctx env g (disjunction p l r) m h = other_callee_plain ctx.in_body 
 callee_plain ctx env g (index p e i) m h = other_callee_plain ctx.in_body m.here h
 callee_plain ctx env g (call p c args kws) m h = other_callee_plain ctx.in_body m.here h
 
-pub callee_mark_plain : (ctx : Context) (env : Env) (g : Given) (e : Expr) (m : Marks e) → MarkPlain (mark_of e m) → MarkPlain (callee_of ctx env g e m).mark
+pub callee_mark_plain : (ctx : Context) (env : Env) (g : GivenArguments) (e : Expr) (m : Marks e) → MarkPlain (mark_of e m) → MarkPlain (callee_of ctx env g e m).mark
 callee_mark_plain ctx env g e m h = (callee_plain ctx env g e m h).mark
 
 call_plain : (bases : Bases) (os : List CallOffer) → CallsPlain os → MarkPlain (call_mark bases os)
@@ -370,7 +370,7 @@ whole_plain ctx env length_rule os arguments types h = length_mark_plain ctx.bas
 whole_plain ctx env test_rule os arguments types h = test_plain ctx env arguments
 
 -- the label of a call of this callee
-pub whole_call_plain : (ctx : Context) (env : Env) (g : Given) (e : Expr) (m : Marks e) → MarkPlain (mark_of e m) → (arguments : Exprs) (types : List Tree)
+pub whole_call_plain : (ctx : Context) (env : Env) (g : GivenArguments) (e : Expr) (m : Marks e) → MarkPlain (mark_of e m) → (arguments : Exprs) (types : List Tree)
     → MarkPlain (whole_call_mark ctx env (callee_of ctx env g e m).rule (callee_of ctx env g e m).offers arguments types)
 whole_call_plain ctx env g e m h arguments types = whole_plain ctx env (callee_of ctx env g e m).rule (callee_of ctx env g e m).offers arguments types (callee_plain ctx env g e m h).offers
 
@@ -391,8 +391,8 @@ whole_second_plain ctx test_rule arguments m = second_plain (test_of_argument ct
 
 -- ---- `range` as what a `for` goes over
 
-pub range_plain : (bases : Bases) (g : Given) → MarkPlain (call_mark bases (range_offers g))
+pub range_plain : (bases : Bases) (g : GivenArguments) → MarkPlain (call_mark bases (range_offers g))
 range_plain bases g = call_plain bases (range_offers g) (called_plain g range_signature, tt)
 
-pub range_item_plain : (g : Given) → MarkPlain (range_item g)
+pub range_item_plain : (g : GivenArguments) → MarkPlain (range_item g)
 range_item_plain g = in_both MarkPlain (is_suited g range_signature) (clean Int) (record { type = Any; codes = A5 ∷ [] }) tt (refl, tt)

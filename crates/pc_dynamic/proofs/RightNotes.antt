@@ -19,14 +19,14 @@ use Rattle.pc_types.specs.Computed.{static_test, assignable_test}
 use Rattle.pc_flow.specs.Environment.{Env}
 use Rattle.pc_flow.specs.Narrowing.{narrow}
 use Rattle.pc_flow.specs.WellFormed.{IsWellFormedIfAny, IsWellFormedEnv, AreWellFormed}
-use Rattle.pc_notes.specs.Notes.{Note, plain}
+use Rattle.pc_notes.specs.Notes.{Note, plain_note}
 use Rattle.pc_expr.specs.Operations.{Mark, FlowMark, operand_types, index_member, attribute_member, negative_member}
 use Rattle.pc_expr.specs.Context.{Context, is_early}
-use Rattle.pc_expr.specs.Calls.{Seat, given, count_exprs, call_mark, positional_seat, named_seat, range_signature, range_offers}
-use Rattle.pc_expr.specs.Labels.{Flowing, Marks, ItemsMarks, EntriesMarks, KeywordsMarks, mark_of, type_of, with_mark, is_of_scopes, second_place, item_types, key_types, value_types}
-use Rattle.pc_expr.specs.Lawful.{list_item, dict_parts, tuple_parts, members_of, item_seat, part_seat, key_seat, value_seat, int_literal, compare_types, callee_of, keyword_seat}
+use Rattle.pc_expr.specs.Calls.{Seat, arguments_given, count_exprs, call_mark, positional_seat, named_seat, range_signature, range_offers}
+use Rattle.pc_expr.specs.Labels.{FlowMarks, Marks, ItemsMarks, EntriesMarks, KeywordsMarks, mark_of, type_of, with_mark, is_of_scopes, second_place, item_types, key_types, value_types}
+use Rattle.pc_expr.specs.Lawful.{list_item, dict_parts, tuple_parts, members_of_expected, item_seat, part_seat, key_seat, value_seat, int_literal, compare_types, callee_of, keyword_seat}
 use Rattle.pc_expr.specs.Computed.{code_by, code_unless, flows_of, labels, items_labels, entries_labels, keywords_labels}
-use Rattle.pc_expr.specs.Found.{own_at, has_code, add_code, once_onto, once, codes_at, code_at, flow_note, own_flow, flow_then, flows_behind, flows_at, whole, found_in_parts, found_in_items, found_in_arguments, found_in_entries, found_in_keywords, found_in}
+use Rattle.pc_expr.specs.Found.{own_at, has_code, add_code, once_onto, once, codes_at, notes_of_code, flow_note, own_flow, flow_then, flows_behind, flows_at, whole, found_in_parts, found_in_items, found_in_arguments, found_in_entries, found_in_keywords, notes_under}
 use Rattle.pc_expr.specs.Standing.{Standing, mark_in, finds_in, items_in, keywords_in, arguments_find, keywords_find}
 use Rattle.pc_expr.specs.Typing.{range_finds}
 use Rattle.pc_expr.specs.WellFormed.{ContextWellFormed, FlowsWellFormed, MarksWellFormed, ItemsWellFormed, EntriesWellFormed, KeywordsWellFormed}
@@ -106,10 +106,10 @@ module _ (P : Code → Type 0) where
 module _ (P : Note → Type 0) (p : Place) where
   -- it holds of the finding of a code, by itself
   abbrev HoldsOfCode : Code → Type 0
-  HoldsOfCode c = P (plain (finding p c))
+  HoldsOfCode c = P (plain_note (finding p c))
 
   own_holds : (c : Code) → HoldsOfCode c → AllByRecursion P (own_at p c)
-  own_holds c h = in_both (AllByRecursion P) (is_of_scopes c) [] (plain (finding p c) ∷ []) tt (h, tt)
+  own_holds c h = in_both (AllByRecursion P) (is_of_scopes c) [] (plain_note (finding p c) ∷ []) tt (h, tt)
 
   each_holds : (cs : List Code) → AllByRecursion HoldsOfCode cs → AllByRecursion P (flat_map (own_at p) cs)
   each_holds [] h = tt
@@ -129,7 +129,7 @@ module _ (P : Note → Type 0) (p : Place) where
       in_both (AllByRecursion P) (has_code before c) (rest before) (own_flow p s t c ++ rest (before ++ c ∷ [])) (k before)
       (all_append P (own_flow p s t c) (rest (before ++ c ∷ [])) (in_both (AllByRecursion P) (is_of_scopes c) [] (flow_note p s t c ∷ []) tt (h, tt)) (k (before ++ c ∷ [])))
 
-  behind_holds : (flows : Flowing) → AllByRecursion (λ (f : FlowMark). HoldsOfFlow f.from f.into f.code) flows → (before : List Code) → AllByRecursion P (flows_behind p before flows)
+  behind_holds : (flows : FlowMarks) → AllByRecursion (λ (f : FlowMark). HoldsOfFlow f.from f.into f.code) flows → (before : List Code) → AllByRecursion P (flows_behind p before flows)
   behind_holds [] h before = tt
   behind_holds (f ∷ fs) h before = one_flow before f.from f.into f.code (λ codes. flows_behind p codes fs) h.0 (behind_holds fs h.1)
 
@@ -168,7 +168,7 @@ module _ (bases : Bases) where
   tested_codes : (p : Place) (cs : List Code) → ArePlain cs → AllByRecursion (IsTested bases) (codes_at p cs)
   tested_codes p cs h = codes_hold (IsTested bases) p cs h
 
-  tested_code : (p : Place) (o : Option Code) → IsPlainIfAny o → AllByRecursion (IsTested bases) (code_at p o)
+  tested_code : (p : Place) (o : Option Code) → IsPlainIfAny o → AllByRecursion (IsTested bases) (notes_of_code p o)
   tested_code p None h = tt
   tested_code p (Some c) h = own_holds (IsTested bases) p c h
 
@@ -182,11 +182,11 @@ module _ (bases : Bases) where
   formed_flow p s t None h k = tt
   formed_flow p s t (Some c) h k = formed_note p s t c h k
 
-  formed_each : (p : Place) (flows : Flowing) → FlowsWellFormed bases flows → AllByRecursion (λ (f : FlowMark). HoldsOfFlow (IsFormed bases) p f.from f.into f.code) flows
+  formed_each : (p : Place) (flows : FlowMarks) → FlowsWellFormed bases flows → AllByRecursion (λ (f : FlowMark). HoldsOfFlow (IsFormed bases) p f.from f.into f.code) flows
   formed_each p [] h = tt
   formed_each p (f ∷ fs) h = (formed_flow p f.from f.into f.code h.0.0 h.0.1, formed_each p fs h.1)
 
-  formed_flows : (p : Place) (flows : Flowing) → FlowsWellFormed bases flows → AllByRecursion (IsFormed bases) (flows_at p flows)
+  formed_flows : (p : Place) (flows : FlowMarks) → FlowsWellFormed bases flows → AllByRecursion (IsFormed bases) (flows_at p flows)
   formed_flows p flows h = behind_holds (IsFormed bases) p flows (formed_each p flows h) []
 
   all_formed : (p : Place) (cs : List Code) → AllByRecursion (HoldsOfCode (IsFormed bases) p) cs
@@ -196,7 +196,7 @@ module _ (bases : Bases) where
   formed_codes : (p : Place) (cs : List Code) → AllByRecursion (IsFormed bases) (codes_at p cs)
   formed_codes p cs = codes_hold (IsFormed bases) p cs (all_formed p cs)
 
-  formed_code : (p : Place) (o : Option Code) → AllByRecursion (IsFormed bases) (code_at p o)
+  formed_code : (p : Place) (o : Option Code) → AllByRecursion (IsFormed bases) (notes_of_code p o)
   formed_code p None = tt
   formed_code p (Some c) = own_holds (IsFormed bases) p c tt
 
@@ -275,11 +275,11 @@ module _ (ctx : Context) (declared : List Tree) where
   label_plain env want (text p characters) = tt
   label_plain env want (truth p value) = tt
   label_plain env want (nothing p) = tt
-  label_plain env want (tuple p es) = display_plain (TupleOf (trees (item_types es (items_here env (part_seat (tuple_parts (count_exprs es) (members_of want))) es))))
-  label_plain env want (list p es) = list_plain ctx.bases (list_item (members_of want)) (item_types es (items_here env (λ i. item_seat (list_item (members_of want))) es))
+  label_plain env want (tuple p es) = display_plain (TupleOf (trees (item_types es (items_here env (part_seat (tuple_parts (count_exprs es) (members_of_expected want))) es))))
+  label_plain env want (list p es) = list_plain ctx.bases (list_item (members_of_expected want)) (item_types es (items_here env (λ i. item_seat (list_item (members_of_expected want))) es))
   label_plain env want (dict p es) =
-      let m = entries_here env (key_seat (dict_parts (members_of want))) (value_seat (dict_parts (members_of want))) es in
-      dict_plain ctx declared (static_test ctx.bases) (assignable_test ctx.bases) (dict_parts (members_of want)) (key_types es m) (value_types es m)
+      let m = entries_here env (key_seat (dict_parts (members_of_expected want))) (value_seat (dict_parts (members_of_expected want))) es in
+      dict_plain ctx declared (static_test ctx.bases) (assignable_test ctx.bases) (dict_parts (members_of_expected want)) (key_types es m) (value_types es m)
   label_plain env want (negative p e) = mapped_plain ctx.bases negative_member negative_plain (members (type_of e (labels_here env None e)))
   label_plain env want (negation p e) = tt
   label_plain env want (binary p o l r) = binary_plain ctx.bases o (type_of l (labels_here env None l)) (type_of r (labels_here env None r))
@@ -292,8 +292,8 @@ module _ (ctx : Context) (declared : List Tree) where
   label_plain env want (index p e i) = mapped_plain ctx.bases (index_member ctx.bases (int_literal i)) (index_plain ctx.bases (int_literal i)) (members (type_of e (labels_here env None e)))
   label_plain env want (call p c args kws) =
       let v = labels_here env None c in
-      let callee = callee_of ctx env (given args kws) c v in
-      whole_call_plain ctx env (given args kws) c v (label_plain env None c) args (item_types args (items_here env (positional_seat callee.offers) args))
+      let callee = callee_of ctx env (arguments_given args kws) c v in
+      whole_call_plain ctx env (arguments_given args kws) c v (label_plain env None c) args (item_types args (items_here env (positional_seat callee.offers) args))
 
   abbrev AllTested : List Note → Type 0
   AllTested notes = AllByRecursion (IsTested ctx.bases) notes
@@ -301,14 +301,14 @@ module _ (ctx : Context) (declared : List Tree) where
   tested_then : (xs ys : List Note) → AllTested xs → AllTested ys → AllTested (xs ++ ys)
   tested_then xs ys h k = all_append (IsTested ctx.bases) xs ys h k
 
-  tested_callee : (env : Env) (e : Expr) (here : Mark) → MarkPlain here → AllTested (found_in_parts e (labels_here env None e)) → AllTested (found_in e (with_mark e (labels_here env None e) here))
+  tested_callee : (env : Env) (e : Expr) (here : Mark) → MarkPlain here → AllTested (found_in_parts e (labels_here env None e)) → AllTested (notes_under e (with_mark e (labels_here env None e) here))
   tested_callee env e here k h =
       let m = labels_here env None e in
       tested_then (found_in_parts e (with_mark e m here)) (codes_at (place_of e) (mark_of e (with_mark e m here)).codes)
       (subst AllTested (sym (parts_kept e m here)) h)
       (tested_codes ctx.bases (place_of e) (mark_of e (with_mark e m here)).codes (subst MarkPlain (sym (own_mark e m here)) k))
 
-  tested_whole : (env : Env) (want : Option Tree) (e : Expr) → AllTested (found_in_parts e (labels_here env want e)) → AllTested (found_in e (labels_here env want e))
+  tested_whole : (env : Env) (want : Option Tree) (e : Expr) → AllTested (found_in_parts e (labels_here env want e)) → AllTested (notes_under e (labels_here env want e))
   tested_whole env want e h =
       tested_then (found_in_parts e (labels_here env want e)) (codes_at (place_of e) (mark_of e (labels_here env want e)).codes) h
       (tested_codes ctx.bases (place_of e) (mark_of e (labels_here env want e)).codes (label_plain env want e))
@@ -320,9 +320,9 @@ module _ (ctx : Context) (declared : List Tree) where
     tested_parts env want (text p characters) = tt
     tested_parts env want (truth p value) = tt
     tested_parts env want (nothing p) = tt
-    tested_parts env want (tuple p es) = tested_items env (part_seat (tuple_parts (count_exprs es) (members_of want))) es
-    tested_parts env want (list p es) = tested_items env (λ i. item_seat (list_item (members_of want))) es
-    tested_parts env want (dict p es) = tested_entries env (key_seat (dict_parts (members_of want))) (value_seat (dict_parts (members_of want))) es
+    tested_parts env want (tuple p es) = tested_items env (part_seat (tuple_parts (count_exprs es) (members_of_expected want))) es
+    tested_parts env want (list p es) = tested_items env (λ i. item_seat (list_item (members_of_expected want))) es
+    tested_parts env want (dict p es) = tested_entries env (key_seat (dict_parts (members_of_expected want))) (value_seat (dict_parts (members_of_expected want))) es
     tested_parts env want (negative p e) = tested_whole env None e (tested_parts env None e)
     tested_parts env want (negation p e) = tested_whole env None e (tested_parts env None e)
     tested_parts env want (binary p o l r) = tested_then _ _ (tested_whole env None l (tested_parts env None l)) (tested_whole env None r (tested_parts env None r))
@@ -338,8 +338,8 @@ module _ (ctx : Context) (declared : List Tree) where
         (tested_flows ctx.bases (place_of i) (mark_of i (labels_here env None i)) (operand_types (map (index_member ctx.bases (int_literal i)) (members (type_of e (labels_here env None e)))))))
     tested_parts env want (call p c args kws) =
         let v = labels_here env None c in
-        let callee = callee_of ctx env (given args kws) c v in
-        tested_then _ _ (tested_callee env c callee.mark (callee_mark_plain ctx env (given args kws) c v (label_plain env None c)) (tested_parts env None c))
+        let callee = callee_of ctx env (arguments_given args kws) c v in
+        tested_then _ _ (tested_callee env c callee.mark (callee_mark_plain ctx env (arguments_given args kws) c v (label_plain env None c)) (tested_parts env None c))
         (tested_then _ _ (tested_arguments env (is_instance_test c args kws) (positional_seat callee.offers) args)
         (tested_then _ _ (tested_keywords env (named_seat callee.offers) [] kws) (tested_code ctx.bases (second_place args p) _ (whole_second_plain ctx callee.rule args (items_here env (positional_seat callee.offers) args)))))
 
@@ -369,14 +369,14 @@ module _ (ctx : Context) (declared : List Tree) where
         (tested_then _ _ (tested_flows ctx.bases (place_of value) (mark_of value (labels_here env (keyword_seat seat before parameter).want value)) (keyword_seat seat before parameter).into)
         (tested_keywords env seat (parameter.text ∷ before) rest))
 
-  tested_in : (env : Env) (want : Option Tree) (e : Expr) → AllTested (found_in e (labels_here env want e))
+  tested_in : (env : Env) (want : Option Tree) (e : Expr) → AllTested (notes_under e (labels_here env want e))
   tested_in env want e = tested_whole env want e (tested_parts env want e)
 
 -- ---- lists of right notes
 
 module _ (bases : Bases) where
   -- by themselves, of codes other than that of a dynamic flow
-  pub right_plain : (fs : List Finding) → AllByRecursion (λ (f : Finding). IsPlain f.code) fs → AreRight bases (map plain fs)
+  pub right_plain : (fs : List Finding) → AllByRecursion (λ (f : Finding). IsPlain f.code) fs → AreRight bases (map plain_note fs)
   right_plain [] h = tt
   right_plain (f ∷ fs) h = (record { tested = h.0; formed = tt }, right_plain fs h.1)
 
@@ -409,15 +409,15 @@ module _ (k : Standing) (w : StandsWell k) where
   unfolding finds_in
   right_in want h e =
       let m = labels_here ctx k.declared k.env want e in
-      right_both ctx.bases (found_in e m) (tested_in ctx k.declared k.env want e)
+      right_both ctx.bases (notes_under e m) (tested_in ctx k.declared k.env want e)
       (formed_whole ctx.bases e m (found_in_parts e m) (formed_parts ctx.bases e m (labels_are_lawful ctx k.declared k.env want e w.context w.declared w.env h).2))
 
   -- so are those in a call of `range` as what a `for` goes over
   pub right_range : (p : Place) (callee : Expr) (args : Exprs) (kws : Keywords) → AreRight ctx.bases (range_finds k p callee args kws)
   unfolding arguments_find keywords_find
   right_range p callee args kws =
-      let offers = range_offers (given args kws) in
-      let calls : CallsWellFormed ctx.bases offers = (called_well_formed ctx.bases (given args kws) range_signature (builtin_well_formed ctx.bases (Int ∷ []) Object (int_well_formed ctx.bases, tt) (object_well_formed ctx.bases)), tt) in
+      let offers = range_offers (arguments_given args kws) in
+      let calls : CallsWellFormed ctx.bases offers = (called_well_formed ctx.bases (arguments_given args kws) range_signature (builtin_well_formed ctx.bases (Int ∷ []) Object (int_well_formed ctx.bases, tt) (object_well_formed ctx.bases)), tt) in
       let tests = are_tests ctx.bases w.context.smaller in
       let a = items_lawful ctx k.declared w.context w.declared (static_test ctx.bases) (assignable_test ctx.bases) tests k.env w.env (positional_seat offers) (positional_well_formed ctx.bases offers calls) args in
       let b = keywords_lawful ctx k.declared w.context w.declared (static_test ctx.bases) (assignable_test ctx.bases) tests k.env w.env (named_seat offers) (named_well_formed ctx.bases offers calls) [] kws in
@@ -428,4 +428,4 @@ module _ (k : Standing) (w : StandsWell k) where
       (right_both ctx.bases arguments (tested_arguments ctx k.declared k.env is_test (positional_seat offers) args) (formed_arguments ctx.bases is_test args (items_in k (positional_seat offers) args) a.each))
       (right_append ctx.bases keywords (codes_at p (call_mark ctx.bases offers).codes)
       (right_both ctx.bases keywords (tested_keywords ctx k.declared k.env (named_seat offers) [] kws) (formed_keywords ctx.bases kws (keywords_in k (named_seat offers) [] kws) b.each))
-      (right_codes ctx.bases p (call_mark ctx.bases offers).codes (range_plain ctx.bases (given args kws))))
+      (right_codes ctx.bases p (call_mark ctx.bases offers).codes (range_plain ctx.bases (arguments_given args kws))))

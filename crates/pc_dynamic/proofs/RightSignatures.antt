@@ -14,21 +14,21 @@ use Rattle.pc_tree.specs.Tree as tree
 use Rattle.pc_scope.specs.Resolution.{resolve_in_module}
 use Rattle.pc_types.specs.Tree.{Tree}
 use Rattle.pc_types.specs.Below.{Bases}
-use Rattle.pc_types.specs.Shape.{nodes, limit}
+use Rattle.pc_types.specs.Shape.{nodes, node_limit}
 use Rattle.pc_types.specs.WellFormed.{IsWellFormed}
 use Rattle.pc_types.specs.Annotations.{named_type, applied_type, empty_type, union_type, reading, readings, read_ann, read_option}
 use Rattle.pc_types.proofs.Earlier.{smaller}
 use Rattle.pc_types.proofs.Readings.{read_ann_well_formed, read_option_well_formed}
 use Rattle.pc_ann.specs.Listed.{without_type, inside_type, part_findings, parts_findings, ann_findings, option_findings}
 use Rattle.pc_class.specs.Bases.{bases_of}
-use Rattle.pc_class.specs.Facts.{Class}
+use Rattle.pc_class.specs.Facts.{ClassFacts}
 use Rattle.pc_flow.specs.WellFormed.{AreWellFormed, IsWellFormedIfAny}
-use Rattle.pc_notes.specs.Notes.{Note, plain}
+use Rattle.pc_notes.specs.Notes.{Note, plain_note}
 use Rattle.pc_expr.specs.Operations.{clean}
 use Rattle.pc_expr.specs.Computed.{flows_of}
 use Rattle.pc_expr.specs.Found.{flows_at}
 use Rattle.pc_expr.specs.Signatures.{literal_type, literal_place, constant_type, annotated_types, first_of_types}
-use Rattle.pc_expr.specs.SignaturesFound.{no_name, with_name, binds_text, binds_as_field, default_findings, Reached, nothing_reached, param_findings, params_findings, def_findings, function_findings, functions_findings, field_findings, member_findings, members_findings, base_at, initial, initializer_types, initializer_mark, type_of_constant, value_findings, constant_findings, behind, behind_all, item_findings, items_findings, constants_of, signatures_find}
+use Rattle.pc_expr.specs.SignaturesFound.{no_name, with_name, binds_text, binds_as_field, default_findings, ItemsReached, nothing_reached, param_findings, params_findings, def_findings, function_findings, functions_findings, field_findings, member_findings, members_findings, base_at, initial, initializer_types, initializer_mark, type_of_constant, value_findings, constant_findings, behind, behind_all, item_findings, items_findings, constants_of, signatures_find}
 use Rattle.pc_expr.specs.Standing.{mark_in, finds_in}
 use Rattle.pc_expr.proofs.Contexts.{initializers_well_formed}
 use Rattle.pc_dynamic.proofs.PlainCodes.{all_append, in_both, IsPlain}
@@ -77,7 +77,7 @@ module _ (m : Module) (bases : Bases) where
 
   ann_plain : (a : Ann) → PlainFindings (ann_findings m bases a)
   ann_plain a =
-      let size = nat_le (nodes (reading m bases a)) limit in
+      let size = nat_le (nodes (reading m bases a)) node_limit in
       plain_then (part_findings m bases a) (if size then [] else finding (place_of_ann a) E26 ∷ []) (part_plain a)
       (in_both PlainFindings size [] (finding (place_of_ann a) E26 ∷ []) tt (refl, tt))
 
@@ -86,10 +86,10 @@ module _ (m : Module) (bases : Bases) where
   option_plain (Some a) = ann_plain a
 
   -- the notes of an annotation are right
-  pub right_annotation : (a : Ann) → AreRight bases (map plain (ann_findings m bases a))
+  pub right_annotation : (a : Ann) → AreRight bases (map plain_note (ann_findings m bases a))
   right_annotation a = right_plain bases (ann_findings m bases a) (ann_plain a)
 
-  right_option : (a : Option Ann) → AreRight bases (map plain (option_findings m bases a))
+  right_option : (a : Option Ann) → AreRight bases (map plain_note (option_findings m bases a))
   right_option a = right_plain bases (option_findings m bases a) (option_plain a)
 
 module _ (m : Module) where
@@ -113,7 +113,7 @@ module _ (m : Module) where
 
   right_param : (bound : List ℕ → Test) (p : Param) → Right (param_findings m bound p)
   right_param bound p =
-      right_then (map plain (option_findings m bases p.annotation)) (default_findings bases (binds_text bound p.name.text) p.default (read_option m bases p.annotation)) (right_option m bases p.annotation)
+      right_then (map plain_note (option_findings m bases p.annotation)) (default_findings bases (binds_text bound p.name.text) p.default (read_option m bases p.annotation)) (right_option m bases p.annotation)
       (right_default (binds_text bound p.name.text) p.default (read_option m bases p.annotation) (read_option_well_formed m bases (smaller m) p.annotation))
 
   right_params : (bound : List ℕ → Test) (ps : List Param) → Right (params_findings m bound ps)
@@ -121,7 +121,7 @@ module _ (m : Module) where
   right_params bound (p ∷ ps) = right_then (param_findings m bound p) (params_findings m (with_name bound p.name.text) ps) (right_param bound p) (right_params (with_name bound p.name.text) ps)
 
   right_def : (bound : List ℕ → Test) (f : FuncDef) → Right (def_findings m bound f)
-  right_def bound f = right_then (params_findings m bound f.params) (map plain (option_findings m bases f.returns)) (right_params bound f.params) (right_option m bases f.returns)
+  right_def bound f = right_then (params_findings m bound f.params) (map plain_note (option_findings m bases f.returns)) (right_params bound f.params) (right_option m bases f.returns)
 
   right_function : (i : Item) → Right (function_findings m i)
   right_function (constant_item p c) = tt
@@ -134,16 +134,16 @@ module _ (m : Module) where
 
   -- ---- classes
 
-  right_field : (base : Class) (bound : List ℕ → Test) (d : Field) → Right (field_findings m base bound d)
+  right_field : (base : ClassFacts) (bound : List ℕ → Test) (d : Field) → Right (field_findings m base bound d)
   right_field base bound d =
-      right_then (map plain (ann_findings m bases d.annotation)) (default_findings bases (binds_as_field base bound d.name.text) d.default (read_ann m bases d.annotation)) (right_annotation m bases d.annotation)
+      right_then (map plain_note (ann_findings m bases d.annotation)) (default_findings bases (binds_as_field base bound d.name.text) d.default (read_ann m bases d.annotation)) (right_annotation m bases d.annotation)
       (right_default (binds_as_field base bound d.name.text) d.default (read_ann m bases d.annotation) (read_ann_well_formed m bases (smaller m) d.annotation))
 
-  right_member : (base : Class) (bound : List ℕ → Test) (x : Member) → Right (member_findings m base bound x)
+  right_member : (base : ClassFacts) (bound : List ℕ → Test) (x : Member) → Right (member_findings m base bound x)
   right_member base bound (field_member d) = right_field base bound d
   right_member base bound (method_member d) = right_def (with_name no_name (codes "self")) d
 
-  right_members : (base : Class) (bound : List ℕ → Test) (xs : List Member) → Right (members_findings m base bound xs)
+  right_members : (base : ClassFacts) (bound : List ℕ → Test) (xs : List Member) → Right (members_findings m base bound xs)
   right_members base bound [] = tt
   right_members base bound (x ∷ xs) =
       right_then (member_findings m base bound x) (members_findings m base (with_name bound (name_of_member x).text) xs) (right_member base bound x) (right_members base (with_name bound (name_of_member x).text) xs)
@@ -164,7 +164,7 @@ module _ (m : Module) where
   one_more (u ∷ ts) t k h = (k.0, one_more ts t k.1 h)
 
   -- behind constants of well-formed types
-  module _ (r : Reached) (k : AreWellFormed bases r.constants) where
+  module _ (r : ItemsReached) (k : AreWellFormed bases r.constants) where
     stands_well : StandsWell (initial m r.constants r.classes)
     stands_well = record { context = initializers_well_formed m r.constants r.classes k; declared = tt; env = tt }
 
@@ -181,7 +181,7 @@ module _ (m : Module) where
 
     right_constant : (c : Constant) → Right (constant_findings m r c)
     right_constant c =
-        right_then (map plain (option_findings m bases c.annotation)) (value_findings m r (initializer_types m r c) c.value) (right_option m bases c.annotation)
+        right_then (map plain_note (option_findings m bases c.annotation)) (value_findings m r (initializer_types m r c) c.value) (right_option m bases c.annotation)
         (right_value (initializer_types m r c) (into_well_formed c) c.value)
 
     type_well_formed : (c : Constant) → IsWellFormed bases (type_of_constant m r c)
@@ -201,11 +201,11 @@ module _ (m : Module) where
     behind_well_formed (class_item p c) = k
     behind_well_formed (def_item p f) = k
 
-  right_items : (r : Reached) → AreWellFormed bases r.constants → (is : List Item) → Right (items_findings m r is)
+  right_items : (r : ItemsReached) → AreWellFormed bases r.constants → (is : List Item) → Right (items_findings m r is)
   right_items r k [] = tt
   right_items r k (i ∷ is) = right_then (item_findings m r i) (items_findings m (behind m r i) is) (right_item r k i) (right_items (behind m r i) (behind_well_formed r k i) is)
 
-  all_well_formed : (r : Reached) → AreWellFormed bases r.constants → (is : List Item) → AreWellFormed bases (behind_all m r is).constants
+  all_well_formed : (r : ItemsReached) → AreWellFormed bases r.constants → (is : List Item) → AreWellFormed bases (behind_all m r is).constants
   all_well_formed r k [] = k
   all_well_formed r k (i ∷ is) = all_well_formed (behind m r i) (behind_well_formed r k i) is
 

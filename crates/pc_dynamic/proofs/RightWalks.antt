@@ -19,15 +19,15 @@ use Rattle.pc_types.specs.Annotations.{read_ann}
 use Rattle.pc_types.specs.Computed.{static_test}
 use Rattle.pc_types.proofs.Readings.{read_ann_well_formed}
 use Rattle.pc_class.specs.Bases.{bases_of}
-use Rattle.pc_class.specs.Facts.{Parameter, returned}
+use Rattle.pc_class.specs.Facts.{TypedParameter, return_type}
 use Rattle.pc_class.specs.WellFormed.{ParametersWellFormed}
 use Rattle.pc_class.proofs.WellFormed.{returned_well_formed}
 use Rattle.pc_flow.specs.Environment.{Env, join_env, none_assigned}
 use Rattle.pc_flow.specs.WellFormed.{AreWellFormed, IsWellFormedEnv, IsWellFormedIfAny}
 use Rattle.pc_flow.proofs.Conditions.{assign_well_formed, current_well_formed, assignments_well_formed, conditions_well_formed, heads_well_formed, joins_well_formed}
-use Rattle.pc_notes.specs.Notes.{Note, plain}
+use Rattle.pc_notes.specs.Notes.{Note, plain_note}
 use Rattle.pc_expr.specs.Operations.{Mark, clean, iterate_member, StoreOffer, store_codes, store_index_types, stored_types, only_type}
-use Rattle.pc_expr.specs.Calls.{given, is_suited, is_range, range_item, range_signature}
+use Rattle.pc_expr.specs.Calls.{arguments_given, is_suited, is_range, range_item, range_signature}
 use Rattle.pc_expr.specs.Computed.{flows_of}
 use Rattle.pc_expr.specs.Found.{codes_at, flows_at}
 use Rattle.pc_expr.specs.Standing.{Standing, mark_in, finds_in}
@@ -38,9 +38,9 @@ use Rattle.pc_expr.proofs.WellFormed.{any_well_formed, int_well_formed, none_wel
 use Rattle.pc_dynamic.proofs.PlainCodes.{in_both, ArePlain, MarkPlain, mapped_plain, iterate_plain, range_item_plain, attribute_stores_plain, index_stores_plain}
 use Rattle.pc_dynamic.proofs.RightNotes.{AreRight, right_append, right_codes, right_flows, StandsWell, mark_well_formed, right_in, right_range}
 use Rattle.pc_dynamic.proofs.RightSignatures.{right_annotation}
-use Rattle.pc_check.specs.Modules.{entries_of}
+use Rattle.pc_check.specs.Modules.{entry_parameters}
 use Rattle.pc_check.specs.Statements.{only_code, binds_number}
-use Rattle.pc_check.specs.ComputedStatements.{Table, type_table, bound_type, settled, known, Frame, Walk, Bound, Forked, join_onto_way, with_way, at, narrowed_at, unreached_name, unreached_names, bind_label, bind_value, declared_alone, annotation_finds, bound_name, bind_annotated, attribute_stores, index_stores, stored_finds, store_finds, assign_target, values_item, item_of, iterable_finds, bind_item, head_at, option_finds, return_finds, inside_for, step, walk_suite, walk_branches, enter_local, enter_name, enter, end_finds, frame_of, function_finds}
+use Rattle.pc_check.specs.ComputedStatements.{Table, type_table, bound_type, with_declared, known_declared, BodyFrame, Walk, BindingResult, BranchesResult, join_onto_way, with_way, at, narrowed_at, unreached_name, unreached_names, bind_label, bind_value, declared_alone, annotation_finds, bound_name, bind_annotated, attribute_stores, index_stores, stored_finds, store_finds, assign_target, values_item, item_mark_of, iterable_finds, bind_item, head_at, option_finds, return_finds, inside_for, step, walk_suite, walk_branches, enter_local, enter_name, enter_parameters, end_finds, body_frame_of, function_finds}
 use Rattle.pc_check.proofs.LabelledFunctions.{entries_well_formed, none_well_formed as unassigned_well_formed}
 use Rattle.pc_check.proofs.StoredTypes.{fields_stored, items_stored, keys_stored, only_well_formed, turns_well_formed}
 use Rattle.pc_check.proofs.WalkedTables.{types_well_formed}
@@ -60,28 +60,28 @@ record WalkRight (bases : Bases) (w : Walk) : Type 0 where
   found : AreRight bases w.found
 
 -- so of a name bound
-record BoundRight (bases : Bases) (b : Bound) : Type 0 where
+record BoundRight (bases : Bases) (b : BindingResult) : Type 0 where
   table : IsWellFormedEnv bases b.table
   env : IsWellFormedEnv bases b.env
   found : AreRight bases b.found
 
 -- and of a walk over branches
-record ForkRight (bases : Bases) (w : Forked) : Type 0 where
+record ForkRight (bases : Bases) (w : BranchesResult) : Type 0 where
   table : IsWellFormedEnv bases w.table
   last : IsWellFormedEnv bases w.last
   ways : OutWellFormed bases w.ways
   broken : OutWellFormed bases w.broken
   found : AreRight bases w.found
 
-settled_well_formed : (bases : Bases) (bound : Option Tree) (table : Table) (x : ℕ) (t : Tree) → IsWellFormed bases t → IsWellFormedEnv bases table → IsWellFormedEnv bases (settled bound table x t)
+settled_well_formed : (bases : Bases) (bound : Option Tree) (table : Table) (x : ℕ) (t : Tree) → IsWellFormed bases t → IsWellFormedEnv bases table → IsWellFormedEnv bases (with_declared bound table x t)
 settled_well_formed bases (Some d) table x t h k = k
 settled_well_formed bases None table x t h k = assign_well_formed bases table x t h k
 
-known_well_formed : (bases : Bases) (bound annotation : Option Tree) → IsWellFormedIfAny bases bound → IsWellFormedIfAny bases annotation → IsWellFormedIfAny bases (known bound annotation)
+known_well_formed : (bases : Bases) (bound annotation : Option Tree) → IsWellFormedIfAny bases bound → IsWellFormedIfAny bases annotation → IsWellFormedIfAny bases (known_declared bound annotation)
 known_well_formed bases (Some d) annotation h k = h
 known_well_formed bases None annotation h k = k
 
-module _ (frame : Frame) (ck : ContextWellFormed frame.context) (rk : IsWellFormed frame.context.bases frame.returned) where
+module _ (frame : BodyFrame) (ck : ContextWellFormed frame.context) (rk : IsWellFormed frame.context.bases frame.returned) where
   open frame use {context as ctx}
 
   -- the notes are right
@@ -152,7 +152,7 @@ module _ (frame : Frame) (ck : ContextWellFormed frame.context) (rk : IsWellForm
 
   value_right : (table : Table) (env : Env) (r : Res) (annotation : Option Tree) (e : Expr) (found : List Note) → Formed table → Formed env → IsWellFormedIfAny ctx.bases annotation → Right found → BoundRight ctx.bases (bind_value frame table env r annotation e found)
   value_right table env (res.Local x) annotation e found kt ke ka kf =
-      let want = known (bound_type table x) annotation in
+      let want = known_declared (bound_type table x) annotation in
       let kw = known_well_formed ctx.bases (bound_type table x) annotation (bound_well_formed table x kt) ka in
       let here = at frame table env in
       let ks = stands table env kt ke in
@@ -233,10 +233,10 @@ module _ (frame : Frame) (ck : ContextWellFormed frame.context) (rk : IsWellForm
     formed : IsWellFormed ctx.bases m.type
     codes : MarkPlain m
 
-  range_turn : (args : Exprs) (kws : Keywords) → ItemRight (range_item (given args kws))
+  range_turn : (args : Exprs) (kws : Keywords) → ItemRight (range_item (arguments_given args kws))
   range_turn args kws = record {
-    formed = in_both (λ (m : Mark). IsWellFormed ctx.bases m.type) (is_suited (given args kws) range_signature) (clean Int) _ (int_well_formed ctx.bases) (any_well_formed ctx.bases);
-    codes = range_item_plain (given args kws);
+    formed = in_both (λ (m : Mark). IsWellFormed ctx.bases m.type) (is_suited (arguments_given args kws) range_signature) (clean Int) _ (int_well_formed ctx.bases) (any_well_formed ctx.bases);
+    codes = range_item_plain (arguments_given args kws);
   }
 
   module _ (table : Table) (env : Env) (kt : Formed table) (ke : Formed env) where
@@ -249,8 +249,8 @@ module _ (frame : Frame) (ck : ContextWellFormed frame.context) (rk : IsWellForm
       codes = mapped_plain ctx.bases (iterate_member ctx.bases) (iterate_plain ctx.bases) (members (mark_in here None e).type);
     }
 
-    item_right : (e : Expr) → ItemRight (item_of frame here e)
-    item_right (call p (name n) args kws) = in_both ItemRight (is_range (ctx.resolve n.text)) (range_item (given args kws)) (values_item frame here (call p (name n) args kws)) (range_turn args kws) (turn_right (call p (name n) args kws))
+    item_right : (e : Expr) → ItemRight (item_mark_of frame here e)
+    item_right (call p (name n) args kws) = in_both ItemRight (is_range (ctx.resolve n.text)) (range_item (arguments_given args kws)) (values_item frame here (call p (name n) args kws)) (range_turn args kws) (turn_right (call p (name n) args kws))
     item_right e = turn_right e
 
     iterable_right : (e : Expr) → Right (iterable_finds frame here e)
@@ -285,7 +285,7 @@ module _ (frame : Frame) (ck : ContextWellFormed frame.context) (rk : IsWellForm
 
   -- ---- statements
 
-  behind_right : (broken : Option Env) (b : Bound) → OutWellFormed ctx.bases broken → BoundRight ctx.bases b → WalkRight ctx.bases (record { table = b.table; env = Some b.env; broken = broken; found = b.found })
+  behind_right : (broken : Option Env) (b : BindingResult) → OutWellFormed ctx.bases broken → BoundRight ctx.bases b → WalkRight ctx.bases (record { table = b.table; env = Some b.env; broken = broken; found = b.found })
   behind_right broken b kb h = record { table = h.table; env = h.env; broken = kb; found = h.found }
 
   mutual
@@ -324,7 +324,7 @@ module _ (frame : Frame) (ck : ContextWellFormed frame.context) (rk : IsWellForm
         let here = at frame table env in
         let head = head_at frame table (n ∷ bound_by b) env in
         let kh = head_well_formed table (n ∷ bound_by b) env kt ke in
-        let item = item_of frame here e in
+        let item = item_mark_of frame here e in
         let it = item_right table env kt ke e in
         let xs = iterable_finds frame here e in
         let ys = codes_at (place_of e) item.codes in
@@ -333,7 +333,7 @@ module _ (frame : Frame) (ck : ContextWellFormed frame.context) (rk : IsWellForm
         let body = suite_right (inside_for frame head start) (record { table = tg.table; env = tg.env; broken = kh; found = tg.found }) b in
         record { table = body.table; env = body.broken; broken = kb; found = body.found }
     step_right table (Some env) broken found kt ke kb kf (conditional p bs o) =
-        let start : Forked = record { table = table; last = env; ways = None; broken = broken; found = found } in
+        let start : BranchesResult = record { table = table; last = env; ways = None; broken = broken; found = found } in
         let fork = walk_branches frame start bs in
         let br = branches_right start (record { table = kt; last = ke; ways = tt; broken = kb; found = kf }) bs in
         let mid : Walk = record { table = fork.table; env = Some fork.last; broken = fork.broken; found = fork.found } in
@@ -345,7 +345,7 @@ module _ (frame : Frame) (ck : ContextWellFormed frame.context) (rk : IsWellForm
     suite_right w h no_stmts = h
     suite_right w h (more_stmts s rest) = suite_right (step frame w.table w.env w.broken w.found s) (step_right w.table w.env w.broken w.found h.table h.env h.broken h.found s) rest
 
-    branches_right : (w : Forked) → ForkRight ctx.bases w → (bs : Branches) → ForkRight ctx.bases (walk_branches frame w bs)
+    branches_right : (w : BranchesResult) → ForkRight ctx.bases w → (bs : Branches) → ForkRight ctx.bases (walk_branches frame w bs)
     branches_right w h no_branches = h
     branches_right w h (more_branches c b rest) =
         let xs = finds_in (at frame w.table w.last) None c in
@@ -357,7 +357,7 @@ module _ (frame : Frame) (ck : ContextWellFormed frame.context) (rk : IsWellForm
           broken = h.broken;
           found = right_then w.found xs h.found (right_in (at frame w.table w.last) (stands w.table w.last h.table h.last) None tt c);
         }) b in
-        let next : Forked = record { table = u.table; last = narrowed_at frame w.table false c w.last; ways = with_way ctx.bases u.table w.ways u.env; broken = u.broken; found = u.found } in
+        let next : BranchesResult = record { table = u.table; last = narrowed_at frame w.table false c w.last; ways = with_way ctx.bases u.table w.ways u.env; broken = u.broken; found = u.found } in
         branches_right next (record {
           table = body.table;
           last = narrowed_well_formed w.table false c w.last h.table h.last;
@@ -384,7 +384,7 @@ name_entered bases table env (res.Class i) t h kt ke = (kt, ke)
 name_entered bases table env (res.Builtin b) t h kt ke = (kt, ke)
 name_entered bases table env res.None t h kt ke = (kt, ke)
 
-all_entered : (bases : Bases) (resolve : List ℕ → Res) (table : Table) (env : Env) (ps : List Parameter) → ParametersWellFormed bases ps → IsWellFormedEnv bases table → IsWellFormedEnv bases env → EntryFormed bases (enter resolve table env ps)
+all_entered : (bases : Bases) (resolve : List ℕ → Res) (table : Table) (env : Env) (ps : List TypedParameter) → ParametersWellFormed bases ps → IsWellFormedEnv bases table → IsWellFormedEnv bases env → EntryFormed bases (enter_parameters resolve table env ps)
 all_entered bases resolve table env [] h kt ke = (kt, ke)
 all_entered bases resolve table env (p ∷ ps) h kt ke =
     let r = enter_name table env (resolve p.name) p.type in
@@ -393,17 +393,17 @@ all_entered bases resolve table env (p ∷ ps) h kt ke =
 
 end_right : (bases : Bases) (t : Tree) (p : Place) (out : Option Env) → AreRight bases (end_finds bases t p out)
 end_right bases t p None = tt
-end_right bases t p (Some env) = in_both (AreRight bases) (static_test bases NoneType t) [] (plain (finding p E21) ∷ []) tt (record { tested = refl; formed = tt }, tt)
+end_right bases t p (Some env) = in_both (AreRight bases) (static_test bases NoneType t) [] (plain_note (finding p E21) ∷ []) tt (record { tested = refl; formed = tt }, tt)
 
 -- the notes in the body of a function are right, where those before it are
 pub right_function : (m : Module) (constants : List Tree) → AreWellFormed (bases_of m) constants → (owner : Owner) (f : FuncDef) (found : List Note) → AreRight (bases_of m) found → AreRight (bases_of m) (function_finds m constants owner f found)
 right_function m constants kc owner f found kf =
-    let frame = frame_of m constants owner f in
+    let frame = body_frame_of m constants owner f in
     let names = locals owner f in
     let none = unassigned_well_formed (bases_of m) (length names) in
-    let start = enter frame.context.resolve (none_assigned (length names)) (none_assigned (length names)) (entries_of m owner f) in
-    let ks = all_entered (bases_of m) frame.context.resolve (none_assigned (length names)) (none_assigned (length names)) (entries_of m owner f) (entries_well_formed m owner f) none none in
+    let start = enter_parameters frame.context.resolve (none_assigned (length names)) (none_assigned (length names)) (entry_parameters m owner f) in
+    let ks = all_entered (bases_of m) frame.context.resolve (none_assigned (length names)) (none_assigned (length names)) (entry_parameters m owner f) (entries_well_formed m owner f) none none in
     let first : Walk = record { table = start.0; env = Some start.1; broken = None; found = found } in
     let body = walk_suite frame first f.body in
     let kb = suite_right frame (bodies_well_formed m constants names kc) (returned_well_formed m f) first (record { table = ks.0; env = ks.1; broken = tt; found = kf }) f.body in
-    right_append (bases_of m) body.found (end_finds (bases_of m) (returned m f) f.name.place body.env) kb.found (end_right (bases_of m) (returned m f) f.name.place body.env)
+    right_append (bases_of m) body.found (end_finds (bases_of m) (return_type m f) f.name.place body.env) kb.found (end_right (bases_of m) (return_type m f) f.name.place body.env)

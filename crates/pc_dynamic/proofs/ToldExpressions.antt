@@ -12,12 +12,12 @@ use Rattle.pc_flow.specs.Environment.{Env}
 use Rattle.pc_flow.specs.WellFormed.{AreWellFormed, IsWellFormedEnv, IsWellFormedIfAny}
 use Rattle.pc_notes.specs.Notes.{Note}
 use Rattle.pc_expr.specs.Operations.{Mark, clean, StoreOffer, store_codes, store_index_types, stored_types, only_type}
-use Rattle.pc_expr.specs.Calls.{CallOffer, given, call_mark, positional_seat, named_seat, is_range, range_item, range_offers, range_signature}
+use Rattle.pc_expr.specs.Calls.{CallOffer, arguments_given, call_mark, positional_seat, named_seat, is_range, range_item, range_offers, range_signature}
 use Rattle.pc_expr.specs.Context.{FlowsInto}
-use Rattle.pc_expr.specs.Labels.{Flowing, Marks, mark_of, type_of}
+use Rattle.pc_expr.specs.Labels.{FlowMarks, Marks, mark_of, type_of}
 use Rattle.pc_expr.specs.Lawful.{Lawful}
 use Rattle.pc_expr.specs.Computed.{labels_of, flows_of}
-use Rattle.pc_expr.specs.Found.{codes_at, flows_at, found_in}
+use Rattle.pc_expr.specs.Found.{codes_at, flows_at, notes_under}
 use Rattle.pc_expr.specs.Standing.{Standing, mark_in, finds_in, items_in, keywords_in, arguments_find, keywords_find}
 use Rattle.pc_expr.specs.Typing.{range_finds}
 use Rattle.pc_expr.proofs.One.{one, items_one, keywords_one}
@@ -27,8 +27,8 @@ use Rattle.pc_expr.proofs.ComputedFlows.{are_tests}
 use Rattle.pc_expr.proofs.ComputedLawful.{labels_are_lawful, items_lawful, keywords_lawful}
 use Rattle.pc_check.specs.StatementLabels.{OptionMarks, TargetMarks}
 use Rattle.pc_check.specs.Statements.{RangeOrValues, LawfulRange, LawfulValues, LawfulIterable, attribute_offers, index_offers, LawfulStore, LawfulReturn, LawfulOption}
-use Rattle.pc_check.specs.Labelled.{Setting}
-use Rattle.pc_check.specs.ComputedStatements.{Table, type_table, Frame, attribute_stores, index_stores, stored_finds, store_finds, iterable_finds, option_finds, return_finds}
+use Rattle.pc_check.specs.LabellingLaws.{Setting}
+use Rattle.pc_check.specs.ComputedStatements.{Table, type_table, BodyFrame, attribute_stores, index_stores, stored_finds, store_finds, iterable_finds, option_finds, return_finds}
 use Rattle.pc_check.specs.WalkLaw.{EnvFits, frame_in}
 use Rattle.pc_check.proofs.StoredTypes.{fields_stored, items_stored, keys_stored, only_well_formed}
 use Rattle.pc_check.proofs.WalkedTables.{types_well_formed}
@@ -40,7 +40,7 @@ use Rattle.pc_dynamic.proofs.ToldFlows.{AllTell, tell_then, tell_codes, tell_flo
 module _ (P : DynamicFlow → Type 0) (setting : Setting) (returned : Tree) (kr : IsWellFormed setting.context.bases returned) (declared : List Tree) (table : Table) (kt : IsWellFormedEnv setting.context.bases table) (env : Env) (h : EnvFits setting declared table env) where
   open setting use {whole as m, context as ctx, context_well_formed as ck}
 
-  abbrev frame : Frame
+  abbrev frame : BodyFrame
   frame = frame_in setting returned
 
   abbrev at_env : Standing
@@ -62,18 +62,18 @@ module _ (P : DynamicFlow → Type 0) (setting : Setting) (returned : Tree) (kr 
   read want kw e marks l = told setting declared table kt env h want kw e marks l
 
   -- what is found in an expression is what stands under its lawful labels
-  found_is : (want : Option Tree) → IsWellFormedIfAny ctx.bases want → (e : Expr) (marks : Marks e) → Lawful ctx declared env want e marks → finds_in at_env want e ≡ found_in e marks
+  found_is : (want : Option Tree) → IsWellFormedIfAny ctx.bases want → (e : Expr) (marks : Marks e) → Lawful ctx declared env want e marks → finds_in at_env want e ≡ notes_under e marks
   unfolding finds_in
   found_is want kw e marks l =
       let labels = labels_of ctx (type_table table) env want e in
       let k = labels_are_lawful ctx (type_table table) env want e ck ds h.well_formed kw in
-      ap (found_in e) (sym (one ctx declared (type_table table) env h.same want e marks labels l k.0))
+      ap (notes_under e) (sym (one ctx declared (type_table table) env h.same want e marks labels l k.0))
 
   pub tell_in : (want : Option Tree) → IsWellFormedIfAny ctx.bases want → (e : Expr) (marks : Marks e) → Lawful ctx declared env want e marks → Covers (DynamicIn e marks) → AllTell P (finds_in at_env want e)
   tell_in want kw e marks l k = subst (AllTell P) (sym (found_is want kw e marks l)) (tell_expression P e marks k)
 
   -- its flows into several types
-  pub tell_flowing : (want : Option Tree) (e : Expr) (marks : Marks e) (ts : List Tree) (flows : Flowing) → IsWellFormedIfAny ctx.bases want → Lawful ctx declared env want e marks → AreWellFormed ctx.bases ts → FlowsInto ctx.bases (mark_of e marks) ts flows → Covers (IsDynamicAt (place_of e) flows)
+  pub tell_flowing : (want : Option Tree) (e : Expr) (marks : Marks e) (ts : List Tree) (flows : FlowMarks) → IsWellFormedIfAny ctx.bases want → Lawful ctx declared env want e marks → AreWellFormed ctx.bases ts → FlowsInto ctx.bases (mark_of e marks) ts flows → Covers (IsDynamicAt (place_of e) flows)
       → AllTell P (flows_at (place_of e) (flows_of ctx.bases (mark_in at_env want e) ts))
   tell_flowing want e marks ts flows kw l ks fl k =
       let v = read want kw e marks l in
@@ -81,7 +81,7 @@ module _ (P : DynamicFlow → Type 0) (setting : Setting) (returned : Tree) (kr 
       subst (λ fs. AllTell P (flows_at (place_of e) fs)) (sym is) (tell_flows P (place_of e) flows k)
 
   -- an expression, and then its flows
-  tell_both : (want : Option Tree) (e : Expr) (marks : Marks e) (ts : List Tree) (flows : Flowing) → IsWellFormedIfAny ctx.bases want → Lawful ctx declared env want e marks → AreWellFormed ctx.bases ts → FlowsInto ctx.bases (mark_of e marks) ts flows → Covers (IsDynamicAt (place_of e) flows) → Covers (DynamicIn e marks)
+  tell_both : (want : Option Tree) (e : Expr) (marks : Marks e) (ts : List Tree) (flows : FlowMarks) → IsWellFormedIfAny ctx.bases want → Lawful ctx declared env want e marks → AreWellFormed ctx.bases ts → FlowsInto ctx.bases (mark_of e marks) ts flows → Covers (IsDynamicAt (place_of e) flows) → Covers (DynamicIn e marks)
       → AllTell P (finds_in at_env want e ++ flows_at (place_of e) (flows_of ctx.bases (mark_in at_env want e) ts))
   tell_both want e marks ts flows kw l ks fl k k' =
       tell_then P (finds_in at_env want e) (flows_at (place_of e) (flows_of ctx.bases (mark_in at_env want e) ts)) (tell_in want kw e marks l k') (tell_flowing want e marks ts flows kw l ks fl k)
@@ -91,7 +91,7 @@ module _ (P : DynamicFlow → Type 0) (setting : Setting) (returned : Tree) (kr 
   -- a call of `range`
   module _ (p : Place) (n : Name) (args : Exprs) (kws : Keywords) where
     abbrev offers : List CallOffer
-    offers = range_offers (given args kws)
+    offers = range_offers (arguments_given args kws)
 
     -- the labels that the walk has for it
     abbrev range_labels : Marks (call p (name n) args kws)
@@ -106,13 +106,13 @@ module _ (P : DynamicFlow → Type 0) (setting : Setting) (returned : Tree) (kr 
     moved : (a k c : List Note) → (a ++ (k ++ [])) ++ c ≡ a ++ (k ++ c)
     moved a k c = append_assoc a (k ++ []) c ∙ ap (λ x. a ++ (x ++ c)) (append-nil k)
 
-    range_listed : found_in (call p (name n) args kws) range_labels ≡ range_finds at_env p (name n) args kws
+    range_listed : notes_under (call p (name n) args kws) range_labels ≡ range_finds at_env p (name n) args kws
     unfolding arguments_find keywords_find
     range_listed = moved (arguments_find at_env (is_instance_test (name n) args kws) (positional_seat offers) args) (keywords_find at_env (named_seat offers) [] kws) (codes_at p (call_mark ctx.bases offers).codes)
 
     range_lawful : (marks : Marks (call p (name n) args kws)) → LawfulRange m ctx declared env (name n) args kws p marks → range_labels ≡ marks
     range_lawful marks l =
-        let calls : CallsWellFormed ctx.bases offers = (called_well_formed ctx.bases (given args kws) range_signature (builtin_well_formed ctx.bases (Int ∷ []) Object (int_well_formed ctx.bases, tt) (object_well_formed ctx.bases)), tt) in
+        let calls : CallsWellFormed ctx.bases offers = (called_well_formed ctx.bases (arguments_given args kws) range_signature (builtin_well_formed ctx.bases (Int ∷ []) Object (int_well_formed ctx.bases, tt) (object_well_formed ctx.bases)), tt) in
         let tests = are_tests ctx.bases ck.smaller in
         let a = items_lawful ctx (type_table table) ck ds (static_test ctx.bases) (assignable_test ctx.bases) tests env h.well_formed (positional_seat offers) (positional_well_formed ctx.bases offers calls) args in
         let k = keywords_lawful ctx (type_table table) ck ds (static_test ctx.bases) (assignable_test ctx.bases) tests env h.well_formed (named_seat offers) (named_well_formed ctx.bases offers calls) [] kws in
@@ -121,11 +121,11 @@ module _ (P : DynamicFlow → Type 0) (setting : Setting) (returned : Tree) (kr 
         λ i. record { here = sym l.here i; callee = sym l.callee i; second = sym l.second i; arguments = sym q i; keywords = sym r i }
 
     tell_call : (b : Test) (marks : Marks (call p (name n) args kws)) (item : Mark)
-        → RangeOrValues m ctx declared b (LawfulRange m ctx declared env (name n) args kws p marks × (item ≡ range_item (given args kws))) (LawfulValues m ctx declared env (call p (name n) args kws) marks item)
+        → RangeOrValues m ctx declared b (LawfulRange m ctx declared env (name n) args kws p marks × (item ≡ range_item (arguments_given args kws))) (LawfulValues m ctx declared env (call p (name n) args kws) marks item)
         → Covers (DynamicIn (call p (name n) args kws) marks)
         → AllTell P (if b then range_finds at_env p (name n) args kws else finds_in at_env None (call p (name n) args kws))
     tell_call true marks item l k =
-        subst (AllTell P) (sym (ap (found_in (call p (name n) args kws)) (range_lawful marks l.0)) ∙ range_listed) (tell_expression P (call p (name n) args kws) marks k)
+        subst (AllTell P) (sym (ap (notes_under (call p (name n) args kws)) (range_lawful marks l.0)) ∙ range_listed) (tell_expression P (call p (name n) args kws) marks k)
     tell_call false marks item l k = tell_in None tt (call p (name n) args kws) marks l.0 k
 
   pub tell_iterable : (e : Expr) (marks : Marks e) (item : Mark) → LawfulIterable m ctx declared env e marks item → Covers (DynamicIn e marks) → AllTell P (iterable_finds frame at_env e)
@@ -135,7 +135,7 @@ module _ (P : DynamicFlow → Type 0) (setting : Setting) (returned : Tree) (kr 
   -- ---- stores
 
   -- at the store, and of the value
-  tell_stored : (os : List StoreOffer) → AreWellFormed ctx.bases (stored_types os) → (p : Place) (e : Expr) (marks : Marks e) (flows : Flowing) → Lawful ctx declared env (only_type os (stored_types os)) e marks → FlowsInto ctx.bases (mark_of e marks) (stored_types os) flows
+  tell_stored : (os : List StoreOffer) → AreWellFormed ctx.bases (stored_types os) → (p : Place) (e : Expr) (marks : Marks e) (flows : FlowMarks) → Lawful ctx declared env (only_type os (stored_types os)) e marks → FlowsInto ctx.bases (mark_of e marks) (stored_types os) flows
       → Covers (IsDynamicAt (place_of e) flows) → Covers (DynamicIn e marks) → AllTell P (stored_finds frame at_env os p e)
   tell_stored os ks p e marks flows l fl k k' =
       let want = only_type os (stored_types os) in
@@ -143,7 +143,7 @@ module _ (P : DynamicFlow → Type 0) (setting : Setting) (returned : Tree) (kr 
       (tell_codes P p (store_codes os))
       (tell_both want e marks (stored_types os) flows (only_well_formed ctx.bases os (stored_types os) ks) l ks fl k k')
 
-  pub tell_store : (t : Target) (target : TargetMarks t) (e : Expr) (marks : Marks e) (flows : Flowing) → LawfulStore m ctx declared env t target e marks flows
+  pub tell_store : (t : Target) (target : TargetMarks t) (e : Expr) (marks : Marks e) (flows : FlowMarks) → LawfulStore m ctx declared env t target e marks flows
       → Covers (IsDynamicAt (place_of e) flows) → Covers (DynamicIn e marks) → Covers (DynamicInTarget t target) → AllTell P (store_finds frame at_env t e)
   tell_store (to_name n) target e marks flows l k k' kt' = absurd l
   tell_store (to_attribute p o field) target e marks flows l k k' kt' =
@@ -174,7 +174,7 @@ module _ (P : DynamicFlow → Type 0) (setting : Setting) (returned : Tree) (kr 
   tell_option None marks l k = tt
   tell_option (Some e) marks l k = tell_in None tt e marks l k
 
-  pub tell_return : (p : Place) (e : Option Expr) (marks : OptionMarks e) (flows : Flowing) → LawfulReturn m ctx declared returned env e marks flows → Covers (DynamicInValue p e marks flows) → AllTell P (return_finds frame at_env p e)
+  pub tell_return : (p : Place) (e : Option Expr) (marks : OptionMarks e) (flows : FlowMarks) → LawfulReturn m ctx declared returned env e marks flows → Covers (DynamicInValue p e marks flows) → AllTell P (return_finds frame at_env p e)
   tell_return p None marks flows l k =
       let is = flows_told setting (clean NoneType) (returned ∷ []) flows (none_well_formed ctx.bases) (kr, tt) l in
       subst (λ fs. AllTell P (flows_at p fs)) (sym is) (tell_flows P p flows k)

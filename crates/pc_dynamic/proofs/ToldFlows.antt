@@ -15,10 +15,10 @@ use Rattle.pc_tree.specs.Tree.{Expr, Exprs, Entries, Keywords, name, number, tex
 use Rattle.pc_scope.proofs.Among.{none_among, among_first}
 use Rattle.pc_scope.specs.Expressions.{is_instance_test}
 use Rattle.pc_types.specs.Tree.{Tree}
-use Rattle.pc_notes.specs.Notes.{Note, plain}
+use Rattle.pc_notes.specs.Notes.{Note, plain_note}
 use Rattle.pc_expr.specs.Operations.{FlowMark}
-use Rattle.pc_expr.specs.Labels.{Flowing, Marks, ItemsMarks, EntriesMarks, KeywordsMarks, mark_of, is_of_scopes, second_place}
-use Rattle.pc_expr.specs.Found.{own_at, has_code, once, codes_at, code_at, flow_note, own_flow, flow_then, flows_behind, flows_at, whole, found_in_parts, found_in_items, found_in_arguments, found_in_entries, found_in_keywords, found_in}
+use Rattle.pc_expr.specs.Labels.{FlowMarks, Marks, ItemsMarks, EntriesMarks, KeywordsMarks, mark_of, is_of_scopes, second_place}
+use Rattle.pc_expr.specs.Found.{own_at, has_code, once, codes_at, notes_of_code, flow_note, own_flow, flow_then, flows_behind, flows_at, whole, found_in_parts, found_in_items, found_in_arguments, found_in_entries, found_in_keywords, notes_under}
 use Rattle.pc_dynamic.specs.FlowsOfExpressions.{DynamicFlow, IsFirstDynamic, IsDynamicAt, DynamicIn, DynamicInExprs, DynamicInArguments, DynamicInEntries, DynamicInKeywords}
 use Rattle.pc_dynamic.proofs.PlainCodes.{all_append, in_both}
 
@@ -54,7 +54,7 @@ not_here before c e none is = false≢true (sym none ∙ subst (λ (x : Code). h
 -- ---- the first dynamic flow
 
 -- a flow with A1 before others
-first_here : (f : FlowMark) (fs : Flowing) → f.code ≡ Some A1 → IsFirstDynamic (f ∷ fs) f.from f.into
+first_here : (f : FlowMark) (fs : FlowMarks) → f.code ≡ Some A1 → IsFirstDynamic (f ∷ fs) f.from f.into
 first_here f fs e = record {
   before = [];
   behind = fs;
@@ -63,11 +63,11 @@ first_here f fs e = record {
 }
 
 -- that of the others, behind a flow without it
-first_behind : (f : FlowMark) (fs : Flowing) (s t : Tree) → ¬ (f.code ≡ Some A1) → IsFirstDynamic fs s t → IsFirstDynamic (f ∷ fs) s t
+first_behind : (f : FlowMark) (fs : FlowMarks) (s t : Tree) → ¬ (f.code ≡ Some A1) → IsFirstDynamic fs s t → IsFirstDynamic (f ∷ fs) s t
 first_behind f fs s t other h = record {
   before = f ∷ h.before;
   behind = h.behind;
-  order = ap (λ (l : Flowing). f ∷ l) h.order;
+  order = ap (λ (l : FlowMarks). f ∷ l) h.order;
   none_before = λ g k. elim (among_first f h.before g k) [ inl e ↦ subst (λ (x : FlowMark). ¬ (x.code ≡ Some A1)) e other | inr r ↦ h.none_before g r ];
 }
 
@@ -89,12 +89,12 @@ module _ (P : DynamicFlow → Type 0) where
   pub tell_then : (xs ys : List Note) → AllTell xs → AllTell ys → AllTell (xs ++ ys)
   tell_then xs ys h k = all_append Tells xs ys h k
 
-  pub tell_plain : (fs : List Finding) → AllTell (map plain fs)
+  pub tell_plain : (fs : List Finding) → AllTell (map plain_note fs)
   tell_plain [] = tt
   tell_plain (f ∷ fs) = (tt, tell_plain fs)
 
   tell_own : (p : Place) (c : Code) → AllTell (own_at p c)
-  tell_own p c = in_both AllTell (is_of_scopes c) [] (plain (finding p c) ∷ []) tt (tt, tt)
+  tell_own p c = in_both AllTell (is_of_scopes c) [] (plain_note (finding p c) ∷ []) tt (tt, tt)
 
   tell_each : (p : Place) (cs : List Code) → AllTell (flat_map (own_at p) cs)
   tell_each p [] = tt
@@ -103,7 +103,7 @@ module _ (P : DynamicFlow → Type 0) where
   pub tell_codes : (p : Place) (cs : List Code) → AllTell (codes_at p cs)
   tell_codes p cs = tell_each p (once cs)
 
-  tell_code : (p : Place) (o : Option Code) → AllTell (code_at p o)
+  tell_code : (p : Place) (o : Option Code) → AllTell (notes_of_code p o)
   tell_code p None = tt
   tell_code p (Some c) = tell_own p c
 
@@ -118,10 +118,10 @@ module _ (P : DynamicFlow → Type 0) where
     own_tells s t c k = in_both AllTell (is_of_scopes c) [] (flow_note p s t c ∷ []) tt (flow_tells s t c k, tt)
 
     -- it holds of the first dynamic one among several, unless there was one before them
-    abbrev Holds : List Code → Flowing → Type 0
+    abbrev Holds : List Code → FlowMarks → Type 0
     Holds before flows = (s t : Tree) → IsFirstDynamic flows s t → has_code before A1 ≡ false → P (record { place = p; from = s; into = t })
 
-    module _ (f : FlowMark) (fs : Flowing) (rest : (before : List Code) → Holds before fs → AllTell (flows_behind p before fs)) (before : List Code) (k : Holds before (f ∷ fs)) where
+    module _ (f : FlowMark) (fs : FlowMarks) (rest : (before : List Code) → Holds before fs → AllTell (flows_behind p before fs)) (before : List Code) (k : Holds before (f ∷ fs)) where
       coded : (c : Code) → f.code ≡ Some c → (b : Test) → has_code before c ≡ b → AllTell (if b then flows_behind p before fs else own_flow p f.from f.into c ++ flows_behind p (before ++ c ∷ []) fs)
       coded c e true q = rest before (λ s t h none. k s t (first_behind f fs s t (λ a. not_here before c q none (same_code (sym e ∙ a))) h) none)
       coded c e false q =
@@ -133,11 +133,11 @@ module _ (P : DynamicFlow → Type 0) where
       one_tells None e = rest before (λ s t h none. k s t (first_behind f fs s t (λ a. absurd (grind (arith, e, a))) h) none)
       one_tells (Some c) e = coded c e (has_code before c) refl
 
-    behind_tell : (flows : Flowing) (before : List Code) → Holds before flows → AllTell (flows_behind p before flows)
+    behind_tell : (flows : FlowMarks) (before : List Code) → Holds before flows → AllTell (flows_behind p before flows)
     behind_tell [] before k = tt
     behind_tell (f ∷ fs) before k = one_tells f fs (behind_tell fs) before k f.code refl
 
-    pub tell_flows : (flows : Flowing) → ((d : DynamicFlow) → IsDynamicAt p flows d → P d) → AllTell (flows_at p flows)
+    pub tell_flows : (flows : FlowMarks) → ((d : DynamicFlow) → IsDynamicAt p flows d → P d) → AllTell (flows_at p flows)
     tell_flows flows k = behind_tell flows [] (λ s t h none. k (record { place = p; from = s; into = t }) (record { here = refl; first = h }))
 
   -- ---- expressions
@@ -201,5 +201,5 @@ module _ (P : DynamicFlow → Type 0) where
         tell_then _ _ (tell_whole value m.first _ (tell_parts value m.first (λ d h. k d (inr (inl h)))))
         (tell_then _ _ (tell_flows (place_of value) m.flows (λ d h. k d (inl h))) (tell_keywords rest m.rest (λ d h. k d (inr (inr h)))))
 
-  pub tell_expression : (e : Expr) (m : Marks e) → ((d : DynamicFlow) → DynamicIn e m d → P d) → AllTell (found_in e m)
+  pub tell_expression : (e : Expr) (m : Marks e) → ((d : DynamicFlow) → DynamicIn e m d → P d) → AllTell (notes_under e m)
   tell_expression e m k = tell_whole e m (found_in_parts e m) (tell_parts e m k)

@@ -8,7 +8,7 @@ use Rattle.pc_tree.specs.Tree.{Expr, Exprs, Entries, Keywords, name, number, tex
 use Rattle.pc_scope.specs.Expressions.{is_instance_test}
 use Rattle.pc_types.specs.Tree.{Tree}
 use Rattle.pc_expr.specs.Operations.{FlowMark}
-use Rattle.pc_expr.specs.Labels.{Flowing, Marks, ItemsMarks, EntriesMarks, KeywordsMarks}
+use Rattle.pc_expr.specs.Labels.{FlowMarks, Marks, ItemsMarks, EntriesMarks, KeywordsMarks}
 
 -- a type that flows at a place, and the one that it flows into
 pub record DynamicFlow : Type 0 where
@@ -17,14 +17,14 @@ pub record DynamicFlow : Type 0 where
   pub into : Tree
 
 -- among the flows of a value one of this type into that one has A1, and none before it has A1
-pub record IsFirstDynamic (flows : Flowing) (from into : Tree) : Type 0 where
-  pub before : Flowing
-  pub behind : Flowing
+pub record IsFirstDynamic (flows : FlowMarks) (from into : Tree) : Type 0 where
+  pub before : FlowMarks
+  pub behind : FlowMarks
   pub order : flows ≡ before ++ (record { from = from; into = into; code = Some A1 } ∷ behind)
   pub none_before : (f : FlowMark) → Contains before f → ¬ (f.code ≡ Some A1)
 
 -- the first dynamic one among the flows of a value at this place
-pub record IsDynamicAt (place : Place) (flows : Flowing) (d : DynamicFlow) : Type 0 where
+pub record IsDynamicAt (place : Place) (flows : FlowMarks) (d : DynamicFlow) : Type 0 where
   pub here : d.place ≡ place
   pub first : IsFirstDynamic flows d.from d.into
 

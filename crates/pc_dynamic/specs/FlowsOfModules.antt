@@ -3,14 +3,14 @@
 use Rattle.std.specs.Prelude.{◌⊎◌, List, [], ◌∷◌, Option, Some, None}
 use Rattle.pc_tree.specs.Depth.{place_of}
 use Rattle.pc_tree.specs.Tree.{Literal, Param, FuncDef, Member, field_member, method_member, Item, constant_item, class_item, def_item, Module}
-use Rattle.pc_expr.specs.Labels.{Flowing}
+use Rattle.pc_expr.specs.Labels.{FlowMarks}
 use Rattle.pc_expr.specs.Signatures.{literal_place, ParamsMarks}
 use Rattle.pc_check.specs.Modules.{FunctionMarks, MembersMarks, ItemMarks, ItemsMarks, Labelling}
 use Rattle.pc_dynamic.specs.FlowsOfExpressions.{DynamicFlow, IsDynamicAt, DynamicIn}
 use Rattle.pc_dynamic.specs.FlowsOfStatements.{DynamicInSuite}
 
 -- a default, at its literal
-abbrev pub DynamicAtDefault : Option Literal → Flowing → DynamicFlow → Type 0
+abbrev pub DynamicAtDefault : Option Literal → FlowMarks → DynamicFlow → Type 0
 DynamicAtDefault None flows d = ⊥
 DynamicAtDefault (Some l) flows d = IsDynamicAt (literal_place l) flows d
 

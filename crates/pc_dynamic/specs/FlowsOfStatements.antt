@@ -5,7 +5,7 @@ use Rattle.pc_source.specs.declared.place.Place.{Place}
 use Rattle.pc_tree.specs.Depth.{place_of}
 use Rattle.pc_tree.specs.Tree.{Expr, Target, to_name, to_attribute, to_index, Stmt, Stmts, Branches, pass, breaks, continues, returns, asserts, annotated, assigns, evaluates, while_loop, for_loop, conditional, no_stmts, more_stmts, no_branches, more_branches}
 use Rattle.pc_scope.specs.Reach.{completes}
-use Rattle.pc_expr.specs.Labels.{Flowing}
+use Rattle.pc_expr.specs.Labels.{FlowMarks}
 use Rattle.pc_check.specs.StatementLabels.{OptionMarks, TargetMarks, StmtMarks, SuiteMarks, BranchesMarks, BehindRule}
 use Rattle.pc_dynamic.specs.FlowsOfExpressions.{DynamicFlow, IsDynamicAt, DynamicIn}
 
@@ -15,7 +15,7 @@ DynamicInOption None marks d = ⊥
 DynamicInOption (Some e) marks d = DynamicIn e marks d
 
 -- a value with its flows, and what is in it; where it is missing, what flows is at this place
-abbrev pub DynamicInValue : Place → (e : Option Expr) → OptionMarks e → Flowing → DynamicFlow → Type 0
+abbrev pub DynamicInValue : Place → (e : Option Expr) → OptionMarks e → FlowMarks → DynamicFlow → Type 0
 DynamicInValue p None marks flows d = IsDynamicAt p flows d
 DynamicInValue p (Some e) marks flows d = IsDynamicAt (place_of e) flows d ⊎ DynamicIn e marks d
 

@@ -1,4 +1,4 @@
-// The laws, each a function whose contract it is.
+//! The laws, each a function whose contract it is.
 
 ghost use Rattle.pc_dynamic.specs.FlowLaw.{DynamicFlowsAreDynamic, DynamicFlowsAreFound, DynamicFlowsAreWellFormed, DynamicFlowsStandUnderLabels};
 

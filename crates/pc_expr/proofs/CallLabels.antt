@@ -17,7 +17,7 @@ use Rattle.pc_expr.specs.Operations.{Mark, has_error}
 use Rattle.pc_expr.specs.Found.{once, brief}
 use Rattle.pc_expr.specs.Calls.{CallOffer, all_codes, call_codes, call_mark, is_object_or_any}
 use Rattle.pc_expr.specs.Standing.{mark_with}
-use Rattle.pc_expr.specs.Calling.{is_head_of_any, offer_called, found_at_callee, found_at_call}
+use Rattle.pc_expr.specs.Internal.JudgedCalls.{is_head_of_any, offer_called, found_at_callee, found_at_call}
 use Rattle.pc_expr.proofs.ErrorsOfCalls.{callee_meant, call_meant}
 
 module _ {Ty : Type 0} (tree : Ty → Tree) where

@@ -4,22 +4,22 @@ use Rattle.std.specs.Prelude.{All, flat_map}
 use Rattle.std.proofs.lemmas.List.Elements.{All-nil, All-cons}
 use Rattle.pc_types.specs.Tree.{Tree, Any}
 use Rattle.pc_types.specs.Shape.{members}
-use Rattle.pc_types.specs.Store.{Keeps, Means}
+use Rattle.pc_types.specs.Store.{KeepsTypes, Means}
 use Rattle.pc_expr.specs.declared.call_offers.CallOffer.{CallOffer as RustCallOffer}
 use Rattle.pc_expr.specs.declared.callee.Callee.{Callee as RustCallee}
 use Rattle.pc_expr.specs.declared.call_offers.CallRule.TheVariants as rule
 use Rattle.pc_expr.specs.Operations.{clean}
 use Rattle.pc_expr.specs.Context.{Context}
 use Rattle.pc_expr.specs.Found.{once}
-use Rattle.pc_expr.specs.Calls.{Given, CallOffer, method_offers, method_callee, good_callee}
-use Rattle.pc_expr.specs.Calling.{offer_called, rule_of, HasCallOffer, IsCallee, found_at_callee}
+use Rattle.pc_expr.specs.Calls.{GivenArguments, CallOffer, method_offers, method_callee, good_callee}
+use Rattle.pc_expr.specs.Internal.JudgedCalls.{offer_called, rule_of, HasCallOffer, IsCallee, found_at_callee}
 use Rattle.pc_expr.proofs.CallLabels.{mark_is}
 use Rattle.pc_expr.proofs.CallsKept.{IsAdded, members_all, offer_kept, offers_kept}
 use Rattle.pc_expr.proofs.ErrorsOfCalls.{callee_meant}
 
 module _ {Store Ty : Type 0} (has : Store → Ty → Type 0) (tree : Ty → Tree) where
   -- a callee at which nothing is found
-  pub good_meant : (old new : Store) (c : RustCallee Ty) (o : RustCallOffer Ty) → Means has tree new c.label.ty Any → c.label.codes.items ≡ [] → c.rule ≡ rule.Member → c.offers.items ≡ o ∷ [] → Keeps has old new → HasCallOffer (has old) o
+  pub good_meant : (old new : Store) (c : RustCallee Ty) (o : RustCallOffer Ty) → Means has tree new c.label.ty Any → c.label.codes.items ≡ [] → c.rule ≡ rule.Member → c.offers.items ≡ o ∷ [] → KeepsTypes has old new → HasCallOffer (has old) o
       → IsCallee has tree new c (good_callee (offer_called tree o ∷ []))
   good_meant old new c o m codes r items k h = record {
     given = m.0;
@@ -30,7 +30,7 @@ module _ {Store Ty : Type 0} (has : Store → Ty → Type 0) (tree : Ty → Tree
   }
 
   -- a callee by the members of an object's type
-  pub method_meant : (ctx : Context) (g : Given) (word : List ℕ) (t : Tree) (old now new : Store) (ms : List Ty) (offers : List (RustCallOffer Ty)) (i : ℕ) (c : RustCallee Ty) → Keeps has now new → map tree ms ≡ members t → length ms ≤ i
+  pub method_meant : (ctx : Context) (g : GivenArguments) (word : List ℕ) (t : Tree) (old now new : Store) (ms : List Ty) (offers : List (RustCallOffer Ty)) (i : ℕ) (c : RustCallee Ty) → KeepsTypes has now new → map tree ms ≡ members t → length ms ≤ i
       → IsAdded has tree old now (flat_map (method_offers ctx g word) (map tree (drop i ms))) (flat_map (method_offers ctx g word) (map tree ms)) offers → Means has tree new c.label.ty Any → c.label.codes.items ≡ once (found_at_callee offers) → c.rule ≡ rule.Member → c.offers.items ≡ offers
       → IsCallee has tree new c (method_callee ctx g word t)
   method_meant ctx g word t old now new ms offers i c k e h a m codes r same =

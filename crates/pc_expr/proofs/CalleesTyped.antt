@@ -7,7 +7,7 @@ use Rattle.pc_tree.specs.Tree.{more_exprs, no_exprs, expr_of}
 use Rattle.pc_tree.specs.Lists.{exprs_of_list}
 use Rattle.pc_types.specs.Tree.{Tree}
 use Rattle.pc_notes.specs.Notes.{Note}
-use Rattle.pc_expr.specs.Calls.{Callee, Seat}
+use Rattle.pc_expr.specs.Calls.{CalleeLabel, Seat}
 use Rattle.pc_expr.specs.Context.{is_early}
 use Rattle.pc_expr.specs.Found.{once}
 use Rattle.pc_expr.specs.Standing.{Standing, mark_in, finds_in, types_in, arguments_find}
@@ -15,12 +15,12 @@ use Rattle.pc_expr.specs.Typing.{early_in}
 use Rattle.pc_expr.proofs.Once.{once_early}
 use Rattle.pc_expr.proofs.Forms.{types_none, types_more, early_two, arguments_first}
 use Rattle.pc_expr.specs.declared.callee.Callee.{Callee as RustCallee}
-use Rattle.pc_expr.specs.Calling.{IsCallee}
+use Rattle.pc_expr.specs.Internal.JudgedCalls.{IsCallee}
 
 module _ {Store Ty : Type 0} (has : Store → Ty → Type 0) (tree : Ty → Tree) (store : Store) where
   -- what is a callee is what equals it
-  pub callee_as : {E : Type 0} (r : Result (RustCallee Ty) E) (m n : Callee) → m ≡ n → IfOk r (λ c. IsCallee has tree store c m) → IfOk r (λ c. IsCallee has tree store c n)
-  callee_as r m n e h = subst (λ (x : Callee). IfOk r (λ c. IsCallee has tree store c x)) e h
+  pub callee_as : {E : Type 0} (r : Result (RustCallee Ty) E) (m n : CalleeLabel) → m ≡ n → IfOk r (λ c. IsCallee has tree store c m) → IfOk r (λ c. IsCallee has tree store c n)
+  callee_as r m n e h = subst (λ (x : CalleeLabel). IfOk r (λ c. IsCallee has tree store c x)) e h
 
 -- two arguments, by their places
 pub two_arguments : (es : List RustExpr) (a b : RustExpr) → length es ≡ 2 → a ≡ get_or es 0 a → b ≡ get_or es 1 b → exprs_of_list es ≡ more_exprs (expr_of a) (more_exprs (expr_of b) no_exprs)

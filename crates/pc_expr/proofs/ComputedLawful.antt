@@ -15,9 +15,9 @@ use Rattle.pc_flow.specs.WellFormed.{IsWellFormedIfAny, IsWellFormedEnv, AreWell
 use Rattle.pc_flow.proofs.Conditions.{conditions_well_formed, join_object_well_formed}
 use Rattle.pc_expr.specs.Operations.{Mark, operand_types, negative_member, attribute_member, index_member}
 use Rattle.pc_expr.specs.Context.{Context}
-use Rattle.pc_expr.specs.Calls.{Seat, given, count_exprs, positional_seat, named_seat}
+use Rattle.pc_expr.specs.Calls.{Seat, arguments_given, count_exprs, positional_seat, named_seat}
 use Rattle.pc_expr.specs.Labels.{Marks, ItemsMarks, EntriesMarks, KeywordsMarks, mark_of, type_of, item_types, key_types, value_types, with_mark}
-use Rattle.pc_expr.specs.Lawful.{list_item, KeyValue, dict_parts, tuple_parts, members_of, item_seat, part_seat, key_seat, value_seat, int_literal, compare_types, callee_of, keyword_seat, DictMark, no_keys, int_keys, str_keys, other_keys, DictRule, Lawful, LawfulItems, LawfulEntries, LawfulKeywords}
+use Rattle.pc_expr.specs.Lawful.{list_item, KeyValue, dict_parts, tuple_parts, members_of_expected, item_seat, part_seat, key_seat, value_seat, int_literal, compare_types, callee_of, keyword_seat, DictMark, no_keys, int_keys, str_keys, other_keys, DictRule, Lawful, LawfulItems, LawfulEntries, LawfulKeywords}
 use Rattle.pc_expr.specs.WellFormed.{ContextWellFormed, MarksWellFormed, ItemsWellFormed, EntriesWellFormed, KeywordsWellFormed, ExpressionsHaveLabels, LawfulLabelsAreWellFormed}
 use Rattle.pc_expr.specs.Computed.{keys_mark, dict_mark, labels, items_labels, entries_labels, keywords_labels, labels_of, LabelsAreLawful}
 use Rattle.pc_expr.proofs.WellFormed.{any_well_formed, int_well_formed, bool_well_formed, str_well_formed, none_well_formed, all_well_formed}
@@ -123,8 +123,8 @@ module _ (ctx : Context) (declared : List Tree) (ck : ContextWellFormed ctx) (dk
     labels_lawful env k want w (truth p value) = record { lawful = refl; well_formed = bool_well_formed ctx.bases; each = bool_well_formed ctx.bases; object = tt }
     labels_lawful env k want w (nothing p) = record { lawful = refl; well_formed = none_well_formed ctx.bases; each = none_well_formed ctx.bases; object = tt }
     labels_lawful env k want w (tuple p es) =
-        let ts = tuple_parts (count_exprs es) (members_of want) in
-        let h = tuple_parts_well_formed ctx.bases (count_exprs es) (members_of want) (wanted_members ctx.bases want w) in
+        let ts = tuple_parts (count_exprs es) (members_of_expected want) in
+        let h = tuple_parts_well_formed ctx.bases (count_exprs es) (members_of_expected want) (wanted_members ctx.bases want w) in
         let m = items_lawful env k (part_seat ts) (part_seat_well_formed ctx.bases ts h) es in
         let t : IsWellFormed ctx.bases (type_of (tuple p es) (labels_here env want (tuple p es))) = tuple_well_formed ctx.bases (item_types es (items_here env (part_seat ts) es)) m.well_formed in
         record {
@@ -134,8 +134,8 @@ module _ (ctx : Context) (declared : List Tree) (ck : ContextWellFormed ctx) (dk
           object = tt;
         }
     labels_lawful env k want w (list p es) =
-        let item = list_item (members_of want) in
-        let h = list_item_well_formed ctx.bases (members_of want) (wanted_members ctx.bases want w) in
+        let item = list_item (members_of_expected want) in
+        let h = list_item_well_formed ctx.bases (members_of_expected want) (wanted_members ctx.bases want w) in
         let m = items_lawful env k (λ i. item_seat item) (λ i. list_seat_well_formed ctx.bases item h) es in
         let t : IsWellFormed ctx.bases (type_of (list p es) (labels_here env want (list p es))) = list_well_formed ctx.bases ck.smaller item (item_types es (items_here env (λ i. item_seat item) es)) h m.well_formed in
         record {
@@ -145,8 +145,8 @@ module _ (ctx : Context) (declared : List Tree) (ck : ContextWellFormed ctx) (dk
           object = tt;
         }
     labels_lawful env k want w (dict p es) =
-        let kv = dict_parts (members_of want) in
-        let h = dict_parts_well_formed ctx.bases (members_of want) (wanted_members ctx.bases want w) in
+        let kv = dict_parts (members_of_expected want) in
+        let h = dict_parts_well_formed ctx.bases (members_of_expected want) (wanted_members ctx.bases want w) in
         let m = entries_lawful env k (key_seat kv) (key_seat_well_formed ctx.bases kv h) (value_seat kv) (value_seat_well_formed ctx.bases kv h) es in
         let r = ruled kv (key_types es (entries_here env (key_seat kv) (value_seat kv) es)) (value_types es (entries_here env (key_seat kv) (value_seat kv) es)) h m.keys m.values in
         let t : IsWellFormed ctx.bases (type_of (dict p es) (labels_here env want (dict p es))) = r.1 in
@@ -243,12 +243,12 @@ module _ (ctx : Context) (declared : List Tree) (ck : ContextWellFormed ctx) (dk
         }
     labels_lawful env k want w (call p c args kws) =
         let v = labels_lawful env k None tt c in
-        let callee = callee_of ctx env (given args kws) c (labels_here env None c) in
+        let callee = callee_of ctx env (arguments_given args kws) c (labels_here env None c) in
         let os = callee.offers in
-        let h = callee_well_formed ctx ck env (given args kws) c (labels_here env None c) v.object in
+        let h = callee_well_formed ctx ck env (arguments_given args kws) c (labels_here env None c) v.object in
         let a = items_lawful env k (positional_seat os) (positional_well_formed ctx.bases os h) args in
         let b = keywords_lawful env k (named_seat os) (named_well_formed ctx.bases os h) [] kws in
-        let cw = with_well_formed ctx.bases c (labels_here env None c) callee.mark (callee_mark_well_formed ctx ck env k (given args kws) c (labels_here env None c) v.well_formed) v.each in
+        let cw = with_well_formed ctx.bases c (labels_here env None c) callee.mark (callee_mark_well_formed ctx ck env k (arguments_given args kws) c (labels_here env None c) v.well_formed) v.each in
         let t : IsWellFormed ctx.bases (type_of (call p c args kws) (labels_here env want (call p c args kws))) = whole_call_well_formed ctx ck env callee.rule os args (item_types args (items_here env (positional_seat os) args)) h a.well_formed in
         record {
           lawful = record { value = (labels_here env None c); lawful = v.lawful; callee = refl; arguments = a.lawful; keywords = b.lawful; here = refl; second = refl };

@@ -5,14 +5,14 @@ use Rattle.std.proofs.lemmas.List.{map_push, drop_all}
 use Rattle.std.proofs.lemmas.List.Elements.{All-push, All-get_or}
 use Rattle.pc_tree.proofs.Stops.{cons_at}
 use Rattle.pc_types.specs.Tree.{Tree}
-use Rattle.pc_class.specs.Facts.{Parameter}
+use Rattle.pc_class.specs.Facts.{TypedParameter}
 use Rattle.pc_expr.specs.declared.params.Param.{Param}
-use Rattle.pc_expr.specs.Calling.{HasParam, param_called}
+use Rattle.pc_expr.specs.Internal.JudgedCalls.{HasParam, param_called}
 
 pub item_there : {X : Type 0} (P : X → Type 0) (xs : List X) (i : ℕ) (x : X) → i < length xs → x ≡ get_or xs i x → All P xs → P x
 item_there P xs i x less is all = subst P (sym is) (All-get_or P xs i x less all)
 
-module _ {X Ty : Type 0} (has : Ty → Type 0) (tree : Ty → Tree) (meant : X → Parameter) (xs : List X) where
+module _ {X Ty : Type 0} (has : Ty → Type 0) (tree : Ty → Tree) (meant : X → TypedParameter) (xs : List X) where
   -- so many parameters are copied
   pub record IsCopied (i : ℕ) (ps : List (Param Ty)) : Type 0 where
     pub held : All (HasParam has) ps

@@ -11,7 +11,7 @@ use Rattle.pc_types.specs.declared.head.Head.{Head}
 use Rattle.pc_types.specs.Tree.{Tree, Trees, Any, Object, Never, Int, Bool, Str, NoneType, Class, ListOf, DictOf, TupleOf, Union}
 use Rattle.pc_types.specs.Below.{Bases}
 use Rattle.pc_types.specs.Head.{head_of}
-use Rattle.pc_types.specs.Shape.{nodes, limit, parts, listed, count}
+use Rattle.pc_types.specs.Shape.{nodes, node_limit, parts, list_of_trees, count}
 use Rattle.pc_flow.specs.Environment.{join_all}
 use Rattle.pc_flow.proofs.Rest.{mapped_rest, mapped_end}
 use Rattle.pc_expr.specs.Operations.{Mark, clean, in_error, display_mark}
@@ -19,17 +19,17 @@ use Rattle.pc_types.specs.Normal.{IsKey, IsNormal}
 use Rattle.pc_types.specs.Computed.{static_test}
 use Rattle.pc_expr.specs.Context.{Context}
 use Rattle.pc_expr.specs.Computed.{keys_mark, dict_mark}
-use Rattle.pc_expr.specs.Displays.{is_tuple, keyed_mark, own_dict_mark}
+use Rattle.pc_expr.specs.Internal.Displays.{is_tuple, keyed_mark, own_dict_mark}
 use Rattle.pc_expr.specs.Standing.{mark_with, IsMark}
 use Rattle.pc_expr.specs.declared.label.Label.{Label}
 use Rattle.pc_expr.proofs.Once.{clean_is, mark_as, marks_as}
 use Rattle.pc_expr.specs.Lawful.{list_item, dict_parts, tuple_parts, list_mark}
 
-pub display_within : (t : Tree) → nodes t ≤ limit → display_mark t ≡ clean t
-display_within t h = let e : nat_le (nodes t) limit ≡ true = grind (arith, nat_tests) in rw e refl
+pub display_within : (t : Tree) → nodes t ≤ node_limit → display_mark t ≡ clean t
+display_within t h = let e : nat_le (nodes t) node_limit ≡ true = grind (arith, nat_tests) in rw e refl
 
-pub display_over : (t : Tree) → limit < nodes t → display_mark t ≡ in_error E26
-display_over t h = let e : nat_le (nodes t) limit ≡ false = grind (arith, nat_tests) in rw e refl
+pub display_over : (t : Tree) → node_limit < nodes t → display_mark t ≡ in_error E26
+display_over t h = let e : nat_le (nodes t) node_limit ≡ false = grind (arith, nat_tests) in rw e refl
 
 -- the label of a list display, by its item type
 pub list_none : (bases : Bases) → {Ty : Type 0} → (tree : Ty → Tree) (ts : List Ty) → length ts ≡ 0 → display_mark (ListOf Any) ≡ list_mark bases None (map tree ts)
@@ -78,17 +78,17 @@ pub item_nowhere : {Ty : Type 0} (tree : Ty → Tree) (members : List Ty) (i : �
 item_nowhere tree members i le v = rw (mapped_end tree members i le) at v
 
 -- a list that the store gave is within the limit
-pub item_small : (t x : Tree) → t ≡ ListOf x → nodes t ≤ limit → nodes (ListOf x) ≤ limit
-item_small t x e h = subst (λ (u : Tree). nodes u ≤ limit) e h
+pub item_small : (t x : Tree) → t ≡ ListOf x → nodes t ≤ node_limit → nodes (ListOf x) ≤ node_limit
+item_small t x e h = subst (λ (u : Tree). nodes u ≤ node_limit) e h
 
 -- ---- labels of displays that a store made
 
 module _ {Store Ty : Type 0} (has : Store → Ty → Type 0) (tree : Ty → Tree) (store : Store) where
-  pub made_is : (l : Label Ty) (ty : Ty) (t : Tree) → mark_with tree l ≡ clean (tree ty) → l.ty ≡ ty → has store ty × (tree ty ≡ t) × (nodes t ≤ limit) → IsMark has tree store l (display_mark t)
+  pub made_is : (l : Label Ty) (ty : Ty) (t : Tree) → mark_with tree l ≡ clean (tree ty) → l.ty ≡ ty → has store ty × (tree ty ≡ t) × (nodes t ≤ node_limit) → IsMark has tree store l (display_mark t)
   made_is l ty t m e h = mark_as has tree store l _ _ (sym (display_within t h.2)) (clean_is has tree store l ty t m e h.0 h.1)
 
   -- a list display whose items are expected
-  pub wanted_is : {E : Type 0} (bases : Bases) (t : Tree) (ts : List Tree) (r : Result (Label Ty) E) → nodes (ListOf t) ≤ limit → IfOk r (λ l. IsMark has tree store l (display_mark (ListOf t))) → IfOk r (λ l. IsMark has tree store l (list_mark bases (Some t) ts))
+  pub wanted_is : {E : Type 0} (bases : Bases) (t : Tree) (ts : List Tree) (r : Result (Label Ty) E) → nodes (ListOf t) ≤ node_limit → IfOk r (λ l. IsMark has tree store l (display_mark (ListOf t))) → IfOk r (λ l. IsMark has tree store l (list_mark bases (Some t) ts))
   wanted_is bases t ts r h m = marks_as has tree store r _ _ (display_within (ListOf t) h) m
 
 -- ---- the first dict, and the first tuple of a length, among members
@@ -118,8 +118,8 @@ module _ {Ty : Type 0} (tree : Ty → Tree) (members : List Ty) (i : ℕ) (m : T
 pub given_at : {X : Type 0} (P : X → Type 0) (xs : List X) (i : ℕ) (x : X) → All P xs → i < length xs → x ≡ get_or xs i x → P x
 given_at P xs i x h lt is = subst P (sym is) (h i x lt)
 
-pub dict_fits : (t x y : Tree) → t ≡ DictOf x y → IsNormal t → nodes t ≤ limit → IsKey x × (nodes (DictOf x y) ≤ limit)
-dict_fits t x y e n h = ((subst IsNormal e n).0, subst (λ (u : Tree). nodes u ≤ limit) e h)
+pub dict_fits : (t x y : Tree) → t ≡ DictOf x y → IsNormal t → nodes t ≤ node_limit → IsKey x × (nodes (DictOf x y) ≤ node_limit)
+dict_fits t x y e n h = ((subst IsNormal e n).0, subst (λ (u : Tree). nodes u ≤ node_limit) e h)
 
 -- ---- dict displays of which no dict is expected
 

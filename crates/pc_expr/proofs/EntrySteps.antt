@@ -8,7 +8,7 @@ use Rattle.pc_tree.specs.Tree.{Entries, Keywords, no_entries, more_entries, no_k
 use Rattle.pc_tree.specs.Depth.{place_of}
 use Rattle.pc_tree.specs.Lists.{entries_of_list, keywords_of_list}
 use Rattle.pc_tree.proofs.Stops.{cons_at}
-use Rattle.pc_scope.specs.Resolution.{is_among}
+use Rattle.pc_scope.specs.Resolution.{is_one_of}
 use Rattle.pc_types.specs.Tree.{Tree}
 use Rattle.pc_notes.specs.Notes.{Note}
 use Rattle.pc_expr.specs.Calls.{Seat, nowhere}
@@ -77,7 +77,7 @@ module _ (k : Standing) (x y : Seat) (es : List RustEntry) (i : ℕ) (le : lengt
 
 -- the same names are among two lists
 abbrev pub HaveSame : List (List ℕ) → List (List ℕ) → Type 0
-HaveSame a b = (word : List ℕ) → is_among word a ≡ is_among word b
+HaveSame a b = (word : List ℕ) → is_one_of word a ≡ is_one_of word b
 
 module _ (k : Standing) (seat : List ℕ → Seat) where
   -- what is found in arguments by name goes by which names are among those before alone

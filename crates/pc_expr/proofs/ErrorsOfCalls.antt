@@ -13,7 +13,7 @@ use Rattle.pc_expr.specs.Found.{has_code, once_onto, once}
 use Rattle.pc_expr.proofs.Once.{onto_append}
 use Rattle.pc_expr.specs.Operations.{has_error}
 use Rattle.pc_expr.specs.Calls.{CallOffer, all_codes}
-use Rattle.pc_expr.specs.Calling.{offer_called, found_at_callee, found_at_call}
+use Rattle.pc_expr.specs.Internal.JudgedCalls.{offer_called, found_at_callee, found_at_call}
 
 any_append : (xs ys : List Code) → has_error (xs ++ ys) ≡ (has_error xs || has_error ys)
 any_append [] ys = refl

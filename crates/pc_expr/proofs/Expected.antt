@@ -6,10 +6,10 @@ use Rattle.pc_tree.specs.declared.tree.ComparisonOperator.{ComparisonOperator}
 use Rattle.pc_tree.specs.declared.tree.ComparisonOperator.TheVariants.{Equal, NotEqual, In, NotIn}
 use Rattle.pc_types.specs.Tree.{Tree, Any, Int, Str, ListOf, DictOf, TupleOf}
 use Rattle.pc_types.specs.Below.{Bases, AreSmaller}
-use Rattle.pc_types.specs.Shape.{count, listed, trees}
+use Rattle.pc_types.specs.Shape.{count, list_of_trees, trees}
 use Rattle.pc_flow.specs.Environment.{join_all}
 use Rattle.pc_expr.specs.Operations.{display_mark, contain_member}
-use Rattle.pc_expr.specs.Lawful.{list_item, KeyValue, dict_parts, tuple_parts, members_of, item_seat, part_seat, list_mark, key_seat, value_seat, contain_offers, compare_mark, compare_types}
+use Rattle.pc_expr.specs.Lawful.{list_item, KeyValue, dict_parts, tuple_parts, members_of_expected, item_seat, part_seat, list_mark, key_seat, value_seat, contain_offers, compare_mark, compare_types}
 use Rattle.pc_types.specs.WellFormed.{IsWellFormed}
 use Rattle.pc_flow.specs.WellFormed.{IsWellFormedIfAny, AreWellFormed}
 use Rattle.pc_expr.proofs.WellFormed.{bool_well_formed, item_well_formed, key_well_formed, value_well_formed, parts_well_formed, members_well_formed, at_well_formed, trees_normal, all_well_formed}
@@ -17,7 +17,7 @@ use Rattle.pc_expr.proofs.OfferedTypes.{OffersWellFormed, each_well_formed, cont
 use Rattle.pc_expr.proofs.Called.{SeatWellFormed, nowhere_well_formed}
 
 module _ (bases : Bases) where
-  pub wanted_members : (want : Option Tree) → IsWellFormedIfAny bases want → AreWellFormed bases (members_of want)
+  pub wanted_members : (want : Option Tree) → IsWellFormedIfAny bases want → AreWellFormed bases (members_of_expected want)
   wanted_members None h = tt
   wanted_members (Some t) h = members_well_formed bases t h
 
@@ -48,7 +48,7 @@ module _ (bases : Bases) where
   -- ---- tuples
   pub tuple_parts_well_formed : (n : ℕ) (ts : List Tree) → AreWellFormed bases ts → AreWellFormed bases (tuple_parts n ts)
   tuple_parts_well_formed n [] h = tt
-  tuple_parts_well_formed n (TupleOf us ∷ ts) h = cond_both (nat_eq (count us) n) (listed us) (tuple_parts n ts) (AreWellFormed bases) (λ e. parts_well_formed bases us h.0) (λ e. tuple_parts_well_formed n ts h.1)
+  tuple_parts_well_formed n (TupleOf us ∷ ts) h = cond_both (nat_eq (count us) n) (list_of_trees us) (tuple_parts n ts) (AreWellFormed bases) (λ e. parts_well_formed bases us h.0) (λ e. tuple_parts_well_formed n ts h.1)
   tuple_parts_well_formed n (t ∷ ts) h = tuple_parts_well_formed n ts h.1
 
   pub part_seat_well_formed : (ts : List Tree) → AreWellFormed bases ts → (i : ℕ) → SeatWellFormed bases (part_seat ts i)

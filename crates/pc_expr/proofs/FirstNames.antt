@@ -9,12 +9,12 @@ use Rattle.indexmap.specs.IndexMap.{insert_entry}
 use Rattle.pc_types.specs.Tree.{Tree}
 use Rattle.pc_scope.specs.Resolution.{index_of}
 use Rattle.pc_expr.specs.declared.params.Param.{Param}
-use Rattle.pc_class.specs.Facts.{Parameter}
+use Rattle.pc_class.specs.Facts.{TypedParameter}
 use Rattle.pc_expr.specs.Calls.{position_of, parameter_names}
-use Rattle.pc_expr.specs.Calling.{param_called, names_called}
+use Rattle.pc_expr.specs.Internal.JudgedCalls.{param_called, names_called}
 
 -- the position of a name among parameters is that among their names
-pub position_index : (ps : List Parameter) (word : List ℕ) → position_of ps word ≡ index_of word (parameter_names ps)
+pub position_index : (ps : List TypedParameter) (word : List ℕ) → position_of ps word ≡ index_of word (parameter_names ps)
 position_index [] word = refl
 position_index (p ∷ ps) word = ap (λ o. if bytes_eq word p.name then Some zero else option_map suc o) (position_index ps word)
 

@@ -14,11 +14,11 @@ use Rattle.pc_tree.specs.Code.{finding}
 use Rattle.pc_tree.specs.Tree.{Expr, Exprs, Entries, Keywords, name, number, text, truth, nothing, tuple, list, dict, negative, negation, binary, compare, is_none, is_not_none, conjunction, disjunction, attribute, index, call, no_exprs, more_exprs, no_entries, more_entries, no_keywords, more_keywords}
 use Rattle.pc_tree.specs.Depth.{place_of}
 use Rattle.pc_scope.specs.Expressions.{is_instance_test}
-use Rattle.pc_notes.specs.Notes.{Note, plain, findings_of}
+use Rattle.pc_notes.specs.Notes.{Note, plain_note, findings_of}
 use Rattle.pc_expr.specs.Operations.{Mark}
 use Rattle.pc_expr.specs.Found.{has_code, add_code, once_onto, once, flow_note, own_flow, flow_then, flows_behind}
 use Rattle.pc_expr.specs.Found as noted
-use Rattle.pc_expr.specs.Labels.{Flowing, Marks, ItemsMarks, EntriesMarks, KeywordsMarks, mark_of, is_of_scopes, second_place, Finds}
+use Rattle.pc_expr.specs.Labels.{FlowMarks, Marks, ItemsMarks, EntriesMarks, KeywordsMarks, mark_of, is_of_scopes, second_place, Finds}
 
 -- the finding of a code at a place, none of a code that is found of scopes
 abbrev pub own_at : Place → Code → List Finding
@@ -34,11 +34,11 @@ code_at p None = []
 code_at p (Some c) = own_at p c
 
 -- the codes of flows
-abbrev pub flow_codes : Flowing → List Code
+abbrev pub flow_codes : FlowMarks → List Code
 flow_codes flows = flat_map (λ f. option_to_list f.code) flows
 
 -- the findings of flows at the place of what flows, each code once
-abbrev pub flows_at : Place → Flowing → List Finding
+abbrev pub flows_at : Place → FlowMarks → List Finding
 flows_at p flows = codes_at p (flow_codes flows)
 
 -- the findings in the parts of an expression, with those of its own codes behind them
@@ -109,7 +109,7 @@ unless true n = refl
 unless false n = refl
 
 forget_own : (p : Place) (c : Code) → findings_of (noted.own_at p c) ≡ own_at p c
-forget_own p c = unless (is_of_scopes c) (plain (finding p c))
+forget_own p c = unless (is_of_scopes c) (plain_note (finding p c))
 
 forget_each : (p : Place) (cs : List Code) → findings_of (flat_map (noted.own_at p) cs) ≡ flat_map (own_at p) cs
 forget_each p [] = refl
@@ -118,7 +118,7 @@ forget_each p (c ∷ cs) = both (noted.own_at p c) (flat_map (noted.own_at p) cs
 forget_codes : (p : Place) (cs : List Code) → findings_of (noted.codes_at p cs) ≡ codes_at p cs
 forget_codes p cs = forget_each p (once cs)
 
-pub forget_code : (p : Place) (o : Option Code) → findings_of (noted.code_at p o) ≡ code_at p o
+pub forget_code : (p : Place) (o : Option Code) → findings_of (noted.notes_of_code p o) ≡ code_at p o
 forget_code p None = refl
 forget_code p (Some c) = forget_own p c
 
@@ -148,11 +148,11 @@ flow_step p before s t (Some c) rest cs go = by_test (has_code before c)
         ∙ append_assoc (flat_map (own_at p) before) (own_at p c) (findings_of (rest (before ++ c ∷ [])))
         ∙ ap (λ l. flat_map (own_at p) before ++ l) (sym (both (own_flow p s t c) (rest (before ++ c ∷ [])) (own_at p c) (findings_of (rest (before ++ c ∷ []))) (forget_flow p s t c) refl))
 
-forget_behind : (p : Place) (flows : Flowing) (before : List Code) → flat_map (own_at p) (once_onto before (flow_codes flows)) ≡ flat_map (own_at p) before ++ findings_of (flows_behind p before flows)
+forget_behind : (p : Place) (flows : FlowMarks) (before : List Code) → flat_map (own_at p) (once_onto before (flow_codes flows)) ≡ flat_map (own_at p) before ++ findings_of (flows_behind p before flows)
 forget_behind p [] before = sym (append-nil (flat_map (own_at p) before))
 forget_behind p (f ∷ fs) before = flow_step p before f.from f.into f.code (λ codes. flows_behind p codes fs) (flow_codes fs) (forget_behind p fs)
 
-pub forget_flows : (p : Place) (flows : Flowing) → findings_of (noted.flows_at p flows) ≡ flows_at p flows
+pub forget_flows : (p : Place) (flows : FlowMarks) → findings_of (noted.flows_at p flows) ≡ flows_at p flows
 forget_flows p flows = sym (forget_behind p flows [])
 
 forget_whole : (e : Expr) (m : Marks e) (parts : List Note) (fs : List Finding) → findings_of parts ≡ fs → findings_of (noted.whole e m parts) ≡ whole e m fs
@@ -205,5 +205,5 @@ mutual
   forget_keywords (more_keywords parameter value rest) m = both _ _ _ _ (forget_whole value m.first _ _ (forget_parts value m.first)) (both _ _ _ _ (forget_flows (place_of value) m.flows) (forget_keywords rest m.rest))
 
 -- in an expression, with its own codes
-pub forget_inside : (e : Expr) (m : Marks e) → findings_of (noted.found_in e m) ≡ found_in e m
+pub forget_inside : (e : Expr) (m : Marks e) → findings_of (noted.notes_under e m) ≡ found_in e m
 forget_inside e m = forget_whole e m (noted.found_in_parts e m) (found_in_parts e m) (forget_parts e m)

@@ -16,13 +16,13 @@ use Rattle.pc_flow.specs.Environment.{join_or_object}
 use Rattle.pc_notes.specs.Notes.{Note}
 use Rattle.pc_expr.specs.Operations.{Mark, clean, in_error, offers_mark, operand_types, negative_member, attribute_member, index_member, binary_mark, display_mark}
 use Rattle.pc_expr.specs.Context.{Context, name_mark, is_early}
-use Rattle.pc_expr.specs.Calls.{Seat, Given, Callee, CallRule, member_rule, length_rule, test_rule, given, count_exprs, value_callee, name_callee, method_callee, positional_seat, named_seat}
+use Rattle.pc_expr.specs.Calls.{Seat, GivenArguments, CalleeLabel, CallRule, member_rule, length_rule, test_rule, arguments_given, count_exprs, value_callee, name_callee, method_callee, positional_seat, named_seat}
 use Rattle.pc_expr.specs.Labels.{Marks, ItemsMarks, mark_of, type_of, with_mark, second_place}
-use Rattle.pc_expr.specs.Lawful.{list_item, dict_parts, tuple_parts, members_of, item_seat, part_seat, list_mark, key_seat, value_seat, int_literal, compare_mark, compare_types, whole_call_mark, whole_second_code, early_second, keyword_seat}
+use Rattle.pc_expr.specs.Lawful.{list_item, dict_parts, tuple_parts, members_of_expected, item_seat, part_seat, list_mark, key_seat, value_seat, int_literal, compare_mark, compare_types, whole_call_mark, whole_second_code, early_second, keyword_seat}
 use Rattle.pc_expr.specs.Computed.{flows_of, dict_mark, labels_of}
-use Rattle.pc_expr.specs.Found.{codes_at, code_at, flows_at, found_in, found_in_parts, found_in_items, found_in_arguments}
-use Rattle.pc_expr.specs.Standing.{Standing, narrowed, mark_in, finds_in, parts_find, items_in, types_in, items_find, arguments_find, keys_in, values_in, entries_find, keywords_find}
-use Rattle.pc_expr.specs.Typing.{is_other, other_callee, callee_in, callee_finds, early_in}
+use Rattle.pc_expr.specs.Found.{codes_at, notes_of_code, flows_at, notes_under, found_in_parts, found_in_items, found_in_arguments}
+use Rattle.pc_expr.specs.Standing.{Standing, narrowed_standing, mark_in, finds_in, parts_find, items_in, types_in, items_find, arguments_find, keys_in, values_in, entries_find, keywords_find}
+use Rattle.pc_expr.specs.Typing.{is_other, unnamed_callee, callee_in, callee_finds, early_in}
 
 module _ (k : Standing) (want : Option Tree) where
   -- what is found in an expression: in its parts, and then at it
@@ -72,27 +72,27 @@ module _ (k : Standing) (want : Option Tree) where
   parts_nothing p = refl
 
   -- ---- displays
-  pub mark_tuple : (p : Place) (es : Exprs) → mark_in k want (tuple p es) ≡ display_mark (TupleOf (trees (types_in k (part_seat (tuple_parts (count_exprs es) (members_of want))) es)))
+  pub mark_tuple : (p : Place) (es : Exprs) → mark_in k want (tuple p es) ≡ display_mark (TupleOf (trees (types_in k (part_seat (tuple_parts (count_exprs es) (members_of_expected want))) es)))
   unfolding mark_in types_in
   mark_tuple p es = refl
 
-  pub parts_tuple : (p : Place) (es : Exprs) → parts_find k want (tuple p es) ≡ items_find k (part_seat (tuple_parts (count_exprs es) (members_of want))) es
+  pub parts_tuple : (p : Place) (es : Exprs) → parts_find k want (tuple p es) ≡ items_find k (part_seat (tuple_parts (count_exprs es) (members_of_expected want))) es
   unfolding parts_find items_find
   parts_tuple p es = refl
 
-  pub mark_list : (p : Place) (es : Exprs) → mark_in k want (list p es) ≡ list_mark k.context.bases (list_item (members_of want)) (types_in k (λ i. item_seat (list_item (members_of want))) es)
+  pub mark_list : (p : Place) (es : Exprs) → mark_in k want (list p es) ≡ list_mark k.context.bases (list_item (members_of_expected want)) (types_in k (λ i. item_seat (list_item (members_of_expected want))) es)
   unfolding mark_in types_in
   mark_list p es = refl
 
-  pub parts_list : (p : Place) (es : Exprs) → parts_find k want (list p es) ≡ items_find k (λ i. item_seat (list_item (members_of want))) es
+  pub parts_list : (p : Place) (es : Exprs) → parts_find k want (list p es) ≡ items_find k (λ i. item_seat (list_item (members_of_expected want))) es
   unfolding parts_find items_find
   parts_list p es = refl
 
-  pub mark_dict : (p : Place) (es : Entries) → mark_in k want (dict p es) ≡ dict_mark k.context k.declared (static_test k.context.bases) (assignable_test k.context.bases) (dict_parts (members_of want)) (keys_in k (key_seat (dict_parts (members_of want))) (value_seat (dict_parts (members_of want))) es) (values_in k (key_seat (dict_parts (members_of want))) (value_seat (dict_parts (members_of want))) es)
+  pub mark_dict : (p : Place) (es : Entries) → mark_in k want (dict p es) ≡ dict_mark k.context k.declared (static_test k.context.bases) (assignable_test k.context.bases) (dict_parts (members_of_expected want)) (keys_in k (key_seat (dict_parts (members_of_expected want))) (value_seat (dict_parts (members_of_expected want))) es) (values_in k (key_seat (dict_parts (members_of_expected want))) (value_seat (dict_parts (members_of_expected want))) es)
   unfolding mark_in keys_in values_in
   mark_dict p es = refl
 
-  pub parts_dict : (p : Place) (es : Entries) → parts_find k want (dict p es) ≡ entries_find k (key_seat (dict_parts (members_of want))) (value_seat (dict_parts (members_of want))) es
+  pub parts_dict : (p : Place) (es : Entries) → parts_find k want (dict p es) ≡ entries_find k (key_seat (dict_parts (members_of_expected want))) (value_seat (dict_parts (members_of_expected want))) es
   unfolding parts_find entries_find
   parts_dict p es = refl
 
@@ -154,19 +154,19 @@ module _ (k : Standing) (want : Option Tree) where
   unfolding parts_find finds_in mark_in
   parts_compare p o l r = refl
 
-  pub mark_conjunction : (p : Place) (l r : Expr) → mark_in k want (conjunction p l r) ≡ clean (join_or_object k.context.bases (mark_in k None l).type (mark_in (narrowed k true l) None r).type)
+  pub mark_conjunction : (p : Place) (l r : Expr) → mark_in k want (conjunction p l r) ≡ clean (join_or_object k.context.bases (mark_in k None l).type (mark_in (narrowed_standing k true l) None r).type)
   unfolding mark_in
   mark_conjunction p l r = refl
 
-  pub parts_conjunction : (p : Place) (l r : Expr) → parts_find k want (conjunction p l r) ≡ finds_in k None l ++ finds_in (narrowed k true l) None r
+  pub parts_conjunction : (p : Place) (l r : Expr) → parts_find k want (conjunction p l r) ≡ finds_in k None l ++ finds_in (narrowed_standing k true l) None r
   unfolding parts_find finds_in
   parts_conjunction p l r = refl
 
-  pub mark_disjunction : (p : Place) (l r : Expr) → mark_in k want (disjunction p l r) ≡ clean (join_or_object k.context.bases (mark_in k None l).type (mark_in (narrowed k false l) None r).type)
+  pub mark_disjunction : (p : Place) (l r : Expr) → mark_in k want (disjunction p l r) ≡ clean (join_or_object k.context.bases (mark_in k None l).type (mark_in (narrowed_standing k false l) None r).type)
   unfolding mark_in
   mark_disjunction p l r = refl
 
-  pub parts_disjunction : (p : Place) (l r : Expr) → parts_find k want (disjunction p l r) ≡ finds_in k None l ++ finds_in (narrowed k false l) None r
+  pub parts_disjunction : (p : Place) (l r : Expr) → parts_find k want (disjunction p l r) ≡ finds_in k None l ++ finds_in (narrowed_standing k false l) None r
   unfolding parts_find finds_in
   parts_disjunction p l r = refl
 
@@ -182,7 +182,7 @@ module _ (k : Standing) (want : Option Tree) where
 
 arguments_are_items : (es : Exprs) (m : ItemsMarks es) → found_in_arguments false es m ≡ found_in_items es m
 arguments_are_items no_exprs m = refl
-arguments_are_items (more_exprs e rest) m = ap (λ fs. found_in e m.first ++ (flows_at (place_of e) m.flows ++ fs)) (arguments_are_items rest m.rest)
+arguments_are_items (more_exprs e rest) m = ap (λ fs. notes_under e m.first ++ (flows_at (place_of e) m.flows ++ fs)) (arguments_are_items rest m.rest)
 
 module _ (k : Standing) (seat : ℕ → Seat) where
   pub types_none : types_in k seat no_exprs ≡ []
@@ -306,7 +306,7 @@ mark_put (attribute p e field) m here = refl
 mark_put (index p e i) m here = refl
 mark_put (call p c args kws) m here = refl
 
-module _ (k : Standing) (g : Given) where
+module _ (k : Standing) (g : GivenArguments) where
   -- what is found in a callee: in its parts, and then at it
   pub callee_whole : (e : Expr) → callee_finds k g e ≡ parts_find k None e ++ codes_at (place_of e) (callee_in k g e).mark.codes
   unfolding callee_finds parts_find
@@ -323,12 +323,12 @@ module _ (k : Standing) (g : Given) where
   unfolding callee_in mark_in
   callee_attribute p e field h = ap (λ b. if b then method_callee k.context g field.text (type_of e (labels_of k.context k.declared k.env None e)) else value_callee (in_error E03)) h
 
-  by_body : (b : Test) (m : Mark) → (if b then value_callee m else value_callee (in_error E03)) ≡ other_callee b m
+  by_body : (b : Test) (m : Mark) → (if b then value_callee m else value_callee (in_error E03)) ≡ unnamed_callee b m
   by_body true m = refl
   by_body false m = refl
 
   -- any other callee
-  pub callee_other : (e : Expr) → is_other e ≡ true → callee_in k g e ≡ other_callee k.context.in_body (mark_in k None e)
+  pub callee_other : (e : Expr) → is_other e ≡ true → callee_in k g e ≡ unnamed_callee k.context.in_body (mark_in k None e)
   unfolding callee_in mark_in
   callee_other (name n) h = absurd (cc h)
   callee_other (number p d) h = by_body k.context.in_body (mark_of (number p d) (labels_of k.context k.declared k.env None (number p d)))
@@ -351,14 +351,14 @@ module _ (k : Standing) (g : Given) where
   callee_other (call p c args kws) h = by_body k.context.in_body (mark_of (call p c args kws) (labels_of k.context k.declared k.env None (call p c args kws)))
 
   -- in an initializer an attribute too
-  pub callee_early : (p : Place) (e : Expr) (field : Name) → k.context.in_body ≡ false → callee_in k g (attribute p e field) ≡ other_callee k.context.in_body (mark_in k None (attribute p e field))
+  pub callee_early : (p : Place) (e : Expr) (field : Name) → k.context.in_body ≡ false → callee_in k g (attribute p e field) ≡ unnamed_callee k.context.in_body (mark_in k None (attribute p e field))
   unfolding callee_in
   callee_early p e field h =
       ap (λ b. if b then method_callee k.context g field.text (type_of e (labels_of k.context k.declared k.env None e)) else value_callee (in_error E03)) h
-      ∙ sym (ap (λ b. other_callee b (mark_in k None (attribute p e field))) h)
+      ∙ sym (ap (λ b. unnamed_callee b (mark_in k None (attribute p e field))) h)
 
 module _ (k : Standing) (want : Option Tree) where
   pub mark_call : (p : Place) (c : Expr) (args : Exprs) (kws : Keywords) → mark_in k want (call p c args kws) ≡
-      whole_call_mark k.context k.env (callee_in k (given args kws) c).rule (callee_in k (given args kws) c).offers args (types_in k (positional_seat (callee_in k (given args kws) c).offers) args)
+      whole_call_mark k.context k.env (callee_in k (arguments_given args kws) c).rule (callee_in k (arguments_given args kws) c).offers args (types_in k (positional_seat (callee_in k (arguments_given args kws) c).offers) args)
   unfolding mark_in callee_in types_in
   mark_call p c args kws = refl

@@ -12,8 +12,8 @@ use Rattle.pc_tree.specs.Depth.{place_of}
 use Rattle.pc_scope.specs.Expressions.{is_instance_test}
 use Rattle.pc_scope.proofs.Among.{none_among, first_among, later_among, among_first, either}
 use Rattle.pc_expr.specs.Operations.{FlowMark}
-use Rattle.pc_expr.specs.Labels.{Flowing, Marks, ItemsMarks, EntriesMarks, KeywordsMarks, is_of_scopes, second_place, IsFoundAt, IsFlowAt, IsCodeAt, Finds, ItemsFind, ArgumentsFind, EntriesFind, KeywordsFind}
-use Rattle.pc_notes.specs.Notes.{Note, plain, findings_of}
+use Rattle.pc_expr.specs.Labels.{FlowMarks, Marks, ItemsMarks, EntriesMarks, KeywordsMarks, is_of_scopes, second_place, IsFoundAt, IsFlowAt, IsCodeAt, Finds, ItemsFind, ArgumentsFind, EntriesFind, KeywordsFind}
+use Rattle.pc_notes.specs.Notes.{Note, plain_note, findings_of}
 use Rattle.pc_expr.specs.Found.{once, IsOwn}
 use Rattle.pc_expr.specs.Found as noted
 use Rattle.pc_expr.proofs.Forgotten.{own_at, codes_at, code_at, flow_codes, flows_at, found_in, found_in_items, found_in_arguments, found_in_entries, found_in_keywords, forget_inside, forget_flows}
@@ -72,7 +72,7 @@ code_lists p None f h own = absurd h
 code_lists p (Some c) f h own = own_lists p c f h own
 
 -- a code of flows is the code of one of them
-record HasFlow (fs : Flowing) (c : Code) : Type 0 where
+record HasFlow (fs : FlowMarks) (c : Code) : Type 0 where
   flow : FlowMark
   among : Contains fs flow
   found : flow.code ≡ Some c
@@ -81,25 +81,25 @@ one_code : (g : FlowMark) (c : Code) (o : Option Code) → g.code ≡ o → Cont
 one_code g c None e h = absurd (none_among c h)
 one_code g c (Some d) e h = elim (among_first d [] c h) [ inl s ↦ e ∙ ap (λ x. Some x) s | inr n ↦ absurd (none_among c n) ]
 
-flow_with : (fs : Flowing) (c : Code) → Contains (flow_codes fs) c → HasFlow fs c
+flow_with : (fs : FlowMarks) (c : Code) → Contains (flow_codes fs) c → HasFlow fs c
 flow_with [] c h = absurd (none_among c h)
 flow_with (g ∷ gs) c h = either (option_to_list g.code) (flow_codes gs) c h
     (λ a. record { flow = g; among = first_among g gs; found = one_code g c g.code refl a })
     (λ b. let r = flow_with gs c b in record { flow = r.flow; among = later_among g gs r.flow r.among; found = r.found })
 
-code_with : (fs : Flowing) (g : FlowMark) (c : Code) → Contains fs g → g.code ≡ Some c → Contains (flow_codes fs) c
+code_with : (fs : FlowMarks) (g : FlowMark) (c : Code) → Contains fs g → g.code ≡ Some c → Contains (flow_codes fs) c
 code_with [] g c h e = absurd (none_among g h)
 code_with (d ∷ fs) g c h e = elim (among_first d fs g h) [
   | inl same ↦ Contains-append_left (option_to_list d.code) (flow_codes fs) c (subst (λ (o : Option Code). Contains (option_to_list o) c) (sym (ap (λ (x : FlowMark). x.code) same ∙ e)) (first_among c []))
   | inr rest ↦ Contains-append_right (option_to_list d.code) (flow_codes fs) c (code_with fs g c rest e)
 ]
 
-flow_of_code : (p : Place) (fs : Flowing) (f : Finding) → IsFoundAt p (flow_codes fs) f → IsFlowAt p fs f
+flow_of_code : (p : Place) (fs : FlowMarks) (f : Finding) → IsFoundAt p (flow_codes fs) f → IsFlowAt p fs f
 flow_of_code p fs f h =
     let r = flow_with fs h.code h.among in
     record { flow = r.flow; among = r.among; code = h.code; found = r.found; is = h.is }
 
-code_of_flow : (p : Place) (fs : Flowing) (f : Finding) → IsFlowAt p fs f → IsFoundAt p (flow_codes fs) f
+code_of_flow : (p : Place) (fs : FlowMarks) (f : Finding) → IsFlowAt p fs f → IsFoundAt p (flow_codes fs) f
 code_of_flow p fs f h = record { code = h.code; among = code_with fs h.flow h.code h.among h.found; is = h.is }
 
 -- ---- two lists, one after the other
@@ -176,7 +176,7 @@ at_codes f p cs = (codes_listed p cs f, codes_list p cs f)
 at_code : (f : Finding) (p : Place) (c : Option Code) → Lists f (code_at p c) (IsCodeAt p c f)
 at_code f p c = (code_listed p c f, code_lists p c f)
 
-pub at_flows : (f : Finding) (p : Place) (fs : Flowing) → Lists f (flows_at p fs) (IsFlowAt p fs f)
+pub at_flows : (f : Finding) (p : Place) (fs : FlowMarks) → Lists f (flows_at p fs) (IsFlowAt p fs f)
 at_flows f p fs = same_listed f (flows_at p fs) (flow_of_code p fs f) (code_of_flow p fs f) (at_codes f p (flow_codes fs))
 
 pub nothing_listed : (f : Finding) → Lists f [] ⊥
@@ -189,7 +189,7 @@ over_parts : (f : Finding) (xs : List Finding) {P : Type 0} (p : Place) (cs : Li
 over_parts f xs p cs h = same_listed f (xs ++ codes_at p cs) turned turned (in_turn f xs (codes_at p cs) h (at_codes f p cs))
 
 -- two operands, and a flow of one of them
-over_flow : (f : Finding) (xs ys : List Finding) {P Q : Type 0} (q : Place) (fs : Flowing) → Lists f xs P → Lists f ys Q → Lists f (xs ++ (ys ++ flows_at q fs)) (IsFlowAt q fs f ⊎ (P ⊎ Q))
+over_flow : (f : Finding) (xs ys : List Finding) {P Q : Type 0} (q : Place) (fs : FlowMarks) → Lists f xs P → Lists f ys Q → Lists f (xs ++ (ys ++ flows_at q fs)) (IsFlowAt q fs f ⊎ (P ⊎ Q))
 over_flow f xs ys q fs h k =
     same_listed f (xs ++ (ys ++ flows_at q fs)) third_first first_third (in_turn f xs (ys ++ flows_at q fs) h (in_turn f ys (flows_at q fs) k (at_flows f q fs)))
 
@@ -198,7 +198,7 @@ over_operands : (f : Finding) (xs ys : List Finding) {P Q : Type 0} (p : Place) 
 over_operands f xs ys p cs h k = over_parts f (xs ++ ys) p cs (in_turn f xs ys h k)
 
 -- an item with its flows, and then the others
-over_item : (f : Finding) (xs ys : List Finding) {P Q : Type 0} (p : Place) (fs : Flowing) → Lists f xs P → Lists f ys Q → Lists f (xs ++ (flows_at p fs ++ ys)) (IsFlowAt p fs f ⊎ (P ⊎ Q))
+over_item : (f : Finding) (xs ys : List Finding) {P Q : Type 0} (p : Place) (fs : FlowMarks) → Lists f xs P → Lists f ys Q → Lists f (xs ++ (flows_at p fs ++ ys)) (IsFlowAt p fs f ⊎ (P ⊎ Q))
 over_item f xs ys p fs h k =
     same_listed f (xs ++ (flows_at p fs ++ ys)) second_first second_first (in_turn f xs (flows_at p fs ++ ys) h (in_turn f (flows_at p fs) ys (at_flows f p fs) k))
 
@@ -269,7 +269,7 @@ mutual
       over_item f (found_in value m.first) (found_in_keywords rest m.rest) (place_of value) m.flows (in_expression f value m.first) (in_keywords f rest m.rest)
 
 -- the list has just what stands under the labels and is not found of scopes
-pub findings_listed : (e : Expr) (m : Marks e) (f : Finding) → Contains (findings_of (noted.found_in e m)) f ↔ IsOwn e m f
+pub findings_listed : (e : Expr) (m : Marks e) (f : Finding) → Contains (findings_of (noted.notes_under e m)) f ↔ IsOwn e m f
 findings_listed e m f =
     let h = in_expression f e m in
     subst (λ (l : List Finding). Contains l f ↔ IsOwn e m f) (sym (forget_inside e m)) (λ c. let r = h.0 c in record { stands = r.0; own = r.1 }, λ o. h.1 o.stands o.own)
@@ -293,13 +293,13 @@ noted_in_turn f xs ys {P} {Q} h k =
     subst (λ (l : List Finding). Lists f l (P ⊎ Q)) (sym (map-append (λ (n : Note). n.finding) xs ys)) (in_turn f (findings_of xs) (findings_of ys) h k)
 
 -- the list of flows has the codes of flows
-pub noted_flows : (f : Finding) (p : Place) (flows : Flowing) → Noted f (noted.flows_at p flows) (IsFlowAt p flows f)
+pub noted_flows : (f : Finding) (p : Place) (flows : FlowMarks) → Noted f (noted.flows_at p flows) (IsFlowAt p flows f)
 noted_flows f p flows = subst (λ (l : List Finding). Lists f l (IsFlowAt p flows f)) (sym (forget_flows p flows)) (at_flows f p flows)
 
-pub plain_findings : (fs : List Finding) → findings_of (map plain fs) ≡ fs
+pub plain_findings : (fs : List Finding) → findings_of (map plain_note fs) ≡ fs
 plain_findings [] = refl
 plain_findings (g ∷ gs) = ap (λ l. g ∷ l) (plain_findings gs)
 
 -- findings that tell of no flow
-pub noted_plain : (f : Finding) (fs : List Finding) (P : Type 0) → Lists f fs P → Noted f (map plain fs) P
+pub noted_plain : (f : Finding) (fs : List Finding) (P : Type 0) → Lists f fs P → Noted f (map plain_note fs) P
 noted_plain f fs P h = subst (λ (l : List Finding). Lists f l P) (sym (plain_findings fs)) h

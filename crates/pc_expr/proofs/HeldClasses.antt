@@ -9,13 +9,13 @@ use Rattle.pc_tree.specs.declared.code.Code.TheVariants.{E14}
 use Rattle.pc_types.specs.Tree.{Tree}
 use Rattle.pc_class.specs.declared.table.Parameter.{Parameter as RustParameter}
 use Rattle.pc_class.specs.declared.table.Method.{Method as RustMethod}
-use Rattle.pc_class.specs.Facts.{Parameter}
-use Rattle.pc_class.specs.Tables.{Entry, HasParameter, HasMethod, HasEntry, HasEntries, IsField, IsMethod, IsLent}
+use Rattle.pc_class.specs.Facts.{TypedParameter}
+use Rattle.pc_class.specs.Tables.{ClassEntry, HasParameter, HasMethod, HasEntry, HasEntries, IsField, IsMethod, IsLent}
 use Rattle.pc_expr.specs.Context.{Signature}
-use Rattle.pc_expr.specs.Calls.{Given, CallOffer, is_suited, called, fails_at_call}
-use Rattle.pc_expr.specs.Calling.{HasLent}
+use Rattle.pc_expr.specs.Calls.{GivenArguments, CallOffer, is_suited, signature_offer, fails_at_call}
+use Rattle.pc_expr.specs.Internal.JudgedCalls.{HasLent}
 
-module _ {Ty : Type 0} (has : Ty → Type 0) (cs : List (Entry Ty)) (h : HasEntries has cs) where
+module _ {Ty : Type 0} (has : Ty → Type 0) (cs : List (ClassEntry Ty)) (h : HasEntries has cs) where
   pub field_held : (p : RustParameter Ty) → IsField cs p → HasParameter has p
   field_held p f = All-contains (HasParameter has) f.class.fields p (All-contains (HasEntry has) cs f.class h f.listed).fields f.among
 
@@ -26,17 +26,17 @@ module _ {Ty : Type 0} (has : Ty → Type 0) (cs : List (Entry Ty)) (h : HasEntr
   fields_held ps a = All-weaker (IsLent cs) (HasLent has) (λ p f. field_held p.now f) ps a
 
 -- a call of copies of parameters is one of the parameters
-pub called_meant : (g : Given) (ps qs : List Parameter) (r t : Tree) → ps ≡ qs → r ≡ t
-    → called g (let s : Signature = record { parameters = ps; returns = r; takes_names = true } in s) ≡ called g (let s : Signature = record { parameters = qs; returns = t; takes_names = true } in s)
+pub called_meant : (g : GivenArguments) (ps qs : List TypedParameter) (r t : Tree) → ps ≡ qs → r ≡ t
+    → signature_offer g (let s : Signature = record { parameters = ps; returns = r; takes_names = true } in s) ≡ signature_offer g (let s : Signature = record { parameters = qs; returns = t; takes_names = true } in s)
 called_meant g ps qs r t e f =
-    ap (λ ms. called g (let s : Signature = record { parameters = ms; returns = r; takes_names = true } in s)) e
-    ∙ ap (λ u. called g (let s : Signature = record { parameters = qs; returns = u; takes_names = true } in s)) f
+    ap (λ ms. signature_offer g (let s : Signature = record { parameters = ms; returns = r; takes_names = true } in s)) e
+    ∙ ap (λ u. signature_offer g (let s : Signature = record { parameters = qs; returns = u; takes_names = true } in s)) f
 
 -- a call that suits calls what is called, and one that does not fails
-pub called_suited : (g : Given) (s : Signature) → is_suited g s ≡ true → (let o : CallOffer = record { at_callee = []; at_call = []; gives = s.returns; calls = s ∷ [] } in o) ≡ called g s
+pub called_suited : (g : GivenArguments) (s : Signature) → is_suited g s ≡ true → (let o : CallOffer = record { at_callee = []; at_call = []; gives = s.returns; calls = s ∷ [] } in o) ≡ signature_offer g s
 called_suited g s e = sym (ap (λ (b : Test). if b then (let o : CallOffer = record { at_callee = []; at_call = []; gives = s.returns; calls = s ∷ [] } in o) else fails_at_call E14) e)
 
-pub called_unsuited : (g : Given) (s : Signature) → is_suited g s ≡ false → fails_at_call E14 ≡ called g s
+pub called_unsuited : (g : GivenArguments) (s : Signature) → is_suited g s ≡ false → fails_at_call E14 ≡ signature_offer g s
 called_unsuited g s e = sym (ap (λ (b : Test). if b then (let o : CallOffer = record { at_callee = []; at_call = []; gives = s.returns; calls = s ∷ [] } in o) else fails_at_call E14) e)
 
 pub mapped_get : {X Y : Type 0} (f : X → Y) (xs : List X) (i : ℕ) (x : X) → i < length xs → x ≡ get_or xs i x → slice_get (map f xs) i ≡ Some (f x)

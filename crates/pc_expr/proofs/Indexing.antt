@@ -3,14 +3,14 @@ use Rattle.std.proofs.Common.{◌≡◌, ◌≤◌, ℕ, refl, ap, arith, Option
 use Rattle.std.specs.Prelude.{map}
 use Rattle.pc_types.specs.Tree.{Tree, Any, Object, Never, Int, Bool, Str, NoneType, Class, ListOf, DictOf, TupleOf, Union}
 use Rattle.pc_types.specs.Below.{Bases}
-use Rattle.pc_types.specs.Shape.{nodes, limit, members}
+use Rattle.pc_types.specs.Shape.{nodes, node_limit, members}
 use Rattle.pc_expr.specs.Operations.{Offer, index_member}
 
-module _ (bases : Bases) (a b : Option ℕ) (serves : (x : Bases) (t : Tree) → nodes t ≤ limit → index_member x a t ≡ index_member x b t) where
-  alone : (t : Tree) → nodes t ≤ limit → index_member bases a t ∷ [] ≡ index_member bases b t ∷ []
+module _ (bases : Bases) (a b : Option ℕ) (serves : (x : Bases) (t : Tree) → nodes t ≤ node_limit → index_member x a t ≡ index_member x b t) where
+  alone : (t : Tree) → nodes t ≤ node_limit → index_member bases a t ∷ [] ≡ index_member bases b t ∷ []
   alone t h = ap (λ (o : Offer). o ∷ []) (serves bases t h)
 
-  pub members_served : (t : Tree) → nodes t ≤ limit → map (index_member bases a) (members t) ≡ map (index_member bases b) (members t)
+  pub members_served : (t : Tree) → nodes t ≤ node_limit → map (index_member bases a) (members t) ≡ map (index_member bases b) (members t)
   members_served Never h = refl
   members_served (Union x y) h =
       let first : index_member bases a x ≡ index_member bases b x = serves bases x (omega (arith, h)) in

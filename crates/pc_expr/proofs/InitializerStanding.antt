@@ -6,12 +6,12 @@ use Rattle.pc_scope.specs.declared.resolution.Owner.TheVariants as owners
 use Rattle.pc_scope.specs.declared.resolution.Res.{Res}
 use Rattle.pc_scope.specs.declared.resolution.Res.TheVariants as res
 use Rattle.pc_scope.specs.Reserved.{builtin_of}
-use Rattle.pc_scope.specs.Resolution.{or_else, builtin_res, resolve_in_module}
-use Rattle.pc_scope.specs.Tables.{Tables, AreTables, meaning}
+use Rattle.pc_scope.specs.Resolution.{or_meaning, builtin_meaning, resolve_in_module}
+use Rattle.pc_scope.specs.Tables.{Tables, AreTables, meaning_by_tables}
 use Rattle.pc_types.specs.Tree.{Tree}
 use Rattle.pc_types.specs.Below.{Bases}
 use Rattle.pc_class.specs.Bases.{bases_of}
-use Rattle.pc_class.specs.Facts.{Class, classes_of}
+use Rattle.pc_class.specs.Facts.{ClassFacts, classes_of}
 use Rattle.pc_flow.specs.Environment.{Env}
 use Rattle.pc_expr.specs.Context.{Signature}
 use Rattle.pc_expr.specs.Signatures.{signatures_of}
@@ -20,11 +20,11 @@ use Rattle.pc_expr.specs.Standing.{Standing}
 
 module _ (m : Module) where
   -- names mean to the module what its tables say
-  pub module_names : (t : Tables) → AreTables m t → meaning t owners.Module ≡ resolve_in_module m
-  module_names t are = λ j text. (ap (λ r. or_else (builtin_res (builtin_of text)) (or_else r res.None)) (are.globals text)) j
+  pub module_names : (t : Tables) → AreTables m t → meaning_by_tables t owners.Module ≡ resolve_in_module m
+  module_names t are = λ j text. (ap (λ r. or_meaning (builtin_meaning (builtin_of text)) (or_meaning r res.None)) (are.globals text)) j
 
   -- what an initializer stands in, part by part
-  pub standing_is : (bases : Bases) (classes : List Class) (functions : List Signature) (constants types : List Tree) (known number : ℕ) (resolve : List ℕ → Res) (declared : List Tree) (env : Env)
+  pub standing_is : (bases : Bases) (classes : List ClassFacts) (functions : List Signature) (constants types : List Tree) (known number : ℕ) (resolve : List ℕ → Res) (declared : List Tree) (env : Env)
       → bases ≡ bases_of m → classes ≡ classes_of m → functions ≡ signatures_of m → constants ≡ types → known ≡ number → resolve ≡ resolve_in_module m → declared ≡ [] → env ≡ []
       → (let k : Standing = record { context = record { bases = bases; classes = classes; functions = functions; constants = constants; known = known; in_body = false; resolve = resolve }; declared = declared; env = env } in k) ≡ initial m types number
   standing_is bases classes functions constants types known number resolve declared env b c f t k r d e =

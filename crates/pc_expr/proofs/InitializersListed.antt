@@ -12,11 +12,11 @@ use Rattle.pc_flow.specs.WellFormed.{AreWellFormed, IsWellFormedIfAny}
 use Rattle.pc_expr.specs.Operations.{Mark}
 use Rattle.pc_expr.specs.Context.{Context, FlowsInto}
 use Rattle.pc_expr.specs.Computed.{labels_of, flows_of}
-use Rattle.pc_expr.specs.Found.{found_in, flows_at}
-use Rattle.pc_expr.specs.Labels.{Flowing, Marks, mark_of, Finds, IsFlowAt}
+use Rattle.pc_expr.specs.Found.{notes_under, flows_at}
+use Rattle.pc_expr.specs.Labels.{FlowMarks, Marks, mark_of, Finds, IsFlowAt}
 use Rattle.pc_expr.specs.Lawful.{Lawful}
 use Rattle.pc_expr.specs.Signatures.{initializer_context, first_of_types}
-use Rattle.pc_expr.specs.SignaturesFound.{Reached, initial, value_findings}
+use Rattle.pc_expr.specs.SignaturesFound.{ItemsReached, initial, value_findings}
 use Rattle.pc_notes.specs.Notes.{Note}
 use Rattle.pc_expr.specs.Standing.{mark_in, finds_in}
 use Rattle.pc_expr.proofs.ComputedFlows.{flows_are_lawful}
@@ -29,7 +29,7 @@ first_well_formed : (bases : Bases) (ts : List Tree) → AreWellFormed bases ts 
 first_well_formed bases [] k = tt
 first_well_formed bases (t ∷ ts) k = k.0
 
-module _ (m : Module) (r : Reached) (known : AreWellFormed (bases_of m) r.constants) (into : List Tree) (wanted : AreWellFormed (bases_of m) into) (e : Expr) where
+module _ (m : Module) (r : ItemsReached) (known : AreWellFormed (bases_of m) r.constants) (into : List Tree) (wanted : AreWellFormed (bases_of m) into) (e : Expr) where
   abbrev context : Context
   context = initializer_context m r.constants r.classes
 
@@ -47,22 +47,22 @@ module _ (m : Module) (r : Reached) (known : AreWellFormed (bases_of m) r.consta
     unfolding mark_in
     initializer_label = ap (mark_of e) is_computed
 
-    initializer_found : finds_in (initial m r.constants r.classes) (first_of_types into) e ≡ found_in e marks
+    initializer_found : finds_in (initial m r.constants r.classes) (first_of_types into) e ≡ notes_under e marks
     unfolding finds_in
-    initializer_found = ap (found_in e) is_computed
+    initializer_found = ap (notes_under e) is_computed
 
-    flows_computed : (flows : Flowing) → FlowsInto (bases_of m) (mark_of e marks) into flows → flows_of (bases_of m) (mark_in (initial m r.constants r.classes) (first_of_types into) e) into ≡ flows
+    flows_computed : (flows : FlowMarks) → FlowsInto (bases_of m) (mark_of e marks) into flows → flows_of (bases_of m) (mark_in (initial m r.constants r.classes) (first_of_types into) e) into ≡ flows
     flows_computed flows h =
         let w = labels_are_lawful context [] [] (first_of_types into) e (initializers_well_formed m r.constants r.classes known) tt tt (first_well_formed (bases_of m) into wanted) in
         let k = subst (λ (x : Marks e). FlowsInto (bases_of m) (mark_of e x) into (flows_of (bases_of m) (mark_of e x) into)) is_computed (flows_are_lawful (bases_of m) (mark_of e computed) into (smaller m) w.1 wanted) in
         ap (λ (x : Mark). flows_of (bases_of m) x into) initializer_label ∙ into_one (bases_of m) (mark_of e marks) into (flows_of (bases_of m) (mark_of e marks) into) flows k h
 
-    listed_own : (f : Finding) → Noted f (found_in e marks) (Finds e marks f)
+    listed_own : (f : Finding) → Noted f (notes_under e marks) (Finds e marks f)
     listed_own f = let l = findings_listed e marks f in (λ c. let o = l.0 c in (o.stands, o.own), λ s own. l.1 (record { stands = s; own = own }))
 
     -- what is found of an initializer, by its lawful labels and its lawful flow
-    pub value_listed : (flows : Flowing) → FlowsInto (bases_of m) (mark_of e marks) into flows → (f : Finding) → Noted f (value_findings m r into e) (Finds e marks f ⊎ IsFlowAt (place_of e) flows f)
+    pub value_listed : (flows : FlowMarks) → FlowsInto (bases_of m) (mark_of e marks) into flows → (f : Finding) → Noted f (value_findings m r into e) (Finds e marks f ⊎ IsFlowAt (place_of e) flows f)
     value_listed flows h f =
         let p = place_of e in
-        let all : value_findings m r into e ≡ found_in e marks ++ flows_at p flows = λ i. initializer_found i ++ flows_at p (flows_computed flows h i) in
-        subst (λ (l : List Note). Noted f l (Finds e marks f ⊎ IsFlowAt p flows f)) (sym all) (in_turn f (found_in e marks) (flows_at p flows) (listed_own f) (at_flows f p flows))
+        let all : value_findings m r into e ≡ notes_under e marks ++ flows_at p flows = λ i. initializer_found i ++ flows_at p (flows_computed flows h i) in
+        subst (λ (l : List Note). Noted f l (Finds e marks f ⊎ IsFlowAt p flows f)) (sym all) (in_turn f (notes_under e marks) (flows_at p flows) (listed_own f) (at_flows f p flows))

@@ -3,14 +3,14 @@ use Rattle.std.proofs.Common.{◌≡◌, List, Option, Some, None}
 use Rattle.std.specs.Prelude.{All}
 use Rattle.std.proofs.lemmas.List.Elements.{All-weaker}
 use Rattle.pc_types.specs.Tree.{Tree}
-use Rattle.pc_types.specs.Store.{Keeps}
+use Rattle.pc_types.specs.Store.{KeepsTypes}
 use Rattle.pc_class.specs.declared.table.Parameter.{Parameter}
 use Rattle.pc_class.specs.declared.table.Method.{Method}
-use Rattle.pc_class.specs.Tables.{Entry, HasParameter, HasMethod, HasEntry, HasEntries}
+use Rattle.pc_class.specs.Tables.{ClassEntry, HasParameter, HasMethod, HasEntry, HasEntries}
 use Rattle.pc_flow.specs.WellFormed.{AreWellFormed, IsWellFormedEnv}
 use Rattle.pc_flow.specs.Stored.{HasOne, HasEach, env_of}
 use Rattle.pc_expr.specs.Operations.{Mark}
-use Rattle.pc_expr.specs.Standing.{Stands, HasIfAny, HasSignature, IsMark}
+use Rattle.pc_expr.specs.Standing.{HasGivenAll, HasIfAny, HasSignature, IsMark}
 use Rattle.pc_expr.specs.declared.label.Label.{Label}
 use Rattle.pc_expr.specs.declared.setting.Setting.{Setting}
 use Rattle.pc_expr.specs.declared.setting.Signature.{Signature}
@@ -22,10 +22,10 @@ module _ {Ty : Type 0} (has later : Ty → Type 0) (k : (ty : Ty) → has ty →
   method_kept : (x : Method Ty) → HasMethod has x → HasMethod later x
   method_kept x h = record { params = params_kept x.params.items h.params; ret = k x.ret h.ret }
 
-  entry_kept : (c : Entry Ty) → HasEntry has c → HasEntry later c
+  entry_kept : (c : ClassEntry Ty) → HasEntry has c → HasEntry later c
   entry_kept c h = record { fields = params_kept c.fields h.fields; methods = All-weaker (HasMethod has) (HasMethod later) method_kept c.methods h.methods }
 
-  pub entries_kept : (cs : List (Entry Ty)) → HasEntries has cs → HasEntries later cs
+  pub entries_kept : (cs : List (ClassEntry Ty)) → HasEntries has cs → HasEntries later cs
   entries_kept cs h = All-weaker (HasEntry has) (HasEntry later) entry_kept cs h
 
   signature_kept : (s : Signature Ty) → HasSignature has s → HasSignature later s
@@ -47,7 +47,7 @@ module _ {Ty : Type 0} (has later : Ty → Type 0) (k : (ty : Ty) → has ty →
 
   module _ {R : Type 0} (tree : Ty → Tree) (s : Setting Ty R) (env : List (Option Ty)) where
     -- all types of a setting and of an environment stay given
-    pub stands_kept : Stands has tree s env → Stands later tree s env
+    pub stands_kept : HasGivenAll has tree s env → HasGivenAll later tree s env
     stands_kept h = record {
       classes = entries_kept s.classes.now h.classes;
       functions = All-weaker (HasSignature has) (HasSignature later) signature_kept s.functions.now h.functions;
@@ -59,7 +59,7 @@ module _ {Ty : Type 0} (has later : Ty → Type 0) (k : (ty : Ty) → has ty →
     }
 
     -- with another environment, whose types are given and well-formed
-    pub stands_after : Stands has tree s env → (after : List (Option Ty)) → HasEach later after → IsWellFormedEnv s.parents.now (env_of tree after) → Stands later tree s after
+    pub stands_after : HasGivenAll has tree s env → (after : List (Option Ty)) → HasEach later after → IsWellFormedEnv s.parents.now (env_of tree after) → HasGivenAll later tree s after
     stands_after h after given well_formed = record {
       classes = entries_kept s.classes.now h.classes;
       functions = All-weaker (HasSignature has) (HasSignature later) signature_kept s.functions.now h.functions;
@@ -71,14 +71,14 @@ module _ {Ty : Type 0} (has later : Ty → Type 0) (k : (ty : Ty) → has ty →
     }
 
 -- the same, for tactics: what stood first, then that it is kept
-pub stands_further : {Ty R : Type 0} {has later : Ty → Type 0} {tree : Ty → Tree} {s : Setting Ty R} {env : List (Option Ty)} → Stands has tree s env → ((ty : Ty) → has ty → later ty) → Stands later tree s env
+pub stands_further : {Ty R : Type 0} {has later : Ty → Type 0} {tree : Ty → Tree} {s : Setting Ty R} {env : List (Option Ty)} → HasGivenAll has tree s env → ((ty : Ty) → has ty → later ty) → HasGivenAll later tree s env
 stands_further {has = has} {later = later} {tree = tree} {s = s} {env = env} h k = stands_kept has later k tree s env h
 
 module _ {Store Ty : Type 0} (has : Store → Ty → Type 0) where
-  pub keeps_both : (a b c : Store) → Keeps has a b → Keeps has b c → Keeps has a c
+  pub keeps_both : (a b c : Store) → KeepsTypes has a b → KeepsTypes has b c → KeepsTypes has a c
   keeps_both a b c k l = λ ty h. l ty (k ty h)
 
 module _ {Store Ty : Type 0} (has : Store → Ty → Type 0) (tree : Ty → Tree) where
   -- a label stays given
-  pub mark_kept : (a b : Store) → Keeps has a b → (l : Label Ty) (m : Mark) → IsMark has tree a l m → IsMark has tree b l m
+  pub mark_kept : (a b : Store) → KeepsTypes has a b → (l : Label Ty) (m : Mark) → IsMark has tree a l m → IsMark has tree b l m
   mark_kept a b k l m h = record { given = k l.ty h.given; is = h.is }

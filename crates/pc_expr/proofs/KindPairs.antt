@@ -13,7 +13,7 @@ use Rattle.pc_types.specs.Below.{Bases}
 use Rattle.pc_flow.specs.Environment.{join_or_object, join_onto, join_all}
 use Rattle.pc_expr.specs.Operations.{Kind, whole_kind, text_kind, kind_of, kind_taken, Mark, Offer, clean, in_error, has_error, suits, found_of, offers_mark, row_of_kinds, pair_found, pair_offers}
 use Rattle.pc_expr.specs.Found.{once_onto, once, brief}
-use Rattle.pc_expr.specs.Pairing.{meet, common_onto, common, kind_mark}
+use Rattle.pc_expr.specs.Internal.OperandPairs.{meet, common_onto, common, kind_mark}
 
 -- the kind that two have in common, the other way round
 meet_turned : (c d : Option Kind) → meet c d ≡ meet d c

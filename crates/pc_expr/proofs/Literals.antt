@@ -5,28 +5,28 @@ use Rattle.std.proofs.lemmas.List.{drop_all}
 use Rattle.std.proofs.lemmas.Option.{slice_get_past}
 use Rattle.pc_types.specs.Tree.{Tree, Trees, Int, ListOf, DictOf, TupleOf, Union, end, more}
 use Rattle.pc_types.specs.Below.{Bases}
-use Rattle.pc_types.specs.Shape.{nodes, nodes_of, limit, listed}
+use Rattle.pc_types.specs.Shape.{nodes, nodes_of, node_limit, list_of_trees}
 use Rattle.pc_types.proofs.Nodes.{some_node}
 use Rattle.pc_flow.specs.Environment.{join_all}
 use Rattle.pc_expr.specs.Operations.{suits, index_member}
 use Rattle.pc_expr.specs.Lawful.{number_behind}
 
-parts_below : (ts : Trees) → length (listed ts) ≤ nodes_of ts
+parts_below : (ts : Trees) → length (list_of_trees ts) ≤ nodes_of ts
 parts_below end = omega arith
 parts_below (more t ts) = omega (arith, some_node t, parts_below ts)
 
-past_parts : (ts : Trees) (n : ℕ) → nodes (TupleOf ts) ≤ limit → limit ≤ n → slice_get (listed ts) n ≡ None
-past_parts ts n h le = slice_get_past (listed ts) n (omega (arith, parts_below ts, h, le))
+past_parts : (ts : Trees) (n : ℕ) → nodes (TupleOf ts) ≤ node_limit → node_limit ≤ n → slice_get (list_of_trees ts) n ≡ None
+past_parts ts n h le = slice_get_past (list_of_trees ts) n (omega (arith, parts_below ts, h, le))
 
-past_tuple : (bases : Bases) (ts : Trees) (n : ℕ) → nodes (TupleOf ts) ≤ limit → limit ≤ n → index_member bases None (TupleOf ts) ≡ index_member bases (Some n) (TupleOf ts)
-past_tuple bases ts n h le = ap (λ (o : Option Tree). suits (unwrap_or o (join_all bases (listed ts))) (Int ∷ [])) (sym (past_parts ts n h le))
+past_tuple : (bases : Bases) (ts : Trees) (n : ℕ) → nodes (TupleOf ts) ≤ node_limit → node_limit ≤ n → index_member bases None (TupleOf ts) ≡ index_member bases (Some n) (TupleOf ts)
+past_tuple bases ts n h le = ap (λ (o : Option Tree). suits (unwrap_or o (join_all bases (list_of_trees ts))) (Int ∷ [])) (sym (past_parts ts n h le))
 
 -- a number of 256 or more stands for none
-pub past_serves : (bases : Bases) (t : Tree) (n : ℕ) → nodes t ≤ limit → limit ≤ n → index_member bases None t ≡ index_member bases (Some n) t
+pub past_serves : (bases : Bases) (t : Tree) (n : ℕ) → nodes t ≤ node_limit → node_limit ≤ n → index_member bases None t ≡ index_member bases (Some n) t
 past_serves bases (TupleOf ts) n h le = past_tuple bases ts n h le
 past_serves bases _ n h le = refl
 
-pub literal_serves : (r : Option ℕ) (n : ℕ) → MatchOption r (limit ≤ n) (λ k. k ≡ n) → (bases : Bases) (t : Tree) → nodes t ≤ limit → index_member bases r t ≡ index_member bases (Some n) t
+pub literal_serves : (r : Option ℕ) (n : ℕ) → MatchOption r (node_limit ≤ n) (λ k. k ≡ n) → (bases : Bases) (t : Tree) → nodes t ≤ node_limit → index_member bases r t ≡ index_member bases (Some n) t
 literal_serves None n m bases t h = past_serves bases t n h m
 literal_serves (Some k) n m bases t h = ap (λ i. index_member bases (Some i) t) m
 

@@ -2,14 +2,14 @@
 use Rattle.std.proofs.Common.{◌≡◌, ℕ, List, Option, Some, None, refl, sym, ap, ◌∙◌}
 use Rattle.pc_types.specs.Tree.{Tree, Any, Object, Never, Int, Bool, Str, NoneType, Class, ListOf, DictOf, TupleOf, Union}
 use Rattle.pc_types.specs.Head.{head_of}
-use Rattle.pc_class.specs.Facts.{field_of, method_of, class_at}
+use Rattle.pc_class.specs.Facts.{field_by_name, method_by_name, class_facts_at}
 use Rattle.pc_expr.specs.Context.{Context}
-use Rattle.pc_expr.specs.Calls.{Given, class_offers, method_offers}
-use Rattle.pc_expr.specs.Calling.{class_in_head, other_offers}
+use Rattle.pc_expr.specs.Calls.{GivenArguments, class_offers, method_offers}
+use Rattle.pc_expr.specs.Internal.JudgedCalls.{class_in_head, other_offers}
 
-module _ (ctx : Context) (g : Given) (word : List ℕ) where
-  pub class_meant : (t : Tree) (c : ℕ) → Some c ≡ class_in_head (head_of t) → class_offers g (method_of (class_at ctx.classes c).methods word) (field_of (class_at ctx.classes c).fields word) ≡ method_offers ctx g word t
-  class_meant (Class d) c e = let h : c ≡ d = cc in ap (λ k. class_offers g (method_of (class_at ctx.classes k).methods word) (field_of (class_at ctx.classes k).fields word)) h
+module _ (ctx : Context) (g : GivenArguments) (word : List ℕ) where
+  pub class_meant : (t : Tree) (c : ℕ) → Some c ≡ class_in_head (head_of t) → class_offers g (method_by_name (class_facts_at ctx.classes c).methods word) (field_by_name (class_facts_at ctx.classes c).fields word) ≡ method_offers ctx g word t
+  class_meant (Class d) c e = let h : c ≡ d = cc in ap (λ k. class_offers g (method_by_name (class_facts_at ctx.classes k).methods word) (field_by_name (class_facts_at ctx.classes k).fields word)) h
   class_meant Any c e = cc
   class_meant Object c e = cc
   class_meant Never c e = cc

@@ -7,10 +7,10 @@ use Rattle.pc_tree.specs.declared.tree.BinaryOperator.{BinaryOperator}
 use Rattle.pc_tree.specs.declared.code.Code.TheVariants.{E13, E26}
 use Rattle.pc_types.specs.Tree.{Tree, Trees, Any, Never, Int, Bool, Str, NoneType, Class, ListOf, DictOf, TupleOf, Union}
 use Rattle.pc_types.specs.Below.{Bases, AreSmaller}
-use Rattle.pc_types.specs.Shape.{nodes, limit, members, listed}
+use Rattle.pc_types.specs.Shape.{nodes, node_limit, members, list_of_trees}
 use Rattle.pc_types.specs.Normal.{IsNormal, IsReduced}
 use Rattle.pc_class.specs.Facts as facts
-use Rattle.pc_class.specs.Facts.{Parameter, Method, class_at, class_in, field_of, method_of}
+use Rattle.pc_class.specs.Facts.{TypedParameter, Method, class_facts_at, class_in, field_by_name, method_by_name}
 use Rattle.pc_expr.specs.Operations.{Mark, clean, in_error, has_error, Offer, found_of, offers_mark, operand_types, tuple_item, index_member, attribute_found, attribute_member, contain_member, length_member, negative_member, Kind, whole_kind, text_kind, takes_kind, kind_type, row_of_kinds, kind_of, pair_found, pair_offers, pairs_mark, is_dynamic, is_any, is_never, binary_mark, order_mark, display_mark}
 use Rattle.pc_types.specs.WellFormed.{IsWellFormed}
 use Rattle.pc_flow.specs.WellFormed.{IsWellFormedIfAny, AreWellFormed}
@@ -29,7 +29,7 @@ OffersWellFormed bases [] = Unit {0}
 OffersWellFormed bases (o ∷ os) = OfferWellFormed bases o × OffersWellFormed bases os
 
 -- the type of a parameter is well-formed, if there is one
-abbrev pub ParameterWellFormed : Bases → Option Parameter → Type 0
+abbrev pub ParameterWellFormed : Bases → Option TypedParameter → Type 0
 ParameterWellFormed bases None = Unit {0}
 ParameterWellFormed bases (Some p) = IsWellFormed bases p.type
 
@@ -39,13 +39,13 @@ FoundMethodWellFormed bases None = Unit {0}
 FoundMethodWellFormed bases (Some m) = MethodWellFormed bases m
 
 module _ (bases : Bases) where
-  pub field_well_formed : (ps : List Parameter) (word : List ℕ) → ParametersWellFormed bases ps → ParameterWellFormed bases (field_of ps word)
+  pub field_well_formed : (ps : List TypedParameter) (word : List ℕ) → ParametersWellFormed bases ps → ParameterWellFormed bases (field_by_name ps word)
   field_well_formed [] word h = tt
-  field_well_formed (p ∷ ps) word h = cond_both _ (Some p) (field_of ps word) (ParameterWellFormed bases) (λ e. h.0) (λ e. field_well_formed ps word h.1)
+  field_well_formed (p ∷ ps) word h = cond_both _ (Some p) (field_by_name ps word) (ParameterWellFormed bases) (λ e. h.0) (λ e. field_well_formed ps word h.1)
 
-  pub method_well_formed : (ms : List Method) (word : List ℕ) → MethodsWellFormed bases ms → FoundMethodWellFormed bases (method_of ms word)
+  pub method_well_formed : (ms : List Method) (word : List ℕ) → MethodsWellFormed bases ms → FoundMethodWellFormed bases (method_by_name ms word)
   method_well_formed [] word h = tt
-  method_well_formed (m ∷ ms) word h = cond_both _ (Some m) (method_of ms word) (FoundMethodWellFormed bases) (λ e. h.0) (λ e. method_well_formed ms word h.1)
+  method_well_formed (m ∷ ms) word h = cond_both _ (Some m) (method_by_name ms word) (FoundMethodWellFormed bases) (λ e. h.0) (λ e. method_well_formed ms word h.1)
 
   pub plain : {o : Offer} → IsWellFormed bases o.gives → AreWellFormed bases o.takes → OfferWellFormed bases o
   plain g t = record { gives = g; takes = t }
@@ -100,13 +100,13 @@ module _ (bases : Bases) where
   negative_well_formed Any h = plain (any_well_formed bases) tt
   negative_well_formed _ h = plain (any_well_formed bases) tt
 
-  attribute_found_well_formed : (f : Option Parameter) (m : Option Method) → ParameterWellFormed bases f → OfferWellFormed bases (attribute_found f m)
+  attribute_found_well_formed : (f : Option TypedParameter) (m : Option Method) → ParameterWellFormed bases f → OfferWellFormed bases (attribute_found f m)
   attribute_found_well_formed (Some f) m h = plain h tt
   attribute_found_well_formed None (Some m) h = plain (any_well_formed bases) tt
   attribute_found_well_formed None None h = plain (any_well_formed bases) tt
 
-  pub attribute_well_formed : (cs : List facts.Class) (word : List ℕ) → ClassesWellFormed bases cs → (t : Tree) → IsWellFormed bases t → OfferWellFormed bases (attribute_member cs word t)
-  attribute_well_formed cs word k (Class c) h = attribute_found_well_formed (field_of (class_at cs c).fields word) (method_of (class_at cs c).methods word) (field_well_formed (class_at cs c).fields word (class_at_well_formed bases cs c k).fields)
+  pub attribute_well_formed : (cs : List facts.ClassFacts) (word : List ℕ) → ClassesWellFormed bases cs → (t : Tree) → IsWellFormed bases t → OfferWellFormed bases (attribute_member cs word t)
+  attribute_well_formed cs word k (Class c) h = attribute_found_well_formed (field_by_name (class_facts_at cs c).fields word) (method_by_name (class_facts_at cs c).methods word) (field_well_formed (class_facts_at cs c).fields word (class_at_well_formed bases cs c k).fields)
   attribute_well_formed cs word k Any h = plain (any_well_formed bases) tt
   attribute_well_formed cs word k _ h = plain (any_well_formed bases) tt
 
@@ -143,7 +143,7 @@ module _ (bases : Bases) where
 
   pub display_well_formed : (t : Tree) → IsNormal t → IsReduced bases t → IsWellFormed bases (display_mark t).type
   display_well_formed t n r =
-      cond_both (nat_le (nodes t) limit) (clean t) (in_error E26) (λ m. IsWellFormed bases m.type) (λ e. (n, r, leb-true (nodes t) limit e)) (λ e. any_well_formed bases)
+      cond_both (nat_le (nodes t) node_limit) (clean t) (in_error E26) (λ m. IsWellFormed bases m.type) (λ e. (n, r, leb-true (nodes t) node_limit e)) (λ e. any_well_formed bases)
 
   -- ---- what joins
   module _ (o : AreSmaller bases) where
@@ -151,8 +151,8 @@ module _ (bases : Bases) where
     offers_well_formed os h = if_any bases (has_error (found_of os)) _ (all_well_formed bases o _ (gives_well_formed os h))
 
     tuple_item_well_formed : (i : Option ℕ) (ts : Trees) → IsWellFormed bases (TupleOf ts) → IsWellFormed bases (tuple_item bases i ts)
-    tuple_item_well_formed None ts h = all_well_formed bases o (listed ts) (parts_well_formed bases ts h)
-    tuple_item_well_formed (Some i) ts h = unwrap_well_formed bases (slice_get (listed ts) i) _ (at_well_formed bases (listed ts) i (parts_well_formed bases ts h)) (all_well_formed bases o (listed ts) (parts_well_formed bases ts h))
+    tuple_item_well_formed None ts h = all_well_formed bases o (list_of_trees ts) (parts_well_formed bases ts h)
+    tuple_item_well_formed (Some i) ts h = unwrap_well_formed bases (slice_get (list_of_trees ts) i) _ (at_well_formed bases (list_of_trees ts) i (parts_well_formed bases ts h)) (all_well_formed bases o (list_of_trees ts) (parts_well_formed bases ts h))
 
     pub index_well_formed : (i : Option ℕ) (t : Tree) → IsWellFormed bases t → OfferWellFormed bases (index_member bases i t)
     index_well_formed i (ListOf t) h = plain (item_well_formed bases t h) (int_well_formed bases, tt)

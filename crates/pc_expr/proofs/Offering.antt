@@ -11,20 +11,20 @@ use Rattle.pc_tree.specs.Code.{is_error}
 use Rattle.pc_tree.proofs.Stops.{cons_at}
 use Rattle.pc_types.specs.Tree.{Tree, Any, Never}
 use Rattle.pc_types.specs.Below.{Bases}
-use Rattle.pc_types.specs.Store.{Means, Keeps}
-use Rattle.pc_class.specs.Tables.{Entry, HasEntry, HasEntries, HasParameter, HasMethod}
+use Rattle.pc_types.specs.Store.{Means, KeepsTypes}
+use Rattle.pc_class.specs.Tables.{ClassEntry, HasEntry, HasEntries, HasParameter, HasMethod}
 use Rattle.pc_flow.specs.Environment.{join_or_object, join_onto, join_all}
 use Rattle.pc_flow.proofs.Given.{keeps_both, all_kept}
 use Rattle.pc_flow.proofs.Rest.{mapped_rest, mapped_end}
 use Rattle.pc_expr.specs.Operations.{Mark, Offer, has_error, found_of, offers_mark, operand_types}
 use Rattle.pc_expr.specs.Found.{once_onto, once, brief}
-use Rattle.pc_expr.specs.Standing.{HasIfAny, HasOffer, HasSignature, Stands, offer_with, mark_with, IsMark}
-use Rattle.pc_expr.specs.Operating.{IsOffer}
+use Rattle.pc_expr.specs.Standing.{HasIfAny, HasOffer, HasSignature, HasGivenAll, offer_with, mark_with, IsMark}
+use Rattle.pc_expr.specs.Internal.JudgedOperations.{IsOffer}
 use Rattle.pc_expr.specs.declared.label.Label.{Label}
 use Rattle.pc_expr.specs.declared.label.Offer.{Offer as RustOffer}
 use Rattle.pc_expr.proofs.Once.{onto_append, once_error}
 
-module _ {Store Ty : Type 0} (has : Store → Ty → Type 0) (a b : Store) (k : Keeps has a b) where
+module _ {Store Ty : Type 0} (has : Store → Ty → Type 0) (a b : Store) (k : KeepsTypes has a b) where
   pub if_any_kept : (o : Option Ty) → HasIfAny (has a) o → HasIfAny (has b) o
   if_any_kept None h = tt
   if_any_kept (Some ty) h = k ty h
@@ -35,28 +35,28 @@ module _ {Store Ty : Type 0} (has : Store → Ty → Type 0) (a b : Store) (k : 
   pub offers_kept : (os : List (RustOffer Ty)) → All (HasOffer (has a)) os → All (HasOffer (has b)) os
   offers_kept os h = All-weaker (HasOffer (has a)) (HasOffer (has b)) offer_kept os h
 
-  entry_kept : (e : Entry Ty) → HasEntry (has a) e → HasEntry (has b) e
+  entry_kept : (e : ClassEntry Ty) → HasEntry (has a) e → HasEntry (has b) e
   entry_kept e h = record {
     fields = All-weaker (HasParameter (has a)) (HasParameter (has b)) (λ p. k p.ty) e.fields h.fields;
     methods = All-weaker (HasMethod (has a)) (HasMethod (has b)) (λ m w. record { params = All-weaker (HasParameter (has a)) (HasParameter (has b)) (λ p. k p.ty) m.params.items w.params; ret = k m.ret w.ret }) e.methods h.methods;
   }
 
   -- the types of a table stay types of the store
-  pub entries_kept : (es : List (Entry Ty)) → HasEntries (has a) es → HasEntries (has b) es
+  pub entries_kept : (es : List (ClassEntry Ty)) → HasEntries (has a) es → HasEntries (has b) es
   entries_kept es h = All-weaker (HasEntry (has a)) (HasEntry (has b)) entry_kept es h
 
 -- ---- the offers of so many members
 
 module _ {Store Ty : Type 0} (has : Store → Ty → Type 0) (tree : Ty → Tree) (on : Tree → Offer) (members : List Ty) where
   pub record IsOffered (first store : Store) (i : ℕ) (offers : List (RustOffer Ty)) : Type 0 where
-    pub kept : Keeps has first store
+    pub kept : KeepsTypes has first store
     pub given : All (HasOffer (has store)) offers
     pub so_far : map (offer_with tree) offers ++ map on (drop i (map tree members)) ≡ map on (map tree members)
 
   pub offered_none : (first : Store) → IsOffered first first 0 []
   offered_none first = record { kept = λ ty h. h; given = All-nil (HasOffer (has first)); so_far = refl }
 
-  pub offered_more : (first old new : Store) (i : ℕ) (offers : List (RustOffer Ty)) (m : Ty) (o : RustOffer Ty) → i < length members → m ≡ get_or members i m → Keeps has old new → IsOffered first old i offers → IsOffer has tree new o (on (tree m)) → IsOffered first new (i + 1) (offers ++ o ∷ [])
+  pub offered_more : (first old new : Store) (i : ℕ) (offers : List (RustOffer Ty)) (m : Ty) (o : RustOffer Ty) → i < length members → m ≡ get_or members i m → KeepsTypes has old new → IsOffered first old i offers → IsOffer has tree new o (on (tree m)) → IsOffered first new (i + 1) (offers ++ o ∷ [])
   offered_more first old new i offers m o lt is k v h = record {
     kept = keeps_both has first old new v.kept k;
     given = All-push (HasOffer (has new)) offers o (offers_kept has old new k offers v.given) h.given;
@@ -73,16 +73,16 @@ module _ {Store Ty : Type 0} (has : Store → Ty → Type 0) (tree : Ty → Tree
   gives_of os = map (λ o. o.gives) os
 
   pub record IsJoined (first store : Store) (i : ℕ) (codes : List Code) (ty : Ty) : Type 0 where
-    pub kept : Keeps has first store
+    pub kept : KeepsTypes has first store
     pub offers_given : All (HasOffer (has store)) offers
     pub given : has store ty
     pub codes_so_far : once_onto codes (found_of (drop i (map (offer_with tree) offers))) ≡ once (found_of (map (offer_with tree) offers))
     pub type_so_far : join_onto bases (tree ty) (gives_of (drop i (map (offer_with tree) offers))) ≡ join_all bases (gives_of (map (offer_with tree) offers))
 
-  pub joined_none : (store : Store) (codes : List Code) (ty : Ty) (first : Store) → codes ≡ [] → Keeps has first store → All (HasOffer (has first)) offers → Means has tree store ty Never → IsJoined first store 0 codes ty
+  pub joined_none : (store : Store) (codes : List Code) (ty : Ty) (first : Store) → codes ≡ [] → KeepsTypes has first store → All (HasOffer (has first)) offers → Means has tree store ty Never → IsJoined first store 0 codes ty
   joined_none store codes ty first e k h m = record { kept = k; offers_given = offers_kept has first store k offers h; given = m.0; codes_so_far = rw e refl; type_so_far = rw m.1 refl }
 
-  pub joined_more : (first old new : Store) (i : ℕ) (codes more : List Code) (ty next : Ty) (o : RustOffer Ty) → i < length offers → o ≡ get_or offers i o → Keeps has old new → IsJoined first old i codes ty → more ≡ once_onto codes (option_to_list o.found) → Means has tree new next (join_or_object bases (tree ty) (tree o.gives)) → IsJoined first new (i + 1) more next
+  pub joined_more : (first old new : Store) (i : ℕ) (codes more : List Code) (ty next : Ty) (o : RustOffer Ty) → i < length offers → o ≡ get_or offers i o → KeepsTypes has old new → IsJoined first old i codes ty → more ≡ once_onto codes (option_to_list o.found) → Means has tree new next (join_or_object bases (tree ty) (tree o.gives)) → IsJoined first new (i + 1) more next
   joined_more first old new i codes more ty next o lt is k v e m =
       let step = mapped_rest (offer_with tree) offers i o lt is in
       record {

@@ -11,9 +11,9 @@ use Rattle.pc_flow.specs.Environment.{Env, join_or_object}
 use Rattle.pc_flow.specs.Narrowing.{narrow}
 use Rattle.pc_expr.specs.Operations.{Mark, FlowMark, offers_mark, operand_types, negative_member, binary_mark, display_mark, attribute_member, index_member}
 use Rattle.pc_expr.specs.Context.{Context, Flows, static, dynamic, wrong, FlowUnless, FlowAt, FlowsInto, is_early}
-use Rattle.pc_expr.specs.Calls.{given, count_exprs, Seat, positional_seat, named_seat}
-use Rattle.pc_expr.specs.Labels.{Flowing, Marks, ItemsMarks, EntriesMarks, KeywordsMarks, mark_of, type_of, with_mark, item_types, key_types, value_types}
-use Rattle.pc_expr.specs.Lawful.{list_item, dict_parts, tuple_parts, members_of, KeyValue, item_seat, part_seat, list_mark, DictMark, no_keys, int_keys, str_keys, other_keys, DictRule, key_seat, value_seat, int_literal, compare_mark, compare_types, callee_of, whole_call_mark, whole_second_code, keyword_seat, Lawful, LawfulItems, LawfulEntries, LawfulKeywords}
+use Rattle.pc_expr.specs.Calls.{arguments_given, count_exprs, Seat, positional_seat, named_seat}
+use Rattle.pc_expr.specs.Labels.{FlowMarks, Marks, ItemsMarks, EntriesMarks, KeywordsMarks, mark_of, type_of, with_mark, item_types, key_types, value_types}
+use Rattle.pc_expr.specs.Lawful.{list_item, dict_parts, tuple_parts, members_of_expected, KeyValue, item_seat, part_seat, list_mark, DictMark, no_keys, int_keys, str_keys, other_keys, DictRule, key_seat, value_seat, int_literal, compare_mark, compare_types, callee_of, whole_call_mark, whole_second_code, keyword_seat, Lawful, LawfulItems, LawfulEntries, LawfulKeywords}
 use Rattle.pc_expr.proofs.Same.{SameWhere, narrow_alike}
 
 -- ---- a flow has one code
@@ -40,7 +40,7 @@ at_one bases m t f g h k =
     let code : f.code ≡ g.code = unless_one (is_early m.codes) bases m.type t f.code g.code h.code k.code in
     λ i. record { from = from i; into = into i; code = code i }
 
-pub into_one : (bases : Bases) (m : Mark) (ts : List Tree) (fs gs : Flowing) → FlowsInto bases m ts fs → FlowsInto bases m ts gs → fs ≡ gs
+pub into_one : (bases : Bases) (m : Mark) (ts : List Tree) (fs gs : FlowMarks) → FlowsInto bases m ts fs → FlowsInto bases m ts gs → fs ≡ gs
 into_one bases m [] [] [] h k = refl
 into_one bases m [] [] (g ∷ gs) h k = absurd k
 into_one bases m [] (f ∷ fs) gs h k = absurd h
@@ -79,16 +79,16 @@ module _ (ctx : Context) (ds ds' : List Tree) where
     one env k want (truth p b) m m' h h' = h ∙ sym h'
     one env k want (nothing p) m m' h h' = h ∙ sym h'
     one env k want (tuple p es) m m' h h' =
-        let q = items_one env k (part_seat (tuple_parts (count_exprs es) (members_of want))) es m.items m'.items h.items h'.items in
+        let q = items_one env k (part_seat (tuple_parts (count_exprs es) (members_of_expected want))) es m.items m'.items h.items h'.items in
         let r : m.here ≡ m'.here = h.here ∙ ap (λ x. display_mark (TupleOf (trees (item_types es x)))) q ∙ sym h'.here in
         λ i. record { here = r i; items = q i }
     one env k want (list p es) m m' h h' =
-        let q = items_one env k (λ i. item_seat (list_item (members_of want))) es m.items m'.items h.items h'.items in
-        let r : m.here ≡ m'.here = h.here ∙ ap (λ x. list_mark ctx.bases (list_item (members_of want)) (item_types es x)) q ∙ sym h'.here in
+        let q = items_one env k (λ i. item_seat (list_item (members_of_expected want))) es m.items m'.items h.items h'.items in
+        let r : m.here ≡ m'.here = h.here ∙ ap (λ x. list_mark ctx.bases (list_item (members_of_expected want)) (item_types es x)) q ∙ sym h'.here in
         λ i. record { here = r i; items = q i }
     one env k want (dict p es) m m' h h' =
-        let q = entries_one env k (key_seat (dict_parts (members_of want))) (value_seat (dict_parts (members_of want))) es m.entries m'.entries h.entries h'.entries in
-        let r : m.here ≡ m'.here = rule_one ctx.bases (dict_parts (members_of want)) (key_types es m'.entries) (value_types es m'.entries) m.here m'.here (subst (λ x. DictRule ctx.bases (dict_parts (members_of want)) (key_types es x) (value_types es x) m.here) q h.here) h'.here in
+        let q = entries_one env k (key_seat (dict_parts (members_of_expected want))) (value_seat (dict_parts (members_of_expected want))) es m.entries m'.entries h.entries h'.entries in
+        let r : m.here ≡ m'.here = rule_one ctx.bases (dict_parts (members_of_expected want)) (key_types es m'.entries) (value_types es m'.entries) m.here m'.here (subst (λ x. DictRule ctx.bases (dict_parts (members_of_expected want)) (key_types es x) (value_types es x) m.here) q h.here) h'.here in
         λ i. record { here = r i; entries = q i }
     one env k want (negative p e) m m' h h' =
         let q = one env k None e m.operand m'.operand h.operand h'.operand in
@@ -141,11 +141,11 @@ module _ (ctx : Context) (ds ds' : List Tree) where
         λ i. record { here = r i; object = q i; key = s i; flows = f i }
     one env k want (call p c args kws) m m' h h' =
         let v = one env k None c h.value h'.value h.lawful h'.lawful in
-        let q = items_one env k (positional_seat (callee_of ctx env (given args kws) c h.value).offers) args m.arguments m'.arguments h.arguments (subst (λ x. LawfulItems ctx ds' env (positional_seat (callee_of ctx env (given args kws) c x).offers) args m'.arguments) (sym v) h'.arguments) in
-        let s = keywords_one env k (named_seat (callee_of ctx env (given args kws) c h.value).offers) [] kws m.keywords m'.keywords h.keywords (subst (λ x. LawfulKeywords ctx ds' env (named_seat (callee_of ctx env (given args kws) c x).offers) [] kws m'.keywords) (sym v) h'.keywords) in
-        let f : m.callee ≡ m'.callee = h.callee ∙ (λ i. with_mark c (v i) (callee_of ctx env (given args kws) c (v i)).mark) ∙ sym h'.callee in
-        let r : m.here ≡ m'.here = h.here ∙ (λ i. whole_call_mark ctx env (callee_of ctx env (given args kws) c (v i)).rule (callee_of ctx env (given args kws) c (v i)).offers args (item_types args (q i))) ∙ sym h'.here in
-        let t : m.second ≡ m'.second = h.second ∙ (λ i. whole_second_code ctx (callee_of ctx env (given args kws) c (v i)).rule args (q i)) ∙ sym h'.second in
+        let q = items_one env k (positional_seat (callee_of ctx env (arguments_given args kws) c h.value).offers) args m.arguments m'.arguments h.arguments (subst (λ x. LawfulItems ctx ds' env (positional_seat (callee_of ctx env (arguments_given args kws) c x).offers) args m'.arguments) (sym v) h'.arguments) in
+        let s = keywords_one env k (named_seat (callee_of ctx env (arguments_given args kws) c h.value).offers) [] kws m.keywords m'.keywords h.keywords (subst (λ x. LawfulKeywords ctx ds' env (named_seat (callee_of ctx env (arguments_given args kws) c x).offers) [] kws m'.keywords) (sym v) h'.keywords) in
+        let f : m.callee ≡ m'.callee = h.callee ∙ (λ i. with_mark c (v i) (callee_of ctx env (arguments_given args kws) c (v i)).mark) ∙ sym h'.callee in
+        let r : m.here ≡ m'.here = h.here ∙ (λ i. whole_call_mark ctx env (callee_of ctx env (arguments_given args kws) c (v i)).rule (callee_of ctx env (arguments_given args kws) c (v i)).offers args (item_types args (q i))) ∙ sym h'.here in
+        let t : m.second ≡ m'.second = h.second ∙ (λ i. whole_second_code ctx (callee_of ctx env (arguments_given args kws) c (v i)).rule args (q i)) ∙ sym h'.second in
         λ i. record { here = r i; callee = f i; second = t i; arguments = q i; keywords = s i }
 
     pub items_one : (env : Env) → SameWhere ds ds' env → (seat : ℕ → Seat) (es : Exprs) (m m' : ItemsMarks es) → LawfulItems ctx ds env seat es m → LawfulItems ctx ds' env seat es m' → m ≡ m'

@@ -17,7 +17,7 @@ use Rattle.pc_flow.specs.Environment.{join_or_object}
 use Rattle.pc_flow.proofs.Rest.{mapped_rest, mapped_end}
 use Rattle.pc_expr.specs.Operations.{Kind, whole_kind, text_kind, kind_of, Mark, clean, in_error, is_never, is_any, is_dynamic, has_side, pair_offers, offers_mark, pairs_mark}
 use Rattle.pc_expr.specs.Found.{brief}
-use Rattle.pc_expr.specs.Pairing.{meet, common_onto, common, kind_with, kind_mark, takes_of, gives_of, dynamic_of, dynamic_mark, operator_mark}
+use Rattle.pc_expr.specs.Internal.OperandPairs.{meet, common_onto, common, kind_with, kind_mark, takes_of, gives_of, dynamic_of, dynamic_mark, operator_mark}
 use Rattle.pc_expr.specs.Standing.{IsMark}
 use Rattle.pc_expr.specs.declared.label.Label.{Label}
 use Rattle.pc_expr.specs.declared.pairs.Operator.{Operator}

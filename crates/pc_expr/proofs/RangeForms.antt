@@ -6,14 +6,14 @@ use Rattle.pc_tree.specs.declared.code.Code.{Code}
 use Rattle.pc_tree.specs.Tree.{Expr, Exprs, Keywords}
 use Rattle.pc_scope.specs.Expressions.{is_instance_test}
 use Rattle.pc_notes.specs.Notes.{Note}
-use Rattle.pc_expr.specs.Calls.{Given, CallOffer, given, call_mark, call_codes, positional_seat, named_seat, range_offers}
+use Rattle.pc_expr.specs.Calls.{GivenArguments, CallOffer, arguments_given, call_mark, call_codes, positional_seat, named_seat, range_offers}
 use Rattle.pc_expr.specs.Found.{own_at, once, codes_at}
 use Rattle.pc_expr.specs.Standing.{Standing, arguments_find, keywords_find}
 use Rattle.pc_expr.specs.Typing.{range_finds}
 use Rattle.pc_expr.proofs.Typed.{two_found}
 
-module _ (k : Standing) (p : Place) (c : Expr) (args : Exprs) (kws : Keywords) (g : Given) (given_is : g ≡ given args kws) (offers : List CallOffer) (offers_are : offers ≡ range_offers g) where
-  offers_there : offers ≡ range_offers (given args kws)
+module _ (k : Standing) (p : Place) (c : Expr) (args : Exprs) (kws : Keywords) (g : GivenArguments) (given_is : g ≡ arguments_given args kws) (offers : List CallOffer) (offers_are : offers ≡ range_offers g) where
+  offers_there : offers ≡ range_offers (arguments_given args kws)
   offers_there = offers_are ∙ ap range_offers given_is
 
   pub range_found : (old then_arguments then_keywords last : List Note) (codes : List Code) (is_test : Test) →
@@ -24,7 +24,7 @@ module _ (k : Standing) (p : Place) (c : Expr) (args : Exprs) (kws : Keywords) (
       last ≡ then_keywords ++ flat_map (own_at p) codes →
       last ≡ old ++ range_finds k p c args kws
   range_found old a b last codes is_test codes_are test_is ha hb hl =
-      let os = range_offers (given args kws) in
+      let os = range_offers (arguments_given args kws) in
       let first = arguments_find k (is_instance_test c args kws) (positional_seat os) args in
       let second = keywords_find k (named_seat os) [] kws in
       let third = codes_at p (call_mark k.context.bases os).codes in

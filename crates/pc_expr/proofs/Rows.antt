@@ -6,7 +6,7 @@ use Rattle.pc_tree.specs.declared.code.Code.TheVariants.{A2, A6, E13, E14, E16, 
 use Rattle.pc_types.specs.Tree.{Any, Object, Never, Int, Bool, Str, NoneType, Class, ListOf, DictOf, TupleOf, Union, end, more}
 use Rattle.pc_types.specs.Shape.{members}
 use Rattle.pc_flow.specs.Environment.{join_or_object, join_all, assigned_type, loop_head}
-use Rattle.pc_flow.specs.Narrowing.{for_none, for_type, for_list, passing, failing}
+use Rattle.pc_flow.specs.Narrowing.{for_none, for_type, for_list, type_where_true, type_where_false}
 use Rattle.pc_expr.specs.Operations.{clean, in_error, offers_mark, index_member, binary_mark, order_mark, operand_types, store_index_member, store_codes, stored_types, found_of}
 use Rattle.pc_expr.specs.Context.{Signature}
 use Rattle.pc_expr.specs.Calls.{is_suited, value_offers, call_mark, builtin_signature}
@@ -84,31 +84,31 @@ class_and_ancestor = refl
 
 -- ---- narrowing
 
-not_none : failing bases for_none (Union Int NoneType) ≡ Int
+not_none : type_where_false bases for_none (Union Int NoneType) ≡ Int
 not_none = refl
 
-none_alone : passing bases for_none Any ≡ NoneType
+none_alone : type_where_true bases for_none Any ≡ NoneType
 none_alone = refl
 
-descendant_of_ancestor : passing bases (for_type (Class 1)) (Union NoneType (Class 0)) ≡ Class 1
+descendant_of_ancestor : type_where_true bases (for_type (Class 1)) (Union NoneType (Class 0)) ≡ Class 1
 descendant_of_ancestor = refl
 
-descendant_stays : passing bases (for_type (Class 0)) (Union (Class 1) (Class 2)) ≡ Class 1
+descendant_stays : type_where_true bases (for_type (Class 0)) (Union (Class 1) (Class 2)) ≡ Class 1
 descendant_stays = refl
 
-unrelated_stays : failing bases (for_type (Class 0)) (Union (Class 1) (Class 2)) ≡ Class 2
+unrelated_stays : type_where_false bases (for_type (Class 0)) (Union (Class 1) (Class 2)) ≡ Class 2
 unrelated_stays = refl
 
-truth_of_whole : passing bases (for_type Bool) Int ≡ Bool
+truth_of_whole : type_where_true bases (for_type Bool) Int ≡ Bool
 truth_of_whole = refl
 
-whole_of_truth : passing bases (for_type Int) (Union Bool Str) ≡ Bool
+whole_of_truth : type_where_true bases (for_type Int) (Union Bool Str) ≡ Bool
 whole_of_truth = refl
 
-no_list_left : failing bases for_list (ListOf Int) ≡ Never
+no_list_left : type_where_false bases for_list (ListOf Int) ≡ Never
 no_list_left = refl
 
-list_of_object : passing bases for_list Object ≡ ListOf Any
+list_of_object : type_where_true bases for_list Object ≡ ListOf Any
 list_of_object = refl
 
 -- ---- assignment and heads of loops

@@ -12,8 +12,8 @@ use Rattle.pc_flow.specs.Environment.{Env}
 use Rattle.pc_flow.specs.Narrowing.{narrow, test_of_argument, second_argument}
 use Rattle.pc_expr.specs.Operations.{Mark, in_error}
 use Rattle.pc_expr.specs.Context.{Context, FlowsInto}
-use Rattle.pc_expr.specs.Calls.{Given, given, CallRule, member_rule, length_rule, test_rule, value_callee, method_callee, Seat}
-use Rattle.pc_expr.specs.Labels.{Flowing, Marks, ItemsMarks, EntriesMarks, KeywordsMarks, mark_of, type_of, is_of_scopes, IsFoundAt, IsFlowAt, IsCodeAt, second_place, Finds, ItemsFind, ArgumentsFind, EntriesFind, KeywordsFind}
+use Rattle.pc_expr.specs.Calls.{GivenArguments, arguments_given, CallRule, member_rule, length_rule, test_rule, value_callee, method_callee, Seat}
+use Rattle.pc_expr.specs.Labels.{FlowMarks, Marks, ItemsMarks, EntriesMarks, KeywordsMarks, mark_of, type_of, is_of_scopes, IsFoundAt, IsFlowAt, IsCodeAt, second_place, Finds, ItemsFind, ArgumentsFind, EntriesFind, KeywordsFind}
 use Rattle.pc_expr.specs.Lawful.{callee_of, whole_second_code, early_second, keyword_seat, Lawful, LawfulItems, LawfulEntries, LawfulKeywords}
 use Rattle.pc_expr.proofs.Silent.{own_silent, method_callee_silent}
 use Rattle.pc_expr.proofs.Saying.{not_of_scopes, only_at, no_flow_of_scopes, second_silent, Said, said_left, said_right, said_behind, name_says, callee_name_says, with_found}
@@ -31,7 +31,7 @@ module _ (ctx : Context) (declared : List Tree) (j : Test) (f : Finding) (s : is
   own : (env : Env) (want : Option Tree) (e : Expr) → is_name e ≡ false → (m : Marks e) → Lawful ctx declared env want e m → IsFoundAt (place_of e) (mark_of e m).codes f → ⊥
   own env want e other m law found = not_of_scopes (place_of e) (mark_of e m).codes f (own_silent ctx declared env want e other m law) s found
 
-  no_flow : (m : Mark) (ts : List Tree) (flows : Flowing) (p : Place) → FlowsInto ctx.bases m ts flows → IsFlowAt p flows f → ⊥
+  no_flow : (m : Mark) (ts : List Tree) (flows : FlowMarks) (p : Place) → FlowsInto ctx.bases m ts flows → IsFlowAt p flows f → ⊥
   no_flow m ts flows p law found = no_flow_of_scopes ctx.bases m ts flows p f law s found
 
   no_second : (rule : CallRule) (arguments : Exprs) (m : ItemsMarks arguments) (p : Place) → IsCodeAt p (whole_second_code ctx rule arguments m) f → ⊥
@@ -50,12 +50,12 @@ module _ (ctx : Context) (declared : List Tree) (j : Test) (f : Finding) (s : is
   value_late env p c args kws rest value other law true e found = absurd (own env None c other value law found)
   value_late env p c args kws rest value other law false e found = callee_late p c args kws rest other e found
 
-  method_late : (g : Given) (p q : Place) (e : Expr) (n : Name) (args : Exprs) (kws : Keywords) (rest : List Expr) (t : Tree) → (b : Test) → ctx.in_body ≡ b → IsFoundAt q (if b then method_callee ctx g n.text t else value_callee (in_error E03)).mark.codes f → SaidIn (call p (attribute q e n) args kws ∷ rest)
+  method_late : (g : GivenArguments) (p q : Place) (e : Expr) (n : Name) (args : Exprs) (kws : Keywords) (rest : List Expr) (t : Tree) → (b : Test) → ctx.in_body ≡ b → IsFoundAt q (if b then method_callee ctx g n.text t else value_callee (in_error E03)).mark.codes f → SaidIn (call p (attribute q e n) args kws ∷ rest)
   method_late g p q e n args kws rest t true is found = absurd (not_of_scopes q (method_callee ctx g n.text t).mark.codes f (method_callee_silent ctx g n.text t) s found)
   method_late g p q e n args kws rest t false is found = callee_late p (attribute q e n) args kws rest refl is found
 
   -- what stands at a callee
-  callee_said : (env : Env) (g : Given) (p : Place) (c : Expr) (args : Exprs) (kws : Keywords) (rest : List Expr) (value : Marks c) → Lawful ctx declared env None c value → IsFoundAt (place_of c) (callee_of ctx env g c value).mark.codes f → SaidIn (call p c args kws ∷ (parts_in j c ++ rest))
+  callee_said : (env : Env) (g : GivenArguments) (p : Place) (c : Expr) (args : Exprs) (kws : Keywords) (rest : List Expr) (value : Marks c) → Lawful ctx declared env None c value → IsFoundAt (place_of c) (callee_of ctx env g c value).mark.codes f → SaidIn (call p c args kws ∷ (parts_in j c ++ rest))
   callee_said env g p (name n) args kws rest value law found = record { part = name n; among = inr (inl refl); says = callee_name_says ctx env g n f s found }
   callee_said env g p (attribute q e n) args kws rest value law found = method_late g p q e n args kws (parts_in j (attribute q e n) ++ rest) (type_of e value.object) ctx.in_body refl found
   callee_said env g p (number q x) args kws rest value law found = value_late env p (number q x) args kws (parts_in j (number q x) ++ rest) value refl law ctx.in_body refl found
@@ -125,13 +125,13 @@ module _ (ctx : Context) (declared : List Tree) (j : Test) (f : Finding) (s : is
       ]
     ]
     said env want (call p c args kws) m law h =
-        let callee = callee_of ctx env (given args kws) c law.value in
+        let callee = callee_of ctx env (arguments_given args kws) c law.value in
         let rest = first_or_all (parts_in_first j args) (parts_in_all j args) (j && is_instance_test c args kws) ++ parts_in_keywords j kws in
         elim h [
           | inl a ↦ absurd (own env want (call p c args kws) refl m law a)
           | inr b ↦ elim b [
             | inl x ↦ elim (with_found c law.value callee.mark f (subst (λ v. Finds c v f) law.callee x)) [
-              | inl y ↦ callee_said env (given args kws) p c args kws rest law.value law.lawful y
+              | inl y ↦ callee_said env (arguments_given args kws) p c args kws rest law.value law.lawful y
               | inr z ↦ two (call p c args kws) (parts_in j c) rest (inl (said env None c law.value law.lawful z))
             ]
             | inr d ↦ elim d [

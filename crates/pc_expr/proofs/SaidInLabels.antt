@@ -11,7 +11,7 @@ use Rattle.pc_flow.specs.Environment.{Env}
 use Rattle.pc_flow.specs.Narrowing.{narrow}
 use Rattle.pc_expr.specs.Operations.{Mark, in_error}
 use Rattle.pc_expr.specs.Context.{Context}
-use Rattle.pc_expr.specs.Calls.{Given, given, value_callee, method_callee, Seat}
+use Rattle.pc_expr.specs.Calls.{GivenArguments, arguments_given, value_callee, method_callee, Seat}
 use Rattle.pc_expr.specs.Labels.{Marks, ItemsMarks, EntriesMarks, KeywordsMarks, mark_of, type_of, with_mark, IsFoundAt, Finds, ItemsFind, ArgumentsFind, EntriesFind, KeywordsFind}
 use Rattle.pc_expr.specs.Lawful.{callee_of, keyword_seat, Lawful, LawfulItems, LawfulEntries, LawfulKeywords}
 use Rattle.pc_expr.proofs.Saying.{IsPart, part_either, PartSays, CalleeSays, found_at, found_here, own_mark, name_said, callee_name_said}
@@ -93,7 +93,7 @@ module _ (ctx : Context) (declared : List Tree) (part : Expr) (f : Finding) (say
   nothing_said e silent is = silent (subst (λ x. PartSays ctx x f) (sym is) says)
 
   -- in an initializer a callee that is no name has E03
-  late_mark : (env : Env) (g : Given) (c : Expr) (value : Marks c) → is_name c ≡ false → ctx.in_body ≡ false → (callee_of ctx env g c value).mark ≡ in_error E03
+  late_mark : (env : Env) (g : GivenArguments) (c : Expr) (value : Marks c) → is_name c ≡ false → ctx.in_body ≡ false → (callee_of ctx env g c value).mark ≡ in_error E03
   late_mark env g (name n) value other late = absurd (grind (arith, other))
   late_mark env g (attribute q e n) value other late = ap (λ b. (if b then method_callee ctx g n.text (type_of e value.object) else value_callee (in_error E03)).mark) late
   late_mark env g (number q x) value other late = ap (λ b. (if b then value_callee value else value_callee (in_error E03)).mark) late
@@ -114,7 +114,7 @@ module _ (ctx : Context) (declared : List Tree) (part : Expr) (f : Finding) (say
   late_mark env g (index q x y) value other late = ap (λ b. (if b then value_callee value.here else value_callee (in_error E03)).mark) late
   late_mark env g (call q x y z) value other late = ap (λ b. (if b then value_callee value.here else value_callee (in_error E03)).mark) late
 
-  callee_late : (env : Env) (g : Given) (c : Expr) (value m : Marks c) → m ≡ with_mark c value (callee_of ctx env g c value).mark → CalleeSays ctx c f → Finds c m f
+  callee_late : (env : Env) (g : GivenArguments) (c : Expr) (value m : Marks c) → m ≡ with_mark c value (callee_of ctx env g c value).mark → CalleeSays ctx c f → Finds c m f
   callee_late env g c value m law h =
       let own : mark_of c m ≡ in_error E03 = ap (mark_of c) law ∙ own_mark c value _ ∙ late_mark env g c value h.0 h.1 in
       found_here c m f (subst (λ x. IsFoundAt (place_of c) x.codes f) (sym own) (found_at (place_of c) E03 f h.2))
@@ -141,11 +141,11 @@ module _ (ctx : Context) (declared : List Tree) (part : Expr) (f : Finding) (say
   found_by env want (index p l r) m law h within = in_own (index p l r) m f (within refl)
   found_by env want (call p c args kws) m law h within = in_own (call p c args kws) m f (within refl)
 
-  other_found : (env : Env) (g : Given) (c : Expr) (value m : Marks c) → m ≡ with_mark c value (callee_of ctx env g c value).mark → Within c value f → Finds c m f
+  other_found : (env : Env) (g : GivenArguments) (c : Expr) (value m : Marks c) → m ≡ with_mark c value (callee_of ctx env g c value).mark → Within c value f → Finds c m f
   other_found env g c value m law h = subst (λ k. Finds c k f) (sym law) (found_within c value (callee_of ctx env g c value).mark f h)
 
   -- a callee, whose own label says what it is as a callee
-  callee_found : (env : Env) (g : Given) (c : Expr) (value m : Marks c) → m ≡ with_mark c value (callee_of ctx env g c value).mark → IsPart part (parts_in true c) → (is_name c ≡ false → Within c value f) → Finds c m f
+  callee_found : (env : Env) (g : GivenArguments) (c : Expr) (value m : Marks c) → m ≡ with_mark c value (callee_of ctx env g c value).mark → IsPart part (parts_in true c) → (is_name c ≡ false → Within c value f) → Finds c m f
   callee_found env g (name n) value m law h within =
       elim h [ inl is ↦ subst (λ x. IsFoundAt n.place x.codes f) (sym law) (callee_name_said ctx env g n f (subst (λ x. PartSays ctx x f) (sym is) says)) | inr b ↦ absurd b ]
   callee_found env g (number q x) value m law h within = absurd (within refl)
@@ -226,9 +226,9 @@ module _ (ctx : Context) (declared : List Tree) (part : Expr) (f : Finding) (say
     within_found env want (call p c args kws) other m law h =
         let looked = first_or_all (parts_in_first true args) (parts_in_all true args) (is_instance_test c args kws) in
         elim h [
-          | inl is ↦ inl (callee_late env (given args kws) c law.value m.callee law.callee (subst (λ x. PartSays ctx x f) (sym is) says))
+          | inl is ↦ inl (callee_late env (arguments_given args kws) c law.value m.callee law.callee (subst (λ x. PartSays ctx x f) (sym is) says))
           | inr b ↦ elim (part_either part (parts_in true c) (looked ++ parts_in_keywords true kws) b) [
-            | inl x ↦ inl (callee_found env (given args kws) c law.value m.callee law.callee x (λ k. within_found env None c k law.value law.lawful x))
+            | inl x ↦ inl (callee_found env (arguments_given args kws) c law.value m.callee law.callee x (λ k. within_found env None c k law.value law.lawful x))
             | inr y ↦ inr (elim (part_either part looked (parts_in_keywords true kws) y) [
               | inl u ↦ inl (arguments_found args m.arguments (first_found env _ args m.arguments law.arguments) (items_found env _ args m.arguments law.arguments) (is_instance_test c args kws) u)
               | inr v ↦ inr (keywords_found env _ [] kws m.keywords law.keywords v)

@@ -22,8 +22,8 @@ use Rattle.pc_flow.specs.Environment.{Env, current}
 use Rattle.pc_flow.specs.Narrowing.{Tested}
 use Rattle.pc_expr.specs.Operations.{Mark, in_error}
 use Rattle.pc_expr.specs.Context.{Context, Flows, static, dynamic, wrong, FlowUnless, FlowsInto, is_early, local_mark, constant_mark, name_mark}
-use Rattle.pc_expr.specs.Calls.{Given, CallRule, length_rule, test_rule, function_offer, called, class_signature, own_callee, builtin_callee, good_callee, value_callee, name_callee, fails_at_call, is_one, is_two, second_code}
-use Rattle.pc_expr.specs.Labels.{Flowing, Marks, mark_of, with_mark, is_of_scopes, IsFoundAt, IsFlowAt, IsCodeAt, Finds}
+use Rattle.pc_expr.specs.Calls.{GivenArguments, CallRule, length_rule, test_rule, function_offer, signature_offer, class_signature, own_callee, builtin_callee, good_callee, value_callee, name_callee, fails_at_call, is_one, is_two, second_code}
+use Rattle.pc_expr.specs.Labels.{FlowMarks, Marks, mark_of, with_mark, is_of_scopes, IsFoundAt, IsFlowAt, IsCodeAt, Finds}
 use Rattle.pc_expr.proofs.Silent.{Silent}
 
 -- ---- codes at a place
@@ -65,7 +65,7 @@ unless_silent true bases s t c h x e = absurd (grind (arith, h, e))
 unless_silent false bases s t c h x e = flow_silent h x e
 
 -- what is found at flows is of another code
-pub no_flow_of_scopes : (bases : Bases) (m : Mark) (ts : List Tree) (flows : Flowing) (p : Place) (f : Finding) → FlowsInto bases m ts flows → is_of_scopes f.code ≡ true → IsFlowAt p flows f → ⊥
+pub no_flow_of_scopes : (bases : Bases) (m : Mark) (ts : List Tree) (flows : FlowMarks) (p : Place) (f : Finding) → FlowsInto bases m ts flows → is_of_scopes f.code ≡ true → IsFlowAt p flows f → ⊥
 no_flow_of_scopes bases m ts [] p f law s found = none_among found.flow found.among
 no_flow_of_scopes bases m [] (x ∷ xs) p f law s found = law
 no_flow_of_scopes bases m (t ∷ ts) (x ∷ xs) p f law s found = elim (among_first x xs found.flow found.among) [
@@ -236,7 +236,7 @@ module _ (ctx : Context) where
       go res.None is found = inl (is, only_at n.place E02 f found)
 
   -- and as a callee
-  pub callee_name_says : (env : Env) (g : Given) (n : Name) (f : Finding) → is_of_scopes f.code ≡ true → IsFoundAt n.place (name_callee ctx env g (ctx.resolve n.text)).mark.codes f → NameSays ctx n f
+  pub callee_name_says : (env : Env) (g : GivenArguments) (n : Name) (f : Finding) → is_of_scopes f.code ≡ true → IsFoundAt n.place (name_callee ctx env g (ctx.resolve n.text)).mark.codes f → NameSays ctx n f
   callee_name_says env g n f s found = go (ctx.resolve n.text) refl found
     where
       early : (r : Res) → ctx.resolve n.text ≡ r → IsEarlyHere ctx r → IsFoundAt n.place (E03 ∷ []) f → NameSays ctx n f
@@ -249,7 +249,7 @@ module _ (ctx : Context) where
       of_function i true is e found = absurd (not_of_scopes n.place [] f tt s found)
       of_function i false is e found = early (res.Func i) is e found
 
-      of_class : (c : ℕ) (b : Test) → ctx.resolve n.text ≡ res.Class c → nat_lt c ctx.known ≡ b → IsFoundAt n.place (if b then good_callee (called g (class_signature ctx.classes c) ∷ []) else value_callee (in_error E03)).mark.codes f → NameSays ctx n f
+      of_class : (c : ℕ) (b : Test) → ctx.resolve n.text ≡ res.Class c → nat_lt c ctx.known ≡ b → IsFoundAt n.place (if b then good_callee (signature_offer g (class_signature ctx.classes c) ∷ []) else value_callee (in_error E03)).mark.codes f → NameSays ctx n f
       of_class c true is e found = absurd (not_of_scopes n.place [] f tt s found)
       of_class c false is e found = early (res.Class c) is e found
 
@@ -288,7 +288,7 @@ module _ (ctx : Context) where
       go (res.Builtin x) e h = absurd e
       go res.None e h = absurd e
 
-  pub callee_name_said : (env : Env) (g : Given) (n : Name) (f : Finding) → NameSays ctx n f → IsFoundAt n.place (name_callee ctx env g (ctx.resolve n.text)).mark.codes f
+  pub callee_name_said : (env : Env) (g : GivenArguments) (n : Name) (f : Finding) → NameSays ctx n f → IsFoundAt n.place (name_callee ctx env g (ctx.resolve n.text)).mark.codes f
   callee_name_said env g n f h = elim h [
     | inl a ↦ subst (λ r. IsFoundAt n.place (name_callee ctx env g r).mark.codes f) (sym a.0) (found_at n.place E02 f a.1)
     | inr b ↦ go (ctx.resolve n.text) b.0 (found_at n.place E03 f b.1)
@@ -297,7 +297,7 @@ module _ (ctx : Context) where
       go : (r : Res) → IsEarlyHere ctx r → IsFoundAt n.place (E03 ∷ []) f → IsFoundAt n.place (name_callee ctx env g r).mark.codes f
       go (res.Func i) e h = subst (λ b. IsFoundAt n.place (if b then good_callee (function_offer g (slice_get ctx.functions i) ∷ []) else value_callee (in_error E03)).mark.codes f) (sym e) h
       go (res.Const i) e h = subst (λ o. IsFoundAt n.place (constant_mark o).codes f) (sym e) h
-      go (res.Class c) e h = subst (λ b. IsFoundAt n.place (if b then good_callee (called g (class_signature ctx.classes c) ∷ []) else value_callee (in_error E03)).mark.codes f) (sym e) h
+      go (res.Class c) e h = subst (λ b. IsFoundAt n.place (if b then good_callee (signature_offer g (class_signature ctx.classes c) ∷ []) else value_callee (in_error E03)).mark.codes f) (sym e) h
       go (res.Local x) e h = absurd e
       go (res.Builtin x) e h = absurd e
       go res.None e h = absurd e

@@ -9,27 +9,27 @@ use Rattle.pc_tree.proofs.Stops.{cons_at}
 use Rattle.pc_types.specs.Tree.{Tree}
 use Rattle.pc_scope.specs.Resolution.{index_of}
 use Rattle.pc_expr.specs.declared.params.Param.{Param}
-use Rattle.pc_class.specs.Facts.{Parameter, field_of}
+use Rattle.pc_class.specs.Facts.{TypedParameter, field_by_name}
 use Rattle.pc_expr.specs.declared.seats.Argument.{Argument}
 use Rattle.pc_expr.specs.declared.seats.Argument.TheVariants as argument
-use Rattle.pc_expr.specs.Calls.{CallOffer, all_codes, type_at, unnamed, parameter_names, builtin_signature}
+use Rattle.pc_expr.specs.Calls.{CallOffer, all_codes, type_at, unnamed_parameter, parameter_names, builtin_signature}
 use Rattle.pc_expr.specs.Context.{Signature}
 use Rattle.pc_expr.specs.Operations.{has_error}
 use Rattle.pc_expr.specs.Standing.{HasIfAny}
 use Rattle.pc_expr.specs.declared.call_offers.CallOffer.{CallOffer as RustCallOffer}
-use Rattle.pc_expr.specs.Calling.{param_called, names_called, number_for, builtin_number, types_at, params_called, offer_called, seat_of}
+use Rattle.pc_expr.specs.Internal.JudgedCalls.{param_called, names_called, number_for, builtin_number, types_at, params_called, offer_called, seat_of}
 use Rattle.pc_expr.proofs.FirstNames.{lent_names}
 
 -- the type of the parameter of a number
-abbrev pub type_of_number : List Parameter → Option ℕ → List Tree
+abbrev pub type_of_number : List TypedParameter → Option ℕ → List Tree
 type_of_number ps None = []
 type_of_number ps (Some k) = type_at (slice_get ps k)
 
-field_number : (ps : List Parameter) (word : List ℕ) → type_at (field_of ps word) ≡ type_of_number ps (index_of word (parameter_names ps))
+field_number : (ps : List TypedParameter) (word : List ℕ) → type_at (field_by_name ps word) ≡ type_of_number ps (index_of word (parameter_names ps))
 field_number [] word = refl
 field_number (p ∷ ps) word = go (bytes_eq word p.name) (index_of word (parameter_names ps)) (field_number ps word)
   where
-    go : (b : Test) (o : Option ℕ) → type_at (field_of ps word) ≡ type_of_number ps o → type_at (cond b (Some p) (field_of ps word)) ≡ type_of_number (p ∷ ps) (if b then Some 0 else option_map suc o)
+    go : (b : Test) (o : Option ℕ) → type_at (field_by_name ps word) ≡ type_of_number ps o → type_at (cond b (Some p) (field_by_name ps word)) ≡ type_of_number (p ∷ ps) (if b then Some 0 else option_map suc o)
     go true o e = refl
     go false None e = e
     go false (Some k) e = e
@@ -65,7 +65,7 @@ module _ {Ty : Type 0} (tree : Ty → Tree) where
   param_there a ps k p t e less is same returns = ap (λ (u : Tree). u ∷ []) same ∙ sym (types_number a returns ps ∙ ap (type_of_number (map (param_called tree) ps)) e ∙ lent_there ps k p less is)
 
 -- of a built-in
-unnamed_first : (ts : List Tree) (word : List ℕ) → type_at (field_of (map unnamed ts) word) ≡ type_of_number (map unnamed ts) (if bytes_eq word [] then Some 0 else None)
+unnamed_first : (ts : List Tree) (word : List ℕ) → type_at (field_by_name (map unnamed_parameter ts) word) ≡ type_of_number (map unnamed_parameter ts) (if bytes_eq word [] then Some 0 else None)
 unnamed_first [] word = go (bytes_eq word [])
   where
     go : (b : Test) → [] ≡ type_of_number [] (if b then Some 0 else None)
@@ -73,28 +73,28 @@ unnamed_first [] word = go (bytes_eq word [])
     go false = refl
 unnamed_first (t ∷ ts) word = go (bytes_eq word []) (unnamed_first ts word)
   where
-    go : (b : Test) → type_at (field_of (map unnamed ts) word) ≡ type_of_number (map unnamed ts) (if b then Some 0 else None) → type_at (cond b (Some (unnamed t)) (field_of (map unnamed ts) word)) ≡ type_of_number (map unnamed (t ∷ ts)) (if b then Some 0 else None)
+    go : (b : Test) → type_at (field_by_name (map unnamed_parameter ts) word) ≡ type_of_number (map unnamed_parameter ts) (if b then Some 0 else None) → type_at (cond b (Some (unnamed_parameter t)) (field_by_name (map unnamed_parameter ts) word)) ≡ type_of_number (map unnamed_parameter (t ∷ ts)) (if b then Some 0 else None)
     go true e = refl
     go false e = e
 
-builtin_types : (a : Argument) (returns : Tree) (ts : List Tree) → types_at a (builtin_signature ts returns) ≡ type_of_number (map unnamed ts) (builtin_number a)
+builtin_types : (a : Argument) (returns : Tree) (ts : List Tree) → types_at a (builtin_signature ts returns) ≡ type_of_number (map unnamed_parameter ts) (builtin_number a)
 builtin_types (argument.Position k) returns ts = refl
 builtin_types (argument.Name word) returns ts = unnamed_first ts word.now
 
 module _ {Ty : Type 0} (tree : Ty → Tree) where
-  unnamed_get : (ts : List Ty) (k : ℕ) → slice_get (map unnamed (map tree ts)) k ≡ option_map (λ t. unnamed (tree t)) (slice_get ts k)
+  unnamed_get : (ts : List Ty) (k : ℕ) → slice_get (map unnamed_parameter (map tree ts)) k ≡ option_map (λ t. unnamed_parameter (tree t)) (slice_get ts k)
   unnamed_get [] k = refl
   unnamed_get (t ∷ ts) zero = refl
   unnamed_get (t ∷ ts) (suc k) = unnamed_get ts k
 
   pub builtin_none : (a : Argument) (ts : List Ty) → builtin_number a ≡ None → (returns : Tree) → [] ≡ types_at a (builtin_signature (map tree ts) returns)
-  builtin_none a ts e returns = sym (builtin_types a returns (map tree ts) ∙ ap (type_of_number (map unnamed (map tree ts))) e)
+  builtin_none a ts e returns = sym (builtin_types a returns (map tree ts) ∙ ap (type_of_number (map unnamed_parameter (map tree ts))) e)
 
   pub builtin_past : (a : Argument) (ts : List Ty) (k : ℕ) → builtin_number a ≡ Some k → length ts ≤ k → (returns : Tree) → [] ≡ types_at a (builtin_signature (map tree ts) returns)
-  builtin_past a ts k e h returns = sym (builtin_types a returns (map tree ts) ∙ ap (type_of_number (map unnamed (map tree ts))) e ∙ ap type_at (unnamed_get ts k ∙ ap (option_map (λ t. unnamed (tree t))) (slice_get_past ts k h)))
+  builtin_past a ts k e h returns = sym (builtin_types a returns (map tree ts) ∙ ap (type_of_number (map unnamed_parameter (map tree ts))) e ∙ ap type_at (unnamed_get ts k ∙ ap (option_map (λ t. unnamed_parameter (tree t))) (slice_get_past ts k h)))
 
   pub builtin_there : (a : Argument) (ts : List Ty) (k : ℕ) (x : Ty) (t : Tree) → builtin_number a ≡ Some k → k < length ts → x ≡ get_or ts k x → t ≡ tree x → (returns : Tree) → t ∷ [] ≡ types_at a (builtin_signature (map tree ts) returns)
-  builtin_there a ts k x t e less is same returns = ap (λ (u : Tree). u ∷ []) same ∙ sym (builtin_types a returns (map tree ts) ∙ ap (type_of_number (map unnamed (map tree ts))) e ∙ ap type_at (unnamed_get ts k ∙ ap (option_map (λ y. unnamed (tree y))) (slice_get_read ts (length ts) k x refl less is)))
+  builtin_there a ts k x t e less is same returns = ap (λ (u : Tree). u ∷ []) same ∙ sym (builtin_types a returns (map tree ts) ∙ ap (type_of_number (map unnamed_parameter (map tree ts))) e ∙ ap type_at (unnamed_get ts k ∙ ap (option_map (λ y. unnamed_parameter (tree y))) (slice_get_read ts (length ts) k x refl less is)))
 
 -- ---- the types of all members that are called
 

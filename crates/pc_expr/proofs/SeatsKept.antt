@@ -1,5 +1,5 @@
 -- Seats stay given over calls that may add types to the store.
-use Rattle.pc_expr.specs.Seated.{HasSeats, HasSeat, HasEntrySeats}
+use Rattle.pc_expr.specs.Internal.Seats.{HasSeats, HasSeat, HasEntrySeats}
 use Rattle.pc_expr.specs.declared.entries.EntrySeats.{EntrySeats}
 use Rattle.pc_expr.specs.declared.items.Seats.{Seats}
 use Rattle.pc_expr.specs.declared.items.Seats.TheVariants.{Same, Parts}

@@ -10,9 +10,9 @@ use Rattle.pc_tree.specs.declared.tree.Member.{Member as RustMember}
 use Rattle.pc_tree.specs.Stopping.{name_of_member}
 use Rattle.pc_tree.specs.Tree.{Module, param_of, member_of, item_of}
 use Rattle.pc_scope.specs.Bindings.{as_function, as_class, as_method, functions_in, classes_in, methods_in}
-use Rattle.pc_class.specs.Facts.{Class, parameter_of, parameters_of}
+use Rattle.pc_class.specs.Facts.{ClassFacts, typed_parameter, parameters_of}
 use Rattle.pc_expr.specs.Signatures.{signature_of}
-use Rattle.pc_expr.specs.SignaturesFound.{Reached, with_name, param_findings, params_findings, function_findings, functions_findings, member_findings, members_findings, class_methods, all_methods, behind, behind_all, item_findings, items_findings}
+use Rattle.pc_expr.specs.SignaturesFound.{ItemsReached, with_name, param_findings, params_findings, function_findings, functions_findings, member_findings, members_findings, class_methods, signatures_of_methods, behind, behind_all, item_findings, items_findings}
 
 -- one step of a walk that goes on with the rest
 pub stepped : {X : Type 0} (old mid these rest more total : List X) → old ++ rest ≡ total → rest ≡ these ++ more → mid ≡ old ++ these → mid ++ more ≡ total
@@ -40,7 +40,7 @@ mapped_apart g f x rest = ap (map g) (first_apart f x rest) ∙ map-append g (fi
 module _ (m : Module) where
   -- parameters from one on
   pub params_apart : (ps : List RustParam) (i : ℕ) (p : RustParam) → i < length ps → p ≡ get_or ps i p
-      → parameters_of m (map param_of (drop i ps)) ≡ (parameter_of m (param_of p) ∷ []) ++ parameters_of m (map param_of (drop (i + 1) ps))
+      → parameters_of m (map param_of (drop i ps)) ≡ (typed_parameter m (param_of p) ∷ []) ++ parameters_of m (map param_of (drop (i + 1) ps))
   params_apart ps i p less is = ap (λ (l : List RustParam). parameters_of m (map param_of l)) (cons_at ps i p less is)
 
   pub params_found : (bound next : List ℕ → _) (ps : List RustParam) (i : ℕ) (p : RustParam) → i < length ps → p ≡ get_or ps i p → next ≡ with_name bound (param_of p).name.text
@@ -65,7 +65,7 @@ module _ (m : Module) where
   methods_apart ms i x less is =
       ap (λ (l : List RustMember). map (signature_of m) (methods_in (map member_of l))) (cons_at ms i x less is) ∙ mapped_apart (signature_of m) as_method (member_of x) (map member_of (drop (i + 1) ms))
 
-  pub members_found : (base : Class) (bound next : List ℕ → _) (ms : List RustMember) (i : ℕ) (x : RustMember) → i < length ms → x ≡ get_or ms i x → next ≡ with_name bound (name_of_member (member_of x)).text
+  pub members_found : (base : ClassFacts) (bound next : List ℕ → _) (ms : List RustMember) (i : ℕ) (x : RustMember) → i < length ms → x ≡ get_or ms i x → next ≡ with_name bound (name_of_member (member_of x)).text
       → members_findings m base bound (map member_of (drop i ms)) ≡ member_findings m base bound (member_of x) ++ members_findings m base next (map member_of (drop (i + 1) ms))
   members_found base bound next ms i x less is e =
       ap (λ (l : List RustMember). members_findings m base bound (map member_of l)) (cons_at ms i x less is)
@@ -76,17 +76,17 @@ module _ (m : Module) where
 
   -- the methods of the classes among items from one on
   pub classes_apart : (items : List RustItem) (i : ℕ) (x : RustItem) → i < length items → x ≡ get_or items i x
-      → all_methods m (classes_in (map item_of (drop i items))) ≡ all_methods m (classes_in (item_of x ∷ [])) ++ all_methods m (classes_in (map item_of (drop (i + 1) items)))
+      → signatures_of_methods m (classes_in (map item_of (drop i items))) ≡ signatures_of_methods m (classes_in (item_of x ∷ [])) ++ signatures_of_methods m (classes_in (map item_of (drop (i + 1) items)))
   classes_apart items i x less is =
-      ap (λ (l : List RustItem). all_methods m (classes_in (map item_of l))) (cons_at items i x less is) ∙ mapped_apart (class_methods m) as_class (item_of x) (map item_of (drop (i + 1) items))
+      ap (λ (l : List RustItem). signatures_of_methods m (classes_in (map item_of l))) (cons_at items i x less is) ∙ mapped_apart (class_methods m) as_class (item_of x) (map item_of (drop (i + 1) items))
 
   -- what is reached behind items from one on, and what is found of them
-  pub reached_next : (r next : Reached) (items : List RustItem) (i : ℕ) (x : RustItem) → i < length items → x ≡ get_or items i x → next ≡ behind m r (item_of x)
+  pub reached_next : (r next : ItemsReached) (items : List RustItem) (i : ℕ) (x : RustItem) → i < length items → x ≡ get_or items i x → next ≡ behind m r (item_of x)
       → behind_all m next (map item_of (drop (i + 1) items)) ≡ behind_all m r (map item_of (drop i items))
   reached_next r next items i x less is e =
       ap (λ n. behind_all m n (map item_of (drop (i + 1) items))) e ∙ ap (λ (l : List RustItem). behind_all m r (map item_of l)) (sym (cons_at items i x less is))
 
-  pub items_found : (r next : Reached) (items : List RustItem) (i : ℕ) (x : RustItem) → i < length items → x ≡ get_or items i x → next ≡ behind m r (item_of x)
+  pub items_found : (r next : ItemsReached) (items : List RustItem) (i : ℕ) (x : RustItem) → i < length items → x ≡ get_or items i x → next ≡ behind m r (item_of x)
       → items_findings m r (map item_of (drop i items)) ≡ item_findings m r (item_of x) ++ items_findings m next (map item_of (drop (i + 1) items))
   items_found r next items i x less is e =
       ap (λ (l : List RustItem). items_findings m r (map item_of l)) (cons_at items i x less is)

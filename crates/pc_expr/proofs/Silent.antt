@@ -15,15 +15,15 @@ use Rattle.pc_scope.specs.declared.resolution.Res.TheVariants as res
 use Rattle.pc_scope.specs.Expressions.{is_name}
 use Rattle.pc_types.specs.Tree.{Tree, Any, Never, Int, Bool, Str, NoneType, Class, ListOf, DictOf, TupleOf}
 use Rattle.pc_types.specs.Below.{Bases}
-use Rattle.pc_types.specs.Shape.{members, nodes, limit, trees}
-use Rattle.pc_class.specs.Facts.{Parameter, Method, field_of, method_of, class_at}
+use Rattle.pc_types.specs.Shape.{members, nodes, node_limit, trees}
+use Rattle.pc_class.specs.Facts.{TypedParameter, Method, field_by_name, method_by_name, class_facts_at}
 use Rattle.pc_flow.specs.Environment.{Env, join_or_object}
 use Rattle.pc_flow.specs.Narrowing.{Tested, for_list, test_of_argument, local_of_argument, first_argument, second_argument}
 use Rattle.pc_expr.specs.Operations.{Mark, clean, in_error, Offer, found_of, offers_mark, index_member, attribute_found, attribute_member, StoreOffer, store_codes, store_found, store_attribute_member, store_index_member, iterate_member, contain_member, length_member, negative_member, Kind, kind_of, kind_type, row_of_kinds, pair_found, pair_offers, pairs_mark, takes_kind, is_never, is_any, is_dynamic, display_mark}
 use Rattle.pc_expr.specs.Context.{Context, Signature, name_mark, is_early}
-use Rattle.pc_expr.specs.Calls.{Given, given, CallOffer, called, is_suited, plain_call, fails_at_call, fails_at_callee, value_offer, class_signature, method_signature, builtin_signature, class_offers, list_offers, dict_offers, method_offers, CallRule, member_rule, length_rule, test_rule, own_callee, builtin_callee, function_offer, name_callee, method_callee, value_callee, good_callee, is_one, is_two, call_codes, length_mark, first_type, test_codes, any_list_codes, current_of, is_object_or_any}
+use Rattle.pc_expr.specs.Calls.{GivenArguments, arguments_given, CallOffer, signature_offer, is_suited, plain_call, fails_at_call, fails_at_callee, value_offer, class_signature, method_signature, builtin_signature, class_offers, list_offers, dict_offers, method_offers, CallRule, member_rule, length_rule, test_rule, own_callee, builtin_callee, function_offer, name_callee, method_callee, value_callee, good_callee, is_one, is_two, call_codes, length_mark, first_type, test_codes, any_list_codes, current_of, is_object_or_any}
 use Rattle.pc_expr.specs.Labels.{Marks, mark_of, type_of, item_types, is_of_scopes}
-use Rattle.pc_expr.specs.Lawful.{Lawful, KeyValue, list_item, dict_parts, members_of, list_mark, DictMark, no_keys, int_keys, str_keys, other_keys, DictRule, int_literal, compare_mark, callee_of, whole_call_mark}
+use Rattle.pc_expr.specs.Lawful.{Lawful, KeyValue, list_item, dict_parts, members_of_expected, list_mark, DictMark, no_keys, int_keys, str_keys, other_keys, DictRule, int_literal, compare_mark, callee_of, whole_call_mark}
 
 -- none of these codes is found of scopes
 abbrev pub Silent : List Code → Type 0
@@ -41,7 +41,7 @@ append_silent [] ds h k = k
 append_silent (c ∷ cs) ds h k = (h.0, append_silent cs ds h.1 k)
 
 display_silent : (t : Tree) → Silent (display_mark t).codes
-display_silent t = go (nat_le (nodes t) limit)
+display_silent t = go (nat_le (nodes t) node_limit)
   where
     go : (x : Test) → Silent (if x then clean t else in_error E26).codes
     go true = tt
@@ -72,7 +72,7 @@ index_silent bases literal (DictOf k v) = tt
 index_silent bases literal Any = (refl, tt)
 index_silent bases literal _ = (refl, tt)
 
-attribute_silent : (f : Option Parameter) (m : Option Method) → Silent (attribute_found f m).found
+attribute_silent : (f : Option TypedParameter) (m : Option Method) → Silent (attribute_found f m).found
 attribute_silent (Some f) m = tt
 attribute_silent None (Some m) = (refl, tt)
 attribute_silent None None = (refl, tt)
@@ -199,7 +199,7 @@ calls_append : (os ps : List CallOffer) → AllCalls os → AllCalls ps → AllC
 calls_append [] ps h k = k
 calls_append (o ∷ os) ps h k = (h.0, calls_append os ps h.1 k)
 
-pub called_silent : (g : Given) (s : Signature) → AllCalls (called g s ∷ [])
+pub called_silent : (g : GivenArguments) (s : Signature) → AllCalls (signature_offer g s ∷ [])
 called_silent g s = go (is_suited g s)
   where
     go : (x : Test) → AllCalls ((if x then record { at_callee = []; at_call = []; gives = s.returns; calls = s ∷ [] } else fails_at_call E14) ∷ [])
@@ -215,23 +215,23 @@ value_silent (m ∷ ms) = (one m, value_silent ms)
     one Any = (tt, (refl, tt))
     one _ = (tt, (refl, tt))
 
-class_silent : (g : Given) (m : Option Method) (f : Option Parameter) → AllCalls (class_offers g m f)
+class_silent : (g : GivenArguments) (m : Option Method) (f : Option TypedParameter) → AllCalls (class_offers g m f)
 class_silent g (Some m) f = called_silent g (method_signature m)
 class_silent g None (Some f) = value_silent (members f.type)
 class_silent g None None = (((refl, tt), tt), tt)
 
-list_call_silent : (g : Given) (word : List ℕ) (t : Tree) → AllCalls (list_offers g word t)
+list_call_silent : (g : GivenArguments) (word : List ℕ) (t : Tree) → AllCalls (list_offers g word t)
 list_call_silent g word t = go (bytes_eq word (codes "append")) (bytes_eq word (codes "pop"))
   where
-    go : (x y : Test) → AllCalls (if x then called g (builtin_signature (t ∷ []) NoneType) ∷ [] else (if y then called g (builtin_signature [] t) ∷ [] else fails_at_callee E15 ∷ []))
+    go : (x y : Test) → AllCalls (if x then signature_offer g (builtin_signature (t ∷ []) NoneType) ∷ [] else (if y then signature_offer g (builtin_signature [] t) ∷ [] else fails_at_callee E15 ∷ []))
     go true y = called_silent g (builtin_signature (t ∷ []) NoneType)
     go false true = called_silent g (builtin_signature [] t)
     go false false = (((refl, tt), tt), tt)
 
-dict_call_silent : (bases : Bases) (g : Given) (word : List ℕ) (k v : Tree) → AllCalls (dict_offers bases g word k v)
+dict_call_silent : (bases : Bases) (g : GivenArguments) (word : List ℕ) (k v : Tree) → AllCalls (dict_offers bases g word k v)
 dict_call_silent bases g word k v = go (bytes_eq word (codes "get"))
   where
-    go : (x : Test) → AllCalls (if x then called g (builtin_signature (k ∷ []) (join_or_object bases v NoneType)) ∷ [] else fails_at_callee E15 ∷ [])
+    go : (x : Test) → AllCalls (if x then signature_offer g (builtin_signature (k ∷ []) (join_or_object bases v NoneType)) ∷ [] else fails_at_callee E15 ∷ [])
     go true = called_silent g (builtin_signature (k ∷ []) (join_or_object bases v NoneType))
     go false = (((refl, tt), tt), tt)
 
@@ -243,7 +243,7 @@ tested_call : (x : Test) (a b : CallOffer) → SilentOffer a → SilentOffer b �
 tested_call true a b h k = (h, tt)
 tested_call false a b h k = (k, tt)
 
-builtin_silent : (g : Given) (b : Builtin) → AllCalls (builtin_callee g b).offers
+builtin_silent : (g : GivenArguments) (b : Builtin) → AllCalls (builtin_callee g b).offers
 builtin_silent g builtin.Print = tested_call (has_none g.named) (plain_call NoneType) (fails_at_call E14) (tt, tt) (tt, (refl, tt))
 builtin_silent g builtin.Str = tested_call (is_one g) (plain_call Str) (fails_at_call E14) (tt, tt) (tt, (refl, tt))
 builtin_silent g builtin.Len = own_or_error (is_one g) length_rule
@@ -272,39 +272,39 @@ so_silent e h = subst (λ x. Silent x.codes) (sym e) h
 module _ (ctx : Context) where
   -- an attribute of a value of any type is found on time
   field_silent : (word : List ℕ) (t : Tree) → Silent (attribute_member ctx.classes word t).found
-  field_silent word (Class c) = attribute_silent (field_of (class_at ctx.classes c).fields word) (method_of (class_at ctx.classes c).methods word)
+  field_silent word (Class c) = attribute_silent (field_by_name (class_facts_at ctx.classes c).fields word) (method_by_name (class_facts_at ctx.classes c).methods word)
   field_silent word Any = (refl, tt)
   field_silent word _ = (refl, tt)
 
-  store_name_silent : (f : Option Parameter) (m : Option Method) → Silent (store_found f m).found
+  store_name_silent : (f : Option TypedParameter) (m : Option Method) → Silent (store_found f m).found
   store_name_silent (Some f) m = tt
   store_name_silent None (Some m) = (refl, tt)
   store_name_silent None None = (refl, tt)
 
   store_field_silent : (word : List ℕ) (t : Tree) → Silent (store_attribute_member ctx.classes word t).found
-  store_field_silent word (Class c) = store_name_silent (field_of (class_at ctx.classes c).fields word) (method_of (class_at ctx.classes c).methods word)
+  store_field_silent word (Class c) = store_name_silent (field_by_name (class_facts_at ctx.classes c).fields word) (method_by_name (class_facts_at ctx.classes c).methods word)
   store_field_silent word Any = (refl, tt)
   store_field_silent word _ = (refl, tt)
 
   pub stored_fields_silent : (word : List ℕ) (ms : List Tree) → Silent (store_codes (map (store_attribute_member ctx.classes word) ms))
   stored_fields_silent word ms = each_store (store_attribute_member ctx.classes word) (store_field_silent word) ms
 
-  method_silent : (g : Given) (word : List ℕ) (t : Tree) → AllCalls (method_offers ctx g word t)
-  method_silent g word (Class c) = class_silent g (method_of (class_at ctx.classes c).methods word) (field_of (class_at ctx.classes c).fields word)
+  method_silent : (g : GivenArguments) (word : List ℕ) (t : Tree) → AllCalls (method_offers ctx g word t)
+  method_silent g word (Class c) = class_silent g (method_by_name (class_facts_at ctx.classes c).methods word) (field_by_name (class_facts_at ctx.classes c).fields word)
   method_silent g word (ListOf t) = list_call_silent g word t
   method_silent g word (DictOf k v) = dict_call_silent ctx.bases g word k v
   method_silent g word Any = (((refl, tt), tt), tt)
   method_silent g word _ = (((refl, tt), tt), tt)
 
-  methods_silent : (g : Given) (word : List ℕ) (ms : List Tree) → AllCalls (flat_map (method_offers ctx g word) ms)
+  methods_silent : (g : GivenArguments) (word : List ℕ) (ms : List Tree) → AllCalls (flat_map (method_offers ctx g word) ms)
   methods_silent g word [] = tt
   methods_silent g word (t ∷ ms) = calls_append (method_offers ctx g word t) (flat_map (method_offers ctx g word) ms) (method_silent g word t) (methods_silent g word ms)
 
-  function_silent : (g : Given) (o : Option Signature) → AllCalls (function_offer g o ∷ [])
+  function_silent : (g : GivenArguments) (o : Option Signature) → AllCalls (function_offer g o ∷ [])
   function_silent g None = ((tt, (refl, tt)), tt)
   function_silent g (Some s) = called_silent g s
 
-  name_callee_silent : (env : Env) (g : Given) (r : Res) → AllCalls (name_callee ctx env g r).offers
+  name_callee_silent : (env : Env) (g : GivenArguments) (r : Res) → AllCalls (name_callee ctx env g r).offers
   name_callee_silent env g (res.Func i) = go ctx.in_body
     where
       go : (x : Test) → AllCalls (if x then good_callee (function_offer g (slice_get ctx.functions i) ∷ []) else value_callee (in_error E03)).offers
@@ -312,7 +312,7 @@ module _ (ctx : Context) where
       go false = ((tt, (refl, tt)), tt)
   name_callee_silent env g (res.Class c) = go (nat_lt c ctx.known)
     where
-      go : (x : Test) → AllCalls (if x then good_callee (called g (class_signature ctx.classes c) ∷ []) else value_callee (in_error E03)).offers
+      go : (x : Test) → AllCalls (if x then good_callee (signature_offer g (class_signature ctx.classes c) ∷ []) else value_callee (in_error E03)).offers
       go true = called_silent g (class_signature ctx.classes c)
       go false = ((tt, (refl, tt)), tt)
   name_callee_silent env g (res.Builtin b) = builtin_silent g b
@@ -324,7 +324,7 @@ module _ (ctx : Context) where
   value_callee_silent m true = value_silent (members m.type)
   value_callee_silent m false = ((tt, (refl, tt)), tt)
 
-  callee_silent : (env : Env) (g : Given) (e : Expr) (m : Marks e) → AllCalls (callee_of ctx env g e m).offers
+  callee_silent : (env : Env) (g : GivenArguments) (e : Expr) (m : Marks e) → AllCalls (callee_of ctx env g e m).offers
   callee_silent env g (name n) m = name_callee_silent env g (ctx.resolve n.text)
   callee_silent env g (attribute p e field) m = go ctx.in_body
     where
@@ -339,7 +339,7 @@ module _ (ctx : Context) where
   whole_call_silent env test_rule offers h args ts = test_codes_silent env (local_of_argument ctx.resolve (first_argument args)) (test_of_argument ctx.resolve (second_argument args))
 
   -- what is found at the callee `e.m`
-  pub method_callee_silent : (g : Given) (word : List ℕ) (t : Tree) → Silent (method_callee ctx g word t).mark.codes
+  pub method_callee_silent : (g : GivenArguments) (word : List ℕ) (t : Tree) → Silent (method_callee ctx g word t).mark.codes
   method_callee_silent g word t = callees_silent (flat_map (method_offers ctx g word) (members t)) (methods_silent g word (members t))
 
   -- the label of an expression that is no name
@@ -350,8 +350,8 @@ module _ (ctx : Context) where
   own_silent declared env want (truth p b) other m law = so_silent law tt
   own_silent declared env want (nothing p) other m law = so_silent law tt
   own_silent declared env want (tuple p es) other m law = so_silent law.here (display_silent (TupleOf (trees (item_types es m.items))))
-  own_silent declared env want (list p es) other m law = so_silent law.here (list_silent ctx.bases (list_item (members_of want)) (item_types es m.items))
-  own_silent declared env want (dict p es) other m law = dict_silent ctx.bases (dict_parts (members_of want)) _ _ m.here law.here
+  own_silent declared env want (list p es) other m law = so_silent law.here (list_silent ctx.bases (list_item (members_of_expected want)) (item_types es m.items))
+  own_silent declared env want (dict p es) other m law = dict_silent ctx.bases (dict_parts (members_of_expected want)) _ _ m.here law.here
   own_silent declared env want (negative p e) other m law = so_silent law.here (operation_silent ctx.bases negative_member negative_silent (type_of e m.operand))
   own_silent declared env want (negation p e) other m law = so_silent law.here tt
   own_silent declared env want (binary p o l r) other m law = so_silent law.here (pairs_silent (takes_kind o) kind_type ctx.bases Any (type_of l m.left) (type_of r m.right))
@@ -363,5 +363,5 @@ module _ (ctx : Context) where
   own_silent declared env want (attribute p e n) other m law = so_silent law.here (operation_silent ctx.bases (attribute_member ctx.classes n.text) (field_silent n.text) (type_of e m.object))
   own_silent declared env want (index p e i) other m law = so_silent law.here (operation_silent ctx.bases (index_member ctx.bases (int_literal i)) (index_silent ctx.bases (int_literal i)) (type_of e m.object))
   own_silent declared env want (call p c args kws) other m law =
-      let callee = callee_of ctx env (given args kws) c law.value in
-      so_silent law.here (whole_call_silent env callee.rule callee.offers (callee_silent env (given args kws) c law.value) args (item_types args m.arguments))
+      let callee = callee_of ctx env (arguments_given args kws) c law.value in
+      so_silent law.here (whole_call_silent env callee.rule callee.offers (callee_silent env (arguments_given args kws) c law.value) args (item_types args m.arguments))

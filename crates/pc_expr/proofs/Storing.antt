@@ -7,7 +7,7 @@ use Rattle.std.proofs.lemmas.List.Elements.{All-nil, All-push, All-weaker}
 use Rattle.pc_tree.specs.declared.code.Code.{Code}
 use Rattle.pc_tree.proofs.Stops.{cons_at}
 use Rattle.pc_types.specs.Tree.{Tree}
-use Rattle.pc_types.specs.Store.{Keeps}
+use Rattle.pc_types.specs.Store.{KeepsTypes}
 use Rattle.pc_flow.proofs.Given.{keeps_both}
 use Rattle.pc_flow.proofs.Rest.{mapped_rest, mapped_end}
 use Rattle.pc_expr.specs.Operations.{StoreOffer, has_error, store_codes}
@@ -17,7 +17,7 @@ use Rattle.pc_expr.specs.declared.stores.StoreOffer.{StoreOffer as RustStoreOffe
 use Rattle.pc_expr.proofs.Offering.{if_any_kept}
 use Rattle.pc_expr.proofs.Once.{onto_append, once_error}
 
-module _ {Store Ty : Type 0} (has : Store → Ty → Type 0) (a b : Store) (k : Keeps has a b) where
+module _ {Store Ty : Type 0} (has : Store → Ty → Type 0) (a b : Store) (k : KeepsTypes has a b) where
   stores_kept : (o : RustStoreOffer Ty) → HasStoreOffer (has a) o → HasStoreOffer (has b) o
   stores_kept o h = record { takes = if_any_kept has a b k o.takes h.takes; stores = if_any_kept has a b k o.stores h.stores }
 
@@ -28,14 +28,14 @@ module _ {Store Ty : Type 0} (has : Store → Ty → Type 0) (a b : Store) (k : 
 
 module _ {Store Ty : Type 0} (has : Store → Ty → Type 0) (tree : Ty → Tree) (on : Tree → StoreOffer) (members : List Ty) where
   pub record AreStores (first store : Store) (i : ℕ) (offers : List (RustStoreOffer Ty)) : Type 0 where
-    pub kept : Keeps has first store
+    pub kept : KeepsTypes has first store
     pub given : All (HasStoreOffer (has store)) offers
     pub so_far : map (store_offer_with tree) offers ++ map on (drop i (map tree members)) ≡ map on (map tree members)
 
   pub stores_none : (first : Store) → AreStores first first 0 []
   stores_none first = record { kept = λ ty h. h; given = All-nil (HasStoreOffer (has first)); so_far = refl }
 
-  pub stores_more : (first old new : Store) (i : ℕ) (offers : List (RustStoreOffer Ty)) (m : Ty) (o : RustStoreOffer Ty) → i < length members → m ≡ get_or members i m → Keeps has old new → AreStores first old i offers → IsStoreOffer has tree new o (on (tree m)) → AreStores first new (i + 1) (offers ++ o ∷ [])
+  pub stores_more : (first old new : Store) (i : ℕ) (offers : List (RustStoreOffer Ty)) (m : Ty) (o : RustStoreOffer Ty) → i < length members → m ≡ get_or members i m → KeepsTypes has old new → AreStores first old i offers → IsStoreOffer has tree new o (on (tree m)) → AreStores first new (i + 1) (offers ++ o ∷ [])
   stores_more first old new i offers m o lt is k v h = record {
     kept = keeps_both has first old new v.kept k;
     given = All-push (HasStoreOffer (has new)) offers o (all_stores_kept has old new k offers v.given) h.given;

@@ -27,10 +27,10 @@ use Rattle.pc_types.specs.Shape.{members}
 use Rattle.pc_flow.specs.Environment.{Env, join_or_object}
 use Rattle.pc_flow.specs.Narrowing.{narrow}
 use Rattle.pc_expr.specs.Operations.{Mark, clean, offers_mark, operand_types, negative_member, attribute_member, index_member, binary_mark, display_mark}
-use Rattle.pc_expr.specs.Lawful.{list_item, dict_parts, tuple_parts, members_of, item_seat, part_seat, list_mark, key_seat, value_seat, int_literal, compare_mark, compare_types}
+use Rattle.pc_expr.specs.Lawful.{list_item, dict_parts, tuple_parts, members_of_expected, item_seat, part_seat, list_mark, key_seat, value_seat, int_literal, compare_mark, compare_types}
 use Rattle.pc_expr.specs.Computed.{flows_of, dict_mark}
 use Rattle.pc_expr.specs.Found.{own_at, once, brief, codes_at, flows_at}
-use Rattle.pc_expr.specs.Standing.{Standing, narrowed, mark_in, finds_in, parts_find, types_in, items_find, keys_in, values_in, entries_find, mark_with, IsMark}
+use Rattle.pc_expr.specs.Standing.{Standing, narrowed_standing, mark_in, finds_in, parts_find, types_in, items_find, keys_in, values_in, entries_find, mark_with, IsMark}
 use Rattle.pc_expr.specs.declared.label.Label.{Label}
 use Rattle.pc_expr.proofs.Forms.{finds_whole, mark_negative, mark_attribute, mark_binary, mark_compare, parts_compare, mark_conjunction, mark_disjunction, parts_conjunction, parts_disjunction, parts_binary, mark_index, parts_index, mark_tuple, parts_tuple, mark_list, parts_list, mark_dict, parts_dict}
 
@@ -99,27 +99,27 @@ module _ {T : Type 0} (tree : T → Tree) (k : Standing) (want : Option Tree) wh
 
     -- the right side of `and` and of `or`, in the environment that the left one leaves
     module _ (after : Standing) (right_is : mark_with tree r ≡ brief (mark_in after None b)) where
-      pub and_is : after ≡ narrowed k true a → clean (join_or_object k.context.bases (tree l.ty) (tree r.ty)) ≡ mark_in k want (conjunction p a b)
+      pub and_is : after ≡ narrowed_standing k true a → clean (join_or_object k.context.bases (tree l.ty) (tree r.ty)) ≡ mark_in k want (conjunction p a b)
       and_is e =
           ap (λ t. clean (join_or_object k.context.bases t (tree r.ty))) (type_is tree l (mark_in k None a) left_is)
           ∙ ap (λ t. clean (join_or_object k.context.bases (mark_in k None a).type t)) (type_is tree r (mark_in after None b) right_is)
           ∙ ap (λ (s : Standing). clean (join_or_object k.context.bases (mark_in k None a).type (mark_in s None b).type)) e
           ∙ sym (mark_conjunction k want p a b)
 
-      pub or_is : after ≡ narrowed k false a → clean (join_or_object k.context.bases (tree l.ty) (tree r.ty)) ≡ mark_in k want (disjunction p a b)
+      pub or_is : after ≡ narrowed_standing k false a → clean (join_or_object k.context.bases (tree l.ty) (tree r.ty)) ≡ mark_in k want (disjunction p a b)
       or_is e =
           ap (λ t. clean (join_or_object k.context.bases t (tree r.ty))) (type_is tree l (mark_in k None a) left_is)
           ∙ ap (λ t. clean (join_or_object k.context.bases (mark_in k None a).type t)) (type_is tree r (mark_in after None b) right_is)
           ∙ ap (λ (s : Standing). clean (join_or_object k.context.bases (mark_in k None a).type (mark_in s None b).type)) e
           ∙ sym (mark_disjunction k want p a b)
 
-  pub and_found : (p : Place) (a b : Expr) (after : Standing) (old new last : List Note) → after ≡ narrowed k true a → new ≡ old ++ finds_in k None a → last ≡ new ++ finds_in after None b → last ≡ old ++ parts_find k want (conjunction p a b)
+  pub and_found : (p : Place) (a b : Expr) (after : Standing) (old new last : List Note) → after ≡ narrowed_standing k true a → new ≡ old ++ finds_in k None a → last ≡ new ++ finds_in after None b → last ≡ old ++ parts_find k want (conjunction p a b)
   and_found p a b after old new last e h j =
       two_found old new last (finds_in k None a) (finds_in after None b) h j
       ∙ ap (λ (s : Standing). old ++ (finds_in k None a ++ finds_in s None b)) e
       ∙ ap (λ fs. old ++ fs) (sym (parts_conjunction k want p a b))
 
-  pub or_found : (p : Place) (a b : Expr) (after : Standing) (old new last : List Note) → after ≡ narrowed k false a → new ≡ old ++ finds_in k None a → last ≡ new ++ finds_in after None b → last ≡ old ++ parts_find k want (disjunction p a b)
+  pub or_found : (p : Place) (a b : Expr) (after : Standing) (old new last : List Note) → after ≡ narrowed_standing k false a → new ≡ old ++ finds_in k None a → last ≡ new ++ finds_in after None b → last ≡ old ++ parts_find k want (disjunction p a b)
   or_found p a b after old new last e h j =
       two_found old new last (finds_in k None a) (finds_in after None b) h j
       ∙ ap (λ (s : Standing). old ++ (finds_in k None a ++ finds_in s None b)) e
@@ -129,7 +129,7 @@ module _ {T : Type 0} (tree : T → Tree) (k : Standing) (want : Option Tree) wh
   binary_found p o a b old new last h j = two_found old new last (finds_in k None a) (finds_in k None b) h j ∙ ap (λ fs. old ++ fs) (sym (parts_binary k want p o a b))
 
 -- the standing behind a condition, by the environment that it leaves
-pub standing_after : (k : Standing) (env : Env) (holds : Test) (e : Expr) → env ≡ narrow k.context.bases k.declared k.context.resolve holds e k.env → (let s : Standing = record { context = k.context; declared = k.declared; env = env } in s) ≡ narrowed k holds e
+pub standing_after : (k : Standing) (env : Env) (holds : Test) (e : Expr) → env ≡ narrow k.context.bases k.declared k.context.resolve holds e k.env → (let s : Standing = record { context = k.context; declared = k.declared; env = env } in s) ≡ narrowed_standing k holds e
 standing_after k env holds e h = ap (λ (x : Env). let s : Standing = record { context = k.context; declared = k.declared; env = x } in s) h
 
 -- what holds anyway holds where there is a value
@@ -146,22 +146,22 @@ if_ok (Err x) f p = tt
 
 module _ (k : Standing) (want : Option Tree) (p : Place) where
   module _ (v : Vec RustExpr Global) (seat : ℕ → Seat) where
-    pub list_is : (types : List Tree) → seat ≡ (λ i. item_seat (list_item (members_of want))) → types ≡ types_in k seat (exprs_of_list v.items) → list_mark k.context.bases (list_item (members_of want)) types ≡ mark_in k want (expr_of (View.List p v))
+    pub list_is : (types : List Tree) → seat ≡ (λ i. item_seat (list_item (members_of_expected want))) → types ≡ types_in k seat (exprs_of_list v.items) → list_mark k.context.bases (list_item (members_of_expected want)) types ≡ mark_in k want (expr_of (View.List p v))
     list_is types s t =
-        ap (λ ts. list_mark k.context.bases (list_item (members_of want)) ts) (t ∙ ap (λ (f : ℕ → Seat). types_in k f (exprs_of_list v.items)) s)
+        ap (λ ts. list_mark k.context.bases (list_item (members_of_expected want)) ts) (t ∙ ap (λ (f : ℕ → Seat). types_in k f (exprs_of_list v.items)) s)
         ∙ sym (mark_list k want p (exprs_of_list v.items))
         ∙ ap (mark_in k want) (sym (list_tree p v))
 
-    pub list_found : (old new : List Note) → seat ≡ (λ i. item_seat (list_item (members_of want))) → new ≡ old ++ items_find k seat (exprs_of_list v.items) → new ≡ old ++ parts_find k want (expr_of (View.List p v))
+    pub list_found : (old new : List Note) → seat ≡ (λ i. item_seat (list_item (members_of_expected want))) → new ≡ old ++ items_find k seat (exprs_of_list v.items) → new ≡ old ++ parts_find k want (expr_of (View.List p v))
     list_found old new s h =
         h
         ∙ ap (λ (f : ℕ → Seat). old ++ items_find k f (exprs_of_list v.items)) s
         ∙ ap (λ fs. old ++ fs) (sym (parts_list k want p (exprs_of_list v.items)))
         ∙ ap (λ x. old ++ parts_find k want x) (sym (list_tree p v))
 
-    module _ (n : ℕ) (length_is : n ≡ count_exprs (exprs_of_list v.items)) (s : seat ≡ part_seat (tuple_parts n (members_of want))) where
-      seats_are : seat ≡ part_seat (tuple_parts (count_exprs (exprs_of_list v.items)) (members_of want))
-      seats_are = s ∙ ap (λ m. part_seat (tuple_parts m (members_of want))) length_is
+    module _ (n : ℕ) (length_is : n ≡ count_exprs (exprs_of_list v.items)) (s : seat ≡ part_seat (tuple_parts n (members_of_expected want))) where
+      seats_are : seat ≡ part_seat (tuple_parts (count_exprs (exprs_of_list v.items)) (members_of_expected want))
+      seats_are = s ∙ ap (λ m. part_seat (tuple_parts m (members_of_expected want))) length_is
 
       pub tuple_is : (types : List Tree) → types ≡ types_in k seat (exprs_of_list v.items) → display_mark (TupleOf (trees types)) ≡ mark_in k want (expr_of (View.Tuple p v))
       tuple_is types t =
@@ -176,14 +176,14 @@ module _ (k : Standing) (want : Option Tree) (p : Place) where
           ∙ ap (λ fs. old ++ fs) (sym (parts_tuple k want p (exprs_of_list v.items)))
           ∙ ap (λ x. old ++ parts_find k want x) (sym (tuple_tree p v))
 
-  module _ (v : Vec RustEntry Global) (key value : Seat) (at_key : key ≡ key_seat (dict_parts (members_of want))) (at_value : value ≡ value_seat (dict_parts (members_of want))) where
+  module _ (v : Vec RustEntry Global) (key value : Seat) (at_key : key ≡ key_seat (dict_parts (members_of_expected want))) (at_value : value ≡ value_seat (dict_parts (members_of_expected want))) where
     pub dict_is : (keys values : List Tree) → keys ≡ keys_in k key value (entries_of_list v.items) → values ≡ values_in k key value (entries_of_list v.items) →
-        dict_mark k.context k.declared (static_test k.context.bases) (assignable_test k.context.bases) (dict_parts (members_of want)) keys values ≡ mark_in k want (expr_of (View.Dict p v))
+        dict_mark k.context k.declared (static_test k.context.bases) (assignable_test k.context.bases) (dict_parts (members_of_expected want)) keys values ≡ mark_in k want (expr_of (View.Dict p v))
     dict_is keys values e f =
-        ap (λ ts. dict_mark k.context k.declared (static_test k.context.bases) (assignable_test k.context.bases) (dict_parts (members_of want)) ts values) e
-        ∙ ap (λ ts. dict_mark k.context k.declared (static_test k.context.bases) (assignable_test k.context.bases) (dict_parts (members_of want)) (keys_in k key value (entries_of_list v.items)) ts) f
-        ∙ ap (λ (x : Seat). dict_mark k.context k.declared (static_test k.context.bases) (assignable_test k.context.bases) (dict_parts (members_of want)) (keys_in k x value (entries_of_list v.items)) (values_in k x value (entries_of_list v.items))) at_key
-        ∙ ap (λ (x : Seat). dict_mark k.context k.declared (static_test k.context.bases) (assignable_test k.context.bases) (dict_parts (members_of want)) (keys_in k (key_seat (dict_parts (members_of want))) x (entries_of_list v.items)) (values_in k (key_seat (dict_parts (members_of want))) x (entries_of_list v.items))) at_value
+        ap (λ ts. dict_mark k.context k.declared (static_test k.context.bases) (assignable_test k.context.bases) (dict_parts (members_of_expected want)) ts values) e
+        ∙ ap (λ ts. dict_mark k.context k.declared (static_test k.context.bases) (assignable_test k.context.bases) (dict_parts (members_of_expected want)) (keys_in k key value (entries_of_list v.items)) ts) f
+        ∙ ap (λ (x : Seat). dict_mark k.context k.declared (static_test k.context.bases) (assignable_test k.context.bases) (dict_parts (members_of_expected want)) (keys_in k x value (entries_of_list v.items)) (values_in k x value (entries_of_list v.items))) at_key
+        ∙ ap (λ (x : Seat). dict_mark k.context k.declared (static_test k.context.bases) (assignable_test k.context.bases) (dict_parts (members_of_expected want)) (keys_in k (key_seat (dict_parts (members_of_expected want))) x (entries_of_list v.items)) (values_in k (key_seat (dict_parts (members_of_expected want))) x (entries_of_list v.items))) at_value
         ∙ sym (mark_dict k want p (entries_of_list v.items))
         ∙ ap (mark_in k want) (sym (dict_tree p v))
 
@@ -191,7 +191,7 @@ module _ (k : Standing) (want : Option Tree) (p : Place) where
     dict_found old new h =
         h
         ∙ ap (λ (x : Seat). old ++ entries_find k x value (entries_of_list v.items)) at_key
-        ∙ ap (λ (x : Seat). old ++ entries_find k (key_seat (dict_parts (members_of want))) x (entries_of_list v.items)) at_value
+        ∙ ap (λ (x : Seat). old ++ entries_find k (key_seat (dict_parts (members_of_expected want))) x (entries_of_list v.items)) at_value
         ∙ ap (λ fs. old ++ fs) (sym (parts_dict k want p (entries_of_list v.items)))
         ∙ ap (λ x. old ++ parts_find k want x) (sym (dict_tree p v))
 

@@ -3,7 +3,7 @@ use Rattle.std.proofs.Common.{◌≤◌, ◌+◌, ◌++◌, ℕ, zero, suc, Bool
 use Rattle.std.specs.Prelude.{if◌then◌else◌, unwrap_or, slice_get}
 use Rattle.pc_types.specs.Tree.{Tree, Trees, Any, Object, Never, Int, Bool, Str, NoneType, Class, ListOf, DictOf, TupleOf, Union, end, more}
 use Rattle.pc_types.specs.Below.{Bases, AreSmaller}
-use Rattle.pc_types.specs.Shape.{nodes, nodes_of, members, listed, trees}
+use Rattle.pc_types.specs.Shape.{nodes, nodes_of, members, list_of_trees, trees}
 use Rattle.pc_types.specs.Normal.{IsKey, AreNormal, AreReduced}
 use Rattle.pc_flow.specs.Environment.{join_or_object, join_onto, join_all}
 use Rattle.pc_types.specs.WellFormed.{IsWellFormed}
@@ -50,11 +50,11 @@ module _ (bases : Bases) where
   pub value_well_formed : (k v : Tree) → IsWellFormed bases (DictOf k v) → IsWellFormed bases v
   value_well_formed k v h = let e : 1 + nodes k + nodes v ≤ 256 = h.2 in (h.0.2, h.1, omega (arith, e))
 
-  listed_well_formed : (ts : Trees) → AreNormal ts → AreReduced bases ts → nodes_of ts ≤ 256 → AreWellFormed bases (listed ts)
+  listed_well_formed : (ts : Trees) → AreNormal ts → AreReduced bases ts → nodes_of ts ≤ 256 → AreWellFormed bases (list_of_trees ts)
   listed_well_formed end n r h = tt
   listed_well_formed (more t ts) n r h = ((n.0, r.0, omega (arith, h)), listed_well_formed ts n.1 r.1 (omega (arith, h)))
 
-  pub parts_well_formed : (ts : Trees) → IsWellFormed bases (TupleOf ts) → AreWellFormed bases (listed ts)
+  pub parts_well_formed : (ts : Trees) → IsWellFormed bases (TupleOf ts) → AreWellFormed bases (list_of_trees ts)
   parts_well_formed ts h = let e : 1 + nodes_of ts ≤ 256 = h.2 in listed_well_formed ts h.0 h.1 (omega (arith, e))
 
   pub members_well_formed : (t : Tree) → IsWellFormed bases t → AreWellFormed bases (members t)

@@ -11,13 +11,13 @@ use Rattle.pc_scope.specs.declared.resolution.Builtin.{Builtin}
 use Rattle.pc_scope.specs.declared.resolution.Builtin.TheVariants as builtin
 use Rattle.pc_scope.specs.declared.resolution.Res.{Res}
 use Rattle.pc_scope.specs.declared.resolution.Res.TheVariants as res
-use Rattle.pc_scope.specs.Resolution.{is_among}
+use Rattle.pc_scope.specs.Resolution.{is_one_of}
 use Rattle.pc_scope.specs.Expressions.{keyword_names}
 use Rattle.pc_types.specs.Tree.{Tree, Any, Object, Never, Int, Bool, Str, NoneType, Class, ListOf, DictOf}
 use Rattle.pc_types.specs.Below.{Bases}
 use Rattle.pc_types.specs.Shape.{members}
 use Rattle.pc_class.specs.Facts as facts
-use Rattle.pc_class.specs.Facts.{Parameter, Method, field_of, method_of, class_at}
+use Rattle.pc_class.specs.Facts.{TypedParameter, Method, field_by_name, method_by_name, class_facts_at}
 use Rattle.pc_flow.specs.Environment.{Env, current, join_or_object, join_all}
 use Rattle.pc_flow.specs.Narrowing.{Tested, for_list, test_of_argument, local_of_argument, first_argument, second_argument}
 use Rattle.pc_expr.specs.Operations.{Mark, clean, in_error, has_error, offers_mark, length_member}
@@ -26,7 +26,7 @@ use Rattle.pc_expr.specs.Context.{Context, Signature, name_mark}
 -- ---- the arguments of a call
 
 -- how many arguments a call gives by position, and which by name, each once
-pub record Given : Type 0 where
+pub record GivenArguments : Type 0 where
   pub positional : ℕ
   pub named : List (List ℕ)
 
@@ -38,14 +38,14 @@ count_exprs (more_exprs e rest) = suc (count_exprs rest)
 -- of a name given twice the later one fills nothing
 abbrev pub once_each : List (List ℕ) → List Name → List (List ℕ)
 once_each before [] = []
-once_each before (n ∷ rest) = if is_among n.text before then once_each before rest else n.text ∷ once_each (n.text ∷ before) rest
+once_each before (n ∷ rest) = if is_one_of n.text before then once_each before rest else n.text ∷ once_each (n.text ∷ before) rest
 
 -- what the arguments of a call give, by position and by name
-abbrev pub given : Exprs → Keywords → Given
-given arguments keywords = record { positional = count_exprs arguments; named = once_each [] (keyword_names keywords) }
+abbrev pub arguments_given : Exprs → Keywords → GivenArguments
+arguments_given arguments keywords = record { positional = count_exprs arguments; named = once_each [] (keyword_names keywords) }
 
 -- the position of the first parameter of a name
-abbrev pub position_of : List Parameter → List ℕ → Option ℕ
+abbrev pub position_of : List TypedParameter → List ℕ → Option ℕ
 position_of [] word = None
 position_of (p ∷ ps) word = if bytes_eq word p.name then Some zero else option_map suc (position_of ps word)
 
@@ -55,16 +55,16 @@ is_free n None = false
 is_free n (Some i) = nat_le n i
 
 -- each further parameter has a default, or an argument by name, which the first of a name takes
-abbrev pub are_filled : List (List ℕ) → List (List ℕ) → List Parameter → Test
+abbrev pub are_filled : List (List ℕ) → List (List ℕ) → List TypedParameter → Test
 are_filled named before [] = true
-are_filled named before (p ∷ ps) = (p.has_default || (is_among p.name named && not (is_among p.name before))) && are_filled named (p.name ∷ before) ps
+are_filled named before (p ∷ ps) = (p.has_default || (is_one_of p.name named && not (is_one_of p.name before))) && are_filled named (p.name ∷ before) ps
 
 -- the names of parameters, in order
-abbrev pub parameter_names : List Parameter → List (List ℕ)
+abbrev pub parameter_names : List TypedParameter → List (List ℕ)
 parameter_names ps = map (λ p. p.name) ps
 
 -- a call suits: not too many arguments by position, each by name for a free parameter, no parameter left over
-abbrev pub is_suited : Given → Signature → Test
+abbrev pub is_suited : GivenArguments → Signature → Test
 is_suited g s =
     nat_le g.positional (length s.parameters)
     && ((s.takes_names || has_none g.named)
@@ -93,8 +93,8 @@ abbrev pub fails_at_callee : Code → CallOffer
 fails_at_callee code = record { at_callee = code ∷ []; at_call = []; gives = Any; calls = [] }
 
 -- the wrong number of arguments is E14
-abbrev pub called : Given → Signature → CallOffer
-called g s = if is_suited g s then record { at_callee = []; at_call = []; gives = s.returns; calls = s ∷ [] } else fails_at_call E14
+abbrev pub signature_offer : GivenArguments → Signature → CallOffer
+signature_offer g s = if is_suited g s then record { at_callee = []; at_call = []; gives = s.returns; calls = s ∷ [] } else fails_at_call E14
 
 -- a value called
 abbrev pub value_offer : Tree → CallOffer
@@ -106,53 +106,53 @@ abbrev pub value_offers : Tree → List CallOffer
 value_offers t = map value_offer (members t)
 
 -- the class of a number as what is called: it takes its fields
-abbrev pub class_signature : List facts.Class → ℕ → Signature
-class_signature classes c = record { parameters = (class_at classes c).fields; returns = Class c; takes_names = true }
+abbrev pub class_signature : List facts.ClassFacts → ℕ → Signature
+class_signature classes c = record { parameters = (class_facts_at classes c).fields; returns = Class c; takes_names = true }
 
 -- a method as what is called: its parameters without `self`, and its return type
 abbrev pub method_signature : Method → Signature
 method_signature m = record { parameters = m.parameters; returns = m.returns; takes_names = true }
 
 -- a parameter that no name can fill
-abbrev pub unnamed : Tree → Parameter
-unnamed t = record { name = []; type = t; has_default = false }
+abbrev pub unnamed_parameter : Tree → TypedParameter
+unnamed_parameter t = record { name = []; type = t; has_default = false }
 
 -- what takes arguments of these types, by position alone, and returns this type
 abbrev pub builtin_signature : List Tree → Tree → Signature
-builtin_signature types returns = record { parameters = map unnamed types; returns = returns; takes_names = false }
+builtin_signature types returns = record { parameters = map unnamed_parameter types; returns = returns; takes_names = false }
 
 -- a method of the class; a field called is a call of its value
-abbrev pub class_offers : Given → Option Method → Option Parameter → List CallOffer
-class_offers g (Some m) f = called g (method_signature m) ∷ []
+abbrev pub class_offers : GivenArguments → Option Method → Option TypedParameter → List CallOffer
+class_offers g (Some m) f = signature_offer g (method_signature m) ∷ []
 class_offers g None (Some f) = value_offers f.type
 class_offers g None None = fails_at_callee E15 ∷ []
 
 -- `append(T)` gives None, `pop()` gives T
-abbrev pub list_offers : Given → List ℕ → Tree → List CallOffer
+abbrev pub list_offers : GivenArguments → List ℕ → Tree → List CallOffer
 list_offers g word t =
     if bytes_eq word (codes "append")
-    then called g (builtin_signature (t ∷ []) NoneType) ∷ []
-    else (if bytes_eq word (codes "pop") then called g (builtin_signature [] t) ∷ [] else fails_at_callee E15 ∷ [])
+    then signature_offer g (builtin_signature (t ∷ []) NoneType) ∷ []
+    else (if bytes_eq word (codes "pop") then signature_offer g (builtin_signature [] t) ∷ [] else fails_at_callee E15 ∷ [])
 
 -- `get(K)` gives the join of V and None
-abbrev pub dict_offers : Bases → Given → List ℕ → Tree → Tree → List CallOffer
+abbrev pub dict_offers : Bases → GivenArguments → List ℕ → Tree → Tree → List CallOffer
 dict_offers bases g word k v =
-    if bytes_eq word (codes "get") then called g (builtin_signature (k ∷ []) (join_or_object bases v NoneType)) ∷ [] else fails_at_callee E15 ∷ []
+    if bytes_eq word (codes "get") then signature_offer g (builtin_signature (k ∷ []) (join_or_object bases v NoneType)) ∷ [] else fails_at_callee E15 ∷ []
 
 -- a method call on one member
-abbrev pub method_offers : Context → Given → List ℕ → Tree → List CallOffer
-method_offers ctx g word (Class c) = class_offers g (method_of (class_at ctx.classes c).methods word) (field_of (class_at ctx.classes c).fields word)
+abbrev pub method_offers : Context → GivenArguments → List ℕ → Tree → List CallOffer
+method_offers ctx g word (Class c) = class_offers g (method_by_name (class_facts_at ctx.classes c).methods word) (field_by_name (class_facts_at ctx.classes c).fields word)
 method_offers ctx g word (ListOf t) = list_offers g word t
 method_offers ctx g word (DictOf k v) = dict_offers ctx.bases g word k v
 method_offers ctx g word Any = fails_at_callee A4 ∷ []
 method_offers ctx g word _ = fails_at_callee E15 ∷ []
 
 -- exactly one argument, by position
-abbrev pub is_one : Given → Test
+abbrev pub is_one : GivenArguments → Test
 is_one g = nat_eq g.positional 1 && has_none g.named
 
 -- exactly two arguments, by position
-abbrev pub is_two : Given → Test
+abbrev pub is_two : GivenArguments → Test
 is_two g = nat_eq g.positional 2 && has_none g.named
 
 -- a callee in error is a value of type Any
@@ -164,30 +164,30 @@ pub data CallRule : Type 0 where
   member_rule length_rule test_rule : CallRule
 
 -- a callee: its label, the rule of its call, and what the call comes to on each member, none where the rule is another one
-pub record Callee : Type 0 where
+pub record CalleeLabel : Type 0 where
   pub mark : Mark
   pub rule : CallRule
   pub offers : List CallOffer
 
 -- a call of the function with this signature; without one it is called as a value of type Any
-abbrev pub function_offer : Given → Option Signature → CallOffer
+abbrev pub function_offer : GivenArguments → Option Signature → CallOffer
 function_offer g None = error_offer
-function_offer g (Some s) = called g s
+function_offer g (Some s) = signature_offer g s
 
 -- a callee that is a value with this label, called on each member of its type
-abbrev pub value_callee : Mark → Callee
+abbrev pub value_callee : Mark → CalleeLabel
 value_callee m = record { mark = m; rule = member_rule; offers = value_offers m.type }
 
 -- a callee at which nothing is found, and what a call of it comes to
-abbrev pub good_callee : List CallOffer → Callee
+abbrev pub good_callee : List CallOffer → CalleeLabel
 good_callee offers = record { mark = clean Any; rule = member_rule; offers = offers }
 
 -- a callee whose call has a rule of its own; the arguments flow nowhere
-abbrev pub own_callee : CallRule → Callee
+abbrev pub own_callee : CallRule → CalleeLabel
 own_callee rule = record { mark = clean Any; rule = rule; offers = [] }
 
 -- the built-ins: `print`, `str`, `len`, `isinstance`, `range`; any other reserved name is no value, and is not called
-abbrev pub builtin_callee : Given → Builtin → Callee
+abbrev pub builtin_callee : GivenArguments → Builtin → CalleeLabel
 builtin_callee g builtin.Print = good_callee ((if has_none g.named then plain_call NoneType else fails_at_call E14) ∷ [])
 builtin_callee g builtin.Str = good_callee ((if is_one g then plain_call Str else fails_at_call E14) ∷ [])
 builtin_callee g builtin.Len = if is_one g then own_callee length_rule else good_callee (fails_at_call E14 ∷ [])
@@ -196,14 +196,14 @@ builtin_callee g builtin.Range = good_callee ((if is_one g then fails_at_call E2
 builtin_callee g _ = value_callee (in_error E20)
 
 -- what a name is as a callee: a function, a class or a built-in, and else what it is as a value
-abbrev pub name_callee : Context → Env → Given → Res → Callee
+abbrev pub name_callee : Context → Env → GivenArguments → Res → CalleeLabel
 name_callee ctx env g (res.Func i) = if ctx.in_body then good_callee (function_offer g (slice_get ctx.functions i) ∷ []) else value_callee (in_error E03)
-name_callee ctx env g (res.Class c) = if nat_lt c ctx.known then good_callee (called g (class_signature ctx.classes c) ∷ []) else value_callee (in_error E03)
+name_callee ctx env g (res.Class c) = if nat_lt c ctx.known then good_callee (signature_offer g (class_signature ctx.classes c) ∷ []) else value_callee (in_error E03)
 name_callee ctx env g (res.Builtin b) = builtin_callee g b
 name_callee ctx env g r = value_callee (name_mark ctx env r)
 
 -- what is found at a callee `e.m`, where e has this type
-abbrev pub method_callee : Context → Given → List ℕ → Tree → Callee
+abbrev pub method_callee : Context → GivenArguments → List ℕ → Tree → CalleeLabel
 method_callee ctx g word t =
     let offers = flat_map (method_offers ctx g word) (members t) in
     record { mark = record { type = Any; codes = flat_map (λ o. o.at_callee) offers }; rule = member_rule; offers = offers }
@@ -240,12 +240,12 @@ only_member (o ∷ []) = true
 only_member _ = false
 
 -- what is expected of an argument: the type that it flows into, where one member is called and there is one such type
-abbrev pub wanted : Test → List Tree → Option Tree
-wanted true (t ∷ []) = Some t
-wanted _ _ = None
+abbrev pub expected_type : Test → List Tree → Option Tree
+expected_type true (t ∷ []) = Some t
+expected_type _ _ = None
 
 -- the type of a parameter, if there is one
-abbrev pub type_at : Option Parameter → List Tree
+abbrev pub type_at : Option TypedParameter → List Tree
 type_at None = []
 type_at (Some p) = p.type ∷ []
 
@@ -253,13 +253,13 @@ type_at (Some p) = p.type ∷ []
 abbrev pub positional_seat : List CallOffer → ℕ → Seat
 positional_seat offers k =
     let types = flat_map (λ s. type_at (slice_get s.parameters k)) (signatures offers) in
-    record { want = wanted (only_member offers) types; into = types }
+    record { want = expected_type (only_member offers) types; into = types }
 
 -- the seat of an argument by name: the first parameter of that name of each member called
 abbrev pub named_seat : List CallOffer → List ℕ → Seat
 named_seat offers word =
-    let types = flat_map (λ s. type_at (field_of s.parameters word)) (signatures offers) in
-    record { want = wanted (only_member offers) types; into = types }
+    let types = flat_map (λ s. type_at (field_by_name s.parameters word)) (signatures offers) in
+    record { want = expected_type (only_member offers) types; into = types }
 
 -- nothing is expected, and it flows nowhere
 abbrev pub nowhere : Seat
@@ -323,9 +323,9 @@ abbrev pub range_signature : Signature
 range_signature = builtin_signature (Int ∷ []) Object
 
 -- what a call of `range` comes to as what a `for` goes over
-abbrev pub range_offers : Given → List CallOffer
-range_offers g = called g range_signature ∷ []
+abbrev pub range_offers : GivenArguments → List CallOffer
+range_offers g = signature_offer g range_signature ∷ []
 
 -- what a turn gives: int, or where the call does not suit Any
-abbrev pub range_item : Given → Mark
+abbrev pub range_item : GivenArguments → Mark
 range_item g = if is_suited g range_signature then clean Int else record { type = Any; codes = A5 ∷ [] }

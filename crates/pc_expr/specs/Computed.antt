@@ -17,9 +17,9 @@ use Rattle.pc_flow.specs.Environment.{Env, join_or_object, join_all}
 use Rattle.pc_flow.specs.Narrowing.{narrow}
 use Rattle.pc_expr.specs.Operations.{Mark, clean, in_error, offers_mark, operand_types, negative_member, attribute_member, index_member, binary_mark, display_mark}
 use Rattle.pc_expr.specs.Context.{Context, name_mark, is_early}
-use Rattle.pc_expr.specs.Calls.{Seat, given, count_exprs, positional_seat, named_seat}
-use Rattle.pc_expr.specs.Labels.{Flowing, Marks, ItemsMarks, EntriesMarks, KeywordsMarks, mark_of, type_of, with_mark, item_types, key_types, value_types}
-use Rattle.pc_expr.specs.Lawful.{KeyValue, list_item, dict_parts, tuple_parts, members_of, item_seat, part_seat, list_mark, key_seat, value_seat, int_literal, compare_mark, compare_types, callee_of, whole_call_mark, whole_second_code, keyword_seat, Lawful}
+use Rattle.pc_expr.specs.Calls.{Seat, arguments_given, count_exprs, positional_seat, named_seat}
+use Rattle.pc_expr.specs.Labels.{FlowMarks, Marks, ItemsMarks, EntriesMarks, KeywordsMarks, mark_of, type_of, with_mark, item_types, key_types, value_types}
+use Rattle.pc_expr.specs.Lawful.{KeyValue, list_item, dict_parts, tuple_parts, members_of_expected, item_seat, part_seat, list_mark, key_seat, value_seat, int_literal, compare_mark, compare_types, callee_of, whole_call_mark, whole_second_code, keyword_seat, Lawful}
 
 -- the code of a flow that is static, or assignable alone, or neither
 abbrev pub code_by : (static assignable : Test) → Option Code
@@ -34,12 +34,12 @@ module _ (static assignable : Tree → Tree → Test) where
   code_unless false s t = code_by (static s t) (assignable s t)
 
   -- the flows of a labelled expression into several types
-  abbrev pub flows_into : Mark → List Tree → Flowing
+  abbrev pub flows_into : Mark → List Tree → FlowMarks
   flows_into m [] = []
   flows_into m (t ∷ ts) = record { from = m.type; into = t; code = code_unless (is_early m.codes) m.type t } ∷ flows_into m ts
 
 -- the flows of a labelled expression, by the tests of static and of consistent subtyping: the computed twin of FlowsInto
-abbrev pub flows_of : Bases → Mark → List Tree → Flowing
+abbrev pub flows_of : Bases → Mark → List Tree → FlowMarks
 flows_of bases m ts = flows_into (static_test bases) (assignable_test bases) m ts
 
 module _ (ctx : Context) (declared : List Tree) (static assignable : Tree → Tree → Test) where
@@ -64,14 +64,14 @@ module _ (ctx : Context) (declared : List Tree) (static assignable : Tree → Tr
     labels env want (truth p value) = clean Bool
     labels env want (nothing p) = clean NoneType
     labels env want (tuple p es) =
-        let m = items_labels env (part_seat (tuple_parts (count_exprs es) (members_of want))) es in
+        let m = items_labels env (part_seat (tuple_parts (count_exprs es) (members_of_expected want))) es in
         record { here = display_mark (TupleOf (trees (item_types es m))); items = m }
     labels env want (list p es) =
-        let m = items_labels env (λ i. item_seat (list_item (members_of want))) es in
-        record { here = list_mark ctx.bases (list_item (members_of want)) (item_types es m); items = m }
+        let m = items_labels env (λ i. item_seat (list_item (members_of_expected want))) es in
+        record { here = list_mark ctx.bases (list_item (members_of_expected want)) (item_types es m); items = m }
     labels env want (dict p es) =
-        let m = entries_labels env (key_seat (dict_parts (members_of want))) (value_seat (dict_parts (members_of want))) es in
-        record { here = dict_mark (dict_parts (members_of want)) (key_types es m) (value_types es m); entries = m }
+        let m = entries_labels env (key_seat (dict_parts (members_of_expected want))) (value_seat (dict_parts (members_of_expected want))) es in
+        record { here = dict_mark (dict_parts (members_of_expected want)) (key_types es m) (value_types es m); entries = m }
     labels env want (negative p e) =
         let a = labels env None e in
         record { here = offers_mark ctx.bases (map negative_member (members (type_of e a))); operand = a }
@@ -104,7 +104,7 @@ module _ (ctx : Context) (declared : List Tree) (static assignable : Tree → Tr
         record { here = offers_mark ctx.bases os; object = a; key = b; flows = flows_into static assignable (mark_of i b) (operand_types os) }
     labels env want (call p c args kws) =
         let v = labels env None c in
-        let callee = callee_of ctx env (given args kws) c v in
+        let callee = callee_of ctx env (arguments_given args kws) c v in
         let a = items_labels env (positional_seat callee.offers) args in
         record {
           here = whole_call_mark ctx env callee.rule callee.offers args (item_types args a);

@@ -10,20 +10,20 @@ use Rattle.pc_types.specs.Below.{Bases, Static}
 use Rattle.pc_types.specs.Assignable.{Assignable}
 use Rattle.pc_tree.specs.declared.code.Code.TheVariants.{A1, E12}
 use Rattle.pc_class.specs.Facts as facts
-use Rattle.pc_class.specs.Facts.{Parameter}
+use Rattle.pc_class.specs.Facts.{TypedParameter}
 use Rattle.pc_flow.specs.Environment.{Env, current}
 use Rattle.pc_expr.specs.Operations.{Mark, FlowMark, clean, in_error}
 
 -- what is called: its parameters, what it returns, and whether it takes arguments by name
 pub record Signature : Type 0 where
-  pub parameters : List Parameter
+  pub parameters : List TypedParameter
   pub returns : Tree
   pub takes_names : Test
 
 -- what an expression may name; in an initializer the constants and classes defined earlier alone, and no function
 pub record Context : Type 0 where
   pub bases : Bases
-  pub classes : List facts.Class
+  pub classes : List facts.ClassFacts
   pub functions : List Signature
   pub constants : List Tree
   pub known : ℕ

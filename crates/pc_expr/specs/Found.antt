@@ -12,13 +12,13 @@ use Rattle.pc_tree.specs.Tree.{Expr, Exprs, Entries, Keywords, name, number, tex
 use Rattle.pc_tree.specs.Depth.{place_of}
 use Rattle.pc_types.specs.Tree.{Tree}
 use Rattle.pc_scope.specs.Expressions.{is_instance_test}
-use Rattle.pc_notes.specs.Notes.{Note, plain, dynamic, findings_of}
+use Rattle.pc_notes.specs.Notes.{Note, plain_note, dynamic, findings_of}
 use Rattle.pc_expr.specs.Operations.{Mark}
-use Rattle.pc_expr.specs.Labels.{Flowing, Marks, ItemsMarks, EntriesMarks, KeywordsMarks, mark_of, is_of_scopes, second_place, Finds}
+use Rattle.pc_expr.specs.Labels.{FlowMarks, Marks, ItemsMarks, EntriesMarks, KeywordsMarks, mark_of, is_of_scopes, second_place, Finds}
 
 -- the finding of a code at a place, none of a code that is found of scopes
 abbrev pub own_at : Place → Code → List Note
-own_at p c = if is_of_scopes c then [] else plain (finding p c) ∷ []
+own_at p c = if is_of_scopes c then [] else plain_note (finding p c) ∷ []
 
 -- a code is one of these
 abbrev pub has_code : List Code → Code → Test
@@ -46,18 +46,18 @@ abbrev pub codes_at : Place → List Code → List Note
 codes_at p codes = flat_map (own_at p) (once codes)
 
 -- the finding of a code that there may be
-abbrev pub code_at : Place → Option Code → List Note
-code_at p None = []
-code_at p (Some c) = own_at p c
+abbrev pub notes_of_code : Place → Option Code → List Note
+notes_of_code p None = []
+notes_of_code p (Some c) = own_at p c
 
 -- the codes of flows
-abbrev pub flow_codes : Flowing → List Code
+abbrev pub flow_codes : FlowMarks → List Code
 flow_codes flows = flat_map (λ f. option_to_list f.code) flows
 
 -- what is found of a flow of a type into another, at the place of what flows: a dynamic one with its two types
 abbrev pub flow_note : Place → (from into : Tree) → Code → Note
 flow_note p s t A1 = dynamic p s t
-flow_note p s t c = plain (finding p c)
+flow_note p s t c = plain_note (finding p c)
 
 -- the same, but nothing of a code that is found of scopes
 abbrev pub own_flow : Place → (from into : Tree) → Code → List Note
@@ -74,12 +74,12 @@ flow_then p before s t None rest = rest before
 flow_then p before s t (Some c) rest = if has_code before c then rest before else own_flow p s t c ++ rest (before ++ c ∷ [])
 
 -- what is found of flows whose codes are not among these, each code once, of the first flow that has it
-abbrev pub flows_behind : Place → (before : List Code) → Flowing → List Note
+abbrev pub flows_behind : Place → (before : List Code) → FlowMarks → List Note
 flows_behind p before [] = []
 flows_behind p before (f ∷ fs) = flow_then p before f.from f.into f.code (λ codes. flows_behind p codes fs)
 
 -- the findings of flows at the place of what flows, each code once, of the first flow that has it
-abbrev pub flows_at : Place → Flowing → List Note
+abbrev pub flows_at : Place → FlowMarks → List Note
 flows_at p flows = flows_behind p [] flows
 
 -- the findings in the parts of an expression, with those of its own codes behind them
@@ -111,7 +111,7 @@ abbrev mutual
   found_in_parts (call p callee arguments keywords) m =
       whole callee m.callee (found_in_parts callee m.callee)
       ++ (found_in_arguments (is_instance_test callee arguments keywords) arguments m.arguments
-      ++ (found_in_keywords keywords m.keywords ++ code_at (second_place arguments p) m.second))
+      ++ (found_in_keywords keywords m.keywords ++ notes_of_code (second_place arguments p) m.second))
 
   -- of items, each with its flows
   pub found_in_items : (es : Exprs) → ItemsMarks es → List Note
@@ -136,8 +136,8 @@ abbrev mutual
   found_in_keywords (more_keywords parameter value rest) m = whole value m.first (found_in_parts value m.first) ++ (flows_at (place_of value) m.flows ++ found_in_keywords rest m.rest)
 
 -- the findings under the labels of an expression: what is found in its parts, and then at it
-abbrev pub found_in : (e : Expr) → Marks e → List Note
-found_in e m = whole e m (found_in_parts e m)
+abbrev pub notes_under : (e : Expr) → Marks e → List Note
+notes_under e m = whole e m (found_in_parts e m)
 
 -- a finding under labels that is not found of scopes
 pub record IsOwn (e : Expr) (m : Marks e) (f : Finding) : Type 0 where
@@ -145,5 +145,5 @@ pub record IsOwn (e : Expr) (m : Marks e) (f : Finding) : Type 0 where
   pub own : is_of_scopes f.code ≡ false
 
 -- the law that the list has just what stands under the labels and is not found of scopes
-abbrev pub FindingsAreListed : Type 0
-FindingsAreListed = (e : Expr) (m : Marks e) (f : Finding) → Contains (findings_of (found_in e m)) f ↔ IsOwn e m f
+abbrev pub LabelFindingsAreListed : Type 0
+LabelFindingsAreListed = (e : Expr) (m : Marks e) (f : Finding) → Contains (findings_of (notes_under e m)) f ↔ IsOwn e m f

@@ -13,8 +13,8 @@ use Rattle.pc_types.specs.Tree.{Tree}
 use Rattle.pc_expr.specs.Operations.{Mark, FlowMark}
 
 -- the flows of an expression, one for each type that it flows into
-abbrev pub Flowing : Type 0
-Flowing = List FlowMark
+abbrev pub FlowMarks : Type 0
+FlowMarks = List FlowMark
 
 -- the labels of an expression, of items, of the entries of a dict and of arguments by name, by recursion on the tree
 abbrev mutual
@@ -31,29 +31,29 @@ abbrev mutual
   Marks (negative p e) = record { here : Mark; operand : Marks e }
   Marks (negation p e) = record { here : Mark; operand : Marks e }
   Marks (binary p operator l r) = record { here : Mark; left : Marks l; right : Marks r }
-  Marks (compare p operator l r) = record { here : Mark; left : Marks l; right : Marks r; flows : Flowing }
+  Marks (compare p operator l r) = record { here : Mark; left : Marks l; right : Marks r; flows : FlowMarks }
   Marks (is_none p e) = record { here : Mark; operand : Marks e }
   Marks (is_not_none p e) = record { here : Mark; operand : Marks e }
   Marks (conjunction p l r) = record { here : Mark; left : Marks l; right : Marks r }
   Marks (disjunction p l r) = record { here : Mark; left : Marks l; right : Marks r }
   Marks (attribute p e field) = record { here : Mark; object : Marks e }
-  Marks (index p e i) = record { here : Mark; object : Marks e; key : Marks i; flows : Flowing }
+  Marks (index p e i) = record { here : Mark; object : Marks e; key : Marks i; flows : FlowMarks }
   Marks (call p callee arguments keywords) = record { here : Mark; callee : Marks callee; second : Option Code; arguments : ItemsMarks arguments; keywords : KeywordsMarks keywords }
 
   -- of items and of arguments by position: the labels of each, and its flows
   pub ItemsMarks : Exprs → Type 0
   ItemsMarks no_exprs = Unit {0}
-  ItemsMarks (more_exprs e rest) = record { first : Marks e; flows : Flowing; rest : ItemsMarks rest }
+  ItemsMarks (more_exprs e rest) = record { first : Marks e; flows : FlowMarks; rest : ItemsMarks rest }
 
   -- of the entries of a dict: the labels of each key and value, and their flows
   pub EntriesMarks : Entries → Type 0
   EntriesMarks no_entries = Unit {0}
-  EntriesMarks (more_entries key value rest) = record { key : Marks key; key_flows : Flowing; value : Marks value; value_flows : Flowing; rest : EntriesMarks rest }
+  EntriesMarks (more_entries key value rest) = record { key : Marks key; key_flows : FlowMarks; value : Marks value; value_flows : FlowMarks; rest : EntriesMarks rest }
 
   -- of arguments by name: the labels of each value, and its flows
   pub KeywordsMarks : Keywords → Type 0
   KeywordsMarks no_keywords = Unit {0}
-  KeywordsMarks (more_keywords parameter value rest) = record { first : Marks value; flows : Flowing; rest : KeywordsMarks rest }
+  KeywordsMarks (more_keywords parameter value rest) = record { first : Marks value; flows : FlowMarks; rest : KeywordsMarks rest }
 
 -- the label of an expression itself
 abbrev pub mark_of : (e : Expr) → Marks e → Mark
@@ -133,7 +133,7 @@ pub record IsFoundAt (place : Place) (codes : List Code) (f : Finding) : Type 0 
   pub is : f ≡ finding place code
 
 -- a code of a flow stands at the place of what flows
-pub record IsFlowAt (place : Place) (flows : Flowing) (f : Finding) : Type 0 where
+pub record IsFlowAt (place : Place) (flows : FlowMarks) (f : Finding) : Type 0 where
   pub flow : FlowMark
   pub among : Contains flows flow
   pub code : Code

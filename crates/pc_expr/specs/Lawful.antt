@@ -6,15 +6,15 @@ use Rattle.pc_tree.specs.declared.tree.ComparisonOperator.TheVariants.{Equal, No
 use Rattle.pc_tree.specs.declared.code.Code.{Code}
 use Rattle.pc_tree.specs.declared.code.Code.TheVariants.{E03, E22}
 use Rattle.pc_tree.specs.Tree.{Name, Expr, Exprs, Entries, Keywords, name, number, text, truth, nothing, tuple, list, dict, negative, negation, binary, compare, is_none, is_not_none, conjunction, disjunction, attribute, index, call, no_exprs, more_exprs, no_entries, more_entries, no_keywords, more_keywords}
-use Rattle.pc_scope.specs.Resolution.{is_among}
+use Rattle.pc_scope.specs.Resolution.{is_one_of}
 use Rattle.pc_types.specs.Tree.{Tree, Any, Int, Bool, Str, NoneType, ListOf, DictOf, TupleOf}
 use Rattle.pc_types.specs.Below.{Bases, Static}
-use Rattle.pc_types.specs.Shape.{members, listed, trees, count}
+use Rattle.pc_types.specs.Shape.{members, list_of_trees, trees, count}
 use Rattle.pc_flow.specs.Environment.{Env, join_or_object, join_all}
 use Rattle.pc_flow.specs.Narrowing.{narrow, test_of_argument, second_argument}
 use Rattle.pc_expr.specs.Operations.{Mark, clean, in_error, Offer, offers_mark, operand_types, index_member, attribute_member, contain_member, negative_member, binary_mark, order_mark, display_mark}
 use Rattle.pc_expr.specs.Context.{Context, FlowsInto, name_mark, is_early}
-use Rattle.pc_expr.specs.Calls.{Given, given, count_exprs, CallOffer, CallRule, member_rule, length_rule, test_rule, Callee, value_callee, name_callee, method_callee, call_mark, Seat, nowhere, positional_seat, named_seat, length_mark, test_mark, second_code}
+use Rattle.pc_expr.specs.Calls.{GivenArguments, arguments_given, count_exprs, CallOffer, CallRule, member_rule, length_rule, test_rule, CalleeLabel, value_callee, name_callee, method_callee, call_mark, Seat, nowhere, positional_seat, named_seat, length_mark, test_mark, second_code}
 use Rattle.pc_expr.specs.Labels.{Marks, ItemsMarks, EntriesMarks, KeywordsMarks, mark_of, type_of, with_mark, item_types, key_types, value_types}
 
 -- ---- what is expected of the parts of a display
@@ -39,13 +39,13 @@ dict_parts (m ∷ ms) = dict_parts ms
 -- the parts of the first tuple of this length among members, none where there is no such tuple
 abbrev pub tuple_parts : ℕ → List Tree → List Tree
 tuple_parts n [] = []
-tuple_parts n (TupleOf ts ∷ ms) = if nat_eq (count ts) n then listed ts else tuple_parts n ms
+tuple_parts n (TupleOf ts ∷ ms) = if nat_eq (count ts) n then list_of_trees ts else tuple_parts n ms
 tuple_parts n (m ∷ ms) = tuple_parts n ms
 
 -- the members of an expected type, none where nothing is expected
-abbrev pub members_of : Option Tree → List Tree
-members_of None = []
-members_of (Some t) = members t
+abbrev pub members_of_expected : Option Tree → List Tree
+members_of_expected None = []
+members_of_expected (Some t) = members t
 
 -- an item that is expected of a type and flows into it, or of which nothing is expected
 abbrev pub item_seat : Option Tree → Seat
@@ -119,7 +119,7 @@ compare_types _ t = []
 -- ---- calls
 
 -- a callee: a name, a method of an object, or a value; in an initializer a callee that is no name is E03
-abbrev pub callee_of : Context → Env → Given → (e : Expr) → Marks e → Callee
+abbrev pub callee_of : Context → Env → GivenArguments → (e : Expr) → Marks e → CalleeLabel
 callee_of ctx env g (name n) m = name_callee ctx env g (ctx.resolve n.text)
 callee_of ctx env g (attribute p e field) m = if ctx.in_body then method_callee ctx g field.text (type_of e m.object) else value_callee (in_error E03)
 callee_of ctx env g e m = if ctx.in_body then value_callee (mark_of e m) else value_callee (in_error E03)
@@ -143,7 +143,7 @@ whole_second_code ctx _ arguments m = None
 
 -- the seat of an argument by name, behind arguments of these names: nowhere where its own is among them
 abbrev pub keyword_seat : (List ℕ → Seat) → List (List ℕ) → Name → Seat
-keyword_seat seat before n = if is_among n.text before then nowhere else seat n.text
+keyword_seat seat before n = if is_one_of n.text before then nowhere else seat n.text
 
 -- ---- each form's rule
 
@@ -158,16 +158,16 @@ module _ (ctx : Context) (declared : List Tree) where
     Lawful env want (truth p value) m = m ≡ clean Bool
     Lawful env want (nothing p) m = m ≡ clean NoneType
     Lawful env want (tuple p es) m = record {
-      items : LawfulItems env (part_seat (tuple_parts (count_exprs es) (members_of want))) es m.items;
+      items : LawfulItems env (part_seat (tuple_parts (count_exprs es) (members_of_expected want))) es m.items;
       here : m.here ≡ display_mark (TupleOf (trees (item_types es m.items)));
     }
     Lawful env want (list p es) m = record {
-      items : LawfulItems env (λ i. item_seat (list_item (members_of want))) es m.items;
-      here : m.here ≡ list_mark ctx.bases (list_item (members_of want)) (item_types es m.items);
+      items : LawfulItems env (λ i. item_seat (list_item (members_of_expected want))) es m.items;
+      here : m.here ≡ list_mark ctx.bases (list_item (members_of_expected want)) (item_types es m.items);
     }
     Lawful env want (dict p es) m = record {
-      entries : LawfulEntries env (key_seat (dict_parts (members_of want))) (value_seat (dict_parts (members_of want))) es m.entries;
-      here : DictRule ctx.bases (dict_parts (members_of want)) (key_types es m.entries) (value_types es m.entries) m.here;
+      entries : LawfulEntries env (key_seat (dict_parts (members_of_expected want))) (value_seat (dict_parts (members_of_expected want))) es m.entries;
+      here : DictRule ctx.bases (dict_parts (members_of_expected want)) (key_types es m.entries) (value_types es m.entries) m.here;
     }
     Lawful env want (negative p e) m = record {
       operand : Lawful env None e m.operand;
@@ -221,11 +221,11 @@ module _ (ctx : Context) (declared : List Tree) where
     Lawful env want (call p c args kws) m = record {
       value : Marks c;
       lawful : Lawful env None c value;
-      callee : m.callee ≡ with_mark c value (callee_of ctx env (given args kws) c value).mark;
-      arguments : LawfulItems env (positional_seat (callee_of ctx env (given args kws) c value).offers) args m.arguments;
-      keywords : LawfulKeywords env (named_seat (callee_of ctx env (given args kws) c value).offers) [] kws m.keywords;
-      here : m.here ≡ whole_call_mark ctx env (callee_of ctx env (given args kws) c value).rule (callee_of ctx env (given args kws) c value).offers args (item_types args m.arguments);
-      second : m.second ≡ whole_second_code ctx (callee_of ctx env (given args kws) c value).rule args m.arguments;
+      callee : m.callee ≡ with_mark c value (callee_of ctx env (arguments_given args kws) c value).mark;
+      arguments : LawfulItems env (positional_seat (callee_of ctx env (arguments_given args kws) c value).offers) args m.arguments;
+      keywords : LawfulKeywords env (named_seat (callee_of ctx env (arguments_given args kws) c value).offers) [] kws m.keywords;
+      here : m.here ≡ whole_call_mark ctx env (callee_of ctx env (arguments_given args kws) c value).rule (callee_of ctx env (arguments_given args kws) c value).offers args (item_types args m.arguments);
+      second : m.second ≡ whole_second_code ctx (callee_of ctx env (arguments_given args kws) c value).rule args m.arguments;
     }
 
     -- items or arguments by position are lawful, each for the seat at its position

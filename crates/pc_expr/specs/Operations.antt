@@ -10,9 +10,9 @@ use Rattle.pc_tree.specs.declared.code.Code.TheVariants.{A2, A3, A4, A5, A6, E13
 use Rattle.pc_tree.specs.Code.{is_error}
 use Rattle.pc_types.specs.Tree.{Tree, Trees, Any, Never, Int, Bool, Str, NoneType, Class, ListOf, DictOf, TupleOf, Union}
 use Rattle.pc_types.specs.Below.{Bases}
-use Rattle.pc_types.specs.Shape.{members, listed, nodes, limit}
+use Rattle.pc_types.specs.Shape.{members, list_of_trees, nodes, node_limit}
 use Rattle.pc_class.specs.Facts as facts
-use Rattle.pc_class.specs.Facts.{Parameter, Method, field_of, method_of, class_at}
+use Rattle.pc_class.specs.Facts.{TypedParameter, Method, field_by_name, method_by_name, class_facts_at}
 use Rattle.pc_flow.specs.Environment.{join_all}
 
 -- what a node is labelled with: its type, and the codes that are found at it
@@ -75,8 +75,8 @@ operand_types offers = if has_error (found_of offers) then [] else flat_map (λ 
 
 -- a tuple's item at an int literal below its length, else the join of all
 abbrev pub tuple_item : Bases → Option ℕ → Trees → Tree
-tuple_item bases None ts = join_all bases (listed ts)
-tuple_item bases (Some i) ts = unwrap_or (slice_get (listed ts) i) (join_all bases (listed ts))
+tuple_item bases None ts = join_all bases (list_of_trees ts)
+tuple_item bases (Some i) ts = unwrap_or (slice_get (list_of_trees ts) i) (join_all bases (list_of_trees ts))
 
 -- a list, a text and a tuple take an int; a dict takes a key and gives its value
 abbrev pub index_member : Bases → Option ℕ → Tree → Offer
@@ -90,14 +90,14 @@ index_member bases literal _ = suits_not E16
 -- ---- e.f
 
 -- what reading a name of an instance comes to: of a field, of a method, of neither
-abbrev pub attribute_found : Option Parameter → Option Method → Offer
+abbrev pub attribute_found : Option TypedParameter → Option Method → Offer
 attribute_found (Some f) m = suits f.type []
 attribute_found None (Some m) = suits_not E20
 attribute_found None None = suits_not E15
 
 -- a field gives its type; on an instance a method's name is no value
-abbrev pub attribute_member : List facts.Class → List ℕ → Tree → Offer
-attribute_member classes name (Class c) = attribute_found (field_of (class_at classes c).fields name) (method_of (class_at classes c).methods name)
+abbrev pub attribute_member : List facts.ClassFacts → List ℕ → Tree → Offer
+attribute_member classes name (Class c) = attribute_found (field_by_name (class_facts_at classes c).fields name) (method_by_name (class_facts_at classes c).methods name)
 attribute_member classes name Any = unsure A4 Any
 attribute_member classes name _ = suits_not E15
 
@@ -118,14 +118,14 @@ abbrev pub store_with : Code → StoreOffer
 store_with code = record { found = code ∷ []; takes = []; stores = [] }
 
 -- what storing to a name of an instance comes to: of a field, of a method, of neither
-abbrev pub store_found : Option Parameter → Option Method → StoreOffer
+abbrev pub store_found : Option TypedParameter → Option Method → StoreOffer
 store_found (Some f) m = store_suits [] f.type
 store_found None (Some m) = store_with E23
 store_found None None = store_with E15
 
 -- a field of an instance takes a value of its type; a method's name takes none
-abbrev pub store_attribute_member : List facts.Class → List ℕ → Tree → StoreOffer
-store_attribute_member classes name (Class c) = store_found (field_of (class_at classes c).fields name) (method_of (class_at classes c).methods name)
+abbrev pub store_attribute_member : List facts.ClassFacts → List ℕ → Tree → StoreOffer
+store_attribute_member classes name (Class c) = store_found (field_by_name (class_facts_at classes c).fields name) (method_by_name (class_facts_at classes c).methods name)
 store_attribute_member classes name Any = store_with A4
 store_attribute_member classes name _ = store_with E15
 
@@ -160,7 +160,7 @@ abbrev pub iterate_member : Bases → Tree → Offer
 iterate_member bases (ListOf t) = suits t []
 iterate_member bases (DictOf k v) = suits k []
 iterate_member bases Str = suits Str []
-iterate_member bases (TupleOf ts) = suits (join_all bases (listed ts)) []
+iterate_member bases (TupleOf ts) = suits (join_all bases (list_of_trees ts)) []
 iterate_member bases Any = unsure A5 Any
 iterate_member bases _ = suits_not E18
 
@@ -277,4 +277,4 @@ order_mark bases s t = pairs_mark bases (λ k. true) (λ k. Bool) Bool s t
 
 -- a display over the limit of nodes is in error
 abbrev pub display_mark : Tree → Mark
-display_mark t = if nat_le (nodes t) limit then clean t else in_error E26
+display_mark t = if nat_le (nodes t) node_limit then clean t else in_error E26

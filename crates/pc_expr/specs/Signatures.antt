@@ -4,21 +4,21 @@ use Rattle.std.specs.Prelude.{◌≡◌, ◌⊎◌, ℕ, List, [], ◌∷◌, ma
 use Rattle.pc_source.specs.declared.place.Place.{Place}
 use Rattle.pc_tree.specs.declared.code.Finding.{Finding}
 use Rattle.pc_tree.specs.Tree.{Ann, Name, Literal, number_literal, negative_literal, text_literal, truth_literal, none_literal, Param, FuncDef, Module}
-use Rattle.pc_scope.specs.Reserved.{is_reserved}
+use Rattle.pc_scope.specs.Reserved.{is_builtin_name}
 use Rattle.pc_scope.specs.Bindings.{functions_in, classes_in}
-use Rattle.pc_scope.specs.Resolution.{is_among, resolve_among, resolve_in_module}
+use Rattle.pc_scope.specs.Resolution.{is_one_of, resolve_among, resolve_in_module}
 use Rattle.pc_types.specs.Tree.{Tree, Int, Bool, Str, NoneType}
 use Rattle.pc_types.specs.Below.{Bases}
-use Rattle.pc_types.specs.Annotations.{read_ann, read_option, OptionFinds}
+use Rattle.pc_types.specs.Annotations.{read_ann, read_option, OptionAnnFinds}
 use Rattle.pc_class.specs.Bases.{bases_of}
-use Rattle.pc_class.specs.Facts.{parameters_of, returned, classes_of}
+use Rattle.pc_class.specs.Facts.{parameters_of, return_type, classes_of}
 use Rattle.pc_expr.specs.Operations.{clean}
 use Rattle.pc_expr.specs.Context.{Context, Signature, FlowsInto}
-use Rattle.pc_expr.specs.Labels.{Flowing, IsFlowAt}
+use Rattle.pc_expr.specs.Labels.{FlowMarks, IsFlowAt}
 
 -- a function of a module as what is called
 abbrev pub signature_of : Module → FuncDef → Signature
-signature_of m f = record { parameters = parameters_of m f.params; returns = returned m f; takes_names = true }
+signature_of m f = record { parameters = parameters_of m f.params; returns = return_type m f; takes_names = true }
 
 -- the functions of a module as what is called
 unfoldable pub signatures_of : Module → List Signature
@@ -67,24 +67,24 @@ literal_place (truth_literal p value) = p
 literal_place (none_literal p) = p
 
 -- a default flows into its type, at the literal; what binds nothing, nothing flows into
-abbrev pub LawfulDefault : Bases → (binds : Test) → Option Literal → Tree → Flowing → Type 0
+abbrev pub LawfulDefault : Bases → (binds : Test) → Option Literal → Tree → FlowMarks → Type 0
 LawfulDefault bases binds None t flows = flows ≡ []
 LawfulDefault bases false (Some l) t flows = flows ≡ []
 LawfulDefault bases true (Some l) t flows = FlowsInto bases (clean (literal_type l)) (t ∷ []) flows
 
 -- what is found at a default: the code of its flow, at the literal
-abbrev pub DefaultFinds : Option Literal → Flowing → Finding → Type 0
+abbrev pub DefaultFinds : Option Literal → FlowMarks → Finding → Type 0
 DefaultFinds None flows f = ⊥
 DefaultFinds (Some l) flows f = IsFlowAt (literal_place l) flows f
 
 -- a name is bound where it stands: not reserved, and none of those before it
 abbrev pub binds_name : List (List ℕ) → Name → Test
-binds_name before n = not (is_reserved n.text || is_among n.text before)
+binds_name before n = not (is_builtin_name n.text || is_one_of n.text before)
 
 -- the flow of the default of each parameter, none where nothing flows
 abbrev pub ParamsMarks : List Param → Type 0
 ParamsMarks [] = Unit {0}
-ParamsMarks (p ∷ ps) = record { default : Flowing; rest : ParamsMarks ps }
+ParamsMarks (p ∷ ps) = record { default : FlowMarks; rest : ParamsMarks ps }
 
 -- the default of each parameter is lawful, behind parameters of these names
 abbrev pub LawfulParams : Module → (before : List (List ℕ)) → (ps : List Param) → ParamsMarks ps → Type 0
@@ -97,7 +97,7 @@ LawfulParams m before (p ∷ ps) marks = record {
 -- the findings of parameters: in their annotations, and at their defaults
 abbrev pub ParamsFind : Module → (ps : List Param) → ParamsMarks ps → Finding → Type 0
 ParamsFind m [] marks f = ⊥
-ParamsFind m (p ∷ ps) marks f = OptionFinds m (bases_of m) p.annotation f ⊎ (DefaultFinds p.default marks.default f ⊎ ParamsFind m ps marks.rest f)
+ParamsFind m (p ∷ ps) marks f = OptionAnnFinds m (bases_of m) p.annotation f ⊎ (DefaultFinds p.default marks.default f ⊎ ParamsFind m ps marks.rest f)
 
 -- ---- constants
 

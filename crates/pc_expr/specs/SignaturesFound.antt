@@ -8,17 +8,17 @@ use Rattle.indexmap.specs.IndexSet.{IndexSet}
 use Rattle.pc_tree.specs.Tree.{Expr, Literal, Param, FuncDef, Field, Member, field_member, method_member, ClassDef, Constant, Item, constant_item, class_item, def_item, Module}
 use Rattle.pc_tree.specs.Stopping.{name_of_member}
 use Rattle.pc_tree.specs.Depth.{place_of}
-use Rattle.pc_scope.specs.Reserved.{is_reserved}
+use Rattle.pc_scope.specs.Reserved.{is_builtin_name}
 use Rattle.pc_scope.specs.Bindings.{classes_in, methods_in}
-use Rattle.pc_scope.specs.Resolution.{is_among}
-use Rattle.pc_scope.specs.Walking.{texts_in}
+use Rattle.pc_scope.specs.Resolution.{is_one_of}
+use Rattle.pc_scope.specs.Internal.WalkViews.{texts_in}
 use Rattle.pc_types.specs.Tree.{Tree}
 use Rattle.pc_types.specs.Below.{Bases, base_of}
 use Rattle.pc_types.specs.Annotations.{read_ann, read_option}
 use Rattle.pc_ann.specs.Listed.{ann_findings, option_findings}
 use Rattle.pc_class.specs.Bases.{bases_of}
-use Rattle.pc_class.specs.Facts.{Class, field_of, method_of, inherited, classes_of}
-use Rattle.pc_notes.specs.Notes.{Note, plain}
+use Rattle.pc_class.specs.Facts.{ClassFacts, field_by_name, method_by_name, base_facts, classes_of}
+use Rattle.pc_notes.specs.Notes.{Note, plain_note}
 use Rattle.pc_expr.specs.Operations.{Mark, clean}
 use Rattle.pc_expr.specs.Context.{Signature}
 use Rattle.pc_expr.specs.Computed.{flows_of}
@@ -38,19 +38,19 @@ with_name bound name t = bytes_eq t name || bound t
 
 -- the names that a set holds are bound
 abbrev pub bound_in : {S : Type 0} → IndexSet (String Global) S → List ℕ → Test
-bound_in s t = is_among t (texts_in s)
+bound_in s t = is_one_of t (texts_in s)
 
 -- a text is bound as a name where it stands: not reserved, and not bound already
 abbrev pub binds_text : (bound : List ℕ → Test) → List ℕ → Test
-binds_text bound t = not (is_reserved t || bound t)
+binds_text bound t = not (is_builtin_name t || bound t)
 
 -- a base has a field or a method of a name
-abbrev pub has_member : Class → List ℕ → Test
-has_member base name = is_some (field_of base.fields name) || is_some (method_of base.methods name)
+abbrev pub base_has_member : ClassFacts → List ℕ → Test
+base_has_member base name = is_some (field_by_name base.fields name) || is_some (method_by_name base.methods name)
 
 -- a field binds its name: not reserved, not `mro`, not bound already, no field's or method's of an ancestor
-abbrev pub binds_as_field : Class → (bound : List ℕ → Test) → List ℕ → Test
-binds_as_field base bound name = not (is_reserved name || bytes_eq name (codes "mro")) && (not (bound name) && not (has_member base name))
+abbrev pub binds_as_field : ClassFacts → (bound : List ℕ → Test) → List ℕ → Test
+binds_as_field base bound name = not (is_builtin_name name || bytes_eq name (codes "mro")) && (not (bound name) && not (base_has_member base name))
 
 -- ---- defaults
 
@@ -67,13 +67,13 @@ default_findings bases true (Some l) t = literal_findings bases l t
 -- ---- what a walk over items comes to
 
 -- what a walk over items has come to: the types of the constants, the number of classes, the names that are bound
-pub record Reached : Type 0 where
+pub record ItemsReached : Type 0 where
   pub constants : List Tree
   pub classes : ℕ
   pub bound : List ℕ → Test
 
 -- nothing is reached before the first item
-abbrev pub nothing_reached : Reached
+abbrev pub nothing_reached : ItemsReached
 nothing_reached = record { constants = []; classes = 0; bound = no_name }
 
 module _ (m : Module) where
@@ -82,7 +82,7 @@ module _ (m : Module) where
   -- what is found of a parameter: in its annotation, and at its default
   abbrev pub param_findings : (bound : List ℕ → Test) → Param → List Note
   param_findings bound p =
-      map plain (option_findings m (bases_of m) p.annotation) ++ default_findings (bases_of m) (binds_text bound p.name.text) p.default (read_option m (bases_of m) p.annotation)
+      map plain_note (option_findings m (bases_of m) p.annotation) ++ default_findings (bases_of m) (binds_text bound p.name.text) p.default (read_option m (bases_of m) p.annotation)
 
   -- what is found of parameters, behind names that are bound already
   abbrev pub params_findings : (bound : List ℕ → Test) → List Param → List Note
@@ -91,7 +91,7 @@ module _ (m : Module) where
 
   -- what is found of the signature of a function: of its parameters, and in the annotation of what it returns
   abbrev pub def_findings : (bound : List ℕ → Test) → FuncDef → List Note
-  def_findings bound f = params_findings bound f.params ++ map plain (option_findings m (bases_of m) f.returns)
+  def_findings bound f = params_findings bound f.params ++ map plain_note (option_findings m (bases_of m) f.returns)
 
   -- what is found of the signature of an item that is a function
   abbrev pub function_findings : Item → List Note
@@ -107,35 +107,35 @@ module _ (m : Module) where
   -- ---- classes
 
   -- what is found of a field: in its annotation, and at its default
-  abbrev pub field_findings : Class → (bound : List ℕ → Test) → Field → List Note
+  abbrev pub field_findings : ClassFacts → (bound : List ℕ → Test) → Field → List Note
   field_findings base bound d =
-      map plain (ann_findings m (bases_of m) d.annotation) ++ default_findings (bases_of m) (binds_as_field base bound d.name.text) d.default (read_ann m (bases_of m) d.annotation)
+      map plain_note (ann_findings m (bases_of m) d.annotation) ++ default_findings (bases_of m) (binds_as_field base bound d.name.text) d.default (read_ann m (bases_of m) d.annotation)
 
   -- what is found of a member: of a field, or of a method's signature, behind `self`
-  abbrev pub member_findings : Class → (bound : List ℕ → Test) → Member → List Note
+  abbrev pub member_findings : ClassFacts → (bound : List ℕ → Test) → Member → List Note
   member_findings base bound (field_member d) = field_findings base bound d
   member_findings base bound (method_member d) = def_findings (with_name no_name (codes "self")) d
 
   -- what is found of members, behind names that are bound already
-  abbrev pub members_findings : Class → (bound : List ℕ → Test) → List Member → List Note
+  abbrev pub members_findings : ClassFacts → (bound : List ℕ → Test) → List Member → List Note
   members_findings base bound [] = []
   members_findings base bound (x ∷ xs) = member_findings base bound x ++ members_findings base (with_name bound (name_of_member x).text) xs
 
   -- what the base of the class of a number has
-  abbrev pub base_at : ℕ → Class
-  base_at c = inherited (classes_of m) (base_of (bases_of m) c)
+  abbrev pub base_at : ℕ → ClassFacts
+  base_at c = base_facts (classes_of m) (base_of (bases_of m) c)
 
   -- what is found of the members of a class of this number
-  abbrev pub class_findings : ℕ → ClassDef → List Note
-  class_findings c d = members_findings (base_at c) no_name d.members
+  abbrev pub class_notes : ℕ → ClassDef → List Note
+  class_notes c d = members_findings (base_at c) no_name d.members
 
   -- the methods of a class as what is called
   abbrev pub class_methods : ClassDef → List Signature
   class_methods c = map (signature_of m) (methods_in c.members)
 
   -- the methods of each class
-  abbrev pub all_methods : List ClassDef → List (List Signature)
-  all_methods cs = map class_methods cs
+  abbrev pub signatures_of_methods : List ClassDef → List (List Signature)
+  signatures_of_methods cs = map class_methods cs
 
   -- ---- constants
 
@@ -144,47 +144,47 @@ module _ (m : Module) where
   initial constants classes = record { context = initializer_context m constants classes; declared = []; env = [] }
 
   -- what an initializer flows into
-  abbrev pub initializer_types : Reached → Constant → List Tree
+  abbrev pub initializer_types : ItemsReached → Constant → List Tree
   initializer_types r c = annotated_types m (binds_text r.bound c.name.text) c.annotation
 
   -- the label of an initializer
-  abbrev pub initializer_mark : Reached → Constant → Mark
+  abbrev pub initializer_mark : ItemsReached → Constant → Mark
   initializer_mark r c = mark_in (initial r.constants r.classes) (first_of_types (initializer_types r c)) c.value
 
   -- the type of a constant
-  abbrev pub type_of_constant : Reached → Constant → Tree
+  abbrev pub type_of_constant : ItemsReached → Constant → Tree
   type_of_constant r c = constant_type m c.annotation (initializer_mark r c).type
 
   -- what is found of an initializer that flows into these types: in it, and of its flow
-  abbrev pub value_findings : Reached → (into : List Tree) → Expr → List Note
+  abbrev pub value_findings : ItemsReached → (into : List Tree) → Expr → List Note
   value_findings r into e =
       finds_in (initial r.constants r.classes) (first_of_types into) e ++ flows_at (place_of e) (flows_of (bases_of m) (mark_in (initial r.constants r.classes) (first_of_types into) e) into)
 
   -- what is found of a constant: in its annotation, and of its initializer
-  abbrev pub constant_findings : Reached → Constant → List Note
-  constant_findings r c = map plain (option_findings m (bases_of m) c.annotation) ++ value_findings r (initializer_types r c) c.value
+  abbrev pub constant_findings : ItemsReached → Constant → List Note
+  constant_findings r c = map plain_note (option_findings m (bases_of m) c.annotation) ++ value_findings r (initializer_types r c) c.value
 
   -- ---- items
 
   -- what is reached behind one more item
-  abbrev pub behind : Reached → Item → Reached
+  abbrev pub behind : ItemsReached → Item → ItemsReached
   behind r (constant_item p c) = record { constants = r.constants ++ type_of_constant r c ∷ []; classes = r.classes; bound = with_name r.bound c.name.text }
   behind r (class_item p c) = record { constants = r.constants; classes = suc r.classes; bound = with_name r.bound c.name.text }
   behind r (def_item p f) = record { constants = r.constants; classes = r.classes; bound = with_name r.bound f.name.text }
 
   -- what is reached behind items
-  abbrev pub behind_all : Reached → List Item → Reached
+  abbrev pub behind_all : ItemsReached → List Item → ItemsReached
   behind_all r [] = r
   behind_all r (i ∷ is) = behind_all (behind r i) is
 
   -- what is found of an item that is a constant or a class
-  abbrev pub item_findings : Reached → Item → List Note
+  abbrev pub item_findings : ItemsReached → Item → List Note
   item_findings r (constant_item p c) = constant_findings r c
-  item_findings r (class_item p c) = class_findings r.classes c
+  item_findings r (class_item p c) = class_notes r.classes c
   item_findings r (def_item p f) = []
 
   -- what is found of the constants and classes among items
-  abbrev pub items_findings : Reached → List Item → List Note
+  abbrev pub items_findings : ItemsReached → List Item → List Note
   items_findings r [] = []
   items_findings r (i ∷ is) = item_findings r i ++ items_findings (behind r i) is
 
@@ -195,8 +195,8 @@ module _ (m : Module) where
   constants_of = (behind_all nothing_reached m.items).constants
 
   -- the methods of each class as what is called
-  unfoldable pub methods_of : List (List Signature)
-  methods_of = all_methods (classes_in m.items)
+  unfoldable pub method_signatures : List (List Signature)
+  method_signatures = signatures_of_methods (classes_in m.items)
 
   -- what is found of the signatures and the constants of a module
   unfoldable pub signatures_find : List Note

@@ -8,7 +8,7 @@ use Rattle.pc_expr.specs.Context.{Signature}
 use Rattle.pc_expr.specs.Standing.{HasSignature, signature_with}
 
 -- the types of the constants, what the functions take and return, and what the methods of each class do, each in text order
-pub record Signed (Ty : Type 0) : Type 0 where
+pub record HeldSignatures (Ty : Type 0) : Type 0 where
   pub constants : List Ty
   pub functions : List (RustSignature Ty)
   pub methods : List (List (RustSignature Ty))
@@ -18,20 +18,20 @@ abbrev pub methods_seen : {Ty : Type 0} → List (Vec (RustSignature Ty) Global)
 methods_seen vs = map (λ v. v.items) vs
 
 -- the one of a number, none where there are none
-abbrev pub numbered : {X : Type 0} → Option (List X) → ℕ → Option X
-numbered None i = None
-numbered (Some xs) i = slice_get xs i
+abbrev pub signature_numbered : {X : Type 0} → Option (List X) → ℕ → Option X
+signature_numbered None i = None
+signature_numbered (Some xs) i = slice_get xs i
 
 -- the method of a number of the class of a number
-abbrev pub method_at : {X : Type 0} → List (List X) → (class number : ℕ) → Option X
-method_at methods c i = numbered (slice_get methods c) i
+abbrev pub method_numbered : {X : Type 0} → List (List X) → (class number : ℕ) → Option X
+method_numbered methods c i = signature_numbered (slice_get methods c) i
 
 -- the store gave all these types
-pub record HasSigned {Ty : Type 0} (has : Ty → Type 0) (s : Signed Ty) : Type 0 where
+pub record HasSigned {Ty : Type 0} (has : Ty → Type 0) (s : HeldSignatures Ty) : Type 0 where
   pub constants : All has s.constants
   pub functions : All (HasSignature has) s.functions
   pub methods : All (λ ms. All (HasSignature has) ms) s.methods
 
 -- the signatures of the methods of each class
-abbrev pub all_with : {Ty : Type 0} → (tree : Ty → Tree) → List (List (RustSignature Ty)) → List (List Signature)
-all_with tree methods = map (λ ms. map (signature_with tree) ms) methods
+abbrev pub all_signatures_with : {Ty : Type 0} → (tree : Ty → Tree) → List (List (RustSignature Ty)) → List (List Signature)
+all_signatures_with tree methods = map (λ ms. map (signature_with tree) ms) methods

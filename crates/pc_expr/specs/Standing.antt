@@ -18,7 +18,7 @@ use Rattle.pc_expr.specs.Context.{Context, Signature}
 use Rattle.pc_expr.specs.Calls.{Seat}
 use Rattle.pc_expr.specs.Labels.{Marks, ItemsMarks, EntriesMarks, KeywordsMarks, mark_of, type_of, item_types, key_types, value_types}
 use Rattle.pc_expr.specs.Computed.{labels_of, items_labels, entries_labels, keywords_labels}
-use Rattle.pc_expr.specs.Found.{brief, found_in, found_in_parts, found_in_items, found_in_arguments, found_in_entries, found_in_keywords}
+use Rattle.pc_expr.specs.Found.{brief, notes_under, found_in_parts, found_in_items, found_in_arguments, found_in_entries, found_in_keywords}
 use Rattle.pc_expr.specs.declared.setting.Setting.{Setting}
 use Rattle.pc_expr.specs.declared.setting.Signature.{Signature as RustSignature}
 use Rattle.pc_expr.specs.declared.label.Label.{Label}
@@ -33,8 +33,8 @@ pub record Standing : Type 0 where
   pub env : Env
 
 -- with the environment as a condition leaves it
-abbrev pub narrowed : Standing → (holds : Test) → Expr → Standing
-narrowed k holds e = record { context = k.context; declared = k.declared; env = narrow k.context.bases k.declared k.context.resolve holds e k.env }
+abbrev pub narrowed_standing : Standing → (holds : Test) → Expr → Standing
+narrowed_standing k holds e = record { context = k.context; declared = k.declared; env = narrow k.context.bases k.declared k.context.resolve holds e k.env }
 
 -- ---- the computed labels there
 
@@ -44,7 +44,7 @@ mark_in k want e = mark_of e (labels_of k.context k.declared k.env want e)
 
 -- what is found in it and in its parts
 unfoldable pub finds_in : Standing → (want : Option Tree) → Expr → List Note
-finds_in k want e = found_in e (labels_of k.context k.declared k.env want e)
+finds_in k want e = notes_under e (labels_of k.context k.declared k.env want e)
 
 -- what is found in its parts alone
 unfoldable pub parts_find : Standing → (want : Option Tree) → Expr → List Note
@@ -117,8 +117,8 @@ module _ {Ty R : Type 0} (tree : Ty → Tree) (meaning : R → List ℕ → Res)
   }
 
   -- what an expression stands in, by a setting and the types of an environment
-  abbrev pub standing : Setting Ty R → List (Option Ty) → Standing
-  standing s types = record { context = context_with s; declared = declared_of tree s.declared.now; env = env_of tree types }
+  abbrev pub standing_of : Setting Ty R → List (Option Ty) → Standing
+  standing_of s types = record { context = context_with s; declared = declared_of tree s.declared.now; env = env_of tree types }
 
 -- a type is of the store, if there is one
 abbrev pub HasIfAny : {Ty : Type 0} → (has : Ty → Type 0) → Option Ty → Type 0
@@ -136,7 +136,7 @@ pub record HasOffer {Ty : Type 0} (has : Ty → Type 0) (o : RustOffer Ty) : Typ
   pub takes : HasIfAny has o.takes
 
 -- the store gave all types of a setting and of an environment; those of the locals are well-formed
-pub record Stands {Ty R : Type 0} (has : Ty → Type 0) (tree : Ty → Tree) (s : Setting Ty R) (types : List (Option Ty)) : Type 0 where
+pub record HasGivenAll {Ty R : Type 0} (has : Ty → Type 0) (tree : Ty → Tree) (s : Setting Ty R) (types : List (Option Ty)) : Type 0 where
   pub classes : HasEntries has s.classes.now
   pub functions : All (HasSignature has) s.functions.now
   pub constants : All has s.constants.now

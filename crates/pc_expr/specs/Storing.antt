@@ -11,7 +11,7 @@ use Rattle.pc_expr.specs.declared.stores.StoreTarget.{StoreTarget}
 use Rattle.pc_expr.specs.declared.stores.StoreTarget.TheVariants as targets
 
 -- what a store comes to on one member
-abbrev pub store_on : List facts.Class → StoreTarget → Tree → StoreOffer
+abbrev pub store_on : List facts.ClassFacts → StoreTarget → Tree → StoreOffer
 store_on classes (targets.Attribute name) t = store_attribute_member classes name.now t
 store_on classes targets.Index t = store_index_member t
 

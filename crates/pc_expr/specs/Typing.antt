@@ -7,11 +7,11 @@ use Rattle.pc_tree.specs.Tree.{Expr, Exprs, Keywords, name, attribute}
 use Rattle.pc_scope.specs.Expressions.{is_instance_test}
 use Rattle.pc_notes.specs.Notes.{Note}
 use Rattle.pc_expr.specs.Operations.{Mark, in_error}
-use Rattle.pc_expr.specs.Calls.{Given, Callee, Seat, value_callee, given, call_mark, positional_seat, named_seat, range_offers}
+use Rattle.pc_expr.specs.Calls.{GivenArguments, CalleeLabel, Seat, value_callee, arguments_given, call_mark, positional_seat, named_seat, range_offers}
 use Rattle.pc_expr.specs.Labels.{with_mark}
 use Rattle.pc_expr.specs.Lawful.{callee_of, early_second}
 use Rattle.pc_expr.specs.Computed.{labels_of}
-use Rattle.pc_expr.specs.Found.{found_in, codes_at}
+use Rattle.pc_expr.specs.Found.{notes_under, codes_at}
 use Rattle.pc_expr.specs.Standing.{Standing, items_in, arguments_find, keywords_find}
 
 -- an expression that is neither a name nor an attribute
@@ -21,17 +21,17 @@ is_other (attribute p e field) = false
 is_other _ = true
 
 -- a callee that is neither a name nor, in a body, an attribute, by its label
-abbrev pub other_callee : (in_body : Test) → Mark → Callee
-other_callee true m = value_callee m
-other_callee false m = value_callee (in_error E03)
+abbrev pub unnamed_callee : (in_body : Test) → Mark → CalleeLabel
+unnamed_callee true m = value_callee m
+unnamed_callee false m = value_callee (in_error E03)
 
 -- what an expression is as the callee of a call that gives these arguments
-unfoldable pub callee_in : Standing → Given → Expr → Callee
+unfoldable pub callee_in : Standing → GivenArguments → Expr → CalleeLabel
 callee_in k g e = callee_of k.context k.env g e (labels_of k.context k.declared k.env None e)
 
 -- what is found in a callee and in its parts
-unfoldable pub callee_finds : Standing → Given → Expr → List Note
-callee_finds k g e = found_in e (with_mark e (labels_of k.context k.declared k.env None e) (callee_in k g e).mark)
+unfoldable pub callee_finds : Standing → GivenArguments → Expr → List Note
+callee_finds k g e = notes_under e (with_mark e (labels_of k.context k.declared k.env None e) (callee_in k g e).mark)
 
 -- whether an initializer names the second of several expressions too early
 unfoldable pub early_in : Standing → (seat : ℕ → Seat) → Exprs → Test
@@ -40,6 +40,6 @@ early_in k seat es = early_second es (items_in k seat es)
 -- what is found in a call of `range` as what a `for` goes over: in its arguments, which flow into int, and at the call
 abbrev pub range_finds : Standing → Place → (callee : Expr) → Exprs → Keywords → List Note
 range_finds k p callee arguments keywords =
-    let offers = range_offers (given arguments keywords) in
+    let offers = range_offers (arguments_given arguments keywords) in
     arguments_find k (is_instance_test callee arguments keywords) (positional_seat offers) arguments
     ++ (keywords_find k (named_seat offers) [] keywords ++ codes_at p (call_mark k.context.bases offers).codes)

@@ -11,7 +11,7 @@ use Rattle.pc_class.specs.WellFormed.{ParametersWellFormed, ClassesWellFormed}
 use Rattle.pc_flow.specs.Environment.{Env}
 use Rattle.pc_flow.specs.WellFormed.{IsWellFormedIfAny, IsWellFormedEnv, AreWellFormed}
 use Rattle.pc_expr.specs.Context.{Context, Signature}
-use Rattle.pc_expr.specs.Labels.{Flowing, Marks, ItemsMarks, EntriesMarks, KeywordsMarks, type_of}
+use Rattle.pc_expr.specs.Labels.{FlowMarks, Marks, ItemsMarks, EntriesMarks, KeywordsMarks, type_of}
 use Rattle.pc_expr.specs.Lawful.{Lawful}
 use Rattle.pc_expr.specs.Signatures.{body_context, initializer_context}
 
@@ -33,7 +33,7 @@ pub record ContextWellFormed (ctx : Context) : Type 0 where
   pub constants : AreWellFormed ctx.bases ctx.constants
 
 -- the types of flows are well-formed
-abbrev pub FlowsWellFormed : Bases → Flowing → Type 0
+abbrev pub FlowsWellFormed : Bases → FlowMarks → Type 0
 FlowsWellFormed bases [] = Unit {0}
 FlowsWellFormed bases (f ∷ fs) = (IsWellFormed bases f.from × IsWellFormed bases f.into) × FlowsWellFormed bases fs
 

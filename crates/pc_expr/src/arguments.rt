@@ -1,9 +1,9 @@
-// How many arguments a call gives by position, and the names of those that it gives by name.
+//! How many arguments a call gives by position, and the names of those that it gives by name.
 
 ghost use Rattle.std.specs.Prelude.{◌≡◌};
-ghost use Rattle.pc_scope.specs.Resolution.{is_among};
+ghost use Rattle.pc_scope.specs.Resolution.{is_one_of};
 ghost use Rattle.pc_expr.specs.Calls.{is_one, is_two};
-ghost use Rattle.pc_expr.specs.Calling.{names_in, given_with};
+ghost use Rattle.pc_expr.specs.Internal.JudgedCalls.{names_in, given_with};
 
 use indexmap::IndexSet;
 
@@ -19,7 +19,7 @@ pub struct Given<'e> {
 
 /// Whether a name is one of these.
 pub fn is_among(names: &Names, name: &str) -> bool
-    ensures { result ≡ is_among name.now (names_in names.now) }
+    ensures { result ≡ is_one_of name.now (names_in names.now) }
 {
     names.contains(name)
 }

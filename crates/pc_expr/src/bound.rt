@@ -1,4 +1,4 @@
-// Names that are bound already.
+//! Names that are bound already.
 
 ghost use Rattle.std.specs.Prelude.{◌≡◌, OnOk};
 ghost use Rattle.pc_expr.specs.SignaturesFound.{bound_in, with_name};

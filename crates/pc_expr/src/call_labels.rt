@@ -1,11 +1,11 @@
-// The label of a call, and what a callee is that is no function, class or method.
+//! The label of a call, and what a callee is that is no function, class or method.
 
 ghost use Rattle.std.specs.Prelude.{◌≡◌, ◌++◌, true, length, map, All, IfOk, OnOk};
 ghost use Rattle.pc_source.specs.declared.place.Place.{Place};
 ghost use Rattle.pc_tree.specs.Tree.{expr_of};
 ghost use Rattle.pc_tree.specs.Lists.{exprs_of_list, keywords_of_list};
 ghost use Rattle.pc_scope.specs.Expressions.{is_instance_test};
-ghost use Rattle.pc_types.specs.Store.{Keeps};
+ghost use Rattle.pc_types.specs.Store.{KeepsTypes};
 ghost use Rattle.pc_class.specs.Tables.{HasEntries};
 ghost use Rattle.pc_flow.specs.Stored.{env_of, HasEach};
 ghost use Rattle.pc_notes.specs.Notes.{notes_of};
@@ -13,10 +13,10 @@ ghost use Rattle.pc_expr.specs.Operations.{Mark};
 ghost use Rattle.pc_expr.specs.Calls.{value_callee};
 ghost use Rattle.pc_expr.specs.Labels.{second_place};
 ghost use Rattle.pc_expr.specs.Lawful.{whole_call_mark};
-ghost use Rattle.pc_expr.specs.Found.{brief, code_at};
-ghost use Rattle.pc_expr.specs.Standing.{mark_with, context_with, Stands, IsMark};
-ghost use Rattle.pc_expr.specs.Calling.{offer_called, rule_of, second_code_of, HasCallOffer, IsCallee};
-ghost use Rattle.pc_expr.specs.Typing.{other_callee};
+ghost use Rattle.pc_expr.specs.Found.{brief, notes_of_code};
+ghost use Rattle.pc_expr.specs.Standing.{mark_with, context_with, HasGivenAll, IsMark};
+ghost use Rattle.pc_expr.specs.Internal.JudgedCalls.{offer_called, rule_of, second_code_of, HasCallOffer, IsCallee};
+ghost use Rattle.pc_expr.specs.Typing.{unnamed_callee};
 
 use crate::call_offers::CallOffer;
 use crate::callee::{Callee, callee_in_error, callee_of_value};
@@ -41,8 +41,8 @@ pub(crate) fn callee_of_other<'t, S: TypeStore, R: Resolver>(
     label: Label<S::Ty>,
 ) -> Result<Callee<'t, S::Ty>, OutOfMemory>
     requires { S.has store.old label.ty }
-    ensures callee { (m : Mark) → mark_with S.tree label ≡ brief m → IfOk result (λ c. IsCallee S.has S.tree store.new c (other_callee setting.now.in_body m)) }
-    ensures kept { Keeps S.has store.old store.new }
+    ensures callee { (m : Mark) → mark_with S.tree label ≡ brief m → IfOk result (λ c. IsCallee S.has S.tree store.new c (unnamed_callee setting.now.in_body m)) }
+    ensures kept { KeepsTypes S.has store.old store.new }
 {
     if setting.in_body {
         return callee_of_value(store, alloc, label);
@@ -62,7 +62,7 @@ fn second_place(arguments: &[Expr], place: Place) -> Place
 
 /// Adds the finding of a code that there may be.
 fn find_code(place: Place, code: Option<Code>, found: &mut Notes) -> Result<(), OutOfMemory>
-    ensures { OnOk result (notes_of found.new ≡ notes_of found.old ++ code_at place code) }
+    ensures { OnOk result (notes_of found.new ≡ notes_of found.old ++ notes_of_code place code) }
 {
     match code {
         None => Ok(()),
@@ -88,8 +88,8 @@ pub(crate) fn label_call<S: TypeStore, R: Resolver>(
     requires offers { All (HasCallOffer (S.has store.old)) callee.now.offers.items }
     requires types { All (S.has store.old) typed.now.types.items }
     ensures value { IfOk result (λ l. IsMark S.has S.tree store.new l (whole_call_mark (context_with S.tree R.meaning setting.now) (env_of S.tree env.now) (rule_of callee.now.rule) (map (offer_called S.tree) callee.now.offers.items) (exprs_of_list arguments.now) (map S.tree typed.now.types.items))) }
-    ensures pushed { OnOk result (notes_of found.new ≡ notes_of found.old ++ code_at (second_place (exprs_of_list arguments.now) place) (second_code_of (R.meaning setting.now.names.now) (rule_of callee.now.rule) (exprs_of_list arguments.now) typed.now.early)) }
-    ensures kept { Keeps S.has store.old store.new }
+    ensures pushed { OnOk result (notes_of found.new ≡ notes_of found.old ++ notes_of_code (second_place (exprs_of_list arguments.now) place) (second_code_of (R.meaning setting.now.names.now) (rule_of callee.now.rule) (exprs_of_list arguments.now) typed.now.early)) }
+    ensures kept { KeepsTypes S.has store.old store.new }
 {
     let code = second_code(setting.names, callee.rule, arguments, typed.early);
     find_code(second_place(arguments, place), code, found)?;
@@ -111,8 +111,8 @@ pub(crate) fn still_called<S: TypeStore, R: Resolver>(
     _env: &Env<S::Ty>,
     _offers: &[CallOffer<'_, S::Ty>],
 )
-    requires given { Stands (S.has _store.now) S.tree _setting.now _env.now }
+    requires given { HasGivenAll (S.has _store.now) S.tree _setting.now _env.now }
     requires offers { All (HasCallOffer (S.has _store.now)) _offers.now }
-    ensures given { Stands (S.has _store.now) S.tree _setting.now _env.now }
+    ensures given { HasGivenAll (S.has _store.now) S.tree _setting.now _env.now }
     ensures offers { All (HasCallOffer (S.has _store.now)) _offers.now }
 {}

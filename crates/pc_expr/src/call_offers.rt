@@ -1,10 +1,10 @@
-// What a call comes to on one member of what is called.
+//! What a call comes to on one member of what is called.
 
 ghost use Rattle.std.specs.Prelude.{◌≡◌, ◌++◌, ◌∷◌, [], None, map, All, IfOk, OnOk};
 ghost use Rattle.pc_types.specs.Tree.{Tree};
-ghost use Rattle.pc_types.specs.Store.{Keeps};
-ghost use Rattle.pc_expr.specs.Calls.{called, plain_call, fails_at_call, fails_at_callee, value_offer, value_offers, builtin_signature};
-ghost use Rattle.pc_expr.specs.Calling.{given_with, params_called, offer_called, HasParam, HasCallOffer, IsCallOffer, AreCallOffers};
+ghost use Rattle.pc_types.specs.Store.{KeepsTypes};
+ghost use Rattle.pc_expr.specs.Calls.{signature_offer, plain_call, fails_at_call, fails_at_callee, value_offer, value_offers, builtin_signature};
+ghost use Rattle.pc_expr.specs.Internal.JudgedCalls.{given_with, params_called, offer_called, HasParam, HasCallOffer, IsCallOffer, AreCallOffers};
 
 use crate::arguments::Given;
 use crate::params::{Param, Params, is_suited, is_suited_by};
@@ -59,7 +59,7 @@ pub fn fails_at_call<'t, S: TypeStore>(
     code: Code,
 ) -> Result<CallOffer<'t, S::Ty>, OutOfMemory>
     ensures offer { IfOk result (λ o. IsCallOffer S.has S.tree store.new o (fails_at_call code)) }
-    ensures kept { Keeps S.has store.old store.new }
+    ensures kept { KeepsTypes S.has store.old store.new }
 {
     let gives = store.any(alloc)?;
     Ok(CallOffer {
@@ -77,7 +77,7 @@ pub fn fails_at_callee<'t, S: TypeStore>(
     code: Code,
 ) -> Result<CallOffer<'t, S::Ty>, OutOfMemory>
     ensures offer { IfOk result (λ o. IsCallOffer S.has S.tree store.new o (fails_at_callee code)) }
-    ensures kept { Keeps S.has store.old store.new }
+    ensures kept { KeepsTypes S.has store.old store.new }
 {
     let gives = store.any(alloc)?;
     Ok(CallOffer {
@@ -98,8 +98,8 @@ pub fn call_of<'t, S: TypeStore>(
 ) -> Result<CallOffer<'t, S::Ty>, OutOfMemory>
     requires params { All (HasParam (S.has store.old)) params.items }
     requires returns { S.has store.old returns }
-    ensures offer { IfOk result (λ o. IsCallOffer S.has S.tree store.new o (called (given_with given.now) (params_called S.tree (S.tree returns) params.entry.items))) }
-    ensures kept { Keeps S.has store.old store.new }
+    ensures offer { IfOk result (λ o. IsCallOffer S.has S.tree store.new o (signature_offer (given_with given.now) (params_called S.tree (S.tree returns) params.entry.items))) }
+    ensures kept { KeepsTypes S.has store.old store.new }
 {
     let params = Params::new(alloc, given, params)?;
     if !is_suited(given, &params) {
@@ -123,8 +123,8 @@ pub fn call_of_builtin<'t, S: TypeStore>(
 ) -> Result<CallOffer<'t, S::Ty>, OutOfMemory>
     requires types { All (S.has store.old) types.items }
     requires returns { S.has store.old returns }
-    ensures offer { IfOk result (λ o. IsCallOffer S.has S.tree store.new o (called (given_with given.now) (builtin_signature (map S.tree types.items) (S.tree returns)))) }
-    ensures kept { Keeps S.has store.old store.new }
+    ensures offer { IfOk result (λ o. IsCallOffer S.has S.tree store.new o (signature_offer (given_with given.now) (builtin_signature (map S.tree types.items) (S.tree returns)))) }
+    ensures kept { KeepsTypes S.has store.old store.new }
 {
     if !is_suited_by(given, types.len()) {
         return fails_at_call(store, alloc, Code::E14);
@@ -145,7 +145,7 @@ fn value_offer<'t, S: TypeStore>(
 ) -> Result<CallOffer<'t, S::Ty>, OutOfMemory>
     requires { S.has store.old member.now }
     ensures offer { IfOk result (λ o. IsCallOffer S.has S.tree store.new o (value_offer (S.tree member.now))) }
-    ensures kept { Keeps S.has store.old store.new }
+    ensures kept { KeepsTypes S.has store.old store.new }
 {
     match store.head(member) {
         Head::Any => fails_at_call(store, alloc, Code::A6),
@@ -176,7 +176,7 @@ pub fn push_value_offers<'t, S: TypeStore>(
     requires ty { S.has store.old ty.now }
     requires offers { All (HasCallOffer (S.has store.old)) offers.old.items }
     ensures offers { OnOk result (AreCallOffers S.has S.tree store.new offers.new.items (map (offer_called S.tree) offers.old.items ++ value_offers (S.tree ty.now))) }
-    ensures kept { Keeps S.has store.old store.new }
+    ensures kept { KeepsTypes S.has store.old store.new }
 {
     let members = store.members(alloc, ty)?;
     for i in 0..members.len() {

@@ -1,13 +1,13 @@
-// Callees: what a name or a value is as what is called.
+//! Callees: what a name or a value is as what is called.
 
 ghost use Rattle.std.specs.Prelude.{◌≡◌, ◌∷◌, [], IfOk, if◌then◌else◌};
 ghost use Rattle.pc_tree.specs.declared.code.Code.TheVariants.{E14};
-ghost use Rattle.pc_types.specs.Store.{Keeps};
+ghost use Rattle.pc_types.specs.Store.{KeepsTypes};
 ghost use Rattle.pc_expr.specs.Operations.{Mark, in_error};
 ghost use Rattle.pc_expr.specs.Found.{brief};
 ghost use Rattle.pc_expr.specs.Calls.{plain_call, fails_at_call, value_callee, good_callee, own_callee, builtin_callee};
 ghost use Rattle.pc_expr.specs.Standing.{mark_with};
-ghost use Rattle.pc_expr.specs.Calling.{given_with, offer_called, rule_of, HasCallOffer, IsCallee};
+ghost use Rattle.pc_expr.specs.Internal.JudgedCalls.{given_with, offer_called, rule_of, HasCallOffer, IsCallee};
 
 use crate::arguments::{Given, is_one, is_two};
 use crate::call_offers::{
@@ -36,7 +36,7 @@ pub fn callee_of_value<'t, S: TypeStore>(
 ) -> Result<Callee<'t, S::Ty>, OutOfMemory>
     requires { S.has store.old label.ty }
     ensures callee { (m : Mark) → mark_with S.tree label ≡ brief m → IfOk result (λ c. IsCallee S.has S.tree store.new c (value_callee m)) }
-    ensures kept { Keeps S.has store.old store.new }
+    ensures kept { KeepsTypes S.has store.old store.new }
 {
     let mut offers = Vec::new(alloc);
     push_value_offers(store, alloc, &label.ty, &mut offers)?;
@@ -54,7 +54,7 @@ pub fn callee_in_error<'t, S: TypeStore>(
     code: Code,
 ) -> Result<Callee<'t, S::Ty>, OutOfMemory>
     ensures callee { IfOk result (λ c. IsCallee S.has S.tree store.new c (value_callee (in_error code))) }
-    ensures kept { Keeps S.has store.old store.new }
+    ensures kept { KeepsTypes S.has store.old store.new }
 {
     let label = in_error(store, alloc, code)?;
     callee_of_value(store, alloc, label)
@@ -68,7 +68,7 @@ pub fn good_callee<'t, S: TypeStore>(
 ) -> Result<Callee<'t, S::Ty>, OutOfMemory>
     requires { HasCallOffer (S.has store.old) offer }
     ensures callee { IfOk result (λ c. IsCallee S.has S.tree store.new c (good_callee (offer_called S.tree offer.entry ∷ []))) }
-    ensures kept { Keeps S.has store.old store.new }
+    ensures kept { KeepsTypes S.has store.old store.new }
 {
     let any = store.any(alloc)?;
     let mut offers = Vec::new(alloc);
@@ -90,7 +90,7 @@ fn own_callee<'t, S: TypeStore>(
     rule: CallRule,
 ) -> Result<Callee<'t, S::Ty>, OutOfMemory>
     ensures callee { IfOk result (λ c. IsCallee S.has S.tree store.new c (own_callee (rule_of rule))) }
-    ensures kept { Keeps S.has store.old store.new }
+    ensures kept { KeepsTypes S.has store.old store.new }
 {
     let any = store.any(alloc)?;
     Ok(Callee {
@@ -112,7 +112,7 @@ fn plain_callee<'t, S: TypeStore>(
 ) -> Result<Callee<'t, S::Ty>, OutOfMemory>
     requires { S.has store.old gives }
     ensures callee { IfOk result (λ c. IsCallee S.has S.tree store.new c (good_callee ((if suits then plain_call (S.tree gives) else fails_at_call E14) ∷ []))) }
-    ensures kept { Keeps S.has store.old store.new }
+    ensures kept { KeepsTypes S.has store.old store.new }
 {
     if suits {
         let callee = good_callee(store, alloc, plain_call(gives))?;
@@ -128,7 +128,7 @@ fn failing_callee<'t, S: TypeStore>(
     code: Code,
 ) -> Result<Callee<'t, S::Ty>, OutOfMemory>
     ensures callee { IfOk result (λ c. IsCallee S.has S.tree store.new c (good_callee (fails_at_call code ∷ []))) }
-    ensures kept { Keeps S.has store.old store.new }
+    ensures kept { KeepsTypes S.has store.old store.new }
 {
     let offer = fails_at_call(store, alloc, code)?;
     good_callee(store, alloc, offer)
@@ -142,7 +142,7 @@ pub fn callee_of_builtin<'t, S: TypeStore>(
     builtin: Builtin,
 ) -> Result<Callee<'t, S::Ty>, OutOfMemory>
     ensures callee { IfOk result (λ c. IsCallee S.has S.tree store.new c (builtin_callee (given_with given.now) builtin)) }
-    ensures kept { Keeps S.has store.old store.new }
+    ensures kept { KeepsTypes S.has store.old store.new }
 {
     match builtin {
         Builtin::Print => {

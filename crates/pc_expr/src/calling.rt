@@ -1,16 +1,16 @@
-// The label of a call by the members of what is called, and whether a type has a member `Any` or `object`.
+//! The label of a call by the members of what is called, and whether a type has a member `Any` or `object`.
 
 ghost use Rattle.std.specs.Prelude.{◌≡◌, map, All, IfOk};
 ghost use Rattle.std.specs.List.{list_any};
 ghost use Rattle.pc_tree.specs.Stopping.{has_none};
 ghost use Rattle.pc_types.specs.Tree.{Tree};
 ghost use Rattle.pc_types.specs.Shape.{members};
-ghost use Rattle.pc_types.specs.Store.{Keeps, Means};
+ghost use Rattle.pc_types.specs.Store.{KeepsTypes, Means};
 ghost use Rattle.pc_flow.specs.Environment.{join_all};
 ghost use Rattle.pc_expr.specs.Found.{once};
 ghost use Rattle.pc_expr.specs.Calls.{call_codes, call_mark, is_object_or_any};
 ghost use Rattle.pc_expr.specs.Standing.{IsMark};
-ghost use Rattle.pc_expr.specs.Calling.{is_head_of_any, offer_called, found_at_callee, found_at_call, HasCallOffer};
+ghost use Rattle.pc_expr.specs.Internal.JudgedCalls.{is_head_of_any, offer_called, found_at_callee, found_at_call, HasCallOffer};
 
 use crate::call_offers::CallOffer;
 use crate::label::{Label, add_found};
@@ -83,7 +83,7 @@ fn join_given<S: TypeStore>(
 ) -> Result<S::Ty, OutOfMemory>
     requires { All (HasCallOffer (S.has store.old)) offers.now }
     ensures value { IfOk result (λ t. Means S.has S.tree store.new t (join_all parents.now (map (λ o. o.gives) (map (offer_called S.tree) offers.now)))) }
-    ensures kept { Keeps S.has store.old store.new }
+    ensures kept { KeepsTypes S.has store.old store.new }
 {
     let mut joined = store.never(alloc)?;
     for i in 0..offers.len() {
@@ -102,7 +102,7 @@ pub fn members_label<S: TypeStore>(
 ) -> Result<Label<S::Ty>, OutOfMemory>
     requires { All (HasCallOffer (S.has store.old)) offers.now }
     ensures label { IfOk result (λ l. IsMark S.has S.tree store.new l (call_mark parents.now (map (offer_called S.tree) offers.now))) }
-    ensures kept { Keeps S.has store.old store.new }
+    ensures kept { KeepsTypes S.has store.old store.new }
 {
     let codes = call_codes(alloc, offers)?;
     if is_in_error(offers) {

@@ -1,9 +1,9 @@
-// The label of a comparison over the labels of its operands.
+//! The label of a comparison over the labels of its operands.
 
 ghost use Rattle.std.specs.Prelude.{◌≡◌, ◌++◌, IfOk, OnOk};
 ghost use Rattle.pc_tree.specs.Tree.{expr_of};
 ghost use Rattle.pc_tree.specs.Depth.{place_of};
-ghost use Rattle.pc_types.specs.Store.{Keeps};
+ghost use Rattle.pc_types.specs.Store.{KeepsTypes};
 ghost use Rattle.pc_notes.specs.Notes.{notes_of};
 ghost use Rattle.pc_expr.specs.Operations.{Mark};
 ghost use Rattle.pc_expr.specs.Lawful.{compare_mark, compare_types};
@@ -35,7 +35,7 @@ pub(crate) fn label_comparison<S: TypeStore>(
     requires right { S.has store.old right.now }
     ensures value { IfOk result (λ l. IsMark S.has S.tree store.new l (compare_mark parents.now operator (S.tree label.now.ty) (S.tree right.now))) }
     ensures pushed { (m : Mark) → mark_with S.tree label.now ≡ brief m → OnOk result (notes_of found.new ≡ notes_of found.old ++ flows_at (place_of (expr_of left.now)) (flows_of parents.now m (compare_types operator (S.tree right.now)))) }
-    ensures kept { Keeps S.has store.old store.new }
+    ensures kept { KeepsTypes S.has store.old store.new }
 {
     let types = compare_types(store, alloc, operator, right)?;
     find_flows(store, alloc, parents, left.place(), label, &types, found)?;

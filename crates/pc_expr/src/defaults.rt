@@ -1,9 +1,9 @@
-// Defaults of parameters and fields.
+//! Defaults of parameters and fields.
 
 ghost use Rattle.std.specs.Prelude.{◌≡◌, ◌++◌, ◌∷◌, [], IfOk, OnOk};
 ghost use Rattle.pc_tree.specs.Tree.{literal_of, option_literal_of};
-ghost use Rattle.pc_scope.specs.Reserved.{is_reserved};
-ghost use Rattle.pc_types.specs.Store.{Means, Keeps};
+ghost use Rattle.pc_scope.specs.Reserved.{is_builtin_name};
+ghost use Rattle.pc_types.specs.Store.{Means, KeepsTypes};
 ghost use Rattle.pc_notes.specs.Notes.{notes_of};
 ghost use Rattle.pc_expr.specs.Operations.{Mark, clean};
 ghost use Rattle.pc_expr.specs.Computed.{flows_of};
@@ -23,7 +23,7 @@ use std::alloc::Global;
 
 /// A name is reserved.
 pub(crate) fn is_reserved(name: &str) -> bool
-    ensures { result ≡ is_reserved name.now }
+    ensures { result ≡ is_builtin_name name.now }
 {
     pc_tree::is_reserved(name)
 }
@@ -42,7 +42,7 @@ fn literal_type<S: TypeStore>(
     literal: &Literal,
 ) -> Result<S::Ty, OutOfMemory>
     ensures typed { IfOk result (λ t. Means S.has S.tree store.new t (literal_type (literal_of literal.now))) }
-    ensures kept { Keeps S.has store.old store.new }
+    ensures kept { KeepsTypes S.has store.old store.new }
 {
     match &literal.kind {
         LiteralKind::Int(_) => store.int(alloc),
@@ -61,7 +61,7 @@ fn literal_label<S: TypeStore>(
     literal: &Literal,
 ) -> Result<Label<S::Ty>, OutOfMemory>
     ensures marked { IfOk result (λ l. IsMark S.has S.tree store.new l (clean (literal_type (literal_of literal.now)))) }
-    ensures kept { Keeps S.has store.old store.new }
+    ensures kept { KeepsTypes S.has store.old store.new }
 {
     let ty = literal_type(store, alloc, literal)?;
     Ok(Label {
@@ -83,7 +83,7 @@ pub(crate) fn find_into<S: TypeStore>(
     requires label { S.has store.old label.now.ty }
     requires into { S.has store.old into.now }
     ensures pushed { (m : Mark) → mark_with S.tree label.now ≡ brief m → OnOk result (notes_of found.new ≡ notes_of found.old ++ flows_at place (flows_of parents.now m (S.tree into.now ∷ []))) }
-    ensures kept { Keeps S.has store.old store.new }
+    ensures kept { KeepsTypes S.has store.old store.new }
 {
     find_flow(store, alloc, parents, place, label, into, found)?;
     Ok(())
@@ -100,7 +100,7 @@ fn find_literal<S: TypeStore>(
 ) -> Result<(), OutOfMemory>
     requires { S.has store.old into.now }
     ensures pushed { OnOk result (notes_of found.new ≡ notes_of found.old ++ literal_findings parents.now (literal_of literal.now) (S.tree into.now)) }
-    ensures kept { Keeps S.has store.old store.new }
+    ensures kept { KeepsTypes S.has store.old store.new }
 {
     let label = literal_label(store, alloc, literal)?;
     find_into(store, alloc, parents, literal.place, &label, into, found)
@@ -119,7 +119,7 @@ pub(crate) fn find_default<S: TypeStore>(
 ) -> Result<(), OutOfMemory>
     requires { S.has store.old into.now }
     ensures pushed { OnOk result (notes_of found.new ≡ notes_of found.old ++ default_findings parents.now binds (option_literal_of default.now) (S.tree into.now)) }
-    ensures kept { Keeps S.has store.old store.new }
+    ensures kept { KeepsTypes S.has store.old store.new }
 {
     match default {
         None => Ok(()),

@@ -1,4 +1,4 @@
-// Displays of lists, dicts and tuples: their labels, and what is expected of their parts.
+//! Displays of lists, dicts and tuples: their labels, and what is expected of their parts.
 
 ghost use Rattle.std.specs.Prelude.{◌≡◌, List, All, IfOk, map};
 ghost use Rattle.std.specs.Option.{option_map};
@@ -7,14 +7,14 @@ ghost use Rattle.pc_types.specs.Tree.{Tree, ListOf, DictOf, TupleOf};
 ghost use Rattle.pc_types.specs.Shape.{trees};
 ghost use Rattle.pc_types.specs.Normal.{IsKey};
 ghost use Rattle.pc_types.specs.Computed.{static_test, assignable_test};
-ghost use Rattle.pc_types.specs.Store.{Keeps};
+ghost use Rattle.pc_types.specs.Store.{KeepsTypes};
 ghost use Rattle.pc_flow.specs.Environment.{join_all};
 ghost use Rattle.pc_expr.specs.Operations.{display_mark};
 ghost use Rattle.pc_expr.specs.Context.{Context};
-ghost use Rattle.pc_expr.specs.Lawful.{list_item, dict_parts, tuple_parts, members_of, list_mark};
+ghost use Rattle.pc_expr.specs.Lawful.{list_item, dict_parts, tuple_parts, members_of_expected, list_mark};
 ghost use Rattle.pc_expr.specs.Computed.{dict_mark};
 ghost use Rattle.pc_expr.specs.Standing.{HasIfAny, IsMark};
-ghost use Rattle.pc_expr.specs.Displays.{key_value_with, HasKeyValueIfAny, IsItem, IsListItem, IsDictParts, IsEntry, is_tuple, own_dict_mark};
+ghost use Rattle.pc_expr.specs.Internal.Displays.{key_value_with, HasKeyValueIfAny, IsItem, IsListItem, IsDictParts, IsEntry, is_tuple, own_dict_mark};
 
 use crate::label::{Label, clean, in_error};
 use crate::members::join_types;
@@ -38,7 +38,7 @@ fn expected_members<S: TypeStore>(
 ) -> Result<Vec<S::Ty>, OutOfMemory>
     requires { HasIfAny (S.has store.now) want.now }
     ensures held { IfOk result (λ ts. All (S.has store.now) ts.items) }
-    ensures value { IfOk result (λ ts. map S.tree ts.items ≡ members_of (option_map S.tree want.now)) }
+    ensures value { IfOk result (λ ts. map S.tree ts.items ≡ members_of_expected (option_map S.tree want.now)) }
 {
     match want {
         Some(ty) => store.members(alloc, ty),
@@ -54,7 +54,7 @@ pub(crate) fn tuple_label<S: TypeStore>(
 ) -> Result<Label<S::Ty>, OutOfMemory>
     requires { All (S.has store.old) types.now }
     ensures value { IfOk result (λ l. IsMark S.has S.tree store.new l (display_mark (TupleOf (trees (map S.tree types.now))))) }
-    ensures kept { Keeps S.has store.old store.new }
+    ensures kept { KeepsTypes S.has store.old store.new }
 {
     let made = store.tuple(alloc, types)?;
     match made {
@@ -71,7 +71,7 @@ fn list_of<S: TypeStore>(
 ) -> Result<Label<S::Ty>, OutOfMemory>
     requires { S.has store.old item.now }
     ensures value { IfOk result (λ l. IsMark S.has S.tree store.new l (display_mark (ListOf (S.tree item.now)))) }
-    ensures kept { Keeps S.has store.old store.new }
+    ensures kept { KeepsTypes S.has store.old store.new }
 {
     let made = store.list(alloc, item)?;
     match made {
@@ -92,7 +92,7 @@ pub(crate) fn list_label<S: TypeStore>(
     requires small { IsListItem (option_map S.tree item.now) }
     requires types { All (S.has store.old) types.now }
     ensures value { IfOk result (λ l. IsMark S.has S.tree store.new l (list_mark parents.now (option_map S.tree item.now) (map S.tree types.now))) }
-    ensures kept { Keeps S.has store.old store.new }
+    ensures kept { KeepsTypes S.has store.old store.new }
 {
     if let Some(item) = item {
         return list_of(store, alloc, item);
@@ -116,7 +116,7 @@ fn dict_of<S: TypeStore>(
     requires value { S.has store.old value.now }
     requires suits { IsKey (S.tree key.now) }
     ensures value { IfOk result (λ l. IsMark S.has S.tree store.new l (display_mark (DictOf (S.tree key.now) (S.tree value.now)))) }
-    ensures kept { Keeps S.has store.old store.new }
+    ensures kept { KeepsTypes S.has store.old store.new }
 {
     let made = store.dict(alloc, key, value)?;
     match made {
@@ -137,7 +137,7 @@ fn dict_of_join<S: TypeStore>(
     requires suits { IsKey (S.tree key.now) }
     requires values { All (S.has store.old) values.now }
     ensures value { IfOk result (λ l. IsMark S.has S.tree store.new l (display_mark (DictOf (S.tree key.now) (join_all parents.now (map S.tree values.now))))) }
-    ensures kept { Keeps S.has store.old store.new }
+    ensures kept { KeepsTypes S.has store.old store.new }
 {
     let value = join_types(store, alloc, parents, values)?;
     dict_of(store, alloc, key, &value)
@@ -148,7 +148,7 @@ fn are_static<S: TypeStore>(store: &mut S, parents: &Parents, types: &[S::Ty], i
     requires types { All (S.has store.old) types.now }
     requires into { S.has store.old into.now }
     ensures value { result ≡ list_all (λ t. static_test parents.now t (S.tree into.now)) (map S.tree types.now) }
-    ensures kept { Keeps S.has store.old store.new }
+    ensures kept { KeepsTypes S.has store.old store.new }
 {
     for ty in types {
         if !store.is_static(parents, ty, into) {
@@ -169,7 +169,7 @@ fn own_dict_label<S: TypeStore>(
     requires keys { All (S.has store.old) keys.now }
     requires values { All (S.has store.old) values.now }
     ensures value { IfOk result (λ l. IsMark S.has S.tree store.new l (own_dict_mark parents.now (map S.tree keys.now) (map S.tree values.now))) }
-    ensures kept { Keeps S.has store.old store.new }
+    ensures kept { KeepsTypes S.has store.old store.new }
 {
     if keys.is_empty() {
         return in_error(store, alloc, Code::E22);
@@ -199,7 +199,7 @@ pub(crate) fn dict_label<S: TypeStore>(
     requires keys { All (S.has store.old) keys.now }
     requires values { All (S.has store.old) values.now }
     ensures value { (ctx : Context) (declared : List Tree) → ctx.bases ≡ parents.now → IfOk result (λ l. IsMark S.has S.tree store.new l (dict_mark ctx declared (static_test parents.now) (assignable_test parents.now) (option_map (key_value_with S.tree) parts.now) (map S.tree keys.now) (map S.tree values.now))) }
-    ensures kept { Keeps S.has store.old store.new }
+    ensures kept { KeepsTypes S.has store.old store.new }
 {
     match parts {
         Some(parts) => dict_of(store, alloc, &parts.key, &parts.value),
@@ -214,7 +214,7 @@ pub(crate) fn list_item<S: TypeStore>(
     want: &Option<S::Ty>,
 ) -> Result<Option<S::Ty>, OutOfMemory>
     requires { HasIfAny (S.has store.now) want.now }
-    ensures { IfOk result (λ o. IsItem S.has S.tree store.now o (list_item (members_of (option_map S.tree want.now)))) }
+    ensures { IfOk result (λ o. IsItem S.has S.tree store.now o (list_item (members_of_expected (option_map S.tree want.now)))) }
 {
     let members = expected_members(store, alloc, want)?;
     for i in 0..members.len() {
@@ -234,7 +234,7 @@ pub(crate) fn dict_parts<S: TypeStore>(
     want: &Option<S::Ty>,
 ) -> Result<Option<KeyValue<S::Ty>>, OutOfMemory>
     requires { HasIfAny (S.has store.now) want.now }
-    ensures { IfOk result (λ o. IsEntry S.has S.tree store.now o (dict_parts (members_of (option_map S.tree want.now)))) }
+    ensures { IfOk result (λ o. IsEntry S.has S.tree store.now o (dict_parts (members_of_expected (option_map S.tree want.now)))) }
 {
     let members = expected_members(store, alloc, want)?;
     for i in 0..members.len() {
@@ -270,7 +270,7 @@ pub(crate) fn tuple_parts<S: TypeStore>(
 ) -> Result<Vec<S::Ty>, OutOfMemory>
     requires { HasIfAny (S.has store.now) want.now }
     ensures held { IfOk result (λ ts. All (S.has store.now) ts.items) }
-    ensures value { IfOk result (λ ts. map S.tree ts.items ≡ tuple_parts length (members_of (option_map S.tree want.now))) }
+    ensures value { IfOk result (λ ts. map S.tree ts.items ≡ tuple_parts length (members_of_expected (option_map S.tree want.now))) }
 {
     let members = expected_members(store, alloc, want)?;
     for i in 0..members.len() {

@@ -1,15 +1,15 @@
-// What is expected of the entries of a dict display, and its label.
+//! What is expected of the entries of a dict display, and its label.
 
 ghost use Rattle.std.specs.Prelude.{map, All, IfOk};
 ghost use Rattle.std.specs.Option.{option_map};
 ghost use Rattle.pc_types.specs.Computed.{static_test, assignable_test};
-ghost use Rattle.pc_types.specs.Store.{Keeps};
+ghost use Rattle.pc_types.specs.Store.{KeepsTypes};
 ghost use Rattle.pc_flow.specs.Stored.{declared_of};
-ghost use Rattle.pc_expr.specs.Lawful.{dict_parts, members_of, key_seat, value_seat};
+ghost use Rattle.pc_expr.specs.Lawful.{dict_parts, members_of_expected, key_seat, value_seat};
 ghost use Rattle.pc_expr.specs.Computed.{dict_mark};
 ghost use Rattle.pc_expr.specs.Standing.{context_with, HasIfAny, IsMark};
-ghost use Rattle.pc_expr.specs.Calling.{IsSeat};
-ghost use Rattle.pc_expr.specs.Seated.{AreEntrySeats};
+ghost use Rattle.pc_expr.specs.Internal.JudgedCalls.{IsSeat};
+ghost use Rattle.pc_expr.specs.Internal.Seats.{AreEntrySeats};
 
 use crate::display::{dict_label, dict_parts};
 use crate::items::{nowhere, seat_of_type};
@@ -42,7 +42,7 @@ pub(crate) fn dict_seats<S: TypeStore>(
     want: &Option<S::Ty>,
 ) -> Result<EntrySeats<S::Ty>, OutOfMemory>
     requires { HasIfAny (S.has store.now) want.now }
-    ensures { IfOk result (λ s. AreEntrySeats S.has S.tree store.now s (key_seat (dict_parts (members_of (option_map S.tree want.now)))) (value_seat (dict_parts (members_of (option_map S.tree want.now))))) }
+    ensures { IfOk result (λ s. AreEntrySeats S.has S.tree store.now s (key_seat (dict_parts (members_of_expected (option_map S.tree want.now)))) (value_seat (dict_parts (members_of_expected (option_map S.tree want.now))))) }
 {
     match dict_parts(store, alloc, want)? {
         None => Ok(EntrySeats {
@@ -67,8 +67,8 @@ pub(crate) fn label_dict<S: TypeStore, R: Resolver>(
     requires want { HasIfAny (S.has store.old) want.now }
     requires keys { All (S.has store.old) types.now.keys.items }
     requires values { All (S.has store.old) types.now.values.items }
-    ensures value { IfOk result (λ l. IsMark S.has S.tree store.new l (dict_mark (context_with S.tree R.meaning setting.now) (declared_of S.tree setting.now.declared.now) (static_test setting.now.parents.now) (assignable_test setting.now.parents.now) (dict_parts (members_of (option_map S.tree want.now))) (map S.tree types.now.keys.items) (map S.tree types.now.values.items))) }
-    ensures kept { Keeps S.has store.old store.new }
+    ensures value { IfOk result (λ l. IsMark S.has S.tree store.new l (dict_mark (context_with S.tree R.meaning setting.now) (declared_of S.tree setting.now.declared.now) (static_test setting.now.parents.now) (assignable_test setting.now.parents.now) (dict_parts (members_of_expected (option_map S.tree want.now))) (map S.tree types.now.keys.items) (map S.tree types.now.values.items))) }
+    ensures kept { KeepsTypes S.has store.old store.new }
 {
     let parts = dict_parts(store, alloc, want)?;
     dict_label(

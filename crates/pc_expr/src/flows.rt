@@ -1,8 +1,8 @@
-// Flows of a labelled expression into types.
+//! Flows of a labelled expression into types.
 
 ghost use Rattle.std.specs.Prelude.{◌≡◌, ◌++◌, All, IfOk, OnOk, map, option_to_list};
 ghost use Rattle.pc_types.specs.Computed.{static_test, assignable_test};
-ghost use Rattle.pc_types.specs.Store.{Keeps};
+ghost use Rattle.pc_types.specs.Store.{KeepsTypes};
 ghost use Rattle.pc_notes.specs.Notes.{notes_of};
 ghost use Rattle.pc_expr.specs.Operations.{Mark};
 ghost use Rattle.pc_expr.specs.Context.{is_early};
@@ -28,7 +28,7 @@ fn flow_code<S: TypeStore>(
     requires label { S.has store.old label.now.ty }
     requires into { S.has store.old into.now }
     ensures value { result ≡ code_unless (static_test parents.now) (assignable_test parents.now) (is_early label.now.codes.items) (S.tree label.now.ty) (S.tree into.now) }
-    ensures kept { Keeps S.has store.old store.new }
+    ensures kept { KeepsTypes S.has store.old store.new }
 {
     if is_early(&label.codes) || store.is_static(parents, &label.ty, into) {
         return None;
@@ -77,7 +77,7 @@ pub fn find_flow<S: TypeStore>(
     requires into { S.has store.old into.now }
     ensures value { IfOk result (λ c. c ≡ code_unless (static_test parents.now) (assignable_test parents.now) (is_early label.now.codes.items) (S.tree label.now.ty) (S.tree into.now)) }
     ensures found { IfOk result (λ c. notes_of found.new ≡ notes_of found.old ++ flow_at place (S.tree label.now.ty) (S.tree into.now) c) }
-    ensures kept { Keeps S.has store.old store.new }
+    ensures kept { KeepsTypes S.has store.old store.new }
 {
     let code = flow_code(store, parents, label, into);
     if let Some(code) = code {
@@ -99,7 +99,7 @@ pub fn find_flows<S: TypeStore>(
     requires label { S.has store.old label.now.ty }
     requires into { All (S.has store.old) into.now }
     ensures found { (m : Mark) → mark_with S.tree label.now ≡ brief m → OnOk result (notes_of found.new ≡ notes_of found.old ++ flows_at place (flows_of parents.now m (map S.tree into.now))) }
-    ensures kept { Keeps S.has store.old store.new }
+    ensures kept { KeepsTypes S.has store.old store.new }
 {
     let mut codes = Vec::new(alloc);
     for ty in into {

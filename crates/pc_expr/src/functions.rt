@@ -1,11 +1,11 @@
-// A call of a function or of a class.
+//! A call of a function or of a class.
 
 ghost use Rattle.std.specs.Prelude.{map, All, IfOk, slice_get};
-ghost use Rattle.pc_types.specs.Store.{Keeps};
+ghost use Rattle.pc_types.specs.Store.{KeepsTypes};
 ghost use Rattle.pc_class.specs.Tables.{HasEntries, classes_with};
-ghost use Rattle.pc_expr.specs.Calls.{called, class_signature, function_offer};
+ghost use Rattle.pc_expr.specs.Calls.{signature_offer, class_signature, function_offer};
 ghost use Rattle.pc_expr.specs.Standing.{signature_with, HasSignature};
-ghost use Rattle.pc_expr.specs.Calling.{given_with, IsCallOffer};
+ghost use Rattle.pc_expr.specs.Internal.JudgedCalls.{given_with, IsCallOffer};
 
 use crate::arguments::Given;
 use crate::call_offers::{CallOffer, call_of, fails_at_call};
@@ -27,7 +27,7 @@ pub fn function_offer<'t, S: TypeStore>(
 ) -> Result<CallOffer<'t, S::Ty>, OutOfMemory>
     requires { All (HasSignature (S.has store.old)) functions.now }
     ensures offer { IfOk result (λ o. IsCallOffer S.has S.tree store.new o (function_offer (given_with given.now) (slice_get (map (signature_with S.tree) functions.now) function))) }
-    ensures kept { Keeps S.has store.old store.new }
+    ensures kept { KeepsTypes S.has store.old store.new }
 {
     if function >= functions.len() {
         return fails_at_call(store, alloc, Code::A6);
@@ -48,8 +48,8 @@ pub fn class_offer<'t, S: TypeStore>(
     class: usize,
 ) -> Result<CallOffer<'t, S::Ty>, OutOfMemory>
     requires { HasEntries (S.has store.old) classes.now }
-    ensures offer { IfOk result (λ o. IsCallOffer S.has S.tree store.new o (called (given_with given.now) (class_signature (classes_with S.tree classes.now) class))) }
-    ensures kept { Keeps S.has store.old store.new }
+    ensures offer { IfOk result (λ o. IsCallOffer S.has S.tree store.new o (signature_offer (given_with given.now) (class_signature (classes_with S.tree classes.now) class))) }
+    ensures kept { KeepsTypes S.has store.old store.new }
 {
     let fields = classes.fields(alloc, class)?;
     let params = copies_of_lent(store, alloc, &fields)?;

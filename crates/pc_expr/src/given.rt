@@ -1,9 +1,9 @@
-// What the arguments of a call give, by position and by name.
+//! What the arguments of a call give, by position and by name.
 
 ghost use Rattle.std.specs.Prelude.{◌≡◌, IfOk};
 ghost use Rattle.pc_tree.specs.Lists.{exprs_of_list, keywords_of_list};
-ghost use Rattle.pc_expr.specs.Calls.{given};
-ghost use Rattle.pc_expr.specs.Calling.{given_with};
+ghost use Rattle.pc_expr.specs.Calls.{arguments_given};
+ghost use Rattle.pc_expr.specs.Internal.JudgedCalls.{given_with};
 
 use crate::arguments::Given;
 use indexmap::IndexSet;
@@ -17,7 +17,7 @@ pub fn given<'e>(
     arguments: &'e [Expr],
     by_name: &'e [KeywordArgument],
 ) -> Result<Given<'e>, OutOfMemory>
-    ensures { IfOk result (λ g. given_with g ≡ given (exprs_of_list arguments.now) (keywords_of_list by_name.now)) }
+    ensures { IfOk result (λ g. given_with g ≡ arguments_given (exprs_of_list arguments.now) (keywords_of_list by_name.now)) }
 {
     let mut named = IndexSet::new(alloc);
     for argument in by_name {

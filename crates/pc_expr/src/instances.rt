@@ -1,15 +1,15 @@
-// Calls of `isinstance`: the label of one, and the code at what stands second.
+//! Calls of `isinstance`: the label of one, and the code at what stands second.
 
 ghost use Rattle.std.specs.Prelude.{◌≡◌, ◌∷◌, [], IfOk, if◌then◌else◌};
 ghost use Rattle.pc_tree.specs.declared.code.Code.TheVariants.{A7};
 ghost use Rattle.pc_tree.specs.Lists.{exprs_of_list};
-ghost use Rattle.pc_types.specs.Store.{Keeps};
+ghost use Rattle.pc_types.specs.Store.{KeepsTypes};
 ghost use Rattle.pc_flow.specs.Narrowing.{first_argument, second_argument, local_of_argument, test_of_argument};
 ghost use Rattle.pc_flow.specs.Stored.{HasEach, env_of};
 ghost use Rattle.pc_flow.specs.Tests.{option_tested};
 ghost use Rattle.pc_expr.specs.Calls.{test_codes, test_mark};
 ghost use Rattle.pc_expr.specs.Standing.{context_with, IsMark};
-ghost use Rattle.pc_expr.specs.Calling.{rule_of, second_code_of};
+ghost use Rattle.pc_expr.specs.Internal.JudgedCalls.{rule_of, second_code_of};
 
 use crate::call_offers::CallRule;
 use crate::calling::has_object_or_any;
@@ -76,7 +76,7 @@ pub fn test_label<S: TypeStore, R: Resolver>(
 ) -> Result<Label<S::Ty>, OutOfMemory>
     requires { HasEach (S.has store.old) env.now }
     ensures label { IfOk result (λ l. IsMark S.has S.tree store.new l (test_mark (context_with S.tree R.meaning setting.now) (env_of S.tree env.now) (exprs_of_list arguments.now))) }
-    ensures kept { Keeps S.has store.old store.new }
+    ensures kept { KeepsTypes S.has store.old store.new }
 {
     let mut codes = Vec::new(alloc);
     if is_unsure_test(store, alloc, setting.names, env, arguments)? {

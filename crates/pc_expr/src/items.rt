@@ -1,13 +1,13 @@
-// What is expected of the items of a display, and what each of them flows into.
+//! What is expected of the items of a display, and what each of them flows into.
 
 ghost use Rattle.std.specs.Prelude.{◌≡◌, ◌||◌, ◌&&◌, nat_eq, Some, None, [], map, All, IfOk};
 ghost use Rattle.std.specs.Option.{option_map};
-ghost use Rattle.pc_types.specs.Store.{Keeps};
+ghost use Rattle.pc_types.specs.Store.{KeepsTypes};
 ghost use Rattle.pc_expr.specs.Context.{is_early};
-ghost use Rattle.pc_expr.specs.Lawful.{item_seat, part_seat, list_item, tuple_parts, members_of, list_mark};
+ghost use Rattle.pc_expr.specs.Lawful.{item_seat, part_seat, list_item, tuple_parts, members_of_expected, list_mark};
 ghost use Rattle.pc_expr.specs.Standing.{HasIfAny, IsMark};
-ghost use Rattle.pc_expr.specs.Calling.{IsSeat};
-ghost use Rattle.pc_expr.specs.Seated.{seats_of, HasSeats};
+ghost use Rattle.pc_expr.specs.Internal.JudgedCalls.{IsSeat};
+ghost use Rattle.pc_expr.specs.Internal.Seats.{seats_of, HasSeats};
 
 use crate::display::{list_item, list_label, tuple_parts};
 use crate::label::{Label, is_early};
@@ -124,7 +124,7 @@ pub(crate) fn list_seats<S: TypeStore>(
 ) -> Result<Seats<S::Ty>, OutOfMemory>
     requires { HasIfAny (S.has store.now) want.now }
     ensures held { IfOk result (λ s. HasSeats (S.has store.now) s) }
-    ensures value { IfOk result (λ s. seats_of S.tree s ≡ (λ i. item_seat (list_item (members_of (option_map S.tree want.now))))) }
+    ensures value { IfOk result (λ s. seats_of S.tree s ≡ (λ i. item_seat (list_item (members_of_expected (option_map S.tree want.now))))) }
 {
     let item = list_item(store, alloc, want)?;
     Ok(Seats::Same(item))
@@ -139,7 +139,7 @@ pub(crate) fn tuple_seats<S: TypeStore>(
 ) -> Result<Seats<S::Ty>, OutOfMemory>
     requires { HasIfAny (S.has store.now) want.now }
     ensures held { IfOk result (λ s. HasSeats (S.has store.now) s) }
-    ensures value { IfOk result (λ s. seats_of S.tree s ≡ part_seat (tuple_parts count (members_of (option_map S.tree want.now)))) }
+    ensures value { IfOk result (λ s. seats_of S.tree s ≡ part_seat (tuple_parts count (members_of_expected (option_map S.tree want.now)))) }
 {
     let parts = tuple_parts(store, alloc, count, want)?;
     Ok(Seats::Parts(parts))
@@ -155,8 +155,8 @@ pub(crate) fn label_list<S: TypeStore>(
 ) -> Result<Label<S::Ty>, OutOfMemory>
     requires want { HasIfAny (S.has store.old) want.now }
     requires types { All (S.has store.old) types.now }
-    ensures value { IfOk result (λ l. IsMark S.has S.tree store.new l (list_mark parents.now (list_item (members_of (option_map S.tree want.now))) (map S.tree types.now))) }
-    ensures kept { Keeps S.has store.old store.new }
+    ensures value { IfOk result (λ l. IsMark S.has S.tree store.new l (list_mark parents.now (list_item (members_of_expected (option_map S.tree want.now))) (map S.tree types.now))) }
+    ensures kept { KeepsTypes S.has store.old store.new }
 {
     let item = list_item(store, alloc, want)?;
     list_label(store, alloc, parents, &item, types)

@@ -1,8 +1,8 @@
-// The item of an iterable.
+//! The item of an iterable.
 
 ghost use Rattle.std.specs.Prelude.{map, IfOk};
 ghost use Rattle.pc_types.specs.Shape.{members};
-ghost use Rattle.pc_types.specs.Store.{Keeps};
+ghost use Rattle.pc_types.specs.Store.{KeepsTypes};
 ghost use Rattle.pc_class.specs.Tables.{HasEntries};
 ghost use Rattle.pc_expr.specs.Operations.{offers_mark, iterate_member};
 ghost use Rattle.pc_expr.specs.Standing.{IsMark};
@@ -25,7 +25,7 @@ pub fn item_label<S: TypeStore>(
     requires iterable { S.has store.old iterable.now }
     requires classes { HasEntries (S.has store.old) classes.now }
     ensures label { IfOk result (λ l. IsMark S.has S.tree store.new l (offers_mark parents.now (map (iterate_member parents.now) (members (S.tree iterable.now))))) }
-    ensures kept { Keeps S.has store.old store.new }
+    ensures kept { KeepsTypes S.has store.old store.new }
 {
     let operation = Operation::Iterate;
     let offers = member_offers(store, alloc, parents, classes, operation, iterable)?;

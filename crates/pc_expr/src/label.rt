@@ -1,6 +1,8 @@
+//! The label of a node, and the offers of operations.
+
 ghost use Rattle.std.specs.Prelude.{◌≡◌, ◌++◌, IfOk, OnOk, flat_map, option_to_list};
 ghost use Rattle.pc_types.specs.Tree.{Tree};
-ghost use Rattle.pc_types.specs.Store.{Keeps};
+ghost use Rattle.pc_types.specs.Store.{KeepsTypes};
 ghost use Rattle.pc_notes.specs.Notes.{notes_of};
 ghost use Rattle.pc_expr.specs.Operations.{clean, in_error};
 ghost use Rattle.pc_expr.specs.Context.{is_early};
@@ -47,7 +49,7 @@ pub(crate) fn in_error<S: TypeStore>(
     code: Code,
 ) -> Result<Label<S::Ty>, OutOfMemory>
     ensures value { IfOk result (λ l. IsMark S.has S.tree store.new l (in_error code)) }
-    ensures kept { Keeps S.has store.old store.new }
+    ensures kept { KeepsTypes S.has store.old store.new }
 {
     let ty = store.any(alloc)?;
     let mut codes = Vec::new(alloc);

@@ -1,9 +1,11 @@
+//! The laws on lawful labels of expressions.
+
 ghost use Rattle.std.specs.Prelude.{◌≡◌, Option, List, length};
 ghost use Rattle.pc_types.specs.Tree.{Tree};
 ghost use Rattle.pc_tree.specs.Tree.{Expr};
 ghost use Rattle.pc_flow.specs.Environment.{Env};
 ghost use Rattle.pc_expr.specs.Computed.{LabelsAreLawful};
-ghost use Rattle.pc_expr.specs.Found.{FindingsAreListed};
+ghost use Rattle.pc_expr.specs.Found.{LabelFindingsAreListed};
 ghost use Rattle.pc_expr.specs.Context.{Context};
 ghost use Rattle.pc_expr.specs.Labels.{Marks};
 ghost use Rattle.pc_expr.specs.Lawful.{Lawful};
@@ -39,5 +41,5 @@ pub fn contexts_are_well_formed()
 /// The law that the list of what is found under the labels of an expression has just what stands there and is not found
 /// of scopes.
 pub fn findings_are_listed()
-    ensures { FindingsAreListed }
+    ensures { LabelFindingsAreListed }
 {}

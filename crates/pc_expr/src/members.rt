@@ -1,13 +1,13 @@
-// What each operation comes to on one member of a type, by the member's head.
+//! What each operation comes to on one member of a type, by the member's head.
 #![tactic(auto, using(crate::proofs::ByHead::by_head))]
 
 ghost use Rattle.std.specs.Prelude.{◌≡◌, All, IfOk, map};
-ghost use Rattle.pc_types.specs.Store.{Means, Keeps};
+ghost use Rattle.pc_types.specs.Store.{Means, KeepsTypes};
 ghost use Rattle.pc_types.specs.Tree.{Union, Int, Str, NoneType};
 ghost use Rattle.pc_flow.specs.Environment.{join_all};
 ghost use Rattle.pc_class.specs.Tables.{HasEntries, classes_with};
 ghost use Rattle.pc_expr.specs.Operations.{suits_not, negative_member, attribute_member, index_member, iterate_member, contain_member, length_member};
-ghost use Rattle.pc_expr.specs.Operating.{IsOffer, item_at};
+ghost use Rattle.pc_expr.specs.Internal.JudgedOperations.{IsOffer, item_at};
 
 use crate::label::Offer;
 use pc_class::ClassTable;
@@ -24,7 +24,7 @@ fn with_code<S: TypeStore>(
     code: Code,
 ) -> Result<Offer<S::Ty>, OutOfMemory>
     ensures value { IfOk result (λ o. IsOffer S.has S.tree store.new o (suits_not code)) }
-    ensures kept { Keeps S.has store.old store.new }
+    ensures kept { KeepsTypes S.has store.old store.new }
 {
     let gives = store.any(alloc)?;
     Ok(Offer {
@@ -42,7 +42,7 @@ pub(crate) fn negative_offer<S: TypeStore>(
 ) -> Result<Offer<S::Ty>, OutOfMemory>
     requires { S.has store.old member.now }
     ensures value { IfOk result (λ o. IsOffer S.has S.tree store.new o (negative_member (S.tree member.now))) }
-    ensures kept { Keeps S.has store.old store.new }
+    ensures kept { KeepsTypes S.has store.old store.new }
 {
     match store.head(member) {
         Head::Int | Head::Bool => {
@@ -66,7 +66,7 @@ pub(crate) fn length_offer<S: TypeStore>(
 ) -> Result<Offer<S::Ty>, OutOfMemory>
     requires { S.has store.old member.now }
     ensures value { IfOk result (λ o. IsOffer S.has S.tree store.new o (length_member (S.tree member.now))) }
-    ensures kept { Keeps S.has store.old store.new }
+    ensures kept { KeepsTypes S.has store.old store.new }
 {
     let found = match store.head(member) {
         Head::Str | Head::List | Head::Dict | Head::Tuple(_) => None,
@@ -90,7 +90,7 @@ pub(crate) fn join_types<S: TypeStore>(
 ) -> Result<S::Ty, OutOfMemory>
     requires { All (S.has store.old) types.now }
     ensures value { IfOk result (λ t. Means S.has S.tree store.new t (join_all parents.now (map S.tree types.now))) }
-    ensures kept { Keeps S.has store.old store.new }
+    ensures kept { KeepsTypes S.has store.old store.new }
 {
     let mut joined = store.never(alloc)?;
     for ty in types {
@@ -108,7 +108,7 @@ pub(crate) fn iterate_offer<S: TypeStore>(
 ) -> Result<Offer<S::Ty>, OutOfMemory>
     requires { S.has store.old member.now }
     ensures value { IfOk result (λ o. IsOffer S.has S.tree store.new o (iterate_member parents.now (S.tree member.now))) }
-    ensures kept { Keeps S.has store.old store.new }
+    ensures kept { KeepsTypes S.has store.old store.new }
 {
     let gives = match store.head(member) {
         Head::List | Head::Dict => store.part(alloc, member, 0)?,
@@ -130,7 +130,7 @@ pub(crate) fn iterate_offer<S: TypeStore>(
 /// The union of what is looked for in a dict: `int`, `str` or `None`.
 fn looked_for<S: TypeStore>(store: &mut S, alloc: Global) -> Result<S::Ty, OutOfMemory>
     ensures value { IfOk result (λ t. Means S.has S.tree store.new t (Union Int (Union Str NoneType))) }
-    ensures kept { Keeps S.has store.old store.new }
+    ensures kept { KeepsTypes S.has store.old store.new }
 {
     let mut types = Vec::new(alloc);
     types.push(store.int(alloc)?)?;
@@ -150,7 +150,7 @@ pub(crate) fn contain_offer<S: TypeStore>(
 ) -> Result<Offer<S::Ty>, OutOfMemory>
     requires { S.has store.old member.now }
     ensures value { IfOk result (λ o. IsOffer S.has S.tree store.new o (contain_member (S.tree member.now))) }
-    ensures kept { Keeps S.has store.old store.new }
+    ensures kept { KeepsTypes S.has store.old store.new }
 {
     let mut found = None;
     let takes = match store.head(member) {
@@ -181,7 +181,7 @@ fn tuple_item<S: TypeStore>(
 ) -> Result<S::Ty, OutOfMemory>
     requires { All (S.has store.old) items.now }
     ensures value { IfOk result (λ t. Means S.has S.tree store.new t (item_at parents.now literal (map S.tree items.now))) }
-    ensures kept { Keeps S.has store.old store.new }
+    ensures kept { KeepsTypes S.has store.old store.new }
 {
     if let Some(i) = literal {
         if i < items.len() {
@@ -201,7 +201,7 @@ pub(crate) fn index_offer<S: TypeStore>(
 ) -> Result<Offer<S::Ty>, OutOfMemory>
     requires { S.has store.old member.now }
     ensures value { IfOk result (λ o. IsOffer S.has S.tree store.new o (index_member parents.now literal (S.tree member.now))) }
-    ensures kept { Keeps S.has store.old store.new }
+    ensures kept { KeepsTypes S.has store.old store.new }
 {
     let gives = match store.head(member) {
         Head::List => store.part(alloc, member, 0)?,
@@ -241,7 +241,7 @@ pub(crate) fn attribute_offer<S: TypeStore>(
     requires member { S.has store.old member.now }
     requires classes { HasEntries (S.has store.old) classes.now }
     ensures value { IfOk result (λ o. IsOffer S.has S.tree store.new o (attribute_member (classes_with S.tree classes.now) name.now (S.tree member.now))) }
-    ensures kept { Keeps S.has store.old store.new }
+    ensures kept { KeepsTypes S.has store.old store.new }
 {
     let class = match store.head(member) {
         Head::Class(class) => class,

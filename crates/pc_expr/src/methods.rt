@@ -1,13 +1,13 @@
-// What is called by `e.m`: a method of a class, of a list or of a dict, or the value of a field.
+//! What is called by `e.m`: a method of a class, of a list or of a dict, or the value of a field.
 
 ghost use Rattle.std.specs.Prelude.{◌≡◌, ◌++◌, None, map, All, IfOk, OnOk};
-ghost use Rattle.pc_types.specs.Store.{Keeps};
+ghost use Rattle.pc_types.specs.Store.{KeepsTypes};
 ghost use Rattle.pc_tree.specs.Tree.{name_of};
-ghost use Rattle.pc_class.specs.Facts.{field_of, method_of, class_at};
+ghost use Rattle.pc_class.specs.Facts.{field_by_name, method_by_name, class_facts_at};
 ghost use Rattle.pc_class.specs.Tables.{HasEntries, HasMethod, classes_with, method_with};
-ghost use Rattle.pc_expr.specs.Calls.{Given as GivenOf, called, method_signature, class_offers, list_offers, dict_offers, method_offers, method_callee};
+ghost use Rattle.pc_expr.specs.Calls.{GivenArguments as GivenOf, signature_offer, method_signature, class_offers, list_offers, dict_offers, method_offers, method_callee};
 ghost use Rattle.pc_expr.specs.Standing.{context_with};
-ghost use Rattle.pc_expr.specs.Calling.{given_with, class_in_head, offer_called, HasCallOffer, IsCallOffer, IsOnlyOffer, AreCallOffers, IsCallee, other_offers};
+ghost use Rattle.pc_expr.specs.Internal.JudgedCalls.{given_with, class_in_head, offer_called, HasCallOffer, IsCallOffer, IsOnlyOffer, AreCallOffers, IsCallee, other_offers};
 
 use crate::arguments::Given;
 use crate::call_offers::{
@@ -33,8 +33,8 @@ fn method_offer<'t, S: TypeStore>(
     method: &'t Method<S::Ty>,
 ) -> Result<CallOffer<'t, S::Ty>, OutOfMemory>
     requires { HasMethod (S.has store.old) method.now }
-    ensures offer { IfOk result (λ o. IsCallOffer S.has S.tree store.new o (called (given_with given.now) (method_signature (method_with S.tree method.now)))) }
-    ensures kept { Keeps S.has store.old store.new }
+    ensures offer { IfOk result (λ o. IsCallOffer S.has S.tree store.new o (signature_offer (given_with given.now) (method_signature (method_with S.tree method.now)))) }
+    ensures kept { KeepsTypes S.has store.old store.new }
 {
     let params = copies(store, alloc, &method.params)?;
     let returns = store.copy(alloc, &method.ret)?;
@@ -53,8 +53,8 @@ fn push_field_offers<'t, S: TypeStore>(
 ) -> Result<(), OutOfMemory>
     requires classes { HasEntries (S.has store.old) classes.now }
     requires offers { All (HasCallOffer (S.has store.old)) offers.old.items }
-    ensures offers { (g : GivenOf) → OnOk result (AreCallOffers S.has S.tree store.new offers.new.items (map (offer_called S.tree) offers.old.items ++ class_offers g None (field_of (class_at (classes_with S.tree classes.now) class).fields word.now))) }
-    ensures kept { Keeps S.has store.old store.new }
+    ensures offers { (g : GivenOf) → OnOk result (AreCallOffers S.has S.tree store.new offers.new.items (map (offer_called S.tree) offers.old.items ++ class_offers g None (field_by_name (class_facts_at (classes_with S.tree classes.now) class).fields word.now))) }
+    ensures kept { KeepsTypes S.has store.old store.new }
 {
     match classes.field(class, word) {
         Some(field) => {
@@ -81,8 +81,8 @@ fn push_class_offers<'t, S: TypeStore>(
 ) -> Result<(), OutOfMemory>
     requires classes { HasEntries (S.has store.old) classes.now }
     requires offers { All (HasCallOffer (S.has store.old)) offers.old.items }
-    ensures offers { OnOk result (AreCallOffers S.has S.tree store.new offers.new.items (map (offer_called S.tree) offers.old.items ++ class_offers (given_with given.now) (method_of (class_at (classes_with S.tree classes.now) class).methods word.now) (field_of (class_at (classes_with S.tree classes.now) class).fields word.now))) }
-    ensures kept { Keeps S.has store.old store.new }
+    ensures offers { OnOk result (AreCallOffers S.has S.tree store.new offers.new.items (map (offer_called S.tree) offers.old.items ++ class_offers (given_with given.now) (method_by_name (class_facts_at (classes_with S.tree classes.now) class).methods word.now) (field_by_name (class_facts_at (classes_with S.tree classes.now) class).fields word.now))) }
+    ensures kept { KeepsTypes S.has store.old store.new }
 {
     match classes.method(class, word) {
         Some(method) => {
@@ -107,7 +107,7 @@ fn list_offer<'t, S: TypeStore>(
 ) -> Result<CallOffer<'t, S::Ty>, OutOfMemory>
     requires { S.has store.old item }
     ensures offer { IfOk result (λ o. IsOnlyOffer S.has S.tree store.new o (list_offers (given_with given.now) word.now (S.tree item))) }
-    ensures kept { Keeps S.has store.old store.new }
+    ensures kept { KeepsTypes S.has store.old store.new }
 {
     let mut types = Vec::new(alloc);
     if word == "append" {
@@ -134,7 +134,7 @@ fn dict_offer<'t, S: TypeStore>(
     requires key { S.has store.old key }
     requires value { S.has store.old value }
     ensures offer { IfOk result (λ o. IsOnlyOffer S.has S.tree store.new o (dict_offers parents.now (given_with given.now) word.now (S.tree key) (S.tree value))) }
-    ensures kept { Keeps S.has store.old store.new }
+    ensures kept { KeepsTypes S.has store.old store.new }
 {
     if word != "get" {
         return fails_at_callee(store, alloc, Code::E15);
@@ -157,7 +157,7 @@ fn other_offer<'t, S: TypeStore>(
 ) -> Result<CallOffer<'t, S::Ty>, OutOfMemory>
     requires member { S.has store.old member.now }
     ensures offer { IfOk result (λ o. IsOnlyOffer S.has S.tree store.new o (other_offers parents.now (given_with given.now) word.now (S.tree member.now))) }
-    ensures kept { Keeps S.has store.old store.new }
+    ensures kept { KeepsTypes S.has store.old store.new }
 {
     match store.head(member) {
         Head::List => {
@@ -198,7 +198,7 @@ pub fn push_method_offers<'t, S: TypeStore, R: Resolver>(
     requires member { S.has store.old member.now }
     requires offers { All (HasCallOffer (S.has store.old)) offers.old.items }
     ensures offers { OnOk result (AreCallOffers S.has S.tree store.new offers.new.items (map (offer_called S.tree) offers.old.items ++ method_offers (context_with S.tree R.meaning setting.now) (given_with given.now) word.now (S.tree member.now))) }
-    ensures kept { Keeps S.has store.old store.new }
+    ensures kept { KeepsTypes S.has store.old store.new }
 {
     match class_of(store.head(member)) {
         Some(class) => {
@@ -225,7 +225,7 @@ pub fn callee_of_method<'t, S: TypeStore, R: Resolver>(
     requires classes { HasEntries (S.has store.old) setting.now.classes.now }
     requires object { S.has store.old object.now }
     ensures callee { IfOk result (λ c. IsCallee S.has S.tree store.new c (method_callee (context_with S.tree R.meaning setting.now) (given_with given.now) (name_of field.now).text (S.tree object.now))) }
-    ensures kept { Keeps S.has store.old store.new }
+    ensures kept { KeepsTypes S.has store.old store.new }
 {
     let members = store.members(alloc, object)?;
     let word = field.text.as_str();

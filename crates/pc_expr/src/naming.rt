@@ -1,12 +1,12 @@
-// Names as values.
+//! Names as values.
 #![tactic(auto, using(crate::proofs::NamesRead::by_name))]
 
 ghost use Rattle.std.specs.Prelude.{All, IfOk, map, slice_get, string_bytes};
-ghost use Rattle.pc_types.specs.Store.{Keeps};
+ghost use Rattle.pc_types.specs.Store.{KeepsTypes};
 ghost use Rattle.pc_flow.specs.Environment.{current};
 ghost use Rattle.pc_flow.specs.Stored.{HasEach, env_of};
 ghost use Rattle.pc_expr.specs.Context.{local_mark, constant_mark, name_mark};
-ghost use Rattle.pc_expr.specs.Standing.{context_with, Stands, IsMark};
+ghost use Rattle.pc_expr.specs.Standing.{context_with, HasGivenAll, IsMark};
 
 use crate::label::{Label, clean, in_error};
 use crate::setting::Setting;
@@ -26,7 +26,7 @@ fn local_label<S: TypeStore>(
 ) -> Result<Label<S::Ty>, OutOfMemory>
     requires { HasEach (S.has store.old) env.now }
     ensures value { IfOk result (λ l. IsMark S.has S.tree store.new l (local_mark (current (env_of S.tree env.now) local))) }
-    ensures kept { Keeps S.has store.old store.new }
+    ensures kept { KeepsTypes S.has store.old store.new }
 {
     match env.current(local) {
         Some(ty) => Ok(clean(alloc, store.copy(alloc, ty)?)),
@@ -43,7 +43,7 @@ fn constant_label<S: TypeStore>(
 ) -> Result<Label<S::Ty>, OutOfMemory>
     requires { All (S.has store.old) constants.now }
     ensures value { IfOk result (λ l. IsMark S.has S.tree store.new l (constant_mark (slice_get (map S.tree constants.now) number))) }
-    ensures kept { Keeps S.has store.old store.new }
+    ensures kept { KeepsTypes S.has store.old store.new }
 {
     match constants.get(number) {
         Some(ty) => Ok(clean(alloc, store.copy(alloc, ty)?)),
@@ -60,9 +60,9 @@ pub(crate) fn name_label<S: TypeStore, R: Resolver>(
     env: &Env<S::Ty>,
     name: &Name,
 ) -> Result<Label<S::Ty>, OutOfMemory>
-    requires { Stands (S.has store.old) S.tree setting.now env.now }
+    requires { HasGivenAll (S.has store.old) S.tree setting.now env.now }
     ensures value { IfOk result (λ l. IsMark S.has S.tree store.new l (name_mark (context_with S.tree R.meaning setting.now) (env_of S.tree env.now) (R.meaning setting.now.names.now (string_bytes name.now.text)))) }
-    ensures kept { Keeps S.has store.old store.new }
+    ensures kept { KeepsTypes S.has store.old store.new }
 {
     match setting.names.resolve(name.text.as_str()) {
         Res::Local(local) => local_label(store, alloc, env, local),

@@ -1,12 +1,12 @@
-// A name as what is called.
+//! A name as what is called.
 
 ghost use Rattle.std.specs.Prelude.{IfOk};
 ghost use Rattle.pc_tree.specs.Tree.{name_of};
-ghost use Rattle.pc_types.specs.Store.{Keeps};
+ghost use Rattle.pc_types.specs.Store.{KeepsTypes};
 ghost use Rattle.pc_flow.specs.Stored.{env_of};
 ghost use Rattle.pc_expr.specs.Calls.{name_callee};
-ghost use Rattle.pc_expr.specs.Standing.{context_with, Stands};
-ghost use Rattle.pc_expr.specs.Calling.{given_with, IsCallee};
+ghost use Rattle.pc_expr.specs.Standing.{context_with, HasGivenAll};
+ghost use Rattle.pc_expr.specs.Internal.JudgedCalls.{given_with, IsCallee};
 
 use crate::arguments::Given;
 use crate::callee::{Callee, callee_in_error, callee_of_builtin, callee_of_value, good_callee};
@@ -29,9 +29,9 @@ pub fn callee_of_name<'t, S: TypeStore, R: Resolver>(
     given: &Given,
     name: &Name,
 ) -> Result<Callee<'t, S::Ty>, OutOfMemory>
-    requires { Stands (S.has store.old) S.tree setting.now env.now }
+    requires { HasGivenAll (S.has store.old) S.tree setting.now env.now }
     ensures callee { IfOk result (λ c. IsCallee S.has S.tree store.new c (name_callee (context_with S.tree R.meaning setting.now) (env_of S.tree env.now) (given_with given.now) (R.meaning setting.now.names.now (name_of name.now).text))) }
-    ensures kept { Keeps S.has store.old store.new }
+    ensures kept { KeepsTypes S.has store.old store.new }
 {
     match setting.names.resolve(name.text.as_str()) {
         Res::Func(function) => {

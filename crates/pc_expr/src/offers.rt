@@ -1,15 +1,17 @@
+//! Operations on values whose types may be unions.
+
 ghost use Rattle.std.specs.Prelude.{◌≡◌, ◌≤◌, ◌++◌, All, IfOk, OnOk, map, option_to_list, MatchOption};
 ghost use Rattle.std.specs.Option.{option_map};
 ghost use Rattle.pc_tree.specs.Tree.{expr_of};
 ghost use Rattle.pc_types.specs.Tree.{Tree};
 ghost use Rattle.pc_types.specs.Below.{Bases};
-ghost use Rattle.pc_types.specs.Shape.{members, nodes, limit};
-ghost use Rattle.pc_types.specs.Store.{Means, Keeps};
+ghost use Rattle.pc_types.specs.Shape.{members, nodes, node_limit};
+ghost use Rattle.pc_types.specs.Store.{Means, KeepsTypes};
 ghost use Rattle.pc_class.specs.Tables.{HasEntries, classes_with};
 ghost use Rattle.pc_expr.specs.Operations.{has_error, found_of, offers_mark, operand_types, index_member};
 ghost use Rattle.pc_expr.specs.Lawful.{number_behind, int_literal};
 ghost use Rattle.pc_expr.specs.Standing.{HasIfAny, HasOffer, offer_with, IsMark};
-ghost use Rattle.pc_expr.specs.Operating.{IsOffer, offer_on};
+ghost use Rattle.pc_expr.specs.Internal.JudgedOperations.{IsOffer, offer_on};
 
 use crate::label::{Label, Offer, add_found};
 use crate::members::{
@@ -51,7 +53,7 @@ fn offer_on<S: TypeStore>(
     requires member { S.has store.old member.now }
     requires classes { HasEntries (S.has store.old) classes.now }
     ensures value { IfOk result (λ o. IsOffer S.has S.tree store.new o (offer_on parents.now (classes_with S.tree classes.now) operation.entry (S.tree member.now))) }
-    ensures kept { Keeps S.has store.old store.new }
+    ensures kept { KeepsTypes S.has store.old store.new }
 {
     match operation {
         Operation::Negative => negative_offer(store, alloc, member),
@@ -76,7 +78,7 @@ pub fn member_offers<S: TypeStore>(
     requires classes { HasEntries (S.has store.old) classes.now }
     ensures held { IfOk result (λ os. All (HasOffer (S.has store.new)) os.items) }
     ensures value { IfOk result (λ os. map (offer_with S.tree) os.items ≡ map (offer_on parents.now (classes_with S.tree classes.now) operation.entry) (members (S.tree ty.now))) }
-    ensures kept { Keeps S.has store.old store.new }
+    ensures kept { KeepsTypes S.has store.old store.new }
 {
     let members = store.members(alloc, ty)?;
     let mut offers = Vec::new(alloc);
@@ -104,7 +106,7 @@ pub fn offers_label<S: TypeStore>(
 ) -> Result<Label<S::Ty>, OutOfMemory>
     requires { All (HasOffer (S.has store.old)) offers.now }
     ensures value { IfOk result (λ l. IsMark S.has S.tree store.new l (offers_mark parents.now (map (offer_with S.tree) offers.now))) }
-    ensures kept { Keeps S.has store.old store.new }
+    ensures kept { KeepsTypes S.has store.old store.new }
 {
     let mut codes = Vec::new(alloc);
     let mut ty = store.never(alloc)?;
@@ -181,7 +183,7 @@ pub fn operand_types<S: TypeStore>(
 
 /// The number that digits stand for, where it is below 256; digits may be many, and are read no further than that.
 fn small_number(digits: &str) -> Option<usize>
-    ensures { MatchOption result (limit ≤ number_behind 0 digits.now) (λ n. n ≡ number_behind 0 digits.now) }
+    ensures { MatchOption result (node_limit ≤ number_behind 0 digits.now) (λ n. n ≡ number_behind 0 digits.now) }
 {
     let bytes = digits.as_bytes();
     let mut number = 0;
@@ -196,7 +198,7 @@ fn small_number(digits: &str) -> Option<usize>
 
 /// The number of an int literal as an index, where it may be one of a tuple's: a type has at most 256 nodes.
 pub(crate) fn literal_index(e: &Expr) -> Option<usize>
-    ensures { (bases : Bases) (t : Tree) → nodes t ≤ limit → index_member bases result t ≡ index_member bases (int_literal (expr_of e.now)) t }
+    ensures { (bases : Bases) (t : Tree) → nodes t ≤ node_limit → index_member bases result t ≡ index_member bases (int_literal (expr_of e.now)) t }
 {
     match e {
         Expr::Int(_, digits) => small_number(digits.as_str()),

@@ -1,11 +1,11 @@
-// Labels of the forms of expressions over the labels of their operands.
+//! Labels of the forms of expressions over the labels of their operands.
 
 ghost use Rattle.std.specs.Prelude.{◌≡◌, ◌++◌, map, All, IfOk, OnOk};
 ghost use Rattle.pc_tree.specs.Tree.{name_of, expr_of};
 ghost use Rattle.pc_tree.specs.Depth.{place_of};
 ghost use Rattle.pc_types.specs.Tree.{Int, Bool, Str, NoneType};
 ghost use Rattle.pc_types.specs.Shape.{members};
-ghost use Rattle.pc_types.specs.Store.{Keeps};
+ghost use Rattle.pc_types.specs.Store.{KeepsTypes};
 ghost use Rattle.pc_class.specs.Tables.{classes_with, HasEntries};
 ghost use Rattle.pc_flow.specs.Environment.{join_or_object};
 ghost use Rattle.pc_flow.specs.Narrowing.{narrow};
@@ -15,7 +15,7 @@ ghost use Rattle.pc_expr.specs.Operations.{Mark, clean, offers_mark, operand_typ
 ghost use Rattle.pc_expr.specs.Lawful.{int_literal};
 ghost use Rattle.pc_expr.specs.Computed.{flows_of};
 ghost use Rattle.pc_expr.specs.Found.{brief, flows_at};
-ghost use Rattle.pc_expr.specs.Standing.{mark_with, Stands, IsMark};
+ghost use Rattle.pc_expr.specs.Standing.{mark_with, HasGivenAll, IsMark};
 
 use crate::flows::find_flows;
 use crate::label::Label;
@@ -34,7 +34,7 @@ pub(crate) fn label_int<S: TypeStore>(
     alloc: Global,
 ) -> Result<Label<S::Ty>, OutOfMemory>
     ensures value { IfOk result (λ l. IsMark S.has S.tree store.new l (clean Int)) }
-    ensures kept { Keeps S.has store.old store.new }
+    ensures kept { KeepsTypes S.has store.old store.new }
 {
     let ty = store.int(alloc)?;
     let codes = Vec::new(alloc);
@@ -47,7 +47,7 @@ pub(crate) fn label_str<S: TypeStore>(
     alloc: Global,
 ) -> Result<Label<S::Ty>, OutOfMemory>
     ensures value { IfOk result (λ l. IsMark S.has S.tree store.new l (clean Str)) }
-    ensures kept { Keeps S.has store.old store.new }
+    ensures kept { KeepsTypes S.has store.old store.new }
 {
     let ty = store.str(alloc)?;
     let codes = Vec::new(alloc);
@@ -60,7 +60,7 @@ pub(crate) fn label_bool<S: TypeStore>(
     alloc: Global,
 ) -> Result<Label<S::Ty>, OutOfMemory>
     ensures value { IfOk result (λ l. IsMark S.has S.tree store.new l (clean Bool)) }
-    ensures kept { Keeps S.has store.old store.new }
+    ensures kept { KeepsTypes S.has store.old store.new }
 {
     let ty = store.bool(alloc)?;
     let codes = Vec::new(alloc);
@@ -73,7 +73,7 @@ pub(crate) fn label_none<S: TypeStore>(
     alloc: Global,
 ) -> Result<Label<S::Ty>, OutOfMemory>
     ensures value { IfOk result (λ l. IsMark S.has S.tree store.new l (clean NoneType)) }
-    ensures kept { Keeps S.has store.old store.new }
+    ensures kept { KeepsTypes S.has store.old store.new }
 {
     let ty = store.none(alloc)?;
     let codes = Vec::new(alloc);
@@ -90,7 +90,7 @@ pub(crate) fn label_negative<S: TypeStore, R: Resolver>(
     requires operand { S.has store.old operand.now }
     requires classes { HasEntries (S.has store.old) setting.now.classes.now }
     ensures value { IfOk result (λ l. IsMark S.has S.tree store.new l (offers_mark setting.now.parents.now (map negative_member (members (S.tree operand.now))))) }
-    ensures kept { Keeps S.has store.old store.new }
+    ensures kept { KeepsTypes S.has store.old store.new }
 {
     let parents = setting.parents;
     let offers = member_offers(
@@ -115,7 +115,7 @@ pub(crate) fn label_attribute<S: TypeStore, R: Resolver>(
     requires object { S.has store.old object.now }
     requires classes { HasEntries (S.has store.old) setting.now.classes.now }
     ensures value { IfOk result (λ l. IsMark S.has S.tree store.new l (offers_mark setting.now.parents.now (map (attribute_member (classes_with S.tree setting.now.classes.now) (name_of field.now).text) (members (S.tree object.now))))) }
-    ensures kept { Keeps S.has store.old store.new }
+    ensures kept { KeepsTypes S.has store.old store.new }
 {
     let parents = setting.parents;
     let attribute = Operation::Attribute(field.text.as_str());
@@ -139,7 +139,7 @@ pub(crate) fn label_index<S: TypeStore, R: Resolver>(
     requires classes { HasEntries (S.has store.old) setting.now.classes.now }
     ensures value { IfOk result (λ l. IsMark S.has S.tree store.new l (offers_mark setting.now.parents.now (map (index_member setting.now.parents.now (int_literal (expr_of key.now))) (members (S.tree object.now))))) }
     ensures pushed { (m : Mark) → mark_with S.tree label.now ≡ brief m → OnOk result (notes_of found.new ≡ notes_of found.old ++ flows_at (place_of (expr_of key.now)) (flows_of setting.now.parents.now m (operand_types (map (index_member setting.now.parents.now (int_literal (expr_of key.now))) (members (S.tree object.now)))))) }
-    ensures kept { Keeps S.has store.old store.new }
+    ensures kept { KeepsTypes S.has store.old store.new }
 {
     let parents = setting.parents;
     let index = Operation::Index(literal_index(key));
@@ -160,7 +160,7 @@ pub(crate) fn label_junction<S: TypeStore>(
     requires left { S.has store.old left.now }
     requires right { S.has store.old right.now }
     ensures value { IfOk result (λ l. IsMark S.has S.tree store.new l (clean (join_or_object parents.now (S.tree left.now) (S.tree right.now)))) }
-    ensures kept { Keeps S.has store.old store.new }
+    ensures kept { KeepsTypes S.has store.old store.new }
 {
     let ty = join_or_object(store, alloc, parents, left, right)?;
     let codes = Vec::new(alloc);
@@ -176,10 +176,10 @@ pub(crate) fn env_where<S: TypeStore, R: Resolver>(
     holds: bool,
     condition: &Expr,
 ) -> Result<Env<S::Ty>, OutOfMemory>
-    requires { Stands (S.has store.old) S.tree setting.now env.now }
-    ensures given { IfOk result (λ e. Stands (S.has store.new) S.tree setting.now e) }
+    requires { HasGivenAll (S.has store.old) S.tree setting.now env.now }
+    ensures given { IfOk result (λ e. HasGivenAll (S.has store.new) S.tree setting.now e) }
     ensures value { IfOk result (λ e. env_of S.tree e ≡ narrow setting.now.parents.now (declared_of S.tree setting.now.declared.now) (R.meaning setting.now.names.now) holds (expr_of condition.now) (env_of S.tree env.now)) }
-    ensures kept { Keeps S.has store.old store.new }
+    ensures kept { KeepsTypes S.has store.old store.new }
 {
     let parents = setting.parents;
     let declared = setting.declared;
@@ -213,6 +213,6 @@ pub(crate) fn still_stands<S: TypeStore, R: Resolver>(
     _setting: &Setting<'_, S::Ty, R>,
     _env: &Env<S::Ty>,
 )
-    requires { Stands (S.has _store.now) S.tree _setting.now _env.now }
-    ensures { Stands (S.has _store.now) S.tree _setting.now _env.now }
+    requires { HasGivenAll (S.has _store.now) S.tree _setting.now _env.now }
+    ensures { HasGivenAll (S.has _store.now) S.tree _setting.now _env.now }
 {}

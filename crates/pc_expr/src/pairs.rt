@@ -1,4 +1,4 @@
-// Operators and comparisons on two operands, by what all members of their types have in common.
+//! Operators and comparisons on two operands, by what all members of their types have in common.
 #![tactic(auto, using(crate::proofs::Operators::by_operator))]
 
 ghost use Rattle.std.specs.Prelude.{◌≡◌, ◌&&◌, ◌||◌, false, All, IfOk, map};
@@ -7,10 +7,10 @@ ghost use Rattle.std.specs.Option.{option_map};
 ghost use Rattle.pc_types.specs.Tree.{Bool};
 ghost use Rattle.pc_types.specs.Below.{Bases};
 ghost use Rattle.pc_types.specs.Shape.{members};
-ghost use Rattle.pc_types.specs.Store.{Means, Keeps};
+ghost use Rattle.pc_types.specs.Store.{Means, KeepsTypes};
 ghost use Rattle.pc_expr.specs.Operations.{kind_of, has_side, is_never, is_any, is_dynamic, pair_offers, offers_mark, clean, binary_mark, order_mark};
 ghost use Rattle.pc_expr.specs.Lawful.{contain_offers, compare_mark, compare_types};
-ghost use Rattle.pc_expr.specs.Pairing.{kind_with, meet, common, takes_of, gives_of, dynamic_of, operator_mark, dynamic_mark, kind_mark};
+ghost use Rattle.pc_expr.specs.Internal.OperandPairs.{kind_with, meet, common, takes_of, gives_of, dynamic_of, operator_mark, dynamic_mark, kind_mark};
 ghost use Rattle.pc_expr.specs.Standing.{HasOffer, offer_with, IsMark};
 
 use crate::label::{Label, Offer, clean, in_error};
@@ -91,7 +91,7 @@ fn given_type<S: TypeStore>(
     kind: Kind,
 ) -> Result<S::Ty, OutOfMemory>
     ensures value { IfOk result (λ t. Means S.has S.tree store.new t (gives_of operator (kind_with kind))) }
-    ensures kept { Keeps S.has store.old store.new }
+    ensures kept { KeepsTypes S.has store.old store.new }
 {
     match (operator, kind) {
         (Operator::Order, _) => store.bool(alloc),
@@ -107,7 +107,7 @@ fn dynamic_type<S: TypeStore>(
     operator: Operator,
 ) -> Result<S::Ty, OutOfMemory>
     ensures value { IfOk result (λ t. Means S.has S.tree store.new t (dynamic_of operator)) }
-    ensures kept { Keeps S.has store.old store.new }
+    ensures kept { KeepsTypes S.has store.old store.new }
 {
     match operator {
         Operator::Order => store.bool(alloc),
@@ -166,7 +166,7 @@ fn kind_label<S: TypeStore>(
     common: Option<Kind>,
 ) -> Result<Label<S::Ty>, OutOfMemory>
     ensures value { IfOk result (λ l. IsMark S.has S.tree store.new l (kind_mark (takes_of operator) (gives_of operator) (option_map kind_with common))) }
-    ensures kept { Keeps S.has store.old store.new }
+    ensures kept { KeepsTypes S.has store.old store.new }
 {
     let Some(kind) = common else {
         return in_error(store, alloc, Code::E13);
@@ -185,7 +185,7 @@ fn dynamic_label<S: TypeStore>(
     operator: Operator,
 ) -> Result<Label<S::Ty>, OutOfMemory>
     ensures value { IfOk result (λ l. IsMark S.has S.tree store.new l (dynamic_mark operator)) }
-    ensures kept { Keeps S.has store.old store.new }
+    ensures kept { KeepsTypes S.has store.old store.new }
 {
     let ty = dynamic_type(store, alloc, operator)?;
     let mut codes = Vec::new(alloc);
@@ -242,7 +242,7 @@ fn pairs_label<S: TypeStore>(
     requires right { S.has store.old t.now }
     requires members { (is_never (S.tree s.now) || is_never (S.tree t.now)) ≡ false }
     ensures value { (bases : Bases) → IfOk result (λ l. IsMark S.has S.tree store.new l (offers_mark bases (pair_offers (takes_of operator) (gives_of operator) (members (S.tree s.now)) (members (S.tree t.now))))) }
-    ensures kept { Keeps S.has store.old store.new }
+    ensures kept { KeepsTypes S.has store.old store.new }
 {
     let lefts = store.members(alloc, s)?;
     let rights = store.members(alloc, t)?;
@@ -261,7 +261,7 @@ fn operator_label<S: TypeStore>(
     requires left { S.has store.old s.now }
     requires right { S.has store.old t.now }
     ensures value { (bases : Bases) → IfOk result (λ l. IsMark S.has S.tree store.new l (operator_mark bases operator (S.tree s.now) (S.tree t.now))) }
-    ensures kept { Keeps S.has store.old store.new }
+    ensures kept { KeepsTypes S.has store.old store.new }
 {
     if is_never(store, s) || is_never(store, t) {
         let ty = store.never(alloc)?;
@@ -289,7 +289,7 @@ pub(crate) fn binary_label<S: TypeStore>(
     requires left { S.has store.old s.now }
     requires right { S.has store.old t.now }
     ensures value { IfOk result (λ l. IsMark S.has S.tree store.new l (binary_mark parents.now operator (S.tree s.now) (S.tree t.now))) }
-    ensures kept { Keeps S.has store.old store.new }
+    ensures kept { KeepsTypes S.has store.old store.new }
 {
     operator_label(store, alloc, Operator::Arithmetic(operator), s, t)
 }
@@ -303,7 +303,7 @@ fn contain_offers<S: TypeStore>(
     requires { S.has store.old ty.now }
     ensures held { IfOk result (λ os. All (HasOffer (S.has store.new)) os.items) }
     ensures value { IfOk result (λ os. map (offer_with S.tree) os.items ≡ contain_offers (S.tree ty.now)) }
-    ensures kept { Keeps S.has store.old store.new }
+    ensures kept { KeepsTypes S.has store.old store.new }
 {
     let members = store.members(alloc, ty)?;
     let mut offers = Vec::new(alloc);
@@ -325,7 +325,7 @@ fn order_label<S: TypeStore>(
     requires left { S.has store.old s.now }
     requires right { S.has store.old t.now }
     ensures value { IfOk result (λ l. IsMark S.has S.tree store.new l (order_mark parents.now (S.tree s.now) (S.tree t.now))) }
-    ensures kept { Keeps S.has store.old store.new }
+    ensures kept { KeepsTypes S.has store.old store.new }
 {
     operator_label(store, alloc, Operator::Order, s, t)
 }
@@ -333,7 +333,7 @@ fn order_label<S: TypeStore>(
 /// The label of a truth value at which nothing is found.
 fn truth_label<S: TypeStore>(store: &mut S, alloc: Global) -> Result<Label<S::Ty>, OutOfMemory>
     ensures value { IfOk result (λ l. IsMark S.has S.tree store.new l (clean Bool)) }
-    ensures kept { Keeps S.has store.old store.new }
+    ensures kept { KeepsTypes S.has store.old store.new }
 {
     let ty = store.bool(alloc)?;
     Ok(clean(alloc, ty))
@@ -352,7 +352,7 @@ pub(crate) fn compare_label<S: TypeStore>(
     requires left { S.has store.old s.now }
     requires right { S.has store.old t.now }
     ensures value { IfOk result (λ l. IsMark S.has S.tree store.new l (compare_mark parents.now operator (S.tree s.now) (S.tree t.now))) }
-    ensures kept { Keeps S.has store.old store.new }
+    ensures kept { KeepsTypes S.has store.old store.new }
 {
     match operator {
         ComparisonOperator::Equal | ComparisonOperator::NotEqual => truth_label(store, alloc),
@@ -377,7 +377,7 @@ pub(crate) fn compare_types<S: TypeStore>(
     requires { S.has store.old t.now }
     ensures held { IfOk result (λ ts. All (S.has store.new) ts.items) }
     ensures value { IfOk result (λ ts. map S.tree ts.items ≡ compare_types operator (S.tree t.now)) }
-    ensures kept { Keeps S.has store.old store.new }
+    ensures kept { KeepsTypes S.has store.old store.new }
 {
     match operator {
         ComparisonOperator::In | ComparisonOperator::NotIn => {

@@ -1,12 +1,12 @@
-// The parameters of what is called, and which calls suit them.
+//! The parameters of what is called, and which calls suit them.
 
 ghost use Rattle.std.specs.Prelude.{◌≡◌, ◌&&◌, All, List, map, take, drop, length, IfOk};
 ghost use Rattle.std.specs.List.{list_all};
-ghost use Rattle.pc_scope.specs.Resolution.{is_among, index_of};
+ghost use Rattle.pc_scope.specs.Resolution.{is_one_of, index_of};
 ghost use Rattle.pc_types.specs.Tree.{Tree};
 ghost use Rattle.pc_class.specs.Tables.{HasParameter, parameter_with, parameter_lent, parameters_with};
 ghost use Rattle.pc_expr.specs.Calls.{is_suited, is_free, builtin_signature};
-ghost use Rattle.pc_expr.specs.Calling.{HasLent, HasParam, names_in, given_with, param_called, names_called, filled_called, is_place, AreNumbers, AreNumbered, params_called};
+ghost use Rattle.pc_expr.specs.Internal.JudgedCalls.{HasLent, HasParam, names_in, given_with, param_called, names_called, filled_called, is_place, AreNumbers, AreNumbered, params_called};
 
 use crate::arguments::{Given, is_among};
 use indexmap::IndexMap;
@@ -149,7 +149,7 @@ impl<'t, Ty: Drop> Params<'t, Ty> {
 /// Whether an argument by name is for the parameter of this number, the first of its name.
 fn takes_name<Ty: Drop>(given: &Given, params: &Params<'_, Ty>, i: usize, name: &str) -> bool
     requires { AreNumbered params.now }
-    ensures { result ≡ (is_among name.now (names_in given.now.named) && is_place (index_of name.now (names_called params.now.all.items)) i) }
+    ensures { result ≡ (is_one_of name.now (names_in given.now.named) && is_place (index_of name.now (names_called params.now.all.items)) i) }
 {
     if !is_among(&given.named, name) {
         return false;

@@ -1,12 +1,12 @@
-// What is found in a call of `range` as what a `for` goes over.
+//! What is found in a call of `range` as what a `for` goes over.
 
 ghost use Rattle.std.specs.Prelude.{◌≡◌, ◌++◌, IfOk, OnOk};
 ghost use Rattle.pc_tree.specs.Tree.{expr_of};
 ghost use Rattle.pc_tree.specs.Lists.{exprs_of_list, keywords_of_list};
-ghost use Rattle.pc_types.specs.Store.{Keeps};
+ghost use Rattle.pc_types.specs.Store.{KeepsTypes};
 ghost use Rattle.pc_notes.specs.Notes.{notes_of};
-ghost use Rattle.pc_expr.specs.Calls.{given, range_item};
-ghost use Rattle.pc_expr.specs.Standing.{standing, Stands, IsMark};
+ghost use Rattle.pc_expr.specs.Calls.{arguments_given, range_item};
+ghost use Rattle.pc_expr.specs.Standing.{standing_of, HasGivenAll, IsMark};
 ghost use Rattle.pc_expr.specs.Typing.{range_finds};
 
 use crate::calling::call_codes;
@@ -36,9 +36,9 @@ fn find_range<S: TypeStore, R: Resolver>(
     by_name: &[KeywordArgument],
     found: &mut Notes,
 ) -> Result<(), OutOfMemory>
-    requires { Stands (S.has store.old) S.tree setting.now env.now }
-    ensures pushed { OnOk result (notes_of found.new ≡ notes_of found.old ++ range_finds (standing S.tree R.meaning setting.now env.now) place (expr_of callee.now) (exprs_of_list arguments.now) (keywords_of_list by_name.now)) }
-    ensures kept { Keeps S.has store.old store.new }
+    requires { HasGivenAll (S.has store.old) S.tree setting.now env.now }
+    ensures pushed { OnOk result (notes_of found.new ≡ notes_of found.old ++ range_finds (standing_of S.tree R.meaning setting.now env.now) place (expr_of callee.now) (exprs_of_list arguments.now) (keywords_of_list by_name.now)) }
+    ensures kept { KeepsTypes S.has store.old store.new }
 {
     let given = given(alloc, arguments, by_name)?;
     let offers = range_offers(store, alloc, &given)?;
@@ -64,10 +64,10 @@ pub fn type_range<S: TypeStore, R: Resolver>(
     by_name: &[KeywordArgument],
     found: &mut Notes,
 ) -> Result<Label<S::Ty>, OutOfMemory>
-    requires { Stands (S.has store.old) S.tree setting.now env.now }
-    ensures label { IfOk result (λ l. IsMark S.has S.tree store.new l (range_item (given (exprs_of_list arguments.now) (keywords_of_list by_name.now)))) }
-    ensures pushed { OnOk result (notes_of found.new ≡ notes_of found.old ++ range_finds (standing S.tree R.meaning setting.now env.now) place (expr_of callee.now) (exprs_of_list arguments.now) (keywords_of_list by_name.now)) }
-    ensures kept { Keeps S.has store.old store.new }
+    requires { HasGivenAll (S.has store.old) S.tree setting.now env.now }
+    ensures label { IfOk result (λ l. IsMark S.has S.tree store.new l (range_item (arguments_given (exprs_of_list arguments.now) (keywords_of_list by_name.now)))) }
+    ensures pushed { OnOk result (notes_of found.new ≡ notes_of found.old ++ range_finds (standing_of S.tree R.meaning setting.now env.now) place (expr_of callee.now) (exprs_of_list arguments.now) (keywords_of_list by_name.now)) }
+    ensures kept { KeepsTypes S.has store.old store.new }
 {
     find_range(
         store, alloc, setting, env, place, callee, arguments, by_name, found,

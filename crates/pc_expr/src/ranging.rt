@@ -1,11 +1,11 @@
-// A call of `range` as what a `for` goes over.
+//! A call of `range` as what a `for` goes over.
 
 ghost use Rattle.std.specs.Prelude.{◌≡◌, IfOk};
 ghost use Rattle.pc_tree.specs.Lists.{exprs_of_list, keywords_of_list};
-ghost use Rattle.pc_types.specs.Store.{Keeps};
-ghost use Rattle.pc_expr.specs.Calls.{given, is_range, range_offers, range_item};
+ghost use Rattle.pc_types.specs.Store.{KeepsTypes};
+ghost use Rattle.pc_expr.specs.Calls.{arguments_given, is_range, range_offers, range_item};
 ghost use Rattle.pc_expr.specs.Standing.{IsMark};
-ghost use Rattle.pc_expr.specs.Calling.{given_with, AreCallOffers};
+ghost use Rattle.pc_expr.specs.Internal.JudgedCalls.{given_with, AreCallOffers};
 
 use crate::arguments::Given;
 use crate::call_offers::{CallOffer, call_of_builtin, push_offer};
@@ -32,7 +32,7 @@ pub fn range_offers<'t, S: TypeStore>(
     given: &Given,
 ) -> Result<Vec<CallOffer<'t, S::Ty>>, OutOfMemory>
     ensures offers { IfOk result (λ os. AreCallOffers S.has S.tree store.new os.items (range_offers (given_with given.now))) }
-    ensures kept { Keeps S.has store.old store.new }
+    ensures kept { KeepsTypes S.has store.old store.new }
 {
     let mut types = Vec::new(alloc);
     types.push(store.int(alloc)?)?;
@@ -50,8 +50,8 @@ pub fn range_item<S: TypeStore>(
     arguments: &[Expr],
     by_name: &[KeywordArgument],
 ) -> Result<Label<S::Ty>, OutOfMemory>
-    ensures label { IfOk result (λ l. IsMark S.has S.tree store.new l (range_item (given (exprs_of_list arguments.now) (keywords_of_list by_name.now)))) }
-    ensures kept { Keeps S.has store.old store.new }
+    ensures label { IfOk result (λ l. IsMark S.has S.tree store.new l (range_item (arguments_given (exprs_of_list arguments.now) (keywords_of_list by_name.now)))) }
+    ensures kept { KeepsTypes S.has store.old store.new }
 {
     let given = given(alloc, arguments, by_name)?;
     let mut codes = Vec::new(alloc);

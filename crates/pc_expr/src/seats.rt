@@ -1,14 +1,14 @@
-// What is expected of the arguments of a call, and what they flow into.
+//! What is expected of the arguments of a call, and what they flow into.
 
 ghost use Rattle.std.specs.Prelude.{◌≡◌, ◌++◌, map, flat_map, All, IfOk, OnOk, option_to_list};
 ghost use Rattle.std.specs.Option.{option_map};
 ghost use Rattle.pc_tree.specs.Tree.{name_of};
 ghost use Rattle.pc_types.specs.Tree.{Tree};
 ghost use Rattle.pc_expr.specs.Operations.{has_error};
-ghost use Rattle.pc_expr.specs.Calls.{all_codes, wanted, positional_seat, named_seat, builtin_signature};
+ghost use Rattle.pc_expr.specs.Calls.{all_codes, expected_type, positional_seat, named_seat, builtin_signature};
 ghost use Rattle.pc_expr.specs.Lawful.{keyword_seat};
 ghost use Rattle.pc_expr.specs.Standing.{HasIfAny};
-ghost use Rattle.pc_expr.specs.Calling.{names_in, names_called, number_for, builtin_number, offer_called, params_called, signature_called, AreNumbered, HasParams, HasCalled, HasCallOffer, types_at, seat_of, IsSeat};
+ghost use Rattle.pc_expr.specs.Internal.JudgedCalls.{names_in, names_called, number_for, builtin_number, offer_called, params_called, signature_called, AreNumbered, HasParams, HasCalled, HasCallOffer, types_at, seat_of, IsSeat};
 
 use crate::arguments::{Names, is_among};
 use crate::call_offers::{CallOffer, Called};
@@ -211,7 +211,7 @@ fn wanted<S: TypeStore>(
 ) -> Result<Option<S::Ty>, OutOfMemory>
     requires { All (S.has store.now) types.now }
     ensures held { IfOk result (λ t. HasIfAny (S.has store.now) t) }
-    ensures value { IfOk result (λ t. option_map S.tree t ≡ wanted only_member (map S.tree types.now)) }
+    ensures value { IfOk result (λ t. option_map S.tree t ≡ expected_type only_member (map S.tree types.now)) }
 {
     if only_member && types.len() == 1 {
         return Ok(Some(store.copy(alloc, &types[0])?));

@@ -1,3 +1,5 @@
+//! What an expression stands in, apart from its environment.
+
 use pc_class::{ClassTable, Parameter};
 use pc_flow::{DeclaredTypes, Resolver};
 use pc_types::Parents;

@@ -1,17 +1,17 @@
-// What functions take and return.
+//! What functions take and return.
 
 ghost use Rattle.std.specs.Prelude.{◌≡◌, ◌++◌, ◌∷◌, [], map, IfOk, OnOk};
 ghost use Rattle.pc_tree.specs.Tree.{ann_of, option_ann_of, param_of, func_of, item_of};
 ghost use Rattle.pc_scope.specs.Bindings.{functions_in};
-ghost use Rattle.pc_types.specs.Store.{Means, Keeps};
+ghost use Rattle.pc_types.specs.Store.{Means, KeepsTypes};
 ghost use Rattle.pc_types.specs.Annotations.{read_ann, read_option};
 ghost use Rattle.pc_ann.specs.Listed.{ann_findings, option_findings};
 ghost use Rattle.pc_class.specs.Bases.{bases_of};
-ghost use Rattle.pc_class.specs.Facts.{parameter_of, parameters_of};
-ghost use Rattle.pc_notes.specs.Notes.{notes_of, plain};
+ghost use Rattle.pc_class.specs.Facts.{typed_parameter, parameters_of};
+ghost use Rattle.pc_notes.specs.Notes.{notes_of, plain_note};
 ghost use Rattle.pc_expr.specs.Signatures.{signature_of, signatures_of};
 ghost use Rattle.pc_expr.specs.SignaturesFound.{bound_in, param_findings, params_findings, def_findings, function_findings, functions_findings};
-ghost use Rattle.pc_expr.specs.SignaturesRead.{module_in, IsFrame, IsParameter, AreParameters, IsSignature, AreSignatures, HasSignatures, signatures_with};
+ghost use Rattle.pc_expr.specs.Internal.SignaturesRead.{module_in, IsFrame, IsParameter, AreParameters, IsSignature, AreSignatures, HasSignatures, signatures_with};
 
 use crate::bound::{Texts, bind};
 use crate::defaults::{binds, find_default};
@@ -43,8 +43,8 @@ pub(crate) fn read_annotation<S: TypeStore>(
 ) -> Result<S::Ty, OutOfMemory>
     requires { IsFrame frame.now }
     ensures typed { IfOk result (λ t. Means S.has S.tree store.new t (read_ann (module_in frame.now) (bases_of (module_in frame.now)) (ann_of ann.now))) }
-    ensures pushed { OnOk result (notes_of found.new ≡ notes_of found.old ++ map plain (ann_findings (module_in frame.now) (bases_of (module_in frame.now)) (ann_of ann.now))) }
-    ensures kept { Keeps S.has store.old store.new }
+    ensures pushed { OnOk result (notes_of found.new ≡ notes_of found.old ++ map plain_note (ann_findings (module_in frame.now) (bases_of (module_in frame.now)) (ann_of ann.now))) }
+    ensures kept { KeepsTypes S.has store.old store.new }
 {
     let mut in_it = Vec::new(alloc);
     let ty = pc_ann::read_ann(
@@ -70,8 +70,8 @@ pub(crate) fn read_optional<S: TypeStore>(
 ) -> Result<S::Ty, OutOfMemory>
     requires { IsFrame frame.now }
     ensures typed { IfOk result (λ t. Means S.has S.tree store.new t (read_option (module_in frame.now) (bases_of (module_in frame.now)) (option_ann_of ann.now))) }
-    ensures pushed { OnOk result (notes_of found.new ≡ notes_of found.old ++ map plain (option_findings (module_in frame.now) (bases_of (module_in frame.now)) (option_ann_of ann.now))) }
-    ensures kept { Keeps S.has store.old store.new }
+    ensures pushed { OnOk result (notes_of found.new ≡ notes_of found.old ++ map plain_note (option_findings (module_in frame.now) (bases_of (module_in frame.now)) (option_ann_of ann.now))) }
+    ensures kept { KeepsTypes S.has store.old store.new }
 {
     let mut in_it = Vec::new(alloc);
     let ty = pc_ann::read_option(
@@ -97,9 +97,9 @@ fn read_param<S: TypeStore>(
     found: &mut Notes,
 ) -> Result<Parameter<S::Ty>, OutOfMemory>
     requires { IsFrame frame.now }
-    ensures typed { IfOk result (λ p. IsParameter S.has S.tree store.new p (parameter_of (module_in frame.now) (param_of param.now))) }
+    ensures typed { IfOk result (λ p. IsParameter S.has S.tree store.new p (typed_parameter (module_in frame.now) (param_of param.now))) }
     ensures pushed { OnOk result (notes_of found.new ≡ notes_of found.old ++ param_findings (module_in frame.now) (bound_in bound.now) (param_of param.now)) }
-    ensures kept { Keeps S.has store.old store.new }
+    ensures kept { KeepsTypes S.has store.old store.new }
 {
     let name = param.name.text.as_str();
     let ty = read_optional(store, alloc, frame, &param.annotation, found)?;
@@ -133,7 +133,7 @@ fn read_params<S: TypeStore>(
     requires { IsFrame frame.now }
     ensures typed { IfOk result (λ ps. AreParameters S.has S.tree store.new ps.items (parameters_of (module_in frame.now) (map param_of params.now))) }
     ensures pushed { OnOk result (notes_of found.new ≡ notes_of found.old ++ params_findings (module_in frame.now) (bound_in bound.old) (map param_of params.now)) }
-    ensures kept { Keeps S.has store.old store.new }
+    ensures kept { KeepsTypes S.has store.old store.new }
 {
     let mut all = Vec::new(alloc);
     for param in params {
@@ -157,7 +157,7 @@ pub(crate) fn read_signature<S: TypeStore>(
     requires { IsFrame frame.now }
     ensures typed { IfOk result (λ s. IsSignature S.has S.tree store.new s (signature_of (module_in frame.now) (func_of def.now))) }
     ensures pushed { OnOk result (notes_of found.new ≡ notes_of found.old ++ def_findings (module_in frame.now) (bound_in bound.old) (func_of def.now)) }
-    ensures kept { Keeps S.has store.old store.new }
+    ensures kept { KeepsTypes S.has store.old store.new }
 {
     let params = read_params(store, alloc, frame, bound, &def.params, found)?;
     let ret = read_optional(store, alloc, frame, &def.returns, found)?;
@@ -178,7 +178,7 @@ fn add_function<S: TypeStore>(
     ensures held { OnOk result (HasSignatures (S.has store.new) functions.new.items) }
     ensures typed { OnOk result (signatures_with S.tree functions.new.items ≡ signatures_with S.tree functions.old.items ++ map (signature_of (module_in frame.now)) (functions_in (item_of item.now ∷ []))) }
     ensures pushed { OnOk result (notes_of found.new ≡ notes_of found.old ++ function_findings (module_in frame.now) (item_of item.now)) }
-    ensures kept { Keeps S.has store.old store.new }
+    ensures kept { KeepsTypes S.has store.old store.new }
 {
     match &item.kind {
         ItemKind::Constant(_) => Ok(()),
@@ -203,7 +203,7 @@ pub(crate) fn read_functions<S: TypeStore>(
     requires { IsFrame frame.now }
     ensures typed { IfOk result (λ fs. AreSignatures S.has S.tree store.new fs.items (signatures_of (module_in frame.now))) }
     ensures pushed { OnOk result (notes_of found.new ≡ notes_of found.old ++ functions_findings (module_in frame.now) (module_in frame.now).items) }
-    ensures kept { Keeps S.has store.old store.new }
+    ensures kept { KeepsTypes S.has store.old store.new }
 {
     let items = frame.tree.items.as_slice();
     let mut functions = Vec::new(alloc);

@@ -1,15 +1,17 @@
+//! The signatures and constants of a module.
+
 ghost use Rattle.std.specs.Prelude.{◌≡◌, ◌++◌, map, slice_get, IfOk, OnOk};
 ghost use Rattle.std.specs.Option.{option_copied};
 ghost use Rattle.pc_tree.specs.Tree.{module_of};
-ghost use Rattle.pc_scope.specs.Scoped.{AreScopes};
-ghost use Rattle.pc_types.specs.Store.{Keeps};
+ghost use Rattle.pc_scope.specs.ModuleScopes.{AreScopes};
+ghost use Rattle.pc_types.specs.Store.{KeepsTypes};
 ghost use Rattle.pc_class.specs.Bases.{bases_of};
 ghost use Rattle.pc_class.specs.Facts.{classes_of};
 ghost use Rattle.pc_class.specs.Tables.{HasEntries, classes_with};
 ghost use Rattle.pc_notes.specs.Notes.{notes_of};
 ghost use Rattle.pc_expr.specs.Signatures.{signatures_of};
-ghost use Rattle.pc_expr.specs.SignaturesFound.{constants_of, methods_of, signatures_find};
-ghost use Rattle.pc_expr.specs.SignaturesHeld.{Signed, methods_seen, method_at, HasSigned, all_with};
+ghost use Rattle.pc_expr.specs.SignaturesFound.{constants_of, method_signatures, signatures_find};
+ghost use Rattle.pc_expr.specs.SignaturesHeld.{HeldSignatures, methods_seen, method_numbered, HasSigned, all_signatures_with};
 ghost use Rattle.pc_expr.specs.Standing.{signature_with};
 
 use crate::constants::{Globals, read_items};
@@ -36,7 +38,7 @@ pub struct Sigs<Ty: Drop> {
 }
 
 impl<Ty: Drop> Model for Sigs<Ty> {
-    ghost Value = { Signed Ty };
+    ghost Value = { HeldSignatures Ty };
 
     ghost view = { λ s. record { constants = s.constants.items; functions = s.functions.items; methods = methods_seen s.methods.items } };
 }
@@ -65,7 +67,7 @@ impl<Ty: Drop> Sigs<Ty> {
 
     /// What the method of a number of a class takes, but for `self`, and returns, if there is one.
     pub fn method(&self, class: usize, number: usize) -> Option<&Signature<Ty>>
-        ensures { option_copied result ≡ method_at self.now.methods class number }
+        ensures { option_copied result ≡ method_numbered self.now.methods class number }
     {
         match self.methods.get(class) {
             None => None,
@@ -97,9 +99,9 @@ pub fn read_signatures<S: TypeStore>(
     ensures held { IfOk result (HasSigned (S.has store.new)) }
     ensures constants { IfOk result (λ s. map S.tree s.constants ≡ constants_of (module_of tree.now)) }
     ensures functions { IfOk result (λ s. map (signature_with S.tree) s.functions ≡ signatures_of (module_of tree.now)) }
-    ensures methods { IfOk result (λ s. all_with S.tree s.methods ≡ methods_of (module_of tree.now)) }
+    ensures methods { IfOk result (λ s. all_signatures_with S.tree s.methods ≡ method_signatures (module_of tree.now)) }
     ensures pushed { OnOk result (notes_of found.new ≡ notes_of found.old ++ signatures_find (module_of tree.now)) }
-    ensures kept { Keeps S.has store.old store.new }
+    ensures kept { KeepsTypes S.has store.old store.new }
 {
     let frame = Frame {
         tree,

@@ -1,11 +1,11 @@
-// Stores to attributes and items, member by member of the type that is stored into.
+//! Stores to attributes and items, member by member of the type that is stored into.
 #![tactic(auto, using(crate::proofs::StoredByHead::stored_by_head))]
 
 ghost use Rattle.std.specs.Prelude.{◌≡◌, All, IfOk, map};
 ghost use Rattle.std.specs.Option.{option_map};
 ghost use Rattle.pc_types.specs.Tree.{Tree};
 ghost use Rattle.pc_types.specs.Shape.{members};
-ghost use Rattle.pc_types.specs.Store.{Keeps};
+ghost use Rattle.pc_types.specs.Store.{KeepsTypes};
 ghost use Rattle.pc_class.specs.Tables.{HasEntries, classes_with};
 ghost use Rattle.pc_expr.specs.Operations.{store_with, store_attribute_member, store_index_member, store_codes, store_index_types, stored_types, only_type};
 ghost use Rattle.pc_expr.specs.Found.{once};
@@ -89,7 +89,7 @@ fn index_store<S: TypeStore>(
 ) -> Result<StoreOffer<S::Ty>, OutOfMemory>
     requires { S.has store.old member.now }
     ensures value { IfOk result (λ o. IsStoreOffer S.has S.tree store.new o (store_index_member (S.tree member.now))) }
-    ensures kept { Keeps S.has store.old store.new }
+    ensures kept { KeepsTypes S.has store.old store.new }
 {
     match store.head(member) {
         Head::List => {
@@ -126,7 +126,7 @@ fn store_on<S: TypeStore>(
     requires member { S.has store.old member.now }
     requires classes { HasEntries (S.has store.old) classes.now }
     ensures value { IfOk result (λ o. IsStoreOffer S.has S.tree store.new o (store_on (classes_with S.tree classes.now) target.entry (S.tree member.now))) }
-    ensures kept { Keeps S.has store.old store.new }
+    ensures kept { KeepsTypes S.has store.old store.new }
 {
     match target {
         StoreTarget::Attribute(name) => attribute_store(store, alloc, classes, name, member),
@@ -147,7 +147,7 @@ pub fn store_offers<S: TypeStore>(
     requires classes { HasEntries (S.has store.old) classes.now }
     ensures held { IfOk result (λ os. All (HasStoreOffer (S.has store.new)) os.items) }
     ensures value { IfOk result (λ os. map (store_offer_with S.tree) os.items ≡ map (store_on (classes_with S.tree classes.now) target.entry) (members (S.tree ty.now))) }
-    ensures kept { Keeps S.has store.old store.new }
+    ensures kept { KeepsTypes S.has store.old store.new }
 {
     let members = store.members(alloc, ty)?;
     let mut offers = Vec::new(alloc);

@@ -1,3 +1,4 @@
+//! The labels of expressions, with what is found in them.
 #![tactic(auto, using(crate::proofs::Kept::stands_further))]
 
 // The type of an expression, and what is found in it.
@@ -6,13 +7,13 @@ ghost use Rattle.std.specs.Prelude.{◌≡◌, ◌++◌, IfOk, OnOk, None, [], t
 ghost use Rattle.std.specs.Option.{option_map};
 ghost use Rattle.pc_tree.specs.Tree.{expr_of};
 ghost use Rattle.pc_tree.specs.Lists.{exprs_of_list, entries_of_list, keywords_of_list};
-ghost use Rattle.pc_types.specs.Store.{Keeps};
+ghost use Rattle.pc_types.specs.Store.{KeepsTypes};
 ghost use Rattle.pc_notes.specs.Notes.{notes_of};
 ghost use Rattle.pc_expr.specs.Calls.{positional_seat, named_seat};
-ghost use Rattle.pc_expr.specs.Standing.{standing, mark_in, finds_in, parts_find, types_in, items_find, arguments_find, entries_find, keywords_find, Stands, HasIfAny, IsMark};
-ghost use Rattle.pc_expr.specs.Calling.{given_with, offer_called, HasCallOffer, IsCallee};
+ghost use Rattle.pc_expr.specs.Standing.{standing_of, mark_in, finds_in, parts_find, types_in, items_find, arguments_find, entries_find, keywords_find, HasGivenAll, HasIfAny, IsMark};
+ghost use Rattle.pc_expr.specs.Internal.JudgedCalls.{given_with, offer_called, HasCallOffer, IsCallee};
 ghost use Rattle.pc_expr.specs.Typing.{callee_in};
-ghost use Rattle.pc_expr.specs.Seated.{seats_of, seat_with, HasSeats, HasEntrySeats, AreTyped, AreEntryTypes};
+ghost use Rattle.pc_expr.specs.Internal.Seats.{seats_of, seat_with, HasSeats, HasEntrySeats, AreTyped, AreEntryTypes};
 
 use crate::arguments::Given;
 use crate::call_labels::{callee_of_other, is_test, label_call, still_called};
@@ -55,11 +56,11 @@ pub fn type_expr<S: TypeStore, R: Resolver>(
     e: &Expr,
     found: &mut Notes,
 ) -> Result<Label<S::Ty>, OutOfMemory>
-    requires given { Stands (S.has store.old) S.tree setting.now env.now }
+    requires given { HasGivenAll (S.has store.old) S.tree setting.now env.now }
     requires want { HasIfAny (S.has store.old) want.now }
-    ensures marked { IfOk result (λ l. IsMark S.has S.tree store.new l (mark_in (standing S.tree R.meaning setting.now env.now) (option_map S.tree want.now) (expr_of e.now))) }
-    ensures pushed { OnOk result (notes_of found.new ≡ notes_of found.old ++ finds_in (standing S.tree R.meaning setting.now env.now) (option_map S.tree want.now) (expr_of e.now)) }
-    ensures kept { Keeps S.has store.old store.new }
+    ensures marked { IfOk result (λ l. IsMark S.has S.tree store.new l (mark_in (standing_of S.tree R.meaning setting.now env.now) (option_map S.tree want.now) (expr_of e.now))) }
+    ensures pushed { OnOk result (notes_of found.new ≡ notes_of found.old ++ finds_in (standing_of S.tree R.meaning setting.now env.now) (option_map S.tree want.now) (expr_of e.now)) }
+    ensures kept { KeepsTypes S.has store.old store.new }
 {
     let label = label_expr(store, alloc, setting, env, want, e, found)?;
     find_codes(e.place(), &label.codes, found)?;
@@ -77,11 +78,11 @@ fn label_expr<S: TypeStore, R: Resolver>(
     e: &Expr,
     found: &mut Notes,
 ) -> Result<Label<S::Ty>, OutOfMemory>
-    requires given { Stands (S.has store.old) S.tree setting.now env.now }
+    requires given { HasGivenAll (S.has store.old) S.tree setting.now env.now }
     requires want { HasIfAny (S.has store.old) want.now }
-    ensures marked { IfOk result (λ l. IsMark S.has S.tree store.new l (mark_in (standing S.tree R.meaning setting.now env.now) (option_map S.tree want.now) (expr_of e.now))) }
-    ensures pushed { OnOk result (notes_of found.new ≡ notes_of found.old ++ parts_find (standing S.tree R.meaning setting.now env.now) (option_map S.tree want.now) (expr_of e.now)) }
-    ensures kept { Keeps S.has store.old store.new }
+    ensures marked { IfOk result (λ l. IsMark S.has S.tree store.new l (mark_in (standing_of S.tree R.meaning setting.now env.now) (option_map S.tree want.now) (expr_of e.now))) }
+    ensures pushed { OnOk result (notes_of found.new ≡ notes_of found.old ++ parts_find (standing_of S.tree R.meaning setting.now env.now) (option_map S.tree want.now) (expr_of e.now)) }
+    ensures kept { KeepsTypes S.has store.old store.new }
 {
     match e {
         Expr::Name(name) => name_label(store, alloc, setting, env, name),
@@ -207,12 +208,12 @@ fn type_items<S: TypeStore, R: Resolver>(
     items: &[Expr],
     found: &mut Notes,
 ) -> Result<Vec<S::Ty>, OutOfMemory>
-    requires given { Stands (S.has store.old) S.tree setting.now env.now }
+    requires given { HasGivenAll (S.has store.old) S.tree setting.now env.now }
     requires seats { HasSeats (S.has store.old) seats.now }
     ensures held { IfOk result (λ ts. All (S.has store.new) ts.items) }
-    ensures typed { IfOk result (λ ts. map S.tree ts.items ≡ types_in (standing S.tree R.meaning setting.now env.now) (seats_of S.tree seats.now) (exprs_of_list items.now)) }
-    ensures pushed { OnOk result (notes_of found.new ≡ notes_of found.old ++ items_find (standing S.tree R.meaning setting.now env.now) (seats_of S.tree seats.now) (exprs_of_list items.now)) }
-    ensures kept { Keeps S.has store.old store.new }
+    ensures typed { IfOk result (λ ts. map S.tree ts.items ≡ types_in (standing_of S.tree R.meaning setting.now env.now) (seats_of S.tree seats.now) (exprs_of_list items.now)) }
+    ensures pushed { OnOk result (notes_of found.new ≡ notes_of found.old ++ items_find (standing_of S.tree R.meaning setting.now env.now) (seats_of S.tree seats.now) (exprs_of_list items.now)) }
+    ensures kept { KeepsTypes S.has store.old store.new }
 {
     let mut types = Vec::new(alloc);
     for item in items {
@@ -243,11 +244,11 @@ fn type_entries<S: TypeStore, R: Resolver>(
     entries: &[Entry],
     found: &mut Notes,
 ) -> Result<EntryTypes<S::Ty>, OutOfMemory>
-    requires given { Stands (S.has store.old) S.tree setting.now env.now }
+    requires given { HasGivenAll (S.has store.old) S.tree setting.now env.now }
     requires seats { HasEntrySeats (S.has store.old) seats.now }
-    ensures typed { IfOk result (λ t. AreEntryTypes S.has S.tree store.new (standing S.tree R.meaning setting.now env.now) t (seat_with S.tree seats.now.key) (seat_with S.tree seats.now.value) (entries_of_list entries.now)) }
-    ensures pushed { OnOk result (notes_of found.new ≡ notes_of found.old ++ entries_find (standing S.tree R.meaning setting.now env.now) (seat_with S.tree seats.now.key) (seat_with S.tree seats.now.value) (entries_of_list entries.now)) }
-    ensures kept { Keeps S.has store.old store.new }
+    ensures typed { IfOk result (λ t. AreEntryTypes S.has S.tree store.new (standing_of S.tree R.meaning setting.now env.now) t (seat_with S.tree seats.now.key) (seat_with S.tree seats.now.value) (entries_of_list entries.now)) }
+    ensures pushed { OnOk result (notes_of found.new ≡ notes_of found.old ++ entries_find (standing_of S.tree R.meaning setting.now env.now) (seat_with S.tree seats.now.key) (seat_with S.tree seats.now.value) (entries_of_list entries.now)) }
+    ensures kept { KeepsTypes S.has store.old store.new }
 {
     let mut keys = Vec::new(alloc);
     let mut values = Vec::new(alloc);
@@ -306,10 +307,10 @@ fn label_callee<'t, S: TypeStore, R: Resolver>(
     callee: &Expr,
     found: &mut Notes,
 ) -> Result<Callee<'t, S::Ty>, OutOfMemory>
-    requires given { Stands (S.has store.old) S.tree setting.now env.now }
-    ensures called { IfOk result (λ c. IsCallee S.has S.tree store.new c (callee_in (standing S.tree R.meaning setting.now env.now) (given_with given.now) (expr_of callee.now))) }
-    ensures pushed { OnOk result (notes_of found.new ≡ notes_of found.old ++ parts_find (standing S.tree R.meaning setting.now env.now) None (expr_of callee.now)) }
-    ensures kept { Keeps S.has store.old store.new }
+    requires given { HasGivenAll (S.has store.old) S.tree setting.now env.now }
+    ensures called { IfOk result (λ c. IsCallee S.has S.tree store.new c (callee_in (standing_of S.tree R.meaning setting.now env.now) (given_with given.now) (expr_of callee.now))) }
+    ensures pushed { OnOk result (notes_of found.new ≡ notes_of found.old ++ parts_find (standing_of S.tree R.meaning setting.now env.now) None (expr_of callee.now)) }
+    ensures kept { KeepsTypes S.has store.old store.new }
 {
     match callee {
         Expr::Name(name) => callee_of_name(store, alloc, setting, env, given, name),
@@ -357,12 +358,12 @@ fn type_tested<S: TypeStore, R: Resolver>(
     arguments: &[Expr],
     found: &mut Notes,
 ) -> Result<Typed<S::Ty>, OutOfMemory>
-    requires given { Stands (S.has store.old) S.tree setting.now env.now }
+    requires given { HasGivenAll (S.has store.old) S.tree setting.now env.now }
     requires offers { All (HasCallOffer (S.has store.old)) offers.now }
     requires two { length arguments.now ≡ 2 }
-    ensures typed { IfOk result (λ t. AreTyped S.has S.tree store.new (standing S.tree R.meaning setting.now env.now) t (positional_seat (map (offer_called S.tree) offers.now)) (exprs_of_list arguments.now)) }
-    ensures pushed { OnOk result (notes_of found.new ≡ notes_of found.old ++ arguments_find (standing S.tree R.meaning setting.now env.now) true (positional_seat (map (offer_called S.tree) offers.now)) (exprs_of_list arguments.now)) }
-    ensures kept { Keeps S.has store.old store.new }
+    ensures typed { IfOk result (λ t. AreTyped S.has S.tree store.new (standing_of S.tree R.meaning setting.now env.now) t (positional_seat (map (offer_called S.tree) offers.now)) (exprs_of_list arguments.now)) }
+    ensures pushed { OnOk result (notes_of found.new ≡ notes_of found.old ++ arguments_find (standing_of S.tree R.meaning setting.now env.now) true (positional_seat (map (offer_called S.tree) offers.now)) (exprs_of_list arguments.now)) }
+    ensures kept { KeepsTypes S.has store.old store.new }
 {
     let seat = positional_seat(store, alloc, offers, 0)?;
     let tested = type_expr(store, alloc, setting, env, &seat.want, &arguments[0], found)?;
@@ -398,12 +399,12 @@ pub(crate) fn type_arguments<S: TypeStore, R: Resolver>(
     arguments: &[Expr],
     found: &mut Notes,
 ) -> Result<Typed<S::Ty>, OutOfMemory>
-    requires given { Stands (S.has store.old) S.tree setting.now env.now }
+    requires given { HasGivenAll (S.has store.old) S.tree setting.now env.now }
     requires offers { All (HasCallOffer (S.has store.old)) offers.now }
     requires two { is_test ≡ true → length arguments.now ≡ 2 }
-    ensures typed { IfOk result (λ t. AreTyped S.has S.tree store.new (standing S.tree R.meaning setting.now env.now) t (positional_seat (map (offer_called S.tree) offers.now)) (exprs_of_list arguments.now)) }
-    ensures pushed { OnOk result (notes_of found.new ≡ notes_of found.old ++ arguments_find (standing S.tree R.meaning setting.now env.now) is_test (positional_seat (map (offer_called S.tree) offers.now)) (exprs_of_list arguments.now)) }
-    ensures kept { Keeps S.has store.old store.new }
+    ensures typed { IfOk result (λ t. AreTyped S.has S.tree store.new (standing_of S.tree R.meaning setting.now env.now) t (positional_seat (map (offer_called S.tree) offers.now)) (exprs_of_list arguments.now)) }
+    ensures pushed { OnOk result (notes_of found.new ≡ notes_of found.old ++ arguments_find (standing_of S.tree R.meaning setting.now env.now) is_test (positional_seat (map (offer_called S.tree) offers.now)) (exprs_of_list arguments.now)) }
+    ensures kept { KeepsTypes S.has store.old store.new }
 {
     if is_test {
         return type_tested(store, alloc, setting, env, offers, arguments, found);
@@ -439,10 +440,10 @@ pub(crate) fn type_keywords<S: TypeStore, R: Resolver>(
     by_name: &[KeywordArgument],
     found: &mut Notes,
 ) -> Result<(), OutOfMemory>
-    requires given { Stands (S.has store.old) S.tree setting.now env.now }
+    requires given { HasGivenAll (S.has store.old) S.tree setting.now env.now }
     requires offers { All (HasCallOffer (S.has store.old)) offers.now }
-    ensures pushed { OnOk result (notes_of found.new ≡ notes_of found.old ++ keywords_find (standing S.tree R.meaning setting.now env.now) (named_seat (map (offer_called S.tree) offers.now)) [] (keywords_of_list by_name.now)) }
-    ensures kept { Keeps S.has store.old store.new }
+    ensures pushed { OnOk result (notes_of found.new ≡ notes_of found.old ++ keywords_find (standing_of S.tree R.meaning setting.now env.now) (named_seat (map (offer_called S.tree) offers.now)) [] (keywords_of_list by_name.now)) }
+    ensures kept { KeepsTypes S.has store.old store.new }
 {
     let mut before = IndexSet::new(alloc);
     for argument in by_name {

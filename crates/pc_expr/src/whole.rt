@@ -1,14 +1,14 @@
-// The label of a call, by the rule of its callee.
+//! The label of a call, by the rule of its callee.
 
 ghost use Rattle.std.specs.Prelude.{map, All, IfOk};
 ghost use Rattle.pc_tree.specs.Lists.{exprs_of_list};
-ghost use Rattle.pc_types.specs.Store.{Keeps, Means};
+ghost use Rattle.pc_types.specs.Store.{KeepsTypes, Means};
 ghost use Rattle.pc_class.specs.Tables.{HasEntries};
 ghost use Rattle.pc_flow.specs.Stored.{HasEach, env_of};
 ghost use Rattle.pc_expr.specs.Calls.{first_type, length_mark};
 ghost use Rattle.pc_expr.specs.Lawful.{whole_call_mark};
 ghost use Rattle.pc_expr.specs.Standing.{context_with, IsMark};
-ghost use Rattle.pc_expr.specs.Calling.{offer_called, rule_of, HasCallOffer};
+ghost use Rattle.pc_expr.specs.Internal.JudgedCalls.{offer_called, rule_of, HasCallOffer};
 
 use crate::call_offers::CallRule;
 use crate::callee::Callee;
@@ -31,7 +31,7 @@ fn first_type<S: TypeStore>(
 ) -> Result<S::Ty, OutOfMemory>
     requires { All (S.has store.old) types.now }
     ensures value { IfOk result (λ t. Means S.has S.tree store.new t (first_type (map S.tree types.now))) }
-    ensures kept { Keeps S.has store.old store.new }
+    ensures kept { KeepsTypes S.has store.old store.new }
 {
     if types.len() == 0 {
         return store.never(alloc);
@@ -49,7 +49,7 @@ fn length_label<S: TypeStore, R: Resolver>(
     requires classes { HasEntries (S.has store.old) setting.now.classes.now }
     requires types { All (S.has store.old) types.now }
     ensures label { IfOk result (λ l. IsMark S.has S.tree store.new l (length_mark setting.now.parents.now (map S.tree types.now))) }
-    ensures kept { Keeps S.has store.old store.new }
+    ensures kept { KeepsTypes S.has store.old store.new }
 {
     let ty = first_type(store, alloc, types)?;
     let offers = member_offers(
@@ -78,7 +78,7 @@ pub fn call_label<S: TypeStore, R: Resolver>(
     requires offers { All (HasCallOffer (S.has store.old)) callee.now.offers.items }
     requires types { All (S.has store.old) types.now }
     ensures label { IfOk result (λ l. IsMark S.has S.tree store.new l (whole_call_mark (context_with S.tree R.meaning setting.now) (env_of S.tree env.now) (rule_of callee.now.rule) (map (offer_called S.tree) callee.now.offers.items) (exprs_of_list arguments.now) (map S.tree types.now))) }
-    ensures kept { Keeps S.has store.old store.new }
+    ensures kept { KeepsTypes S.has store.old store.new }
 {
     match callee.rule {
         CallRule::Member => members_label(store, alloc, setting.parents, &callee.offers),

@@ -7,7 +7,7 @@ use Rattle.pc_tree.specs.Tree.{Expr, conjunction, disjunction}
 use Rattle.pc_scope.specs.declared.resolution.Res.{Res}
 use Rattle.pc_types.specs.Tree.{Tree}
 use Rattle.pc_types.specs.Below.{Bases, AreSmaller}
-use Rattle.pc_types.specs.Store.{Keeps}
+use Rattle.pc_types.specs.Store.{KeepsTypes}
 use Rattle.pc_flow.specs.Environment.{Env, join_env}
 use Rattle.pc_flow.specs.Narrowing.{narrow}
 use Rattle.pc_flow.specs.WellFormed.{IsWellFormedEnv, AreWellFormed}
@@ -25,7 +25,7 @@ module _ {Store Ty : Type 0} (has : Store → Ty → Type 0) (tree : Ty → Tree
     where_false = subst (λ (types : List (Option Ty)). GivesEnv has tree store types (env true)) (sym f) g.where_true;
   }
 
-  module _ (one two three : Store) (p : Place) (a b : Expr) (env : Env) (first second : BothWays Ty) (met : List (Option Ty)) (k : Keeps has two three) (f : GivesBoth has tree one first (λ holds. narrow bases ds resolve holds a env)) where
+  module _ (one two three : Store) (p : Place) (a b : Expr) (env : Env) (first second : BothWays Ty) (met : List (Option Ty)) (k : KeepsTypes has two three) (f : GivesBoth has tree one first (λ holds. narrow bases ds resolve holds a env)) where
     -- a conjunction
     pub both_hold : GivesBoth has tree two second (λ holds. narrow bases ds resolve holds b (env_of tree first.where_true)) → GivesEnv has tree three met (join_env bases ds (env_of tree first.where_false) (env_of tree second.where_false)) → GivesBoth has tree three (record { where_true = second.where_true; where_false = met }) (λ holds. narrow bases ds resolve holds (conjunction p a b) env)
     both_hold s j =

@@ -3,15 +3,15 @@ use Rattle.std.proofs.Common.{List, Option, Some, None}
 use Rattle.std.specs.Prelude.{All}
 use Rattle.std.proofs.lemmas.List.Elements.{All-weaker}
 use Rattle.pc_types.specs.Tree.{Tree}
-use Rattle.pc_types.specs.Store.{Keeps}
+use Rattle.pc_types.specs.Store.{KeepsTypes}
 use Rattle.pc_flow.specs.Environment.{Env}
 use Rattle.pc_flow.specs.Stored.{HasOne, HasEach, GivesEnv}
 
 module _ {Store Ty : Type 0} (has : Store → Ty → Type 0) where
-  pub keeps_both : (a b c : Store) → Keeps has a b → Keeps has b c → Keeps has a c
+  pub keeps_both : (a b c : Store) → KeepsTypes has a b → KeepsTypes has b c → KeepsTypes has a c
   keeps_both a b c k l = λ ty h. l ty (k ty h)
 
-  module _ (a b : Store) (k : Keeps has a b) where
+  module _ (a b : Store) (k : KeepsTypes has a b) where
     pub one_kept : (ty : Option Ty) → HasOne (has a) ty → HasOne (has b) ty
     one_kept None h = tt
     one_kept (Some ty) h = k ty h

@@ -5,8 +5,8 @@ use Rattle.std.specs.List.{list_any, filter_map}
 use Rattle.std.specs.Prelude.{if◌then◌else◌}
 use Rattle.pc_types.specs.Tree.{Tree, Any, Object, Never, Int, Bool, Str, NoneType, Class, ListOf, Union}
 use Rattle.pc_types.specs.Below.{Bases, Below, AreSmaller, through}
-use Rattle.pc_types.specs.Shape.{nodes, limit, members, ahead, union}
-use Rattle.pc_types.specs.Normal.{rank, IsBefore, IsMember, IsListed, IsReduced}
+use Rattle.pc_types.specs.Shape.{nodes, node_limit, members, ahead, union}
+use Rattle.pc_types.specs.Normal.{member_rank, IsRankBefore, IsMember, IsOfMembers, IsReduced}
 use Rattle.pc_types.specs.Join.{absorbs, reaches}
 use Rattle.pc_types.specs.WellFormed.{IsWellFormed}
 use Rattle.pc_types.proofs.Structural.{Chain, here, up, chain_below}
@@ -15,7 +15,7 @@ use Rattle.pc_types.proofs.JoinNormal.{InOrder, union_normal, members_order}
 use Rattle.pc_types.proofs.Descent.{reaches_below, below_reaches, chain_of, comparable}
 use Rattle.pc_types.proofs.Incomparable.{Incomparable, IncomparableToEach, ArePairwiseIncomparable, members_incomparable, union_reduced}
 use Rattle.pc_flow.specs.WellFormed.{IsTestable, PassingIsWellFormed, FailingIsWellFormed}
-use Rattle.pc_flow.specs.Narrowing.{Tested, for_none, for_type, for_list, is_within, member_within, member_passing, member_failing, passing, failing}
+use Rattle.pc_flow.specs.Narrowing.{Tested, for_none, for_type, for_list, is_within, member_within, member_passing, member_failing, type_where_true, type_where_false}
 
 -- some of the members
 data IsSublist : List Tree → List Tree → Type 0 where
@@ -61,18 +61,18 @@ union_nodes : (m : Tree) (ms : List Tree) → nodes (union (m ∷ ms)) + 1 ≤ t
 union_nodes m [] = omega arith
 union_nodes m (n ∷ ns) = omega (arith, ahead_nodes m (union (n ∷ ns)), union_nodes n ns)
 
-members_total : (t : Tree) → IsListed t → total (members t) ≤ nodes t + 1
+members_total : (t : Tree) → IsOfMembers t → total (members t) ≤ nodes t + 1
 members_total (Union c d) n = omega (arith, members_total d (listed_rest c d n.2 n.3))
 members_total Never n = omega arith
 members_total Any n = absurd n
 members_total Object n = absurd n
 members_total t n = omega arith
 
-some_nodes : (t : Tree) (l : List Tree) → IsListed t → nodes t ≤ limit → IsSublist (members t) l → nodes (union l) ≤ limit
+some_nodes : (t : Tree) (l : List Tree) → IsOfMembers t → nodes t ≤ node_limit → IsSublist (members t) l → nodes (union l) ≤ node_limit
 some_nodes t [] n h k = omega arith
 some_nodes t (m ∷ ms) n h k = omega (arith, h, union_nodes m ms, some_total k, members_total t n)
 
-some_well_formed : (bases : Bases) (t : Tree) (l : List Tree) → AreSmaller bases → IsListed t → IsReduced bases t → nodes t ≤ limit → IsSublist (members t) l → IsWellFormed bases (union l)
+some_well_formed : (bases : Bases) (t : Tree) (l : List Tree) → AreSmaller bases → IsOfMembers t → IsReduced bases t → nodes t ≤ node_limit → IsSublist (members t) l → IsWellFormed bases (union l)
 some_well_formed bases t l o n r h k =
     let i = some_order k (members_order t n) in
     (union_normal l i, union_reduced bases l o i (some_incomparable bases k (members_incomparable bases t n r)), some_nodes t l n h k)
@@ -96,7 +96,7 @@ order_stay : (h : Tree → Option Tree) (l : List Tree) → ((m : Tree) → IsMe
 order_stay h [] g o = tt
 order_stay h (m ∷ ms) g o = (g m o.0, order_stay h ms g o.1.1.1)
 
-listed_well_formed : (bases : Bases) (h : Tree → Option Tree) (t : Tree) → AreSmaller bases → IsListed t → IsReduced bases t → nodes t ≤ limit → ((m : Tree) → IsMember m → Stays h m) → IsWellFormed bases (union (filter_map h (members t)))
+listed_well_formed : (bases : Bases) (h : Tree → Option Tree) (t : Tree) → AreSmaller bases → IsOfMembers t → IsReduced bases t → nodes t ≤ node_limit → ((m : Tree) → IsMember m → Stays h m) → IsWellFormed bases (union (filter_map h (members t)))
 listed_well_formed bases h t o n r k g = some_well_formed bases t (filter_map h (members t)) o n r k (stay_some h (members t) (order_stay h (members t) g (members_order t n)))
 
 -- where a test fails
@@ -114,12 +114,12 @@ failing_stays bases (for_type c) Object = inr refl
 failing_stays bases (for_type c) (Union a b) = inr refl
 failing_stays bases (for_type c) m = tested_stays m (is_within bases c m)
 
-any_fails : (bases : Bases) (test : Tested) → IsWellFormed bases (failing bases test Any)
+any_fails : (bases : Bases) (test : Tested) → IsWellFormed bases (type_where_false bases test Any)
 any_fails bases for_none = (tt, tt, omega arith)
 any_fails bases for_list = (tt, tt, omega arith)
 any_fails bases (for_type c) = (tt, tt, omega arith)
 
-object_fails : (bases : Bases) (test : Tested) → IsWellFormed bases (failing bases test Object)
+object_fails : (bases : Bases) (test : Tested) → IsWellFormed bases (type_where_false bases test Object)
 object_fails bases for_none = (tt, tt, omega arith)
 object_fails bases for_list = (tt, tt, omega arith)
 object_fails bases (for_type c) = (tt, tt, omega arith)
@@ -187,15 +187,15 @@ classes_go bases c d f o e n h =
     let z : absorbs bases (Class f) (Class c) ≡ false = false_from_ne_true _ (λ g. ⊎_elim (λ k. up_d (chain_below k)) (λ k. up_f (chain_below k)) (comparable (chain_of b) (chain_of (absorbs_above bases c f g)))) in
     goes_by (Class f) (Class c) (f == c) (absorbs bases (Class c) (Class f)) (absorbs bases (Class f) (Class c)) x y z
 
-places_apart : (d f : ℕ) → IsBefore (8, d) (8, f) ⊎ IsBefore (8, f) (8, d) → d ≡ f → ⊥
+places_apart : (d f : ℕ) → IsRankBefore (8, d) (8, f) ⊎ IsRankBefore (8, f) (8, d) → d ≡ f → ⊥
 places_apart d f h e = grind arith
 
-no_place : (p : ℕ × ℕ) → IsBefore p p ⊎ IsBefore p p → ⊥
+no_place : (p : ℕ × ℕ) → IsRankBefore p p ⊎ IsRankBefore p p → ⊥
 no_place p h = grind arith
 
 -- two members have different places in a union
 abbrev HaveOtherPlaces : Tree → Tree → Type 0
-HaveOtherPlaces m n = IsBefore (rank m) (rank n) ⊎ IsBefore (rank n) (rank m)
+HaveOtherPlaces m n = IsRankBefore (member_rank m) (member_rank n) ⊎ IsRankBefore (member_rank n) (member_rank m)
 
 bool_goes : (bases : Bases) (n : Tree) → IsMember n → HaveOtherPlaces Int n → Incomparable bases Int n → member_within bases Bool n ≡ None
 bool_goes bases Int k d h = absurd (no_place (1, 0) d)
@@ -240,7 +240,7 @@ module _ (bases : Bases) (c : Tree) (o : AreSmaller bases) where
   some_stay [] e = tt
   some_stay (m ∷ ms) e = let p = or_parts (absorbs bases m c) (list_any (λ n. absorbs bases n c) ms) e in (within_stays bases c m p.0, some_stay ms p.1)
 
-  within_well_formed : (t : Tree) → IsWellFormed bases c → IsListed t → IsReduced bases t → nodes t ≤ limit → IsWellFormed bases (union (filter_map (member_within bases c) (members t)))
+  within_well_formed : (t : Tree) → IsWellFormed bases c → IsOfMembers t → IsReduced bases t → nodes t ≤ node_limit → IsWellFormed bases (union (filter_map (member_within bases c) (members t)))
   within_well_formed t w n r h =
       ⊎_elim (λ e. rw (one_left (members t) (members_order t n) (members_incomparable bases t n r) e) w)
       (λ e. some_well_formed bases t (filter_map (member_within bases c) (members t)) o n r h (stay_some (member_within bases c) (members t) (some_stay (members t) e)))
@@ -280,17 +280,17 @@ list_stays bases (Union a b) h = absurd h
 list_stays bases (ListOf t) h = inr refl
 list_stays bases _ h = inl refl
 
-listed_passes : (bases : Bases) (test : Tested) (t : Tree) → AreSmaller bases → IsTestable test → IsListed t → IsReduced bases t → nodes t ≤ limit → IsWellFormed bases (passing bases test t)
+listed_passes : (bases : Bases) (test : Tested) (t : Tree) → AreSmaller bases → IsTestable test → IsOfMembers t → IsReduced bases t → nodes t ≤ node_limit → IsWellFormed bases (type_where_true bases test t)
 listed_passes bases for_none t o g n r h = listed_well_formed bases (member_passing bases for_none) t o n r h (none_stays bases)
 listed_passes bases for_list t o g n r h = listed_well_formed bases (member_passing bases for_list) t o n r h (list_stays bases)
 listed_passes bases (for_type c) t o g n r h = rw (all_within bases c (members t) (members_order t n)) (within_well_formed bases c o t (testable_well_formed bases c g) n r h)
 
-any_passes : (bases : Bases) (test : Tested) → IsTestable test → IsWellFormed bases (passing bases test Any)
+any_passes : (bases : Bases) (test : Tested) → IsTestable test → IsWellFormed bases (type_where_true bases test Any)
 any_passes bases for_none g = (tt, tt, omega arith)
 any_passes bases for_list g = (tt, tt, omega arith)
 any_passes bases (for_type c) g = testable_well_formed bases c g
 
-object_passes : (bases : Bases) (test : Tested) → IsTestable test → IsWellFormed bases (passing bases test Object)
+object_passes : (bases : Bases) (test : Tested) → IsTestable test → IsWellFormed bases (type_where_true bases test Object)
 object_passes bases for_none g = (tt, tt, omega arith)
 object_passes bases for_list g = (tt, tt, omega arith)
 object_passes bases (for_type c) g = testable_well_formed bases c g

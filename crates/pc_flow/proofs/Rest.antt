@@ -6,7 +6,7 @@ use Rattle.std.proofs.lemmas.List.{drop-map, drop_all, append-nil, map_push}
 use Rattle.std.proofs.lemmas.List.Elements.{All-push}
 use Rattle.pc_types.specs.Tree.{Tree}
 use Rattle.pc_types.specs.Below.{Bases}
-use Rattle.pc_types.specs.Store.{Keeps}
+use Rattle.pc_types.specs.Store.{KeepsTypes}
 use Rattle.pc_flow.specs.Environment.{Env, join_local, join_env, head_local, loop_head}
 use Rattle.pc_flow.specs.Stored.{HasOne, HasEach, env_of, declared_one, declared_of, GivesOne, GivesEnv}
 use Rattle.pc_flow.proofs.Given.{each_kept}
@@ -57,7 +57,7 @@ module _ {Store Ty : Type 0} (has : Store → Ty → Type 0) (tree : Ty → Tree
     pub given : HasEach (has store) types
     pub so_far : env_of tree types ++ rest ≡ whole
 
-  pub made_more : (old new : Store) (t : Option Tree) (rest whole : Env) (types : List (Option Ty)) (o : Option Ty) → Keeps has old new → IsMade old (t ∷ rest) whole types → GivesOne has tree new o t → IsMade new rest whole (types ++ o ∷ [])
+  pub made_more : (old new : Store) (t : Option Tree) (rest whole : Env) (types : List (Option Ty)) (o : Option Ty) → KeepsTypes has old new → IsMade old (t ∷ rest) whole types → GivesOne has tree new o t → IsMade new rest whole (types ++ o ∷ [])
   made_more old new t rest whole types o k m g = record {
     given = All-push (HasOne (has new)) types o (each_kept has old new k types m.given) g.given;
     so_far = rw (map_push (option_map tree) types o, append_assoc, g.is) m.so_far;

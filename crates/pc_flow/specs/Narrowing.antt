@@ -52,17 +52,17 @@ member_failing bases (for_type c) m = if is_within bases c m then None else Some
 member_failing bases _ m = Some m
 
 -- a type where a test of it is true, and where it is false; where no member is left it is Never
-abbrev pub passing : Bases → Tested → Tree → Tree
-passing bases test t = union (filter_map (member_passing bases test) (members t))
+abbrev pub type_where_true : Bases → Tested → Tree → Tree
+type_where_true bases test t = union (filter_map (member_passing bases test) (members t))
 
 -- a type where a test of it is false
-abbrev pub failing : Bases → Tested → Tree → Tree
-failing bases test t = union (filter_map (member_failing bases test) (members t))
+abbrev pub type_where_false : Bases → Tested → Tree → Tree
+type_where_false bases test t = union (filter_map (member_failing bases test) (members t))
 
 -- a type where a test of it holds, or where it does not
 abbrev pub tested_as : Bases → (holds : Test) → Tested → Tree → Tree
-tested_as bases true test t = passing bases test t
-tested_as bases false test t = failing bases test t
+tested_as bases true test t = type_where_true bases test t
+tested_as bases false test t = type_where_false bases test t
 
 -- a local as a test leaves it; one that is not assigned stays so
 abbrev pub narrow_current : Bases → (holds : Test) → Tested → ℕ → Env → Option Tree → Env

@@ -8,7 +8,7 @@ use Rattle.pc_types.specs.Tree.{Tree, Int, Bool, Str, Class}
 use Rattle.pc_types.specs.Below.{Bases, AreSmaller}
 use Rattle.pc_types.specs.WellFormed.{IsWellFormed}
 use Rattle.pc_flow.specs.Environment.{Env, assign, assigned_type, join_env, loop_head}
-use Rattle.pc_flow.specs.Narrowing.{Tested, for_type, passing, failing, narrow}
+use Rattle.pc_flow.specs.Narrowing.{Tested, for_type, type_where_true, type_where_false, narrow}
 
 -- what may be tested for: None, a list, `int`, `str`, `bool`, or a class
 abbrev pub IsTestable : Tested → Type 0
@@ -36,11 +36,11 @@ AreWellFormed bases (t ∷ ts) = IsWellFormed bases t × AreWellFormed bases ts
 
 -- what is left of a well-formed type where a test of it is true is well-formed
 abbrev pub PassingIsWellFormed : Type 0
-PassingIsWellFormed = (bases : Bases) (test : Tested) (t : Tree) → AreSmaller bases → IsTestable test → IsWellFormed bases t → IsWellFormed bases (passing bases test t)
+PassingIsWellFormed = (bases : Bases) (test : Tested) (t : Tree) → AreSmaller bases → IsTestable test → IsWellFormed bases t → IsWellFormed bases (type_where_true bases test t)
 
 -- and where it is false, whatever is tested for
 abbrev pub FailingIsWellFormed : Type 0
-FailingIsWellFormed = (bases : Bases) (test : Tested) (t : Tree) → AreSmaller bases → IsWellFormed bases t → IsWellFormed bases (failing bases test t)
+FailingIsWellFormed = (bases : Bases) (test : Tested) (t : Tree) → AreSmaller bases → IsWellFormed bases t → IsWellFormed bases (type_where_false bases test t)
 
 -- an assignment from a well-formed type to a local of a well-formed declared type keeps an environment well-formed
 abbrev pub AssignmentsKeepWellFormed : Type 0

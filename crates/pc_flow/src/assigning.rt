@@ -1,4 +1,4 @@
-// The current type after an assignment.
+//! The current type after an assignment.
 
 ghost use Rattle.std.specs.Prelude.{IfOk};
 ghost use Rattle.pc_types.specs.Store.{Means};

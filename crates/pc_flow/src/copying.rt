@@ -1,4 +1,4 @@
-// The same environment again.
+//! The same environment again.
 
 ghost use Rattle.std.specs.Prelude.{IfOk};
 ghost use Rattle.std.specs.Option.{option_map};

@@ -1,3 +1,5 @@
+//! Environments: the current types of a function's locals.
+
 ghost use Rattle.std.specs.Prelude.{◌≡◌, List, Option, Some, None, IfOk, replicate, slice_set, slice_index_or};
 ghost use Rattle.std.specs.Option.{option_copied};
 

@@ -1,8 +1,8 @@
-// The head of a loop.
+//! The head of a loop.
 
 ghost use Rattle.std.specs.Prelude.{◌≡◌, IfOk, slice_index_or, false};
 ghost use Rattle.std.specs.Option.{option_map};
-ghost use Rattle.pc_types.specs.Store.{Keeps};
+ghost use Rattle.pc_types.specs.Store.{KeepsTypes};
 ghost use Rattle.pc_flow.specs.Environment.{head_local, loop_head};
 ghost use Rattle.pc_flow.specs.Stored.{env_of, declared_one, declared_of, HasOne, HasEach, GivesOne, GivesEnv};
 
@@ -23,7 +23,7 @@ fn head_local<S: TypeStore>(
     requires declared { HasOne (S.has store.old) declared.now }
     requires current { HasOne (S.has store.old) ty.now }
     ensures value { IfOk result (λ o. GivesOne S.has S.tree store.new o (head_local is_bound (declared_one S.tree declared.now) (option_map S.tree ty.now))) }
-    ensures kept { Keeps S.has store.old store.new }
+    ensures kept { KeepsTypes S.has store.old store.new }
 {
     match ty {
         None => Ok(None),
@@ -47,7 +47,7 @@ fn head_types<S: TypeStore>(
     requires declared { HasEach (S.has store.old) declared.now }
     requires env { HasEach (S.has store.old) types.now }
     ensures value { IfOk result (λ v. GivesEnv S.has S.tree store.new v.items (loop_head (λ x. slice_index_or bound.now x false) (declared_of S.tree declared.now) (env_of S.tree types.now))) }
-    ensures kept { Keeps S.has store.old store.new }
+    ensures kept { KeepsTypes S.has store.old store.new }
 {
     let mut heads = Vec::new(alloc);
     for i in 0..declared.len() {
@@ -83,7 +83,7 @@ pub fn loop_head<S: TypeStore>(
     requires declared { HasEach (S.has store.old) declared.now }
     requires env { HasEach (S.has store.old) env.now }
     ensures value { IfOk result (λ e. GivesEnv S.has S.tree store.new e (loop_head (λ x. slice_index_or bound.now x false) (declared_of S.tree declared.now) (env_of S.tree env.now))) }
-    ensures kept { Keeps S.has store.old store.new }
+    ensures kept { KeepsTypes S.has store.old store.new }
 {
     Ok(Env::of(head_types(store, alloc, bound, declared.types(), env.types())?))
 }

@@ -1,8 +1,8 @@
-// Where two ways meet.
+//! Where two ways meet.
 
 ghost use Rattle.std.specs.Prelude.{IfOk};
 ghost use Rattle.std.specs.Option.{option_map};
-ghost use Rattle.pc_types.specs.Store.{Means, Keeps};
+ghost use Rattle.pc_types.specs.Store.{Means, KeepsTypes};
 ghost use Rattle.pc_flow.specs.Environment.{join_or_object, join_local, join_env};
 ghost use Rattle.pc_flow.specs.Stored.{env_of, declared_one, declared_of, HasOne, HasEach, GivesOne, GivesEnv};
 
@@ -22,7 +22,7 @@ pub fn join_or_object<S: TypeStore>(
     requires left { S.has store.old s.now }
     requires right { S.has store.old t.now }
     ensures value { IfOk result (λ u. Means S.has S.tree store.new u (join_or_object parents.now (S.tree s.now) (S.tree t.now))) }
-    ensures kept { Keeps S.has store.old store.new }
+    ensures kept { KeepsTypes S.has store.old store.new }
 {
     match store.join(alloc, parents, s, t)? {
         Some(join) => Ok(join),
@@ -38,7 +38,7 @@ pub(crate) fn declared_type<S: TypeStore>(
 ) -> Result<S::Ty, OutOfMemory>
     requires { HasOne (S.has store.old) declared.now }
     ensures value { IfOk result (λ t. Means S.has S.tree store.new t (declared_one S.tree declared.now)) }
-    ensures kept { Keeps S.has store.old store.new }
+    ensures kept { KeepsTypes S.has store.old store.new }
 {
     match declared {
         Some(ty) => store.copy(alloc, ty),
@@ -59,7 +59,7 @@ fn join_assigned<S: TypeStore>(
     requires left { S.has store.old s.now }
     requires right { S.has store.old t.now }
     ensures value { IfOk result (λ o. GivesOne S.has S.tree store.new o (join_local parents.now (declared_one S.tree declared.now) (Some (S.tree s.now)) (Some (S.tree t.now)))) }
-    ensures kept { Keeps S.has store.old store.new }
+    ensures kept { KeepsTypes S.has store.old store.new }
 {
     match store.join(alloc, parents, s, t)? {
         Some(join) => Ok(Some(join)),
@@ -80,7 +80,7 @@ fn join_local<S: TypeStore>(
     requires left { HasOne (S.has store.old) s.now }
     requires right { HasOne (S.has store.old) t.now }
     ensures value { IfOk result (λ o. GivesOne S.has S.tree store.new o (join_local parents.now (declared_one S.tree declared.now) (option_map S.tree s.now) (option_map S.tree t.now))) }
-    ensures kept { Keeps S.has store.old store.new }
+    ensures kept { KeepsTypes S.has store.old store.new }
 {
     match s {
         None => Ok(None),
@@ -104,7 +104,7 @@ fn join_types<S: TypeStore>(
     requires left { HasEach (S.has store.old) a.now }
     requires right { HasEach (S.has store.old) b.now }
     ensures value { IfOk result (λ v. GivesEnv S.has S.tree store.new v.items (join_env parents.now (declared_of S.tree declared.now) (env_of S.tree a.now) (env_of S.tree b.now))) }
-    ensures kept { Keeps S.has store.old store.new }
+    ensures kept { KeepsTypes S.has store.old store.new }
 {
     let mut types = Vec::new(alloc);
     for i in 0..declared.len() {
@@ -131,7 +131,7 @@ pub fn join_env<S: TypeStore>(
     requires left { HasEach (S.has store.old) a.now }
     requires right { HasEach (S.has store.old) b.now }
     ensures value { IfOk result (λ e. GivesEnv S.has S.tree store.new e (join_env parents.now (declared_of S.tree declared.now) (env_of S.tree a.now) (env_of S.tree b.now))) }
-    ensures kept { Keeps S.has store.old store.new }
+    ensures kept { KeepsTypes S.has store.old store.new }
 {
     Ok(Env::of(join_types(
         store,

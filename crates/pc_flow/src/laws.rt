@@ -1,3 +1,5 @@
+//! The laws on environments, narrowing and loops.
+
 ghost use Rattle.std.specs.Prelude.{◌≡◌, ℕ, length, List, Bool, true, false, Some};
 ghost use Rattle.pc_types.specs.Tree.{Tree};
 ghost use Rattle.pc_types.specs.Below.{Bases};

@@ -1,4 +1,4 @@
-// Types of locals, by their numbers.
+//! Types of locals, by their numbers.
 
 ghost use Rattle.std.specs.Prelude.{◌≡◌, Some, None, IfOk, replicate, slice_set, slice_index_or};
 ghost use Rattle.std.specs.Option.{option_copied};

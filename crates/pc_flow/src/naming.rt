@@ -1,9 +1,9 @@
-// The local that an expression names, and what `isinstance` tests for.
+//! The local that an expression names, and what `isinstance` tests for.
 
 ghost use Rattle.std.specs.Prelude.{◌≡◌, ℕ, List};
 ghost use Rattle.pc_tree.specs.Tree.{expr_of};
 ghost use Rattle.pc_scope.specs.declared.resolution.Res.{Res as ResOf};
-ghost use Rattle.pc_scope.specs.Tables.{meaning};
+ghost use Rattle.pc_scope.specs.Tables.{meaning_by_tables};
 ghost use Rattle.pc_flow.specs.Narrowing.{as_local, local_named, test_named, test_of};
 ghost use Rattle.pc_flow.specs.Tests.{option_tested};
 
@@ -29,7 +29,7 @@ pub struct OwnerNames<'s> {
 }
 
 impl<'s> Resolver for OwnerNames<'s> {
-    ghost meaning = { λ n. meaning n.scopes.now.tables n.owner };
+    ghost meaning = { λ n. meaning_by_tables n.scopes.now.tables n.owner };
 
     fn resolve(&self, name: &str) -> Res {
         self.scopes.resolve(self.owner, name)

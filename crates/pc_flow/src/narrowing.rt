@@ -1,11 +1,11 @@
-// What a condition tells of locals where it is true, and where it is false.
+//! What a condition tells of locals where it is true, and where it is false.
 
 ghost use Rattle.std.specs.Prelude.{◌≡◌, List, IfOk, true, false, if◌then◌else◌};
 ghost use Rattle.pc_tree.specs.Tree.{expr_of};
 ghost use Rattle.pc_tree.specs.Lists.{exprs_of_list, keywords_of_list};
 ghost use Rattle.pc_scope.specs.Expressions.{is_instance_test};
 ghost use Rattle.pc_types.specs.Tree.{Tree};
-ghost use Rattle.pc_types.specs.Store.{Keeps};
+ghost use Rattle.pc_types.specs.Store.{KeepsTypes};
 ghost use Rattle.pc_flow.specs.Environment.{assign};
 ghost use Rattle.pc_flow.specs.Narrowing.{first_argument, second_argument, local_of_argument, test_of_argument, narrow_local, narrow_instance, narrow};
 ghost use Rattle.pc_flow.specs.WellFormed.{IsWellFormedEnv, AreWellFormed};
@@ -95,7 +95,7 @@ fn narrow_at<S: TypeStore>(
     requires env { HasEach (S.has store.old) env }
     requires well_formed { IsWellFormedEnv parents.now (env_of S.tree env) }
     ensures value { IfOk result (λ n. GivesBoth S.has S.tree store.new n (λ holds. narrow_local parents.now holds (tested_of test) (Some local) (env_of S.tree env))) }
-    ensures kept { Keeps S.has store.old store.new }
+    ensures kept { KeepsTypes S.has store.old store.new }
 {
     match env.current(local) {
         None => unchanged(store, alloc, env),
@@ -118,7 +118,7 @@ fn narrow_local<S: TypeStore>(
     requires env { HasEach (S.has store.old) env }
     requires well_formed { IsWellFormedEnv parents.now (env_of S.tree env) }
     ensures value { IfOk result (λ n. GivesBoth S.has S.tree store.new n (λ holds. narrow_local parents.now holds (tested_of test) local (env_of S.tree env))) }
-    ensures kept { Keeps S.has store.old store.new }
+    ensures kept { KeepsTypes S.has store.old store.new }
 {
     match local {
         None => unchanged(store, alloc, env),
@@ -140,7 +140,7 @@ fn narrow_instance<S: TypeStore, R: Resolver>(
     requires env { HasEach (S.has store.old) env }
     requires well_formed { IsWellFormedEnv parents.now (env_of S.tree env) }
     ensures value { (declared : List Tree) → IfOk result (λ n. GivesBoth S.has S.tree store.new n (λ holds. narrow_instance parents.now declared (R.meaning names.now) holds (is_instance_test (expr_of callee.now) (exprs_of_list arguments.now) (keywords_of_list by_name.now)) (local_of_argument (R.meaning names.now) (first_argument (exprs_of_list arguments.now))) (test_of_argument (R.meaning names.now) (second_argument (exprs_of_list arguments.now))) (env_of S.tree env))) }
-    ensures kept { Keeps S.has store.old store.new }
+    ensures kept { KeepsTypes S.has store.old store.new }
 {
     if !is_instance_test(callee, arguments, by_name) {
         return unchanged(store, alloc, env);
@@ -174,7 +174,7 @@ pub fn narrow<S: TypeStore, R: Resolver>(
     requires declared_well_formed { AreWellFormed parents.now (declared_of S.tree declared.now) }
     requires env_well_formed { IsWellFormedEnv parents.now (env_of S.tree env) }
     ensures value { IfOk result (λ n. GivesWellFormed S.has S.tree parents.now store.new n (λ holds. narrow parents.now (declared_of S.tree declared.now) (R.meaning names.now) holds (expr_of condition.now) (env_of S.tree env))) }
-    ensures kept { Keeps S.has store.old store.new }
+    ensures kept { KeepsTypes S.has store.old store.new }
 {
     parents.ordered();
     match condition {
@@ -271,7 +271,7 @@ pub fn narrow_true<S: TypeStore, R: Resolver>(
     requires env_well_formed { IsWellFormedEnv parents.now (env_of S.tree env.now) }
     ensures value { IfOk result (λ e. GivesEnv S.has S.tree store.new e (narrow parents.now (declared_of S.tree declared.now) (R.meaning names.now) true (expr_of condition.now) (env_of S.tree env.now))) }
     ensures well_formed { IfOk result (λ e. IsWellFormedEnv parents.now (env_of S.tree e)) }
-    ensures kept { Keeps S.has store.old store.new }
+    ensures kept { KeepsTypes S.has store.old store.new }
 {
     let env = copy_env(store, alloc, env)?;
     let narrowed = narrow(store, alloc, parents, declared, names, condition, env)?;
@@ -294,7 +294,7 @@ pub fn narrow_false<S: TypeStore, R: Resolver>(
     requires env_well_formed { IsWellFormedEnv parents.now (env_of S.tree env.now) }
     ensures value { IfOk result (λ e. GivesEnv S.has S.tree store.new e (narrow parents.now (declared_of S.tree declared.now) (R.meaning names.now) false (expr_of condition.now) (env_of S.tree env.now))) }
     ensures well_formed { IfOk result (λ e. IsWellFormedEnv parents.now (env_of S.tree e)) }
-    ensures kept { Keeps S.has store.old store.new }
+    ensures kept { KeepsTypes S.has store.old store.new }
 {
     let env = copy_env(store, alloc, env)?;
     let narrowed = narrow(store, alloc, parents, declared, names, condition, env)?;

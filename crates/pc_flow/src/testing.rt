@@ -1,12 +1,12 @@
-// A type where a test of it is true, and where it is false.
+//! A type where a test of it is true, and where it is false.
 
 ghost use Rattle.std.specs.Prelude.{◌≡◌, ◌≤◌, ◌++◌, IfOk, OnOk, All, map, option_to_list};
 ghost use Rattle.pc_types.specs.Tree.{Any, ListOf};
-ghost use Rattle.pc_types.specs.Shape.{nodes, limit, union};
+ghost use Rattle.pc_types.specs.Shape.{nodes, node_limit, union};
 ghost use Rattle.pc_types.specs.Normal.{IsNormal};
-ghost use Rattle.pc_types.specs.Store.{Means, Keeps};
+ghost use Rattle.pc_types.specs.Store.{Means, KeepsTypes};
 ghost use Rattle.pc_types.specs.WellFormed.{IsWellFormed};
-ghost use Rattle.pc_flow.specs.Narrowing.{passing, failing, member_passing, member_failing};
+ghost use Rattle.pc_flow.specs.Narrowing.{type_where_true, type_where_false, member_passing, member_failing};
 ghost use Rattle.pc_flow.specs.Tests.{tested_of, type_for, class_standing, how_stands, IsOne, GivesLeft, Splits};
 
 use pc_source::OutOfMemory;
@@ -85,7 +85,7 @@ fn how_stands(parents: &Parents, test: Test, head: Head) -> Standing
 /// The type `list[Any]`.
 fn list_of_any<S: TypeStore>(store: &mut S, alloc: Global) -> Result<S::Ty, OutOfMemory>
     ensures value { IfOk result (λ t. Means S.has S.tree store.new t (ListOf Any)) }
-    ensures kept { Keeps S.has store.old store.new }
+    ensures kept { KeepsTypes S.has store.old store.new }
 {
     let any = store.any(alloc)?;
     match store.list(alloc, &any)? {
@@ -97,7 +97,7 @@ fn list_of_any<S: TypeStore>(store: &mut S, alloc: Global) -> Result<S::Ty, OutO
 /// What is left of `Any` where a test is true.
 fn type_for<S: TypeStore>(store: &mut S, alloc: Global, test: Test) -> Result<S::Ty, OutOfMemory>
     ensures value { IfOk result (λ t. Means S.has S.tree store.new t (type_for test)) }
-    ensures kept { Keeps S.has store.old store.new }
+    ensures kept { KeepsTypes S.has store.old store.new }
 {
     match test {
         Test::None => store.none(alloc),
@@ -120,7 +120,7 @@ fn left_of<S: TypeStore>(
     requires has { S.has store.old member.now }
     requires one { IsOne (S.tree member.now) }
     ensures value { IfOk result (λ l. GivesLeft S.has S.tree store.new l (member_passing parents.now (tested_of test) (S.tree member.now)) (member_failing parents.now (tested_of test) (S.tree member.now))) }
-    ensures kept { Keeps S.has store.old store.new }
+    ensures kept { KeepsTypes S.has store.old store.new }
 {
     let head = store.head(member);
     match how_stands(parents, test, head) {
@@ -167,9 +167,9 @@ fn union_left<S: TypeStore>(
 ) -> Result<S::Ty, OutOfMemory>
     requires types { All (S.has store.old) types.now }
     requires order { IsNormal (union (map S.tree types.now)) }
-    requires small { nodes (union (map S.tree types.now)) ≤ limit }
+    requires small { nodes (union (map S.tree types.now)) ≤ node_limit }
     ensures value { IfOk result (λ t. Means S.has S.tree store.new t (union (map S.tree types.now))) }
-    ensures kept { Keeps S.has store.old store.new }
+    ensures kept { KeepsTypes S.has store.old store.new }
 {
     match store.union(alloc, types)? {
         Some(union) => Ok(union),
@@ -187,8 +187,8 @@ pub(crate) fn split_type<S: TypeStore>(
 ) -> Result<Split<S::Ty>, OutOfMemory>
     requires has { S.has store.old ty.now }
     requires well_formed { IsWellFormed parents.now (S.tree ty.now) }
-    ensures value { IfOk result (λ s. Splits S.has S.tree store.new s (passing parents.now (tested_of test) (S.tree ty.now)) (failing parents.now (tested_of test) (S.tree ty.now))) }
-    ensures kept { Keeps S.has store.old store.new }
+    ensures value { IfOk result (λ s. Splits S.has S.tree store.new s (type_where_true parents.now (tested_of test) (S.tree ty.now)) (type_where_false parents.now (tested_of test) (S.tree ty.now))) }
+    ensures kept { KeepsTypes S.has store.old store.new }
 {
     parents.ordered();
     let members = store.members(alloc, ty)?;

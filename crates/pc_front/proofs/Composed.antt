@@ -5,7 +5,7 @@ use Rattle.std.specs.Borrow.{Bor}
 use Rattle.pc_source.specs.declared.fault.Refusal.{Refusal}
 use Rattle.pc_source.specs.declared.fault.Fault.{Fault}
 use Rattle.pc_source.specs.declared.fault.Fault.TheVariants.{Refused, OutOfMemory}
-use Rattle.pc_source.specs.Stream.{Comes}
+use Rattle.pc_source.specs.Stream.{Yields}
 use Rattle.pc_source.specs.Text.{IsText}
 use Rattle.pc_token.specs.declared.stream.Lines.{Lines}
 use Rattle.pc_token.specs.declared.token.Line.{Line}
@@ -14,7 +14,7 @@ use Rattle.pc_token.specs.Lexeme.{Lexeme, LogicalLine, lexeme_of}
 use Rattle.pc_token.specs.Remaining.{HasLeft, gives}
 use Rattle.pc_token.specs.Splitting.{HasLines}
 use Rattle.pc_layout.specs.Answering.{lines_came, fault_came, ComesWhole, ComesFaulty, ComesRefused, AnswersLines, LaysOut}
-use Rattle.pc_layout.specs.Giving.{clean, item_of}
+use Rattle.pc_layout.specs.TokenIterator.Items.{line_item_of, token_item_of}
 use Rattle.pc_layout.proofs.TextLines.{stand_in_order}
 use Rattle.pc_tree.specs.declared.tree.Module.{Module as RustModule}
 use Rattle.pc_tree.specs.Tree.{Module, module_of}
@@ -31,23 +31,23 @@ TokenItem = Result (Token (Bor (List ℕ))) Fault
 -- ---- lines
 
 -- lines that came without a fault were left
-all_left : (s : Lines) (ks : LineItems) → Comes gives s ks → fault_came (map clean ks) ≡ None → HasLeft s (map Ok (lines_came (map clean ks)))
+all_left : (s : Lines) (ks : LineItems) → Yields gives s ks → fault_came (map line_item_of ks) ≡ None → HasLeft s (map Ok (lines_came (map line_item_of ks)))
 all_left s [] (t, g) e = g.0
-all_left s (Ok l ∷ ks) (t, g, more) e = g (map Ok (lines_came (map clean ks))) (all_left t ks more e)
+all_left s (Ok l ∷ ks) (t, g, more) e = g (map Ok (lines_came (map line_item_of ks))) (all_left t ks more e)
 all_left s (Err x ∷ ks) h e = absurd (grind (arith, e))
 
 -- and those that came before a refusal, with it
-refused_left : (s : Lines) (ks : LineItems) (r : Refusal) → Comes gives s ks → fault_came (map clean ks) ≡ Some (Refused r) → HasLeft s (map Ok (lines_came (map clean ks)) ++ Err r ∷ [])
+refused_left : (s : Lines) (ks : LineItems) (r : Refusal) → Yields gives s ks → fault_came (map line_item_of ks) ≡ Some (Refused r) → HasLeft s (map Ok (lines_came (map line_item_of ks)) ++ Err r ∷ [])
 refused_left s [] r h e = absurd (grind (arith, e))
-refused_left s (Ok l ∷ ks) r (t, g, more) e = g (map Ok (lines_came (map clean ks)) ++ Err r ∷ []) (refused_left t ks r more e)
+refused_left s (Ok l ∷ ks) r (t, g, more) e = g (map Ok (lines_came (map line_item_of ks)) ++ Err r ∷ []) (refused_left t ks r more e)
 refused_left s (Err (Refused q) ∷ ks) r (none, t, g) e =
     let same : q ≡ r = grind (arith, e) in
-    subst (λ x. HasLeft s (map Ok (lines_came (map clean ks)) ++ Err x ∷ [])) same (subst (λ y. HasLeft s (map Ok (lines_came (map clean y)) ++ Err q ∷ [])) (sym none) g.1)
+    subst (λ x. HasLeft s (map Ok (lines_came (map line_item_of ks)) ++ Err x ∷ [])) same (subst (λ y. HasLeft s (map Ok (lines_came (map line_item_of y)) ++ Err q ∷ [])) (sym none) g.1)
 refused_left s (Err OutOfMemory ∷ ks) r h e = absurd (grind (arith, e))
 
 -- ---- tokens
 
-ok_lexemes : (ts : List (Token (Bor (List ℕ)))) (us : List Lexeme) → map item_of (map Ok ts) ≡ map Ok us → map lexeme_of ts ≡ us
+ok_lexemes : (ts : List (Token (Bor (List ℕ)))) (us : List Lexeme) → map token_item_of (map Ok ts) ≡ map Ok us → map lexeme_of ts ≡ us
 ok_lexemes [] [] e = refl
 ok_lexemes [] (u ∷ us) e = absurd (grind (arith, e))
 ok_lexemes (t ∷ ts) [] e = absurd (grind (arith, e))
@@ -56,59 +56,59 @@ ok_lexemes (t ∷ ts) (u ∷ us) e =
     let rest = ok_lexemes ts us (grind (arith, e)) in
     ap (λ x. x ∷ map lexeme_of ts) first ∙ ap (λ x. u ∷ x) rest
 
-no_fault : (ts : List (Token (Bor (List ℕ)))) (us : List Lexeme) (e : Fault) → map item_of (map Ok ts) ≡ map Ok us ++ Err e ∷ [] → ⊥
+no_fault : (ts : List (Token (Bor (List ℕ)))) (us : List Lexeme) (e : Fault) → map token_item_of (map Ok ts) ≡ map Ok us ++ Err e ∷ [] → ⊥
 no_fault [] [] e h = absurd (grind (arith, h))
 no_fault [] (u ∷ us) e h = absurd (grind (arith, h))
 no_fault (t ∷ ts) [] e h = absurd (grind (arith, h))
 no_fault (t ∷ ts) (u ∷ us) e h = no_fault ts us e (grind (arith, h))
 
-same_fault : (ts : List (Token (Bor (List ℕ)))) (us : List Lexeme) (e f : Fault) → map item_of (map Ok ts ++ Err e ∷ []) ≡ map Ok us ++ Err f ∷ [] → e ≡ f
+same_fault : (ts : List (Token (Bor (List ℕ)))) (us : List Lexeme) (e f : Fault) → map token_item_of (map Ok ts ++ Err e ∷ []) ≡ map Ok us ++ Err f ∷ [] → e ≡ f
 same_fault [] [] e f h = grind (arith, h)
 same_fault [] (u ∷ us) e f h = absurd (grind (arith, h))
 same_fault (t ∷ ts) [] e f h = absurd (grind (arith, h))
 same_fault (t ∷ ts) (u ∷ us) e f h = same_fault ts us e f (grind (arith, h))
 
-no_whole : (ts : List (Token (Bor (List ℕ)))) (us : List Lexeme) (e : Fault) → map item_of (map Ok ts ++ Err e ∷ []) ≡ map Ok us → ⊥
+no_whole : (ts : List (Token (Bor (List ℕ)))) (us : List Lexeme) (e : Fault) → map token_item_of (map Ok ts ++ Err e ∷ []) ≡ map Ok us → ⊥
 no_whole [] [] e h = absurd (grind (arith, h))
 no_whole [] (u ∷ us) e h = absurd (grind (arith, h))
 no_whole (t ∷ ts) [] e h = absurd (grind (arith, h))
 no_whole (t ∷ ts) (u ∷ us) e h = no_whole ts us e (grind (arith, h))
 
-module _ (text : List ℕ) (is_text : IsText text) (lines : Lines) (left : (items : List (Result LogicalLine Refusal)) → HasLeft lines items → HasLines text items) (ks : LineItems) (come : Comes gives lines ks) where
-  lined : fault_came (map clean ks) ≡ None → IsLined text (lines_came (map clean ks))
-  lined none = record { text = is_text; split = left (map Ok (lines_came (map clean ks))) (all_left lines ks come none) }
+module _ (text : List ℕ) (is_text : IsText text) (lines : Lines) (left : (items : List (Result LogicalLine Refusal)) → HasLeft lines items → HasLines text items) (ks : LineItems) (come : Yields gives lines ks) where
+  lined : fault_came (map line_item_of ks) ≡ None → IsLined text (lines_came (map line_item_of ks))
+  lined none = record { text = is_text; split = left (map Ok (lines_came (map line_item_of ks))) (all_left lines ks come none) }
 
   -- all tokens came: they are the layout of the text
-  pub laid_out : (ts : List (Token (Bor (List ℕ)))) → AnswersLines text (map clean ks) (map item_of (map Ok ts)) → IsLaidOut text (map lexeme_of ts)
-  laid_out ts answers = by_fault (fault_came (map clean ks)) refl answers
+  pub laid_out : (ts : List (Token (Bor (List ℕ)))) → AnswersLines text (map line_item_of ks) (map token_item_of (map Ok ts)) → IsLaidOut text (map lexeme_of ts)
+  laid_out ts answers = by_fault (fault_came (map line_item_of ks)) refl answers
     where
-      by_fault : (o : Option Fault) → fault_came (map clean ks) ≡ o → MatchOption o (ComesWhole text (lines_came (map clean ks)) (map item_of (map Ok ts)) ⊎ ComesRefused text (lines_came (map clean ks)) (map item_of (map Ok ts))) (ComesFaulty (map item_of (map Ok ts))) → IsLaidOut text (map lexeme_of ts)
+      by_fault : (o : Option Fault) → fault_came (map line_item_of ks) ≡ o → MatchOption o (ComesWhole text (lines_came (map line_item_of ks)) (map token_item_of (map Ok ts)) ⊎ ComesRefused text (lines_came (map line_item_of ks)) (map token_item_of (map Ok ts))) (ComesFaulty (map token_item_of (map Ok ts))) → IsLaidOut text (map lexeme_of ts)
       by_fault (Some e) is h = absurd (no_fault ts h.tokens e h.all)
-      by_fault None is (inl whole) = record { lines = lines_came (map clean ks); lined = lined is; layout = subst (λ us. Rattle.pc_layout.specs.Layouts.IsLayout text (lines_came (map clean ks)) us) (sym (ok_lexemes ts whole.tokens whole.all)) whole.layout }
+      by_fault None is (inl whole) = record { lines = lines_came (map line_item_of ks); lined = lined is; layout = subst (λ us. Rattle.pc_layout.specs.Layouts.IsLayout text (lines_came (map line_item_of ks)) us) (sym (ok_lexemes ts whole.tokens whole.all)) whole.layout }
       by_fault None is (inr refused) = absurd (no_fault ts refused.fault.tokens (Refused refused.refusal) refused.fault.all)
 
   -- a refusal came: it is one of tokens or of lines
-  pub refused_before : (ts : List (Token (Bor (List ℕ)))) (r : Refusal) → AnswersLines text (map clean ks) (map item_of (map Ok ts ++ Err (Refused r) ∷ [])) → IsRefusalOf text r
-  refused_before ts r answers = by_fault (fault_came (map clean ks)) refl answers
+  pub refused_before : (ts : List (Token (Bor (List ℕ)))) (r : Refusal) → AnswersLines text (map line_item_of ks) (map token_item_of (map Ok ts ++ Err (Refused r) ∷ [])) → IsRefusalOf text r
+  refused_before ts r answers = by_fault (fault_came (map line_item_of ks)) refl answers
     where
       refused_is : {x y : Refusal} → Refused x ≡ Refused y → x ≡ y
       refused_is e = grind (arith, e)
 
-      by_fault : (o : Option Fault) → fault_came (map clean ks) ≡ o → MatchOption o (ComesWhole text (lines_came (map clean ks)) (map item_of (map Ok ts ++ Err (Refused r) ∷ [])) ⊎ ComesRefused text (lines_came (map clean ks)) (map item_of (map Ok ts ++ Err (Refused r) ∷ []))) (ComesFaulty (map item_of (map Ok ts ++ Err (Refused r) ∷ []))) → IsRefusalOf text r
+      by_fault : (o : Option Fault) → fault_came (map line_item_of ks) ≡ o → MatchOption o (ComesWhole text (lines_came (map line_item_of ks)) (map token_item_of (map Ok ts ++ Err (Refused r) ∷ [])) ⊎ ComesRefused text (lines_came (map line_item_of ks)) (map token_item_of (map Ok ts ++ Err (Refused r) ∷ []))) (ComesFaulty (map token_item_of (map Ok ts ++ Err (Refused r) ∷ []))) → IsRefusalOf text r
       by_fault (Some e) is h =
           of_tokens (record {
             text = is_text;
-            before = lines_came (map clean ks);
-            split = left (map Ok (lines_came (map clean ks)) ++ Err r ∷ []) (refused_left lines ks r come (is ∙ ap Some (sym (same_fault ts h.tokens (Refused r) e h.all))));
+            before = lines_came (map line_item_of ks);
+            split = left (map Ok (lines_came (map line_item_of ks)) ++ Err r ∷ []) (refused_left lines ks r come (is ∙ ap Some (sym (same_fault ts h.tokens (Refused r) e h.all))));
           })
       by_fault None is (inl whole) = absurd (no_whole ts whole.tokens (Refused r) whole.all)
       by_fault None is (inr refused) =
           let same : r ≡ refused.refusal = refused_is (same_fault ts refused.fault.tokens (Refused r) (Refused refused.refusal) refused.fault.all) in
           let line = lined is in
           of_layout (record {
-            lines = lines_came (map clean ks);
+            lines = lines_came (map line_item_of ks);
             lined = line;
-            refused = subst (λ x. Rattle.pc_layout.specs.Faults.IsLayoutRefusal (length text) (lines_came (map clean ks)) x) (sym same) (refused.refuses.first (stand_in_order text (lines_came (map clean ks)) line.split));
+            refused = subst (λ x. Rattle.pc_layout.specs.Faults.IsLayoutRefusal (length text) (lines_came (map line_item_of ks)) x) (sym same) (refused.refuses.first (stand_in_order text (lines_came (map line_item_of ks)) line.split));
           })
 
 -- what a parser over the tokens answers

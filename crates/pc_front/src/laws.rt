@@ -1,3 +1,5 @@
+//! The laws on the module that bytes spell.
+
 ghost use Rattle.pc_front.specs.Bytes.{OneModuleOfBytes, ModuleOrRefusal, OneRefusalOfBytes, RefusalsOfBytesWithin};
 
 /// The law that bytes spell at most one module.

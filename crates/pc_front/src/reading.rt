@@ -1,3 +1,5 @@
+//! The module of a source text.
+
 ghost use Rattle.std.specs.Prelude.{length, IfOk, IfErr};
 ghost use Rattle.pc_source.specs.Answers.{OnRefusal};
 ghost use Rattle.pc_source.specs.Text.{IsText};

@@ -8,7 +8,7 @@ use Rattle.pc_types.specs.Tree.{Tree, Never, Union}
 use Rattle.pc_types.specs.Below.{Bases, AreSmaller, Static}
 use Rattle.pc_types.specs.Assignable.{Assignable}
 use Rattle.pc_types.specs.Computed.{static_test, assignable_test}
-use Rattle.pc_types.specs.Shape.{parts, members, nodes, limit}
+use Rattle.pc_types.specs.Shape.{parts, members, nodes, node_limit}
 use Rattle.pc_types.specs.Head.{head_of}
 use Rattle.pc_types.specs.declared.head.Head.{Head}
 use Rattle.pc_types.specs.declared.head.Head.TheVariants as heads
@@ -22,7 +22,7 @@ use Rattle.pc_intern.specs.Table.{tree_at, IsNodeAt, Grows}
 use Rattle.pc_intern.specs.Store.{meaning, IsHeld, IsRightAt, AreRight}
 use Rattle.pc_intern.proofs.Places.{map_at, at_map, each_push, same_items}
 use Rattle.pc_intern.proofs.Standing.{tree_stays}
-use Rattle.pc_types.specs.Rebuilding.{rebuilt}
+use Rattle.pc_types.specs.Internal.Rebuilding.{rebuilt}
 use Rattle.pc_types.proofs.Rebuilt.{rebuilt_is}
 
 -- a type is held still where types are put behind the others
@@ -127,10 +127,10 @@ known_parts types node n r us w h e k =
     ap parts (told_meaning types node n r w h e) ∙ same_items (parts (tree_of w.ty)) us (sym w.told.parts ∙ k)
 
 -- a held type with a head and parts is one that a call may answer
-pub known_as : (types : List BoxType) (r : TypeId) (head : Head) (us : List Tree) → IsHeld types r → head_of (meaning r) ≡ head → parts (meaning r) ≡ us → IsHeld types r × (meaning r ≡ rebuilt head us) × (nodes (rebuilt head us) ≤ limit)
+pub known_as : (types : List BoxType) (r : TypeId) (head : Head) (us : List Tree) → IsHeld types r → head_of (meaning r) ≡ head → parts (meaning r) ≡ us → IsHeld types r × (meaning r ≡ rebuilt head us) × (nodes (rebuilt head us) ≤ node_limit)
 known_as types r head us h e p =
     let q : meaning r ≡ rebuilt head us = sym (rebuilt_is (meaning r) h.normal) ∙ (λ i. rebuilt (e i) (p i)) in
-    (h, q, subst (λ t. nodes t ≤ limit) q h.small)
+    (h, q, subst (λ t. nodes t ≤ node_limit) q h.small)
 
 -- the same where the table is told by what the store is seen as
 pub means_now : (types now : List BoxType) (ty : TypeId) (b : BoxType) → types ≡ now → IsHeld now ty → slice_get types ty.number ≡ Some b → tree_of b ≡ meaning ty
@@ -147,16 +147,16 @@ pub two_numbers : (types : List BoxType) (ns : List ℕ) (s t : TypeId) → ns �
 two_numbers types ns s t e h g = ap (map (tree_at types)) e ∙ (λ i. h.at i ∷ g.at i ∷ [])
 
 -- no type is made of a tree that is too large
-pub answer_none : (o : Option BoxType) (s t : Tree) → o ≡ None → s ≡ t → MatchOption o (limit < nodes s) (λ c. IsGiven c × (tree_of c ≡ s) × (nodes s ≤ limit)) → limit < nodes t
-answer_none None s t e q h = subst (λ x. limit < nodes x) q h
+pub answer_none : (o : Option BoxType) (s t : Tree) → o ≡ None → s ≡ t → MatchOption o (node_limit < nodes s) (λ c. IsGiven c × (tree_of c ≡ s) × (nodes s ≤ node_limit)) → node_limit < nodes t
+answer_none None s t e q h = subst (λ x. node_limit < nodes x) q h
 answer_none (Some c) s t e q h = cc
 
 -- a type that is made means the tree
-pub answer_some : (types : List BoxType) (o : Option BoxType) (b : BoxType) (r : TypeId) (s t : Tree) → o ≡ Some b → s ≡ t → MatchOption o (limit < nodes s) (λ c. IsGiven c × (tree_of c ≡ s) × (nodes s ≤ limit)) → IsHeld types r × (meaning r ≡ tree_of b) → IsHeld types r × (meaning r ≡ t) × (nodes t ≤ limit)
+pub answer_some : (types : List BoxType) (o : Option BoxType) (b : BoxType) (r : TypeId) (s t : Tree) → o ≡ Some b → s ≡ t → MatchOption o (node_limit < nodes s) (λ c. IsGiven c × (tree_of c ≡ s) × (nodes s ≤ node_limit)) → IsHeld types r × (meaning r ≡ tree_of b) → IsHeld types r × (meaning r ≡ t) × (nodes t ≤ node_limit)
 answer_some types None b r s t e q h g = cc
 answer_some types (Some c) b r s t e q h g =
     let f : c ≡ b = cc in
-    (g.0, g.1 ∙ ap tree_of (sym f) ∙ h.1 ∙ q, subst (λ x. nodes x ≤ limit) q h.2)
+    (g.0, g.1 ∙ ap tree_of (sym f) ∙ h.1 ∙ q, subst (λ x. nodes x ≤ node_limit) q h.2)
 
 -- there is no join, or one that is made
 pub joined_none : (o : Option BoxType) (x y : Option Tree) → o ≡ None → x ≡ y → MatchOption o (x ≡ None) (λ u. IsGiven u × (x ≡ Some (tree_of u))) → y ≡ None

@@ -7,8 +7,8 @@ use Rattle.pc_types.specs.Below.{Bases, AreSmaller, Static, same}
 use Rattle.pc_types.specs.Assignable.{Assignable}
 use Rattle.pc_types.specs.Computed.{static_test, assignable_test}
 use Rattle.pc_types.specs.Normal.{IsNormal}
-use Rattle.pc_types.specs.Shape.{nodes, limit, union}
-use Rattle.pc_types.specs.Join.{same_tree, same_trees, by_rule, put_all, unabsorbed, join, joined, within_limit}
+use Rattle.pc_types.specs.Shape.{nodes, node_limit, union}
+use Rattle.pc_types.specs.Join.{same_tree, same_trees, by_rule, put_all, unabsorbed_members, join, join_of, within_limit}
 use Rattle.pc_types.proofs.Consistent.{static_assignable}
 use Rattle.pc_types.proofs.DecidedSubtyping.{static_decided, assignable_decided}
 use Rattle.pc_types.proofs.JoinNormal.{within_is}
@@ -40,10 +40,10 @@ mutual
   trees_itself end = refl
   trees_itself (more t ts) = λ i. tree_itself t i && trees_itself ts i
 
-join_one : (bases : Bases) (s : Tree) → nodes s ≤ limit → join bases s s ≡ Some s
+join_one : (bases : Bases) (s : Tree) → nodes s ≤ node_limit → join bases s s ≡ Some s
 join_one bases s l =
-    let e : joined bases s s ≡ Some s = ap (λ (b : Bool). if b then Some s else by_rule s s (option_map union (put_all bases s s (unabsorbed bases s s)))) (tree_itself s) in
+    let e : join_of bases s s ≡ Some s = ap (λ (b : Bool). if b then Some s else by_rule s s (option_map union (put_all bases s s (unabsorbed_members bases s s)))) (tree_itself s) in
     ap within_limit e ∙ within_is s l
 
-pub join_itself : (bases : Bases) (s t : Tree) → s ≡ t → nodes s ≤ limit → join bases s t ≡ Some s
+pub join_itself : (bases : Bases) (s t : Tree) → s ≡ t → nodes s ≤ node_limit → join bases s t ≡ Some s
 join_itself bases s t e l = subst (λ u. join bases s u ≡ Some s) e (join_one bases s l)

@@ -2,7 +2,7 @@
 use Rattle.std.proofs.Common.{◌≡◌, ◌≤◌, ◌<◌, ◌+◌, ℕ, Box, Global, List, [], ◌∷◌, ◌++◌, length, map, get_or, All, Some, refl, sym, ap, subst, ◌∙◌, arith}
 use Rattle.std.proofs.lemmas.List.Elements.{All-nil, All-cons}
 use Rattle.pc_types.specs.Tree.{Tree, DictOf, TupleOf}
-use Rattle.pc_types.specs.Shape.{nodes, nodes_of, parts, members, limit}
+use Rattle.pc_types.specs.Shape.{nodes, nodes_of, parts, members, node_limit}
 use Rattle.pc_types.specs.Normal.{IsNormal, AreNormal}
 use Rattle.pc_types.specs.Boxed.{tree_of, trees_in, IsGiven}
 use Rattle.pc_types.specs.declared.boxed.BoxType.{BoxType, out-BoxType, roll-BoxType, roll-out-BoxType}
@@ -20,7 +20,7 @@ item_nodes items k x l read =
     let h : nodes (tree_of x) < 1 + nodes_of (trees_in items) = part_at items (TupleOf (trees_in items)) k x (sym (listed_trees (map tree_of items))) l read in
     omega (arith, h)
 
-each_given : (ts : List BoxType) → AreNormal (trees_in ts) → nodes_of (trees_in ts) ≤ limit → All IsGiven ts
+each_given : (ts : List BoxType) → AreNormal (trees_in ts) → nodes_of (trees_in ts) ≤ node_limit → All IsGiven ts
 each_given [] n l = All-nil IsGiven
 each_given (t ∷ ts) n l =
     All-cons IsGiven t ts (record { small = omega (arith, l); normal = n.0 }) (each_given ts n.1 (omega (arith, l)))

@@ -2,7 +2,7 @@
 -- Own rule of the profile.
 use Rattle.std.specs.Prelude.{◌≡◌, ◌≤◌, List, Option, Some, None, All}
 use Rattle.pc_types.specs.Tree.{Tree}
-use Rattle.pc_types.specs.Shape.{nodes, limit}
+use Rattle.pc_types.specs.Shape.{nodes, node_limit}
 use Rattle.pc_types.specs.Normal.{IsNormal}
 use Rattle.pc_types.specs.Below.{Bases}
 use Rattle.pc_types.specs.Computed.{static_test, assignable_test}
@@ -20,7 +20,7 @@ meaning t = tree_of t.meaning.value
 pub record IsHeld (types : List BoxType) (t : TypeId) : Type 0 where
   pub at : tree_at types t.number ≡ Some (meaning t)
   pub normal : IsNormal (meaning t)
-  pub small : nodes (meaning t) ≤ limit
+  pub small : nodes (meaning t) ≤ node_limit
 
 -- the answers are those about the trees of the two numbers
 pub record IsRight (bases : Bases) (types : List BoxType) (a : Answers) : Type 0 where

@@ -1,4 +1,4 @@
-// Answers that a store remembers about pairs of its types.
+//! Answers that a store remembers about pairs of its types.
 
 ghost use Rattle.std.specs.Prelude.{◌≡◌, All, ◌+◌, ◌*◌, ◌%◌, ◌^◌, ◌<◌, Contains, IfOk, IfSome, None, Some, slice_set, vec_len};
 

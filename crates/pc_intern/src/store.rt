@@ -1,11 +1,11 @@
-// The interned store.
+//! The interned store.
 
 ghost use Rattle.std.specs.Prelude.{◌≡◌, ◌↔◌, ◌<◌, [], All, IfOk, IfSome, IsTrue, List, Some, length, map};
 ghost use Rattle.pc_types.specs.Tree.{Tree};
 ghost use Rattle.pc_types.specs.Boxed.{tree_of, IsGiven};
 ghost use Rattle.pc_types.specs.Head.{head_of};
 ghost use Rattle.pc_types.specs.Shape.{parts};
-ghost use Rattle.pc_types.specs.Store.{Means, Keeps};
+ghost use Rattle.pc_types.specs.Store.{Means, KeepsTypes};
 ghost use Rattle.pc_types.specs.Computed.{static_test, assignable_test};
 ghost use Rattle.pc_intern.specs.Table.{tree_at};
 ghost use Rattle.pc_intern.specs.Store.{IsHeld, IsRight, meaning};
@@ -109,7 +109,7 @@ impl InternStore {
     fn made(&mut self, alloc: Global, ty: &BoxType) -> Result<TypeId, OutOfMemory>
         requires { IsGiven ty.now }
         ensures value { IfOk result (λ t. Means IsHeld meaning self.new t (tree_of ty.now)) }
-        ensures kept { Keeps IsHeld self.old self.new }
+        ensures kept { KeepsTypes IsHeld self.old self.new }
     {
         let number = self.table.intern(alloc, ty)?;
         Ok(TypeId {

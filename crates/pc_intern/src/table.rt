@@ -1,4 +1,4 @@
-// The table of an interned store, in which each type tree stands once.
+//! The table of an interned store, in which each type tree stands once.
 
 ghost use Rattle.std.specs.Prelude.{◌≡◌, ◌↔◌, ◌<◌, ◌++◌, ℕ, List, [], All, length, slice_get, map, IfOk, IfSome, IsTrue, OnOk, Some};
 ghost use Rattle.pc_types.specs.Tree.{Tree};

@@ -9,7 +9,7 @@ use Rattle.pc_token.specs.Lexeme.{LogicalLine}
 use Rattle.pc_layout.specs.Spelling.{first_kind, last_kind}
 use Rattle.pc_layout.specs.Faults.{IsOpen}
 use Rattle.pc_layout.specs.Stepping.{is_colon, is_def, after, start}
-use Rattle.pc_layout.specs.Placing.{Context, Placed, column_of, in_def_of, closing}
+use Rattle.pc_layout.specs.Placing.{LayoutContext, Placement, column_of, in_def_of, levels_up_to}
 use Rattle.pc_layout.proofs.Placings.{Opens, Returns, pushed, popped}
 use Rattle.pc_layout.proofs.Forests.{closing_shorter}
 use Rattle.pc_layout.proofs.OpenSuites.{HasLevel, Falls, Defines, InDef, Tells, Knows, has_le, top_has, closing_falls, closing_has, has_closing, closing_knows, inside_more, inside_less, knows_more, knows_top}
@@ -27,7 +27,7 @@ abbrev pub def_before : List LogicalLine → Bool
 def_before [] = false
 def_before (l ∷ ls) = is_def (first_kind l.lexemes)
 
-pub record Follows (before : List LogicalLine) (x : Context) : Type 0 where
+pub record Follows (before : List LogicalLine) (x : LayoutContext) : Type 0 where
   pub falls : Falls x.levels
   pub few : length x.levels ≤ 50
   pub inner : column_of x.levels ≡ column_before before
@@ -98,7 +98,7 @@ not_first : (before : List LogicalLine) (b : Bool) → b ≡ colon_before before
 not_first [] b e t h = let q : false ≡ true = sym e ∙ t in cc
 not_first (l ∷ ls) b e t h = cc
 
-pushed_follows : (before : List LogicalLine) (x : Context) (l : LogicalLine) → Follows before x → column_of x.levels < l.column → x.after_colon ≡ true → length x.levels < 50 →
+pushed_follows : (before : List LogicalLine) (x : LayoutContext) (l : LogicalLine) → Follows before x → column_of x.levels < l.column → x.after_colon ≡ true → length x.levels < 50 →
     Follows (l ∷ before) (after (pushed x l.column) l.lexemes)
 pushed_follows before x l f lt colon room = record {
   falls = (lt, f.falls);
@@ -123,32 +123,32 @@ pushed_follows before x l f lt colon room = record {
   defines = refl;
 }
 
-popped_follows : (before : List LogicalLine) (x : Context) (l : LogicalLine) → Follows before x → l.column ≤ column_of x.levels → column_of (closing l.column x.levels) ≡ l.column →
+popped_follows : (before : List LogicalLine) (x : LayoutContext) (l : LogicalLine) → Follows before x → l.column ≤ column_of x.levels → column_of (levels_up_to l.column x.levels) ≡ l.column →
     Follows (l ∷ before) (after (popped x l.column) l.lexemes)
 popped_follows before x l f le there = record {
   falls = closing_falls l.column x.levels f.falls;
   few = omega (arith, closing_shorter l.column x.levels, f.few);
   inner = there;
   held_open = λ c h.
-      let low : c ≤ l.column = omega (arith, has_le c (closing l.column x.levels) (closing_falls l.column x.levels f.falls) h, there) in
+      let low : c ≤ l.column = omega (arith, has_le c (levels_up_to l.column x.levels) (closing_falls l.column x.levels f.falls) h, there) in
       elim (cases_lt c l.column) [
         | inl lt ↦ inr (lt, f.held_open c (closing_has l.column c x.levels h))
         | inr ge ↦ inl (omega arith)
       ];
   open_held = λ c p h. elim h [
-    | inl e ↦ let q : column_of (closing l.column x.levels) ≡ c = there ∙ e in let r = top_has (closing l.column x.levels) (omega (arith, q)) in rw q at r
+    | inl e ↦ let q : column_of (levels_up_to l.column x.levels) ≡ c = there ∙ e in let r = top_has (levels_up_to l.column x.levels) (omega (arith, q)) in rw q at r
     | inr g ↦ has_closing l.column c x.levels (omega (arith, g.0)) (f.open_held c p g.1)
   ];
   base = inr (elim (cases_lt 0 l.column) [
     | inl lt ↦ inr (lt, elim f.base [ inl e ↦ absurd (omega (arith, le, f.inner, ap column_before e)) | inr h ↦ h ])
     | inr ge ↦ inl (omega arith)
   ]);
-  knows = knows_more l before (closing l.column x.levels) (closing_falls l.column x.levels f.falls) (omega (arith, there)) (closing_knows l.column before x.levels f.knows);
+  knows = knows_more l before (levels_up_to l.column x.levels) (closing_falls l.column x.levels f.falls) (omega (arith, there)) (closing_knows l.column before x.levels f.knows);
   colon = refl;
   defines = refl;
 }
 
 -- a line that was placed keeps it so
-pub follows : (before : List LogicalLine) (x : Context) (l : LogicalLine) (p : Placed) → Follows before x → Opens x l.column p ⊎ Returns x l.column p → Follows (l ∷ before) (after p l.lexemes)
+pub follows : (before : List LogicalLine) (x : LayoutContext) (l : LogicalLine) (p : Placement) → Follows before x → Opens x l.column p ⊎ Returns x l.column p → Follows (l ∷ before) (after p l.lexemes)
 follows before x l p f (inl o) = rw o.placed (pushed_follows before x l f o.deeper o.colon o.room)
 follows before x l p f (inr o) = rw o.placed (popped_follows before x l f o.within o.there)

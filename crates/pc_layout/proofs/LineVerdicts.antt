@@ -7,10 +7,10 @@ use Rattle.pc_source.specs.declared.fault.RefusalCode.{RefusalCode}
 use Rattle.pc_source.specs.declared.fault.RefusalCode.TheVariants.{I1, I2, I3, N1, N2, N3, N4, N5}
 use Rattle.pc_token.specs.Lexeme.{Lexeme, LogicalLine}
 use Rattle.pc_layout.specs.Spelling.{first_kind, first_byte, dataclass_decorator}
-use Rattle.pc_layout.specs.Faults.{ReturnsNowhere, IsMisplaced, AreOpen, deepest, IsFault, rank}
+use Rattle.pc_layout.specs.Faults.{ReturnsNowhere, IsMisplaced, AreOpen, deepest, IsFault, code_rank}
 use Rattle.pc_layout.specs.Layouts.{StandInOrder}
 use Rattle.pc_layout.specs.Stepping.{step, after}
-use Rattle.pc_layout.specs.Placing.{Context, Placed, in_def_of, placed, is_header, is_spelled}
+use Rattle.pc_layout.specs.Placing.{LayoutContext, Placement, in_def_of, placement, is_header, is_spelled}
 use Rattle.pc_layout.proofs.Forests.{by_bool}
 use Rattle.pc_layout.proofs.Placings.{Opens, Returns, placed_cases, placed_faults, step_ok, step_err, words_refused}
 use Rattle.pc_layout.proofs.OpenSuites.{InDef, Defines, Tells, knows_top, inside_less, inside_more}
@@ -19,7 +19,7 @@ use Rattle.pc_layout.proofs.Positions.{placed_returns, placed_misplaced, placed_
 use Rattle.pc_layout.proofs.WordFaults.{spelled_tells, header_tells, nested, inside, decorated, begins_wrong, keyword, operator, left_out, keyword_left, operator_left, IsWordFault, at_opening, at_token, found, none_found, found_least, CountsFirst, behind, contains_none}
 
 -- a line that was placed knows whether it lies inside the suite of a `def`
-knows_place : (before : List LogicalLine) (x : Context) (l : LogicalLine) (p : Placed) → Follows before x → Opens x l.column p ⊎ Returns x l.column p → Tells (in_def_of p.levels) (InDef l.column before)
+knows_place : (before : List LogicalLine) (x : LayoutContext) (l : LogicalLine) (p : Placement) → Follows before x → Opens x l.column p ⊎ Returns x l.column p → Tells (in_def_of p.levels) (InDef l.column before)
 knows_place before x l p f s = let g : Follows (l ∷ before) (after p l.lexemes) = follows before x l p f s in
     let t : Tells (in_def_of p.levels) (InDef l.column (l ∷ before)) = let r = knows_top (l ∷ before) p.levels g.knows in rw g.inner at r in
     record { yes = λ e. inside_less Defines l.column l before (omega arith) (t.yes e); back = λ h. t.back (inside_more Defines l.column l before (omega arith) h) }
@@ -70,11 +70,11 @@ module _ (len : ℕ) (before : List LogicalLine) (l : LogicalLine) (in_def : Boo
 
 -- a fault counts before another, or beside it with a code that is no later
 abbrev pub CountsBefore : Refusal → RefusalCode → ℕ → Type 0
-CountsBefore r code byte = (r.byte < byte) ⊎ ((r.byte ≡ byte) × (rank r.code ≤ rank code))
+CountsBefore r code byte = (r.byte < byte) ⊎ ((r.byte ≡ byte) × (code_rank r.code ≤ code_rank code))
 
 counts_before : (r : Refusal) (code : RefusalCode) (byte : ℕ) → CountsFirst r code byte → CountsBefore r code byte
 counts_before r code byte (inl h) = inl h
-counts_before r code byte (inr h) = inr (h.0, omega (arith, ap rank h.1))
+counts_before r code byte (inr h) = inr (h.0, omega (arith, ap code_rank h.1))
 
 first_behind : (len from : ℕ) (xs : List Lexeme) (x : Lexeme) (byte : ℕ) → StandInOrder from xs → Contains xs x → byte ≡ x.place.start → first_byte len xs ≤ byte
 first_behind len from [] x byte o h e = absurd (contains_none x h)
@@ -93,7 +93,7 @@ fault_behind len from before l N5 byte o h = omega (arith, h.2)
 fault_behind len from before l _ byte o h = absurd h
 
 -- the codes of a fault, from the lowest on
-pub any_rank : (len : ℕ) (before : List LogicalLine) (l : LogicalLine) (code : RefusalCode) (byte : ℕ) → IsFault len before l code byte → 1 ≤ rank code
+pub any_rank : (len : ℕ) (before : List LogicalLine) (l : LogicalLine) (code : RefusalCode) (byte : ℕ) → IsFault len before l code byte → 1 ≤ code_rank code
 any_rank len before l I1 byte h = omega arith
 any_rank len before l I2 byte h = omega arith
 any_rank len before l I3 byte h = omega arith
@@ -104,7 +104,7 @@ any_rank len before l N4 byte h = omega arith
 any_rank len before l N5 byte h = omega arith
 any_rank len before l _ byte h = absurd h
 
-second_rank : (len : ℕ) (before : List LogicalLine) (l : LogicalLine) (code : RefusalCode) (byte : ℕ) → (ReturnsNowhere l before → ⊥) → IsFault len before l code byte → 2 ≤ rank code
+second_rank : (len : ℕ) (before : List LogicalLine) (l : LogicalLine) (code : RefusalCode) (byte : ℕ) → (ReturnsNowhere l before → ⊥) → IsFault len before l code byte → 2 ≤ code_rank code
 second_rank len before l I1 byte n h = absurd (n h.0)
 second_rank len before l I2 byte n h = omega arith
 second_rank len before l I3 byte n h = omega arith
@@ -115,7 +115,7 @@ second_rank len before l N4 byte n h = omega arith
 second_rank len before l N5 byte n h = omega arith
 second_rank len before l _ byte n h = absurd h
 
-third_rank : (len : ℕ) (before : List LogicalLine) (l : LogicalLine) (code : RefusalCode) (byte : ℕ) → (ReturnsNowhere l before → ⊥) → (IsMisplaced l before → ⊥) → IsFault len before l code byte → 3 ≤ rank code
+third_rank : (len : ℕ) (before : List LogicalLine) (l : LogicalLine) (code : RefusalCode) (byte : ℕ) → (ReturnsNowhere l before → ⊥) → (IsMisplaced l before → ⊥) → IsFault len before l code byte → 3 ≤ code_rank code
 third_rank len before l I1 byte n m h = absurd (n h.0)
 third_rank len before l I2 byte n m h = absurd (m h.0)
 third_rank len before l I3 byte n m h = omega arith
@@ -126,12 +126,12 @@ third_rank len before l N4 byte n m h = omega arith
 third_rank len before l N5 byte n m h = omega arith
 third_rank len before l _ byte n m h = absurd h
 
-by_order : (r : Refusal) (code : RefusalCode) (byte : ℕ) → r.byte ≤ byte → rank r.code ≤ rank code → CountsBefore r code byte
+by_order : (r : Refusal) (code : RefusalCode) (byte : ℕ) → r.byte ≤ byte → code_rank r.code ≤ code_rank code → CountsBefore r code byte
 by_order r code byte le k = elim (cases_lt r.byte byte) [ inl lt ↦ inl lt | inr ge ↦ inr (omega arith, k) ]
 
-module _ (len : ℕ) (before : List LogicalLine) (x : Context) (l : LogicalLine) (f : Follows before x) where
+module _ (len : ℕ) (before : List LogicalLine) (x : LayoutContext) (l : LogicalLine) (f : Follows before x) where
   -- a line that was placed, with words that are fine, has no fault
-  pub line_clean : (p : Placed) → step len x l ≡ Ok p → (code : RefusalCode) (byte : ℕ) → IsFault len before l code byte → ⊥
+  pub line_clean : (p : Placement) → step len x l ≡ Ok p → (code : RefusalCode) (byte : ℕ) → IsFault len before l code byte → ⊥
   line_clean p e code byte h =
       let g = step_ok len x l p e in
       let s : Opens x l.column p ⊎ Returns x l.column p = placed_cases x l.column p g.0 in
@@ -142,7 +142,7 @@ module _ (len : ℕ) (before : List LogicalLine) (x : Context) (l : LogicalLine)
         | words w ↦ none_found len (in_def_of p.levels) l.column l.lexemes code byte g.1 w
       ]
 
-  position_refused : (r : Refusal) → placed x l.column ≡ Err r.code → r.byte ≡ first_byte len l.lexemes → IsFault len before l r.code r.byte
+  position_refused : (r : Refusal) → placement x l.column ≡ Err r.code → r.byte ≡ first_byte len l.lexemes → IsFault len before l r.code r.byte
   position_refused r e b = elim (placed_faults x l.column r.code e) [
     | inl n ↦ rw n.code_is (no_suite before x l r.code f n, b)
     | inr o ↦ elim o [
@@ -151,13 +151,13 @@ module _ (len : ℕ) (before : List LogicalLine) (x : Context) (l : LogicalLine)
     ]
   ]
 
-  position_least : (r : Refusal) → placed x l.column ≡ Err r.code → r.byte ≡ first_byte len l.lexemes →
+  position_least : (r : Refusal) → placement x l.column ≡ Err r.code → r.byte ≡ first_byte len l.lexemes →
       (from : ℕ) → StandInOrder from l.lexemes → (code : RefusalCode) (byte : ℕ) → IsFault len before l code byte → CountsBefore r code byte
   position_least r e b from o code byte h = by_order r code byte (omega (arith, b, fault_behind len from before l code byte o h)) (elim (placed_faults x l.column r.code e) [
-    | inl n ↦ omega (arith, ap rank n.code_is, any_rank len before l code byte h)
+    | inl n ↦ omega (arith, ap code_rank n.code_is, any_rank len before l code byte h)
     | inr q ↦ elim q [
-      | inl n ↦ omega (arith, ap rank n.code_is, second_rank len before l code byte (no_colon_returns before x l r.code f n) h)
-      | inr n ↦ omega (arith, ap rank n.code_is, third_rank len before l code byte (no_room_returns before x l r.code f n) (no_room_misplaced before x l r.code f n) h)
+      | inl n ↦ omega (arith, ap code_rank n.code_is, second_rank len before l code byte (no_colon_returns before x l r.code f n) h)
+      | inr n ↦ omega (arith, ap code_rank n.code_is, third_rank len before l code byte (no_room_returns before x l r.code f n) (no_room_misplaced before x l r.code f n) h)
     ]
   ])
 

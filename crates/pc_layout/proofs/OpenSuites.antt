@@ -9,7 +9,7 @@ use Rattle.pc_token.specs.Lexeme.{LogicalLine}
 use Rattle.pc_layout.specs.Spelling.{BeginsWith}
 use Rattle.pc_layout.specs.Faults.{IsInside, IsFalling}
 use Rattle.pc_layout.specs.declared.levels.Level.{Level}
-use Rattle.pc_layout.specs.Placing.{column_of, in_def_of, closing}
+use Rattle.pc_layout.specs.Placing.{column_of, in_def_of, levels_up_to}
 use Rattle.pc_layout.proofs.Forests.{by_bool}
 
 -- a suite of the column is held open
@@ -48,28 +48,28 @@ pub top_has : (vs : List Level) → 0 < column_of vs → HasLevel (column_of vs)
 top_has [] p = absurd (omega arith)
 top_has (v ∷ vs) p = inl refl
 
-pub closing_falls : (c : ℕ) (vs : List Level) → Falls vs → Falls (closing c vs)
+pub closing_falls : (c : ℕ) (vs : List Level) → Falls vs → Falls (levels_up_to c vs)
 closing_falls c [] f = f
 closing_falls c (v ∷ vs) f = elim (by_bool (nat_lt c v.column)) [
   | inl t ↦ rw t (closing_falls c vs f.1)
   | inr t ↦ rw t f
 ]
 
-pub closing_has : (c d : ℕ) (vs : List Level) → HasLevel d (closing c vs) → HasLevel d vs
+pub closing_has : (c d : ℕ) (vs : List Level) → HasLevel d (levels_up_to c vs) → HasLevel d vs
 closing_has c d [] h = h
 closing_has c d (v ∷ vs) h = elim (by_bool (nat_lt c v.column)) [
   | inl t ↦ let g = rw t at h in inr (closing_has c d vs g)
   | inr t ↦ let g = rw t at h in g
 ]
 
-pub has_closing : (c d : ℕ) (vs : List Level) → d ≤ c → HasLevel d vs → HasLevel d (closing c vs)
+pub has_closing : (c d : ℕ) (vs : List Level) → d ≤ c → HasLevel d vs → HasLevel d (levels_up_to c vs)
 has_closing c d [] le h = h
 has_closing c d (v ∷ vs) le h = elim (by_bool (nat_lt c v.column)) [
   | inl t ↦ rw t (elim h [ inl e ↦ absurd (omega (arith, ltb-true c v.column t)) | inr g ↦ has_closing c d vs le g ])
   | inr t ↦ rw t h
 ]
 
-pub closing_knows : (c : ℕ) (before : List LogicalLine) (vs : List Level) → Knows before vs → Knows before (closing c vs)
+pub closing_knows : (c : ℕ) (before : List LogicalLine) (vs : List Level) → Knows before vs → Knows before (levels_up_to c vs)
 closing_knows c before [] h = h
 closing_knows c before (v ∷ vs) h = elim (by_bool (nat_lt c v.column)) [
   | inl t ↦ rw t (closing_knows c before vs h.1)
@@ -77,7 +77,7 @@ closing_knows c before (v ∷ vs) h = elim (by_bool (nat_lt c v.column)) [
 ]
 
 -- a column that a suite has is returned to
-pub closing_there : (c : ℕ) (vs : List Level) → Falls vs → HasLevel c vs → column_of (closing c vs) ≡ c
+pub closing_there : (c : ℕ) (vs : List Level) → Falls vs → HasLevel c vs → column_of (levels_up_to c vs) ≡ c
 closing_there c [] f h = absurd h
 closing_there c (v ∷ vs) f h = elim (by_bool (nat_lt c v.column)) [
   | inl t ↦ rw t (elim h [ inl e ↦ absurd (omega (arith, ltb-true c v.column t)) | inr g ↦ closing_there c vs f.1 g ])
@@ -85,11 +85,11 @@ closing_there c (v ∷ vs) f h = elim (by_bool (nat_lt c v.column)) [
 ]
 
 -- and so is column 0
-pub closing_zero : (vs : List Level) → Falls vs → column_of (closing 0 vs) ≡ 0
+pub closing_zero : (vs : List Level) → Falls vs → column_of (levels_up_to 0 vs) ≡ 0
 closing_zero [] f = refl
 closing_zero (v ∷ vs) f = let t : nat_lt 0 v.column ≡ true = elim (by_bool (nat_lt 0 v.column)) [ inl t ↦ t | inr u ↦ absurd (omega (arith, ltb-false 0 v.column u, f.0)) ] in rw t (closing_zero vs f.1)
 
-pub closing_same : (vs : List Level) → closing (column_of vs) vs ≡ vs
+pub closing_same : (vs : List Level) → levels_up_to (column_of vs) vs ≡ vs
 closing_same [] = refl
 closing_same (v ∷ vs) = elim (by_bool (nat_lt v.column v.column)) [
   | inl t ↦ absurd (omega (arith, ltb-true v.column v.column t))

@@ -10,7 +10,7 @@ use Rattle.pc_layout.specs.Spelling.{last_kind}
 use Rattle.pc_layout.specs.Faults.{IsOpen, ReturnsNowhere, IsMisplaced, IsFalling, AreOpen, deepest}
 use Rattle.pc_layout.specs.Stepping.{after}
 use Rattle.pc_layout.specs.declared.levels.Level.{Level}
-use Rattle.pc_layout.specs.Placing.{Context, Placed, column_of, closing}
+use Rattle.pc_layout.specs.Placing.{LayoutContext, Placement, column_of, levels_up_to}
 use Rattle.pc_layout.proofs.Placings.{Opens, Returns, NoSuite, NoColon, NoRoom}
 use Rattle.pc_layout.proofs.OpenSuites.{HasLevel, top_has, closing_has, closing_there, closing_zero, closing_same, fewer, falling_columns, columns_held, has_le}
 use Rattle.pc_layout.proofs.Following.{Follows, follows, column_before, colon_before, is_colon_yes, is_colon_back}
@@ -44,38 +44,38 @@ falling_positive (c ∷ []) h = All-cons (λ c. 0 < c) c [] h (All-nil (λ c. 0 
 falling_positive (c ∷ d ∷ cs) h = All-cons (λ c. 0 < c) c (d ∷ cs) (omega (arith, h.0)) (falling_positive (d ∷ cs) h.1)
 
 -- columns that are open are held open
-held : (ls : List LogicalLine) (y : Context) → Follows ls y → (cs : List ℕ) → IsFalling cs → All (λ c. IsOpen c ls) cs → All (λ c. HasLevel c y.levels) cs
+held : (ls : List LogicalLine) (y : LayoutContext) → Follows ls y → (cs : List ℕ) → IsFalling cs → All (λ c. IsOpen c ls) cs → All (λ c. HasLevel c y.levels) cs
 held ls y g cs fall each = λ n d lt. g.open_held _ (falling_positive cs fall n d lt) (each n d lt)
 
-module _ (before : List LogicalLine) (x : Context) (l : LogicalLine) (f : Follows before x) where
+module _ (before : List LogicalLine) (x : LayoutContext) (l : LogicalLine) (f : Follows before x) where
   -- a line that was placed returns to an open suite
-  pub placed_returns : (p : Placed) → Opens x l.column p ⊎ Returns x l.column p → ReturnsNowhere l before → ⊥
+  pub placed_returns : (p : Placement) → Opens x l.column p ⊎ Returns x l.column p → ReturnsNowhere l before → ⊥
   placed_returns p (inl o) h = deeper_returns before l (omega (arith, o.deeper, f.inner)) h
   placed_returns p (inr o) h = elim (cases_lt 0 l.column) [
-    | inl lt ↦ returned_open before l (f.held_open l.column (closing_has l.column l.column x.levels (let r = top_has (closing l.column x.levels) (omega (arith, o.there, lt)) in rw o.there at r))) h
+    | inl lt ↦ returned_open before l (f.held_open l.column (closing_has l.column l.column x.levels (let r = top_has (levels_up_to l.column x.levels) (omega (arith, o.there, lt)) in rw o.there at r))) h
     | inr ge ↦ let z : l.column ≡ 0 = omega arith in elim f.base [ inl e ↦ not_nowhere before l h e | inr b ↦ returned_open before l (rw z b) h ]
   ]
 
   -- and is not misplaced
-  pub placed_misplaced : (p : Placed) → Opens x l.column p ⊎ Returns x l.column p → IsMisplaced l before → ⊥
+  pub placed_misplaced : (p : Placement) → Opens x l.column p ⊎ Returns x l.column p → IsMisplaced l before → ⊥
   placed_misplaced p (inl o) h = colon_misplaced before l (sym f.colon ∙ o.colon) h
   placed_misplaced p (inr o) h = level_misplaced before l (omega (arith, o.within, f.inner)) h
 
   -- and is in no more than 50 suites
-  pub placed_open : (p : Placed) → Opens x l.column p ⊎ Returns x l.column p → AreOpen deepest (l ∷ before) → ⊥
+  pub placed_open : (p : Placement) → Opens x l.column p ⊎ Returns x l.column p → AreOpen deepest (l ∷ before) → ⊥
   placed_open p s (cs, long, fall, each) = let g : Follows (l ∷ before) (after p l.lexemes) = follows before x l p f s in
       let n : length cs ≤ length p.levels = fewer cs p.levels fall g.falls (held (l ∷ before) (after p l.lexemes) g cs fall each) in omega (arith, n, long, g.few)
 
-  nowhere_open : l.column ≤ column_of x.levels → column_of (closing l.column x.levels) ≢ l.column → IsOpen l.column before → ⊥
+  nowhere_open : l.column ≤ column_of x.levels → column_of (levels_up_to l.column x.levels) ≢ l.column → IsOpen l.column before → ⊥
   nowhere_open le nowhere h = elim (cases_lt 0 l.column) [
     | inl lt ↦ nowhere (closing_there l.column x.levels f.falls (f.open_held l.column lt h))
     | inr ge ↦ let z : l.column ≡ 0 = omega arith in nowhere (rw z (closing_zero x.levels f.falls))
   ]
 
-  nowhere_less : l.column ≤ column_of x.levels → column_of (closing l.column x.levels) ≢ l.column → l.column < column_of x.levels
+  nowhere_less : l.column ≤ column_of x.levels → column_of (levels_up_to l.column x.levels) ≢ l.column → l.column < column_of x.levels
   nowhere_less le nowhere = elim (cases_lt l.column (column_of x.levels)) [
     | inl lt ↦ lt
-    | inr ge ↦ let e : l.column ≡ column_of x.levels = omega arith in absurd (nowhere (ap (λ c. column_of (closing c x.levels)) e ∙ ap column_of (closing_same x.levels) ∙ sym e))
+    | inr ge ↦ let e : l.column ≡ column_of x.levels = omega arith in absurd (nowhere (ap (λ c. column_of (levels_up_to c x.levels)) e ∙ ap column_of (closing_same x.levels) ∙ sym e))
   ]
 
 returns_nowhere : (before : List LogicalLine) (l : LogicalLine) → l.column < column_before before → (IsOpen l.column before → ⊥) → ReturnsNowhere l before
@@ -86,7 +86,7 @@ is_misplaced : (before : List LogicalLine) (l : LogicalLine) → column_before b
 is_misplaced [] l lt e = λ z. omega arith
 is_misplaced (b ∷ bs) l lt e = (lt, λ h. let q : true ≡ false = sym (is_colon_back (last_kind b.lexemes) h) ∙ e in cc)
 
-module _ (before : List LogicalLine) (x : Context) (l : LogicalLine) (code : RefusalCode) (f : Follows before x) where
+module _ (before : List LogicalLine) (x : LayoutContext) (l : LogicalLine) (code : RefusalCode) (f : Follows before x) where
   pub no_suite : NoSuite x l.column code → ReturnsNowhere l before
   no_suite n = returns_nowhere before l (omega (arith, nowhere_less before x l f n.within n.nowhere, f.inner)) (nowhere_open before x l f n.within n.nowhere)
 

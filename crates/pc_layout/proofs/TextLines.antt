@@ -4,7 +4,7 @@ use Rattle.std.specs.Prelude.{Result, Ok, Err}
 use Rattle.pc_source.specs.declared.fault.Refusal.{Refusal}
 use Rattle.pc_token.specs.declared.token.Operator.{Operator}
 use Rattle.pc_token.specs.declared.token.TokenKind.{TokenKind}
-use Rattle.pc_token.specs.Context.{Context, line_start, after_line_end, lexeme_at}
+use Rattle.pc_token.specs.Context.{LexicalContext, line_start, after_line_end, lexeme_at}
 use Rattle.pc_token.specs.Lexeme.{Lexeme, LogicalLine}
 use Rattle.pc_token.specs.Splitting.{Sort, Blanks, Comment, LineEnd, Lexical, Piece, FitsBySort, after_sort, Ending, Whole, Faulty, Splits, close_line, at_line_end, at_sort, items_of, HasLines}
 use Rattle.pc_token.proofs.Starts.{some_token}
@@ -62,12 +62,12 @@ closed start from to (x ∷ xs) items h rest (l ∷ ls) e =
 abbrev Behind : List Lexeme → ℕ → Items → Type 0
 Behind done at items = (from : ℕ) → StandBetween from done at → (ls : List LogicalLine) → items ≡ map Ok ls → Ordered from ls
 
-by_brackets : (brackets : List Operator) (c : Context) (bytes : List ℕ) (items : Items) → Behind (after_line_end brackets c bytes).done (after_line_end brackets c bytes).at items →
+by_brackets : (brackets : List Operator) (c : LexicalContext) (bytes : List ℕ) (items : Items) → Behind (after_line_end brackets c bytes).done (after_line_end brackets c bytes).at items →
     Behind c.done c.at (at_line_end brackets c items)
 by_brackets [] c bytes items behind from h ls e = closed c.start from c.at c.done items h (λ ms f. behind c.at (omega arith) ms f) ls e
 by_brackets (b ∷ bs) c bytes items behind from h ls e = behind from (later from c.done c.at (c.at + length bytes) (omega arith) h) ls e
 
-by_sort : (sort : Sort) (c : Context) (bytes rest : List ℕ) (items : Items) → FitsBySort c sort bytes rest → Behind (after_sort c sort bytes).done (after_sort c sort bytes).at items →
+by_sort : (sort : Sort) (c : LexicalContext) (bytes rest : List ℕ) (items : Items) → FitsBySort c sort bytes rest → Behind (after_sort c sort bytes).done (after_sort c sort bytes).at items →
     Behind c.done c.at (at_sort sort c items)
 by_sort Blanks c bytes rest items fits behind from h ls e = behind from (later from c.done c.at (c.at + length bytes) (omega arith) h) ls e
 by_sort Comment c bytes rest items fits behind from h ls e = behind from (later from c.done c.at (c.at + length bytes) (omega arith) h) ls e
@@ -90,7 +90,7 @@ no_refusal : (r : Refusal) (ls : List LogicalLine) → refused r ≡ map Ok ls �
 no_refusal r [] e = cc
 no_refusal r (l ∷ ls) e = cc
 
-walk : (ps : List Piece) (c : Context) (text : List ℕ) (ending : Ending) → Splits c ps text ending → Behind c.done c.at (items_of c ps ending)
+walk : (ps : List Piece) (c : LexicalContext) (text : List ℕ) (ending : Ending) → Splits c ps text ending → Behind c.done c.at (items_of c ps ending)
 walk [] c text Whole s from h ls e = closed c.start from c.at c.done [] h (λ ms f. no_lines ms f c.at) ls e
 walk [] c text (Faulty code k) s from h ls e = absurd (no_refusal (record { code = code; byte = c.at + k }) ls e)
 walk (p ∷ ps) c text ending s from h ls e = by_sort p.sort c p.bytes s.0 (items_of (after_sort c p.sort p.bytes) ps ending) s.2 (walk ps (after_sort c p.sort p.bytes) s.0 ending s.3) from h ls e

@@ -12,8 +12,8 @@ use Rattle.pc_layout.specs.Spelling.{first_byte}
 use Rattle.pc_layout.specs.Faults.{IsFault, HasFault, IsLayoutRefusal}
 use Rattle.pc_layout.specs.Flat.{flat, written_line}
 use Rattle.pc_layout.specs.Layouts.{IsLayout, StandInOrder, all_lexemes, HaveTokens, AreInOrder}
-use Rattle.pc_layout.specs.Stepping.{step, after, start, give, laid, settle, given, dedents, indents}
-use Rattle.pc_layout.specs.Placing.{Context, Placed}
+use Rattle.pc_layout.specs.Stepping.{step, after, start, give, layout_lexemes, settle, placed_line, dedents, indents}
+use Rattle.pc_layout.specs.Placing.{LayoutContext, Placement}
 use Rattle.pc_layout.proofs.Laying.{laid_line, laid_refused}
 use Rattle.pc_layout.proofs.Placings.{placed_cases, step_ok}
 use Rattle.pc_layout.proofs.Forests.{Walks, came, planted, Planted, given_is}
@@ -22,12 +22,12 @@ use Rattle.pc_layout.proofs.LineVerdicts.{CountsBefore, line_clean, line_refused
 use Rattle.pc_layout.proofs.WordFaults.{contains_none, contains_first, contains_cases, behind}
 
 -- the first line that is not placed is refused so
-abbrev pub RefusedAt : ℕ → Context → List LogicalLine → Refusal → Type 0
+abbrev pub RefusedAt : ℕ → LayoutContext → List LogicalLine → Refusal → Type 0
 RefusedAt len x [] r = ⊥
-RefusedAt len x (l ∷ ls) r = (step len x l ≡ Err r) ⊎ ((p : Placed) × (step len x l ≡ Ok p) × RefusedAt len (after p l.lexemes) ls r)
+RefusedAt len x (l ∷ ls) r = (step len x l ≡ Err r) ⊎ ((p : Placement) × (step len x l ≡ Ok p) × RefusedAt len (after p l.lexemes) ls r)
 
 -- every line is placed, or one is refused
-pub verdict : (len : ℕ) (x : Context) (ls : List LogicalLine) → Walks len x ls ⊎ ((r : Refusal) × RefusedAt len x ls r)
+pub verdict : (len : ℕ) (x : LayoutContext) (ls : List LogicalLine) → Walks len x ls ⊎ ((r : Refusal) × RefusedAt len x ls r)
 verdict len x [] = inl tt
 verdict len x (l ∷ ls) = elim (step len x l) as (λ o. step len x l ≡ o → Walks len x (l ∷ ls) ⊎ ((r : Refusal) × RefusedAt len x (l ∷ ls) r)) [
   | Ok p ↦ λ e. elim (verdict len (after p l.lexemes) ls) [
@@ -37,12 +37,12 @@ verdict len x (l ∷ ls) = elim (step len x l) as (λ o. step len x l ≡ o → 
   | Err r ↦ λ e. inr (r, inl e)
 ] refl
 
-refused_fault : (len : ℕ) (before : List LogicalLine) (x : Context) (ls : List LogicalLine) (r : Refusal) → Follows before x → RefusedAt len x ls r → HasFault len before ls r.code r.byte
+refused_fault : (len : ℕ) (before : List LogicalLine) (x : LayoutContext) (ls : List LogicalLine) (r : Refusal) → Follows before x → RefusedAt len x ls r → HasFault len before ls r.code r.byte
 refused_fault len before x [] r f h = absurd h
 refused_fault len before x (l ∷ ls) r f (inl e) = inl (line_refused len before x l f r e)
 refused_fault len before x (l ∷ ls) r f (inr (p, e, h)) = inr (refused_fault len (l ∷ before) (after p l.lexemes) ls r (follows before x l p f (placed_cases x l.column p (step_ok len x l p e).0)) h)
 
-walked_clean : (len : ℕ) (before : List LogicalLine) (x : Context) (ls : List LogicalLine) → Follows before x → Walks len x ls → (code : RefusalCode) (byte : ℕ) → HasFault len before ls code byte → ⊥
+walked_clean : (len : ℕ) (before : List LogicalLine) (x : LayoutContext) (ls : List LogicalLine) → Follows before x → Walks len x ls → (code : RefusalCode) (byte : ℕ) → HasFault len before ls code byte → ⊥
 walked_clean len before x [] f w code byte h = h
 walked_clean len before x (l ∷ ls) f (p, e, w) code byte (inl h) = line_clean len before x l f p e code byte h
 walked_clean len before x (l ∷ ls) f (p, e, w) code byte (inr h) = walked_clean len (l ∷ before) (after p l.lexemes) ls (follows before x l p f (placed_cases x l.column p (step_ok len x l p e).0)) w code byte h
@@ -86,7 +86,7 @@ order_apart from (z ∷ zs) ys x y o h i = elim (contains_cases z zs x h) [
   | inr g ↦ order_apart z.place.end zs ys x y o.2 g i
 ]
 
-refused_least : (len from : ℕ) (before : List LogicalLine) (x : Context) (ls : List LogicalLine) (r : Refusal) → Follows before x → RefusedAt len x ls r → HaveTokens ls → StandInOrder from (all_lexemes ls) →
+refused_least : (len from : ℕ) (before : List LogicalLine) (x : LayoutContext) (ls : List LogicalLine) (r : Refusal) → Follows before x → RefusedAt len x ls r → HaveTokens ls → StandInOrder from (all_lexemes ls) →
     (code : RefusalCode) (byte : ℕ) → HasFault len before ls code byte → CountsBefore r code byte
 refused_least len from before x [] r f h n o code byte g = absurd h
 refused_least len from before x (l ∷ ls) r f (inl e) n o code byte (inl g) = line_least len before x l f r e from (order_left from l.lexemes (all_lexemes ls) o) code byte g
@@ -103,12 +103,12 @@ settle_came r [] = refl
 settle_came r (l ∷ ls) = settle_came r ls
 
 -- some tokens, and then the refusal
-pub refused_given : (text : List ℕ) (x : Context) (ls : List LogicalLine) (r : Refusal) → RefusedAt (length text) x ls r → (front : List Lexeme) × (laid text x (came ls) ≡ give front (Err (Refused r) ∷ []))
+pub refused_given : (text : List ℕ) (x : LayoutContext) (ls : List LogicalLine) (r : Refusal) → RefusedAt (length text) x ls r → (front : List Lexeme) × (layout_lexemes text x (came ls) ≡ give front (Err (Refused r) ∷ []))
 refused_given text x [] r h = absurd h
 refused_given text x (l ∷ ls) r (inl e) = ([], laid_refused text x l r (came ls) e ∙ ap (λ z. Err z ∷ []) (settle_came r ls))
-refused_given text x (l ∷ ls) r (inr (p, e, h)) = let g : (front : List Lexeme) × (laid text (after p l.lexemes) (came ls) ≡ give front (Err (Refused r) ∷ [])) = refused_given text (after p l.lexemes) ls r h in (
+refused_given text x (l ∷ ls) r (inr (p, e, h)) = let g : (front : List Lexeme) × (layout_lexemes text (after p l.lexemes) (came ls) ≡ give front (Err (Refused r) ∷ [])) = refused_given text (after p l.lexemes) ls r h in (
   dedents p.dedents (first_byte (length text) l.lexemes) ++ (indents p.indent (first_byte (length text) l.lexemes) ++ (written_line text l.lexemes ++ g.0)),
-  laid_line text x l p (came ls) e ∙ ap (given text p l.lexemes) g.1 ∙ given_is text p l.lexemes g.0 (Err (Refused r) ∷ []),
+  laid_line text x l p (came ls) e ∙ ap (placed_line text p l.lexemes) g.1 ∙ given_is text p l.lexemes g.0 (Err (Refused r) ∷ []),
 )
 
 give_same : (xs ys : List Lexeme) → give xs [] ≡ give ys [] → xs ≡ ys
@@ -130,7 +130,7 @@ same_fault (x ∷ xs) [] e f q = absurd (cc)
 same_fault (x ∷ xs) (y ∷ ys) e f q = same_fault xs ys e f (cc)
 
 -- where all is given, it is the layout
-pub laid_out : (text : List ℕ) (ls : List LogicalLine) (ts : List Lexeme) → laid text start (came ls) ≡ give ts [] → IsLayout text ls ts
+pub laid_out : (text : List ℕ) (ls : List LogicalLine) (ts : List Lexeme) → layout_lexemes text start (came ls) ≡ give ts [] → IsLayout text ls ts
 laid_out text ls ts e = elim (verdict (length text) start ls) [
   | inl w ↦ let g : Planted text ls = planted text ls w in record {
     forest = g.forest;
@@ -139,7 +139,7 @@ laid_out text ls ts e = elim (verdict (length text) start ls) [
     faultless = λ code byte h. walked_clean (length text) [] start ls follows_start w code byte h;
     written = give_same ts (flat text g.forest) (sym e ∙ g.written);
   }
-  | inr w ↦ let g : (front : List Lexeme) × (laid text start (came ls) ≡ give front (Err (Refused w.0) ∷ [])) = refused_given text start ls w.0 w.1 in absurd (give_fault ts g.0 (Refused w.0) (sym e ∙ g.1))
+  | inr w ↦ let g : (front : List Lexeme) × (layout_lexemes text start (came ls) ≡ give front (Err (Refused w.0) ∷ [])) = refused_given text start ls w.0 w.1 in absurd (give_fault ts g.0 (Refused w.0) (sym e ∙ g.1))
 ]
 
 -- the fault that is given
@@ -149,10 +149,10 @@ pub record IsGivenFault (text : List ℕ) (ls : List LogicalLine) (e : Fault) : 
   pub stands : HasFault (length text) [] ls refusal.code refusal.byte
   pub least : AreInOrder ls → IsLayoutRefusal (length text) ls refusal
 
-pub laid_wrong : (text : List ℕ) (ls : List LogicalLine) (ts : List Lexeme) (e : Fault) → laid text start (came ls) ≡ give ts (Err e ∷ []) → IsGivenFault text ls e
+pub laid_wrong : (text : List ℕ) (ls : List LogicalLine) (ts : List Lexeme) (e : Fault) → layout_lexemes text start (came ls) ≡ give ts (Err e ∷ []) → IsGivenFault text ls e
 laid_wrong text ls ts e q = elim (verdict (length text) start ls) [
   | inl w ↦ let g : Planted text ls = planted text ls w in absurd (give_fault (flat text g.forest) ts e (sym g.written ∙ q))
-  | inr w ↦ let g : (front : List Lexeme) × (laid text start (came ls) ≡ give front (Err (Refused w.0) ∷ [])) = refused_given text start ls w.0 w.1 in
+  | inr w ↦ let g : (front : List Lexeme) × (layout_lexemes text start (came ls) ≡ give front (Err (Refused w.0) ∷ [])) = refused_given text start ls w.0 w.1 in
       let h : HasFault (length text) [] ls (w.0).code (w.0).byte = refused_fault (length text) [] start ls w.0 follows_start w.1 in
       record {
         refusal = w.0;

@@ -12,7 +12,7 @@ use Rattle.pc_source.specs.declared.fault.RefusalCode.TheVariants.{I1, I2, I3, N
 use Rattle.pc_source.specs.declared.fault.Fault.{Fault}
 use Rattle.pc_source.specs.declared.fault.Fault.TheVariants.{Refused, OutOfMemory}
 use Rattle.pc_source.specs.Answers.{OnRefusal}
-use Rattle.pc_source.specs.Stream.{Comes, ComesAs, RefusesWithin}
+use Rattle.pc_source.specs.Stream.{Yields, ComesAs, RefusesWithin}
 use Rattle.pc_source.specs.Within.{StandsWithin, IsWithin}
 use Rattle.pc_token.specs.declared.token.Line.{Line}
 use Rattle.pc_token.specs.declared.token.Token.{Token}
@@ -21,10 +21,10 @@ use Rattle.pc_token.specs.Lexeme.{Lexeme, LogicalLine, line_of}
 use Rattle.pc_token.specs.Within.{AreWithin, LinesWithin}
 use Rattle.pc_layout.specs.Spelling.{first_byte, last_byte}
 use Rattle.pc_layout.specs.Faults.{IsFault, HasFault}
-use Rattle.pc_layout.specs.Flat.{line_feed_from, line_end_at, line_end, newline, mark, starts_at, enclosed, written, flat}
+use Rattle.pc_layout.specs.Flat.{line_feed_from, line_end_at, line_end, newline, mark, starts_at, indented_lexemes, flat_lexemes, flat}
 use Rattle.pc_layout.specs.Forest.{Suite, nothing, line, lines_of}
 use Rattle.pc_layout.specs.Layouts.{IsLayout}
-use Rattle.pc_layout.specs.Giving.{clean, item_of}
+use Rattle.pc_layout.specs.TokenIterator.Items.{line_item_of, token_item_of}
 use Rattle.pc_layout.specs.Answering.{lines_came, fault_came, Refuses, ComesWhole, ComesFaulty, ComesRefused, AnswersLines, LaysOut}
 use Rattle.pc_layout.proofs.LineEnds.{stands}
 use Rattle.pc_layout.proofs.WordFaults.{contains_none, contains_cases}
@@ -115,19 +115,19 @@ starts_within : (text : List ℕ) (next : ℕ) (ls : List LogicalLine) → next 
 starts_within text next [] le h = le
 starts_within text next (l ∷ ls) le h = first_within (length text) l.lexemes h.0
 
-enclosed_within : (text : List ℕ) (ls : List LogicalLine) (next : ℕ) (ws : List Lexeme) → next ≤ length text → LinesWithin (length text) ls → AreWithin (length text) ws → AreWithin (length text) (enclosed text ls next ws)
+enclosed_within : (text : List ℕ) (ls : List LogicalLine) (next : ℕ) (ws : List Lexeme) → next ≤ length text → LinesWithin (length text) ls → AreWithin (length text) ws → AreWithin (length text) (indented_lexemes text ls next ws)
 enclosed_within text [] next ws le h g = tt
 enclosed_within text (l ∷ ls) next ws le h g =
     ((omega arith, first_within (length text) l.lexemes h.0), append (length text) ws (mark Dedent next ∷ []) g ((omega arith, le), tt))
 
-written_within : (text : List ℕ) (s : Suite) (next : ℕ) → next ≤ length text → LinesWithin (length text) (lines_of s) → AreWithin (length text) (written text s next)
+written_within : (text : List ℕ) (s : Suite) (next : ℕ) → next ≤ length text → LinesWithin (length text) (lines_of s) → AreWithin (length text) (flat_lexemes text s next)
 written_within text nothing next le h = tt
 written_within text (line l deeper others) next le h =
     let both = join_lines (length text) (lines_of deeper) (lines_of others) h.1 in
     let at = starts_within text next (lines_of others) le both.1 in
     append (length text) (l.lexemes ++ newline text l.lexemes ∷ []) _
     (append (length text) l.lexemes (newline text l.lexemes ∷ []) h.0 (line_end_within text (last_byte (length text) l.lexemes) (last_within (length text) l.lexemes h.0), tt))
-    (append (length text) (enclosed text (lines_of deeper) (starts_at text next (lines_of others)) (written text deeper (starts_at text next (lines_of others)))) (written text others next)
+    (append (length text) (indented_lexemes text (lines_of deeper) (starts_at text next (lines_of others)) (flat_lexemes text deeper (starts_at text next (lines_of others)))) (flat_lexemes text others next)
     (enclosed_within text (lines_of deeper) (starts_at text next (lines_of others)) _ at both.0 (written_within text deeper (starts_at text next (lines_of others)) at both.0))
     (written_within text others next le both.1))
 
@@ -135,7 +135,7 @@ pub layout_within : (text : List ℕ) (ls : List LogicalLine) (tokens : List Lex
 layout_within text ls tokens h g =
     let le : length text ≤ length text = omega arith in
     subst (λ ts. AreWithin (length text) ts) (sym g.written)
-    (append (length text) (written text g.forest (length text)) _ (written_within text g.forest (length text) le (subst (λ ms. LinesWithin (length text) ms) (sym g.its_lines) h)) ((omega arith, le), tt))
+    (append (length text) (flat_lexemes text g.forest (length text)) _ (written_within text g.forest (length text) le (subst (λ ms. LinesWithin (length text) ms) (sym g.its_lines) h)) ((omega arith, le), tt))
 
 -- ---- what is answered for lines
 
@@ -144,13 +144,13 @@ answer_within text ls (Ok v) h f = tt
 answer_within text ls (Err (Refused q)) h f = faults_within (length text) ls q.code q.byte h f.stands
 answer_within text ls (Err OutOfMemory) h f = tt
 
-same_fault : (ts : List (Token (Bor (List ℕ)))) (us : List Lexeme) (e f : Fault) → map item_of (map Ok ts ++ Err e ∷ []) ≡ map Ok us ++ Err f ∷ [] → e ≡ f
+same_fault : (ts : List (Token (Bor (List ℕ)))) (us : List Lexeme) (e f : Fault) → map token_item_of (map Ok ts ++ Err e ∷ []) ≡ map Ok us ++ Err f ∷ [] → e ≡ f
 same_fault [] [] e f h = cc
 same_fault [] (u ∷ us) e f h = cc
 same_fault (t ∷ ts) [] e f h = cc
 same_fault (t ∷ ts) (u ∷ us) e f h = same_fault ts us e f (cc)
 
-no_whole : (ts : List (Token (Bor (List ℕ)))) (us : List Lexeme) (e : Fault) → map item_of (map Ok ts ++ Err e ∷ []) ≡ map Ok us → ⊥
+no_whole : (ts : List (Token (Bor (List ℕ)))) (us : List Lexeme) (e : Fault) → map token_item_of (map Ok ts ++ Err e ∷ []) ≡ map Ok us → ⊥
 no_whole [] [] e h = cc
 no_whole [] (u ∷ us) e h = cc
 no_whole (t ∷ ts) [] e h = cc
@@ -163,25 +163,25 @@ module _ {I : Type 0} (steps : I → Option (Result Line Fault) → I → Type 0
   -- lines that came without a fault
   record AllCame (it : I) (ks : List (Result Line Fault)) : Type 0 where
     lines : List Line
-    came : Comes steps it (map Ok lines)
-    are : lines_came (map clean ks) ≡ map line_of lines
+    came : Yields steps it (map Ok lines)
+    are : lines_came (map line_item_of ks) ≡ map line_of lines
 
-  all_came : (it : I) (ks : List (Result Line Fault)) → Comes steps it ks → fault_came (map clean ks) ≡ None → AllCame it ks
+  all_came : (it : I) (ks : List (Result Line Fault)) → Yields steps it ks → fault_came (map line_item_of ks) ≡ None → AllCame it ks
   all_came it [] h e = record { lines = []; came = h; are = refl }
   all_came it (Ok l ∷ ks) (t, g, more) e = let r = all_came t ks more e in record { lines = l ∷ r.lines; came = (t, g, r.came); are = ap (λ z. line_of l ∷ z) r.are }
   all_came it (Err f ∷ ks) h e = cc
 
   -- lines, and then a refusal
-  refusal_came : (it : I) (ks : List (Result Line Fault)) (r : Refusal) → Comes steps it ks → fault_came (map clean ks) ≡ Some (Refused r) →
-      (ls : List Line) × Comes steps it (map Ok ls ++ Err (Refused r) ∷ [])
+  refusal_came : (it : I) (ks : List (Result Line Fault)) (r : Refusal) → Yields steps it ks → fault_came (map line_item_of ks) ≡ Some (Refused r) →
+      (ls : List Line) × Yields steps it (map Ok ls ++ Err (Refused r) ∷ [])
   refusal_came it [] r h e = cc
   refusal_came it (Ok l ∷ ks) r (t, g, more) e = let m = refusal_came t ks r more e in (l ∷ m.0, (t, g, m.1))
-  refusal_came it (Err f ∷ ks) r (none, t, g) e = let same : f ≡ Refused r = cc in ([], subst (λ x. Comes steps it (Err x ∷ [])) same (refl, t, g))
+  refusal_came it (Err f ∷ ks) r (none, t, g) e = let same : f ≡ Refused r = cc in ([], subst (λ x. Yields steps it (Err x ∷ [])) same (refl, t, g))
 
   module _ {T : Type 0} (gives : T → Option (Result (Token (Bor (List ℕ))) Fault) → T → Type 0) (text : List ℕ) (it : I) (toks : T) (lays : LaysOut steps gives text it toks)
       (within : RefusesWithin steps (length text) it) (stand : ComesAs steps (λ ls. LinesWithin (length text) (map line_of ls)) it) where
-    by_fault : (ts : List (Token (Bor (List ℕ)))) (r : Refusal) (ks : List (Result Line Fault)) → Comes steps it ks → (o : Option Fault) → fault_came (map clean ks) ≡ o →
-        MatchOption o (ComesWhole text (lines_came (map clean ks)) (map item_of (map Ok ts ++ Err (Refused r) ∷ [])) ⊎ ComesRefused text (lines_came (map clean ks)) (map item_of (map Ok ts ++ Err (Refused r) ∷ []))) (ComesFaulty (map item_of (map Ok ts ++ Err (Refused r) ∷ []))) →
+    by_fault : (ts : List (Token (Bor (List ℕ)))) (r : Refusal) (ks : List (Result Line Fault)) → Yields steps it ks → (o : Option Fault) → fault_came (map line_item_of ks) ≡ o →
+        MatchOption o (ComesWhole text (lines_came (map line_item_of ks)) (map token_item_of (map Ok ts ++ Err (Refused r) ∷ [])) ⊎ ComesRefused text (lines_came (map line_item_of ks)) (map token_item_of (map Ok ts ++ Err (Refused r) ∷ []))) (ComesFaulty (map token_item_of (map Ok ts ++ Err (Refused r) ∷ []))) →
         r.byte ≤ length text
     by_fault ts r ks come (Some e) is h =
         let same : Refused r ≡ e = same_fault ts h.tokens (Refused r) e h.all in
@@ -191,7 +191,7 @@ module _ {I : Type 0} (steps : I → Option (Result Line Fault) → I → Type 0
         let same : r ≡ h.refusal = refusal_is r h.refusal (same_fault ts h.fault.tokens (Refused r) (Refused h.refusal) h.fault.all) in
         let c = all_came it ks come is in
         subst (λ (q : Refusal). q.byte ≤ length text) (sym same)
-        (faults_within (length text) (lines_came (map clean ks)) h.refusal.code h.refusal.byte (subst (λ ls. LinesWithin (length text) ls) (sym c.are) (stand c.lines c.came)) h.refuses.stands)
+        (faults_within (length text) (lines_came (map line_item_of ks)) h.refusal.code h.refusal.byte (subst (λ ls. LinesWithin (length text) ls) (sym c.are) (stand c.lines c.came)) h.refuses.stands)
 
     pub lays_within : RefusesWithin gives (length text) toks
-    lays_within ts r come = let l = lays (map Ok ts ++ Err (Refused r) ∷ []) come in by_fault ts r l.0 l.1 (fault_came (map clean l.0)) refl l.2
+    lays_within ts r come = let l = lays (map Ok ts ++ Err (Refused r) ∷ []) come in by_fault ts r l.0 l.1 (fault_came (map line_item_of l.0)) refl l.2

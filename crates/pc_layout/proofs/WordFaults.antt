@@ -16,7 +16,7 @@ use Rattle.pc_token.specs.declared.token.TokenKind.{TokenKind}
 use Rattle.pc_token.specs.declared.token.TokenKind.TheVariants as k
 use Rattle.pc_token.specs.Lexeme.{Lexeme, LogicalLine}
 use Rattle.pc_layout.specs.Spelling.{first_kind, first_byte, forms, IsHeader, future_header, dataclass_header, any_header, dataclass_decorator, excludes_keyword, excludes_operator}
-use Rattle.pc_layout.specs.Placing.{is_spelled, is_header, opening_fault, excluded, refused_or, first_excluded, word_fault}
+use Rattle.pc_layout.specs.Placing.{is_spelled, is_header, opening_fault, exclusion, refused_or, first_excluded, word_fault}
 use Rattle.pc_layout.specs.Layouts.{StandInOrder}
 
 -- the tests tell what they are to tell
@@ -65,16 +65,16 @@ operator_out : (header a : Bool) (o : Operator) (code : RefusalCode) → exclude
 operator_out header false o code s e = absurd (cc)
 operator_out header true o code s e = operator o refl s (cc)
 
-pub left_out : (header : Bool) (kind : TokenKind) (code : RefusalCode) → excluded header kind ≡ Some code → IsLeftOut header kind code
+pub left_out : (header : Bool) (kind : TokenKind) (code : RefusalCode) → exclusion header kind ≡ Some code → IsLeftOut header kind code
 left_out header (k.Keyword w) code e = keyword_out header (excludes_keyword w) header w code refl refl e
 left_out header (k.Operator o) code e = operator_out header (excludes_operator o) o code refl e
 left_out header _ code e = absurd (cc)
 
 -- and the other way round
-pub keyword_left : (header : Bool) (kind : TokenKind) (w : Keyword) → kind ≡ k.Keyword w → excludes_keyword w ≡ true → header ≡ false → excluded header kind ≡ Some N1
+pub keyword_left : (header : Bool) (kind : TokenKind) (w : Keyword) → kind ≡ k.Keyword w → excludes_keyword w ≡ true → header ≡ false → exclusion header kind ≡ Some N1
 keyword_left header kind w e t h = rw (e, t, h) refl
 
-pub operator_left : (header : Bool) (kind : TokenKind) (o : Operator) → kind ≡ k.Operator o → excludes_operator o ≡ true → excluded header kind ≡ Some N2
+pub operator_left : (header : Bool) (kind : TokenKind) (o : Operator) → kind ≡ k.Operator o → excludes_operator o ≡ true → exclusion header kind ≡ Some N2
 operator_left header kind o e t = rw (e, t) refl
 
 -- one of a list's elements is the first, or one of the others
@@ -117,21 +117,21 @@ same_some o x y e f = cc
 pub record LeftOutAt (header : Bool) (xs : List Lexeme) (code : RefusalCode) (byte : ℕ) : Type 0 where
   pub token : Lexeme
   pub among : Contains xs token
-  pub out : excluded header token.kind ≡ Some code
+  pub out : exclusion header token.kind ≡ Some code
   pub at : byte ≡ token.place.start
 
 pub excluded_some : (header : Bool) (xs : List Lexeme) (r : Refusal) → first_excluded header xs ≡ Some r → LeftOutAt header xs r.code r.byte
 excluded_some header [] r e = absurd (cc)
-excluded_some header (x ∷ xs) r e = elim (refused_some (excluded header x.kind) x.place.start (first_excluded header xs) r e) [
+excluded_some header (x ∷ xs) r e = elim (refused_some (exclusion header x.kind) x.place.start (first_excluded header xs) r e) [
   | inl h ↦ record { token = x; among = contains_first x xs; out = h.0; at = h.1 }
   | inr h ↦ let g : LeftOutAt header xs r.code r.byte = excluded_some header xs r h.1 in record { token = g.token; among = contains_later x xs g.token g.among; out = g.out; at = g.at }
 ]
 
-pub excluded_none : (header : Bool) (xs : List Lexeme) (x : Lexeme) → first_excluded header xs ≡ None → Contains xs x → excluded header x.kind ≡ None
+pub excluded_none : (header : Bool) (xs : List Lexeme) (x : Lexeme) → first_excluded header xs ≡ None → Contains xs x → exclusion header x.kind ≡ None
 excluded_none header [] x e h = absurd (contains_none x h)
-excluded_none header (y ∷ ys) x e h = let g : (excluded header y.kind ≡ None) × (first_excluded header ys ≡ None) = refused_none (excluded header y.kind) y.place.start (first_excluded header ys) e in
+excluded_none header (y ∷ ys) x e h = let g : (exclusion header y.kind ≡ None) × (first_excluded header ys ≡ None) = refused_none (exclusion header y.kind) y.place.start (first_excluded header ys) e in
     elim (contains_cases y ys x h) [
-      | inl q ↦ ap (λ (z : Lexeme). excluded header z.kind) (sym q) ∙ g.0
+      | inl q ↦ ap (λ (z : Lexeme). exclusion header z.kind) (sym q) ∙ g.0
       | inr i ↦ excluded_none header ys x g.1 i
     ]
 
@@ -139,16 +139,16 @@ excluded_none header (y ∷ ys) x e h = let g : (excluded header y.kind ≡ None
 abbrev pub CountsFirst : Refusal → RefusalCode → ℕ → Type 0
 CountsFirst r code byte = (r.byte < byte) ⊎ ((r.byte ≡ byte) × (r.code ≡ code))
 
-pub excluded_least : (header : Bool) (from : ℕ) (xs : List Lexeme) (r : Refusal) (x : Lexeme) (code : RefusalCode) → StandInOrder from xs → first_excluded header xs ≡ Some r → Contains xs x → excluded header x.kind ≡ Some code →
+pub excluded_least : (header : Bool) (from : ℕ) (xs : List Lexeme) (r : Refusal) (x : Lexeme) (code : RefusalCode) → StandInOrder from xs → first_excluded header xs ≡ Some r → Contains xs x → exclusion header x.kind ≡ Some code →
     CountsFirst r code x.place.start
 excluded_least header from [] r x code o e h out = absurd (contains_none x h)
-excluded_least header from (y ∷ ys) r x code o e h out = elim (refused_some (excluded header y.kind) y.place.start (first_excluded header ys) r e) [
+excluded_least header from (y ∷ ys) r x code o e h out = elim (refused_some (exclusion header y.kind) y.place.start (first_excluded header ys) r e) [
   | inl g ↦ elim (contains_cases y ys x h) [
-    | inl q ↦ inr (g.1 ∙ ap (λ (z : Lexeme). z.place.start) q, same_some _ _ _ (sym (ap (λ (z : Lexeme). excluded header z.kind) q) ∙ g.0) out)
+    | inl q ↦ inr (g.1 ∙ ap (λ (z : Lexeme). z.place.start) q, same_some _ _ _ (sym (ap (λ (z : Lexeme). exclusion header z.kind) q) ∙ g.0) out)
     | inr i ↦ inl (omega (arith, g.1, o.1, behind y.place.end ys x o.2 i))
   ]
   | inr g ↦ elim (contains_cases y ys x h) [
-    | inl q ↦ absurd (some_none _ code out (ap (λ (z : Lexeme). excluded header z.kind) (sym q) ∙ g.0))
+    | inl q ↦ absurd (some_none _ code out (ap (λ (z : Lexeme). exclusion header z.kind) (sym q) ∙ g.0))
     | inr i ↦ excluded_least header y.place.end ys r x code o.2 g.1 i out
   ]
 ]
@@ -173,16 +173,16 @@ none_found len in_def c xs code byte e f =
     ]
 
 -- a token with which a line begins wrongly is not left out
-opening_not_out : (header in_def : Bool) (c : ℕ) (xs : List Lexeme) (kind : TokenKind) (code other : RefusalCode) → BeginsWrong in_def c xs (Some kind) code → excluded header kind ≡ Some other → ⊥
+opening_not_out : (header in_def : Bool) (c : ℕ) (xs : List Lexeme) (kind : TokenKind) (code other : RefusalCode) → BeginsWrong in_def c xs (Some kind) code → exclusion header kind ≡ Some other → ⊥
 opening_not_out header in_def c xs kind code other (nested e t q) h = let f : kind ≡ k.Keyword Def = cc in let g = rw f at h in cc
 opening_not_out header in_def c xs kind code other (inside e t q) h = let f : kind ≡ k.Keyword Class = cc in let g = rw f at h in cc
 opening_not_out header in_def c xs kind code other (decorated e t q) h = let f : kind ≡ k.Operator At = cc in let g = rw f at h in cc
 
 opening_least : (len : ℕ) (header in_def : Bool) (c from : ℕ) (xs all : List Lexeme) (r : Refusal) (x : Lexeme) (code : RefusalCode) → StandInOrder from xs → opening_fault in_def c all (first_kind xs) ≡ Some r.code → r.byte ≡ first_byte len xs →
-    Contains xs x → excluded header x.kind ≡ Some code → CountsFirst r code x.place.start
+    Contains xs x → exclusion header x.kind ≡ Some code → CountsFirst r code x.place.start
 opening_least len header in_def c from [] all r x code o e b h out = absurd (contains_none x h)
 opening_least len header in_def c from (y ∷ ys) all r x code o e b h out = elim (contains_cases y ys x h) [
-  | inl q ↦ absurd (opening_not_out header in_def c all y.kind r.code code (begins_wrong in_def c all (Some y.kind) r.code e) (ap (λ (z : Lexeme). excluded header z.kind) q ∙ out))
+  | inl q ↦ absurd (opening_not_out header in_def c all y.kind r.code code (begins_wrong in_def c all (Some y.kind) r.code e) (ap (λ (z : Lexeme). exclusion header z.kind) q ∙ out))
   | inr i ↦ inl (omega (arith, b, o.1, behind y.place.end ys x o.2 i))
 ]
 

@@ -4,13 +4,13 @@ use Rattle.std.specs.Borrow.{Bor}
 use Rattle.pc_source.specs.declared.fault.Refusal.{Refusal}
 use Rattle.pc_source.specs.declared.fault.Fault.{Fault}
 use Rattle.pc_source.specs.declared.fault.Fault.TheVariants.{Refused}
-use Rattle.pc_source.specs.Stream.{Comes}
+use Rattle.pc_source.specs.Stream.{Yields}
 use Rattle.pc_token.specs.declared.token.Line.{Line}
 use Rattle.pc_token.specs.declared.token.Token.{Token}
 use Rattle.pc_token.specs.Lexeme.{Lexeme, LogicalLine}
 use Rattle.pc_layout.specs.Faults.{HasFault, IsLayoutRefusal}
 use Rattle.pc_layout.specs.Layouts.{IsLayout, AreInOrder}
-use Rattle.pc_layout.specs.Giving.{clean, item_of}
+use Rattle.pc_layout.specs.TokenIterator.Items.{line_item_of, token_item_of}
 
 -- the lines that came
 abbrev pub lines_came : List (Result LogicalLine Fault) → List LogicalLine
@@ -53,5 +53,5 @@ AnswersLines text lines items = MatchOption (fault_came lines) (ComesWhole text 
 module _ {I T : Type 0} (steps : I → Option (Result Line Fault) → I → Type 0) (gives : T → Option (Result (Token (Bor (List ℕ))) Fault) → T → Type 0) where
   -- whatever tokens come, some lines came, and the tokens are their layout
   abbrev pub LaysOut : List ℕ → I → T → Type 0
-  LaysOut text it toks = (items : List (Result (Token (Bor (List ℕ))) Fault)) → Comes gives toks items →
-      (ks : List (Result Line Fault)) × Comes steps it ks × AnswersLines text (map clean ks) (map item_of items)
+  LaysOut text it toks = (items : List (Result (Token (Bor (List ℕ))) Fault)) → Yields gives toks items →
+      (ks : List (Result Line Fault)) × Yields steps it ks × AnswersLines text (map line_item_of ks) (map token_item_of items)

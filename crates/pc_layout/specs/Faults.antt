@@ -74,18 +74,18 @@ HasFault len before [] code byte = ⊥
 HasFault len before (l ∷ ls) code byte = IsFault len before l code byte ⊎ HasFault len (l ∷ before) ls code byte
 
 -- the order in which codes count at one byte
-abbrev pub rank : RefusalCode → ℕ
-rank I1 = 1
-rank I2 = 2
-rank I3 = 3
-rank N1 = 4
-rank N2 = 5
-rank N3 = 6
-rank N4 = 7
-rank N5 = 8
-rank _ = 0
+abbrev pub code_rank : RefusalCode → ℕ
+code_rank I1 = 1
+code_rank I2 = 2
+code_rank I3 = 3
+code_rank N1 = 4
+code_rank N2 = 5
+code_rank N3 = 6
+code_rank N4 = 7
+code_rank N5 = 8
+code_rank _ = 0
 
 -- the lines' refusal: a fault of theirs, and none stands at a lesser byte, or at that byte with a code that counts before
 pub record IsLayoutRefusal (len : ℕ) (ls : List LogicalLine) (refusal : Refusal) : Type 0 where
   pub fault : HasFault len [] ls refusal.code refusal.byte
-  pub least : (code : RefusalCode) (byte : ℕ) → HasFault len [] ls code byte → (refusal.byte < byte) ⊎ ((refusal.byte ≡ byte) × (rank refusal.code ≤ rank code))
+  pub least : (code : RefusalCode) (byte : ℕ) → HasFault len [] ls code byte → (refusal.byte < byte) ⊎ ((refusal.byte ≡ byte) × (code_rank refusal.code ≤ code_rank code))

@@ -46,18 +46,18 @@ starts_at text byte [] = byte
 starts_at text byte (l ∷ ls) = first_byte (length text) l.lexemes
 
 -- a deeper suite that is written so, between its INDENT and its DEDENT at the next line; nothing where there is none
-abbrev pub enclosed : List ℕ → List LogicalLine → ℕ → List Lexeme → List Lexeme
-enclosed text [] next written = []
-enclosed text (l ∷ ls) next written = mark Indent (first_byte (length text) l.lexemes) ∷ (written ++ mark Dedent next ∷ [])
+abbrev pub indented_lexemes : List ℕ → List LogicalLine → ℕ → List Lexeme → List Lexeme
+indented_lexemes text [] next flat_lexemes = []
+indented_lexemes text (l ∷ ls) next flat_lexemes = mark Indent (first_byte (length text) l.lexemes) ∷ (flat_lexemes ++ mark Dedent next ∷ [])
 
 -- a suite written flat, before a line that begins at the next byte
-abbrev pub written : List ℕ → Suite → ℕ → List Lexeme
-written text nothing next = []
-written text (line l deeper others) next =
+abbrev pub flat_lexemes : List ℕ → Suite → ℕ → List Lexeme
+flat_lexemes text nothing next = []
+flat_lexemes text (line l deeper others) next =
     written_line text l.lexemes
-    ++ (enclosed text (lines_of deeper) (starts_at text next (lines_of others)) (written text deeper (starts_at text next (lines_of others)))
-    ++ written text others next)
+    ++ (indented_lexemes text (lines_of deeper) (starts_at text next (lines_of others)) (flat_lexemes text deeper (starts_at text next (lines_of others)))
+    ++ flat_lexemes text others next)
 
 -- the forest of the whole text, and END
 abbrev pub flat : List ℕ → Suite → List Lexeme
-flat text forest = written text forest (length text) ++ mark End (length text) ∷ []
+flat text forest = flat_lexemes text forest (length text) ++ mark End (length text) ∷ []

@@ -5,11 +5,7 @@ pub mod Faults
 pub mod Layouts
 pub mod Placing
 pub mod Stepping
-pub mod Opened
-pub mod Pending
-pub mod Giving
-pub mod TokGiving
 pub mod Answering
-pub mod Copying
-pub mod Beginning
 pub mod Laws
+pub mod Internal
+pub mod TokenIterator

@@ -16,7 +16,7 @@ use Rattle.pc_layout.specs.Faults.{deepest}
 use Rattle.pc_layout.specs.declared.levels.Level.{Level}
 
 -- the suites that are open, the innermost first, and what the last line lets come after it
-pub record Context : Type 0 where
+pub record LayoutContext : Type 0 where
   pub levels : List Level
   pub after_colon : Bool
   pub after_def : Bool
@@ -32,31 +32,31 @@ in_def_of [] = false
 in_def_of (v ∷ vs) = v.in_def
 
 -- without the suites that are deeper than a column
-abbrev pub closing : ℕ → List Level → List Level
-closing c [] = []
-closing c (v ∷ vs) = if nat_lt c v.column then closing c vs else v ∷ vs
+abbrev pub levels_up_to : ℕ → List Level → List Level
+levels_up_to c [] = []
+levels_up_to c (v ∷ vs) = if nat_lt c v.column then levels_up_to c vs else v ∷ vs
 
 -- the suites that are open at a line, and which signs stand before it
-pub record Placed : Type 0 where
+pub record Placement : Type 0 where
   pub levels : List Level
   pub dedents : ℕ
   pub indent : Bool
 
 -- a line of a column opens a suite
-abbrev pub opened : Context → ℕ → Result Placed RefusalCode
-opened x c = if x.after_colon
+abbrev pub opening_placement : LayoutContext → ℕ → Result Placement RefusalCode
+opening_placement x c = if x.after_colon
     then (if nat_lt (length x.levels) deepest then Ok (record { levels = record { column = c; in_def = in_def_of x.levels || x.after_def } ∷ x.levels; dedents = 0; indent = true }) else Err I3)
     else Err I2
 
 -- a line of a column closes suites, or none
-abbrev pub closed : Context → ℕ → Result Placed RefusalCode
-closed x c = if column_of (closing c x.levels) == c
-    then Ok (record { levels = closing c x.levels; dedents = length x.levels - length (closing c x.levels); indent = false })
+abbrev pub closing_placement : LayoutContext → ℕ → Result Placement RefusalCode
+closing_placement x c = if column_of (levels_up_to c x.levels) == c
+    then Ok (record { levels = levels_up_to c x.levels; dedents = length x.levels - length (levels_up_to c x.levels); indent = false })
     else Err I1
 
 -- a line of a column opens a suite where it is deeper than the innermost, and else closes suites
-abbrev pub placed : Context → ℕ → Result Placed RefusalCode
-placed x c = if nat_lt (column_of x.levels) c then opened x c else closed x c
+abbrev pub placement : LayoutContext → ℕ → Result Placement RefusalCode
+placement x c = if nat_lt (column_of x.levels) c then opening_placement x c else closing_placement x c
 
 -- the tokens are spelled so
 abbrev pub is_spelled : List Lexeme → List (List ℕ) → Bool
@@ -74,10 +74,10 @@ opening_fault in_def column xs (Some (k.Operator At)) = if is_spelled xs datacla
 opening_fault in_def column xs _ = None
 
 -- what is wrong with a token
-abbrev pub excluded : Bool → TokenKind → Option RefusalCode
-excluded header (k.Keyword word) = if excludes_keyword word then (if header then None else Some N1) else None
-excluded header (k.Operator operator) = if excludes_operator operator then Some N2 else None
-excluded header _ = None
+abbrev pub exclusion : Bool → TokenKind → Option RefusalCode
+exclusion header (k.Keyword word) = if excludes_keyword word then (if header then None else Some N1) else None
+exclusion header (k.Operator operator) = if excludes_operator operator then Some N2 else None
+exclusion header _ = None
 
 -- the refusal at a byte, or else the other
 abbrev pub refused_or : Option RefusalCode → ℕ → Option Refusal → Option Refusal
@@ -87,7 +87,7 @@ refused_or (Some code) byte other = Some (record { code = code; byte = byte })
 -- the first token that the profile leaves out
 abbrev pub first_excluded : Bool → List Lexeme → Option Refusal
 first_excluded header [] = None
-first_excluded header (x ∷ xs) = refused_or (excluded header x.kind) x.place.start (first_excluded header xs)
+first_excluded header (x ∷ xs) = refused_or (exclusion header x.kind) x.place.start (first_excluded header xs)
 
 -- what is wrong with the words of a line
 abbrev pub word_fault : ℕ → Bool → ℕ → List Lexeme → Option Refusal

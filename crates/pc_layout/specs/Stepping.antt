@@ -11,7 +11,7 @@ use Rattle.pc_token.specs.declared.token.TokenKind.TheVariants as k
 use Rattle.pc_token.specs.Lexeme.{Lexeme, LogicalLine}
 use Rattle.pc_layout.specs.Spelling.{first_byte, first_kind, last_kind}
 use Rattle.pc_layout.specs.Flat.{mark, newline}
-use Rattle.pc_layout.specs.Placing.{Context, Placed, placed, word_fault, in_def_of}
+use Rattle.pc_layout.specs.Placing.{LayoutContext, Placement, placement, word_fault, in_def_of}
 
 -- it is `:`
 abbrev pub is_colon : Option TokenKind → Bool
@@ -24,11 +24,11 @@ is_def (Some (k.Keyword Def)) = true
 is_def _ = false
 
 -- before the first line
-abbrev pub start : Context
+abbrev pub start : LayoutContext
 start = record { levels = []; after_colon = false; after_def = false }
 
 -- after a line that was placed so
-abbrev pub after : Placed → List Lexeme → Context
+abbrev pub after : Placement → List Lexeme → LayoutContext
 after p xs = record { levels = p.levels; after_colon = is_colon (last_kind xs); after_def = is_def (first_kind xs) }
 
 -- these tokens come before the others
@@ -49,8 +49,8 @@ abbrev pub given_line : List Lexeme → Lexeme → List (Result Lexeme Fault) �
 given_line xs end others = give xs (Ok end ∷ others)
 
 -- a line that was placed so, before what comes after it
-abbrev pub given : List ℕ → Placed → List Lexeme → List (Result Lexeme Fault) → List (Result Lexeme Fault)
-given text p xs others =
+abbrev pub placed_line : List ℕ → Placement → List Lexeme → List (Result Lexeme Fault) → List (Result Lexeme Fault)
+placed_line text p xs others =
     give (dedents p.dedents (first_byte (length text) xs)) (give (indents p.indent (first_byte (length text) xs)) (given_line xs (newline text xs) others))
 
 -- a refusal counts once no later line holds a fault
@@ -60,30 +60,30 @@ settle r (Ok l ∷ ls) = settle r ls
 settle r (Err e ∷ ls) = e
 
 -- where a line stands, and what is wrong with its words there
-abbrev pub stepped : Option Refusal → Placed → Result Placed Refusal
-stepped None p = Ok p
-stepped (Some r) p = Err r
+abbrev pub unless_refused : Option Refusal → Placement → Result Placement Refusal
+unless_refused None p = Ok p
+unless_refused (Some r) p = Err r
 
 -- where a line stands, if it stands anywhere, and what is wrong with it else
-abbrev pub worded : ℕ → ℕ → List Lexeme → Result Placed RefusalCode → Result Placed Refusal
-worded len column xs (Ok p) = stepped (word_fault len (in_def_of p.levels) column xs) p
-worded len column xs (Err code) = Err (record { code = code; byte = first_byte len xs })
+abbrev pub checked_placement : ℕ → ℕ → List Lexeme → Result Placement RefusalCode → Result Placement Refusal
+checked_placement len column xs (Ok p) = unless_refused (word_fault len (in_def_of p.levels) column xs) p
+checked_placement len column xs (Err code) = Err (record { code = code; byte = first_byte len xs })
 
 -- what a line does between two lines
-abbrev pub step : ℕ → Context → LogicalLine → Result Placed Refusal
-step len x l = worded len l.column l.lexemes (placed x l.column)
+abbrev pub step : ℕ → LayoutContext → LogicalLine → Result Placement Refusal
+step len x l = checked_placement len l.column l.lexemes (placement x l.column)
 
 -- at the end all suites are closed
-abbrev pub closed_all : ℕ → Context → List (Result Lexeme Fault)
+abbrev pub closed_all : ℕ → LayoutContext → List (Result Lexeme Fault)
 closed_all len x = give (dedents (length x.levels) len) (Ok (mark k.End len) ∷ [])
 
 -- the tokens of a line and of the lines after it, or the fault
-abbrev pub laid_by : Result Placed Refusal → List ℕ → List Lexeme → List (Result LogicalLine Fault) → (Context → List (Result Lexeme Fault)) → List (Result Lexeme Fault)
-laid_by (Ok p) text xs ls others = given text p xs (others (after p xs))
-laid_by (Err r) text xs ls others = Err (settle r ls) ∷ []
+abbrev pub layout_lexemes_by : Result Placement Refusal → List ℕ → List Lexeme → List (Result LogicalLine Fault) → (LayoutContext → List (Result Lexeme Fault)) → List (Result Lexeme Fault)
+layout_lexemes_by (Ok p) text xs ls others = placed_line text p xs (others (after p xs))
+layout_lexemes_by (Err r) text xs ls others = Err (settle r ls) ∷ []
 
 -- the tokens of these lines
-unfoldable pub laid : List ℕ → Context → List (Result LogicalLine Fault) → List (Result Lexeme Fault)
-laid text x [] = closed_all (length text) x
-laid text x (Err e ∷ ls) = Err e ∷ []
-laid text x (Ok l ∷ ls) = laid_by (step (length text) x l) text l.lexemes ls (λ y. laid text y ls)
+unfoldable pub layout_lexemes : List ℕ → LayoutContext → List (Result LogicalLine Fault) → List (Result Lexeme Fault)
+layout_lexemes text x [] = closed_all (length text) x
+layout_lexemes text x (Err e ∷ ls) = Err e ∷ []
+layout_lexemes text x (Ok l ∷ ls) = layout_lexemes_by (step (length text) x l) text l.lexemes ls (λ y. layout_lexemes text y ls)

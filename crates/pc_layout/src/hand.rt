@@ -1,8 +1,8 @@
 //! The line at hand.
 ghost use Rattle.std.specs.Prelude.{◌≡◌, ℕ, ◌+◌, ◌-◌, ◌^◌, ◌<◌, ◌≤◌, ◌*◌, true, false, List, [], ◌∷◌, length, map, Ok, Err, MatchResult, OnOk};
 ghost use Rattle.pc_token.specs.Lexeme.{lexeme_of, line_of};
-ghost use Rattle.pc_layout.specs.Stepping.{settle, start, laid};
-ghost use Rattle.pc_layout.specs.Opened.{context_of, line_at, StepsTo};
+ghost use Rattle.pc_layout.specs.Stepping.{settle, start, layout_lexemes};
+ghost use Rattle.pc_layout.specs.TokenIterator.Levels.{context_of, line_at, StepsTo};
 
 use crate::levels::{Levels, Signs};
 use crate::line::{begins_with_def, ends_in_colon, first_byte, last_byte, word_fault};
@@ -63,11 +63,11 @@ fn step(
 }
 
 impl<'a> Hand<'a> {
-    ghost use Rattle.pc_layout.specs.Pending.{pending, pending_by, has_token, asks, at_hand};
+    ghost use Rattle.pc_layout.specs.TokenIterator.PendingTokens.{pending, pending_by, has_token, asks, at_hand};
 
     /// No line came yet.
     pub fn new(alloc: Global, source: &'a Source) -> Hand<'a>
-        ensures pending { (ls : List _) → pending result ls ≡ laid source.now start ls }
+        ensures pending { (ls : List _) → pending result ls ≡ layout_lexemes source.now start ls }
         ensures due { result.due ≡ Due.Lines }
     {
         let text = source.text();

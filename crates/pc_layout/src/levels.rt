@@ -32,9 +32,9 @@ pub struct Signs {
 }
 
 impl Levels {
-    ghost use Rattle.pc_layout.specs.Placing.{column_of, in_def_of, closing, placed};
+    ghost use Rattle.pc_layout.specs.Placing.{column_of, in_def_of, levels_up_to, placement};
     ghost use Rattle.pc_layout.specs.Stepping.{start};
-    ghost use Rattle.pc_layout.specs.Opened.{context_of};
+    ghost use Rattle.pc_layout.specs.TokenIterator.Levels.{context_of};
 
     /// No suite is open, and no line came.
     pub fn new() -> Levels
@@ -76,7 +76,7 @@ impl Levels {
 
     /// Closes the suites that are deeper than a column, and counts them.
     fn close(&mut self, column: usize) -> usize
-        ensures levels { (context_of self.new).levels ≡ closing column (context_of self.old).levels }
+        ensures levels { (context_of self.new).levels ≡ levels_up_to column (context_of self.old).levels }
         ensures count { result ≡ length (context_of self.old).levels - length (context_of self.new).levels }
         ensures colon { self.new.after_colon ≡ self.old.after_colon }
         ensures def { self.new.after_def ≡ self.old.after_def }
@@ -91,8 +91,8 @@ impl Levels {
     /// Opens and closes suites for a line of a column.
     pub fn place(&mut self, column: usize) -> Result<Signs, RefusalCode>
         ensures places { MatchResult result
-            (λ s. placed (context_of self.old) column ≡ Ok (record { levels = (context_of self.new).levels; dedents = s.dedents; indent = s.indent }))
-            (λ code. placed (context_of self.old) column ≡ Err code) }
+            (λ s. placement (context_of self.old) column ≡ Ok (record { levels = (context_of self.new).levels; dedents = s.dedents; indent = s.indent }))
+            (λ code. placement (context_of self.old) column ≡ Err code) }
         ensures colon { self.new.after_colon ≡ self.old.after_colon }
         ensures def { self.new.after_def ≡ self.old.after_def }
     {

@@ -40,7 +40,7 @@ impl<'t, 'a> Iterator for Listed<'t, 'a> {
     type Item = Result<Line<'a>, Fault>;
 
     ghost use Rattle.std.specs.Prelude.{◌-◌, length};
-    ghost use Rattle.pc_layout.specs.Copying.{gives_line};
+    ghost use Rattle.pc_layout.specs.Internal.ListedLines.{gives_line};
 
     ghost next_gives = { gives_line };
 

@@ -4,9 +4,9 @@ ghost use Rattle.std.specs.Iterator.{IsFinite};
 ghost use Rattle.pc_source.specs.Stream.{ComesAs, RefusesWithin};
 ghost use Rattle.pc_token.specs.Lexeme.{line_of};
 ghost use Rattle.pc_token.specs.Within.{LinesWithin};
-ghost use Rattle.pc_layout.specs.Giving.{SettlesTo};
+ghost use Rattle.pc_layout.specs.TokenIterator.Items.{SettlesTo};
 ghost use Rattle.pc_layout.specs.Answering.{LaysOut};
-ghost use Rattle.pc_layout.specs.Beginning.{Begins};
+ghost use Rattle.pc_layout.specs.TokenIterator.Start.{IsAtStart};
 
 use crate::hand::{Due, Hand};
 use pc_source::{Fault, Refusal, Source};
@@ -39,11 +39,11 @@ impl<'a, I: Iterator<Item = Result<Line<'a>, Fault>> + Drop> Toks<'a, I> {
 impl<'a, I: Iterator<Item = Result<Line<'a>, Fault>> + Drop> Iterator for Toks<'a, I> {
     type Item = Result<Tok<'a>, Fault>;
 
-    ghost use Rattle.pc_layout.specs.Pending.{asks};
-    ghost use Rattle.pc_layout.specs.Giving.{tokens_left};
-    ghost use Rattle.pc_layout.specs.TokGiving.{gives_tok};
+    ghost use Rattle.pc_layout.specs.TokenIterator.PendingTokens.{asks};
+    ghost use Rattle.pc_layout.specs.TokenIterator.Items.{tokens_left};
+    ghost use Rattle.pc_layout.specs.TokenIterator.NextToken.{gives_next_token};
 
-    ghost next_gives = { λ s r t. gives_tok I.next_gives s.hand s.lines r t.hand t.lines };
+    ghost next_gives = { λ s r t. gives_next_token I.next_gives s.hand s.lines r t.hand t.lines };
 
     ghost remaining = { λ s. tokens_left s.hand (I.remaining s.lines) };
 
@@ -94,7 +94,7 @@ pub fn layout_of<'a, I: Iterator<Item = Result<Line<'a>, Fault>> + Drop>(
 ) -> Toks<'a, I>
     ensures ready { I.can_next lines → IsFinite (I.remaining lines)
         → ⟦<Toks<'a, I> as Iterator>⟧.can_next result × IsFinite (⟦<Toks<'a, I> as Iterator>⟧.remaining result) }
-    ensures begins { Begins source.now lines result }
+    ensures begins { IsAtStart source.now lines result }
     ensures lays { LaysOut I.next_gives ⟦<Toks<'a, I> as Iterator>⟧.next_gives source.now lines result }
     ensures within { RefusesWithin I.next_gives (length source.now) lines
         → ComesAs I.next_gives (λ ls. LinesWithin (length source.now) (map line_of ls)) lines

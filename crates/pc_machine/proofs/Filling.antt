@@ -8,10 +8,10 @@ use Rattle.pc_tree.proofs.Stops.{cons_at}
 use Rattle.pc_value.specs.Value.{Value}
 use Rattle.pc_value.specs.declared.value.Value.{Value as RustValue}
 use Rattle.pc_value.specs.Meaning.{value_of}
-use Rattle.pc_value.specs.Keys.{option_value}
+use Rattle.pc_value.specs.Internal.Keys.{option_value}
 use Rattle.pc_machine.specs.declared.state.Parameter.{Parameter as RustParameter}
 use Rattle.pc_machine.specs.State.{Local, Parameter}
-use Rattle.pc_machine.specs.Calls.{NamedValue, value_named, filled, taken, and_others}
+use Rattle.pc_machine.specs.Calls.{NamedValue, value_named, filled_parameters, value_taken, and_others}
 use Rattle.pc_machine.specs.Machine.{parameter_of}
 use Rattle.pc_machine.proofs.Lists.{before}
 
@@ -28,17 +28,17 @@ past_drop (x ∷ xs) (suc i) h = past_drop xs i (omega arith)
 
 -- the next parameter, and those behind it
 pub next_filled : (ps : List RustParameter) (vs : List RustValue) (ns : List NamedValue) (i : ℕ) (p : RustParameter) → i < length ps → p ≡ get_or ps i p
-    → filled (map parameter_of (drop i ps)) (map value_of (drop i vs)) ns ≡ and_others (parameter_of p) (taken (parameter_of p) (option_map value_of (slice_get vs i)) (value_named p.name.now ns)) (filled (map parameter_of (drop (i + 1) ps)) (map value_of (drop (i + 1) vs)) ns)
+    → filled_parameters (map parameter_of (drop i ps)) (map value_of (drop i vs)) ns ≡ and_others (parameter_of p) (value_taken (parameter_of p) (option_map value_of (slice_get vs i)) (value_named p.name.now ns)) (filled_parameters (map parameter_of (drop (i + 1) ps)) (map value_of (drop (i + 1) vs)) ns)
 next_filled ps vs ns i p lt is =
-    ap (λ (qs : List RustParameter). filled (map parameter_of qs) (map value_of (drop i vs)) ns) (cons_at ps i p lt is)
+    ap (λ (qs : List RustParameter). filled_parameters (map parameter_of qs) (map value_of (drop i vs)) ns) (cons_at ps i p lt is)
     ∙ elim (slice_get_cases vs i).1 [
       | inl a ↦
-          ap (λ (ws : List RustValue). filled (parameter_of p ∷ map parameter_of (drop (i + 1) ps)) (map value_of ws) ns) (cons_at vs i a.0 a.1 (sym a.3))
-          ∙ ap (λ (o : Option RustValue). and_others (parameter_of p) (taken (parameter_of p) (option_map value_of o) (value_named p.name.now ns)) (filled (map parameter_of (drop (i + 1) ps)) (map value_of (drop (i + 1) vs)) ns)) (sym a.2)
+          ap (λ (ws : List RustValue). filled_parameters (parameter_of p ∷ map parameter_of (drop (i + 1) ps)) (map value_of ws) ns) (cons_at vs i a.0 a.1 (sym a.3))
+          ∙ ap (λ (o : Option RustValue). and_others (parameter_of p) (value_taken (parameter_of p) (option_map value_of o) (value_named p.name.now ns)) (filled_parameters (map parameter_of (drop (i + 1) ps)) (map value_of (drop (i + 1) vs)) ns)) (sym a.2)
       | inr b ↦
-          ap (λ (ws : List RustValue). filled (parameter_of p ∷ map parameter_of (drop (i + 1) ps)) (map value_of ws) ns) (past_drop vs i b.0)
-          ∙ ap (λ (o : Option RustValue). and_others (parameter_of p) (taken (parameter_of p) (option_map value_of o) (value_named p.name.now ns)) (filled (map parameter_of (drop (i + 1) ps)) [] ns)) (sym b.1)
-          ∙ ap (λ (ws : List RustValue). and_others (parameter_of p) (taken (parameter_of p) (option_map value_of (slice_get vs i)) (value_named p.name.now ns)) (filled (map parameter_of (drop (i + 1) ps)) (map value_of ws) ns)) (sym (past_drop vs (i + 1) (omega (arith, b.0))))
+          ap (λ (ws : List RustValue). filled_parameters (parameter_of p ∷ map parameter_of (drop (i + 1) ps)) (map value_of ws) ns) (past_drop vs i b.0)
+          ∙ ap (λ (o : Option RustValue). and_others (parameter_of p) (value_taken (parameter_of p) (option_map value_of o) (value_named p.name.now ns)) (filled_parameters (map parameter_of (drop (i + 1) ps)) [] ns)) (sym b.1)
+          ∙ ap (λ (ws : List RustValue). and_others (parameter_of p) (value_taken (parameter_of p) (option_map value_of (slice_get vs i)) (value_named p.name.now ns)) (filled_parameters (map parameter_of (drop (i + 1) ps)) (map value_of ws) ns)) (sym (past_drop vs (i + 1) (omega (arith, b.0))))
     ]
 
 -- a parameter with its value goes before the others

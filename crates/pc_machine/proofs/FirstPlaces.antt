@@ -8,17 +8,17 @@ use Rattle.indexmap.specs.IndexMap.{IndexMap}
 use Rattle.pc_names.specs.Names.{at_text, first_of, bound_as}
 use Rattle.pc_value.specs.Texts.{same_text}
 use Rattle.pc_machine.specs.declared.state.Global.{Global as RustGlobal}
-use Rattle.pc_machine.specs.State.{Bound}
-use Rattle.pc_machine.specs.Names.{global_of}
+use Rattle.pc_machine.specs.State.{GlobalBinding}
+use Rattle.pc_machine.specs.Names.{global_by_name}
 use Rattle.pc_machine.specs.Machine.{global_of as global_seen, bound_of}
 use Rattle.pc_machine.specs.Globals.{place_of, name_of_global, ArePlaced}
 
 -- what a name means is what is bound at its first place
-abbrev pub bound_at : Option RustGlobal → Option Bound
+abbrev pub bound_at : Option RustGlobal → Option GlobalBinding
 bound_at None = None
 bound_at (Some g) = Some (bound_of g.bound)
 
-abbrev pub at_place : List RustGlobal → Option ℕ → Option Bound
+abbrev pub at_place : List RustGlobal → Option ℕ → Option GlobalBinding
 at_place gs None = None
 at_place gs (Some i) = bound_at (slice_get gs i)
 
@@ -26,12 +26,12 @@ later : (g : RustGlobal) (gs : List RustGlobal) (o : Option ℕ) → at_place (g
 later g gs None = refl
 later g gs (Some i) = refl
 
-pub found_at : (n : List ℕ) (gs : List RustGlobal) → at_place gs (place_of n (map name_of_global gs)) ≡ global_of n (map global_seen gs)
+pub found_at : (n : List ℕ) (gs : List RustGlobal) → at_place gs (place_of n (map name_of_global gs)) ≡ global_by_name n (map global_seen gs)
 found_at n [] = refl
 found_at n (g ∷ gs) = go (same_text g.name.now n) (found_at n gs)
   where
-    go : (b : Bool) → at_place gs (place_of n (map name_of_global gs)) ≡ global_of n (map global_seen gs)
-        → at_place (g ∷ gs) (if b then Some 0 else option_map suc (place_of n (map name_of_global gs))) ≡ (if b then Some (bound_of g.bound) else global_of n (map global_seen gs))
+    go : (b : Bool) → at_place gs (place_of n (map name_of_global gs)) ≡ global_by_name n (map global_seen gs)
+        → at_place (g ∷ gs) (if b then Some 0 else option_map suc (place_of n (map name_of_global gs))) ≡ (if b then Some (bound_of g.bound) else global_by_name n (map global_seen gs))
     go true rest = refl
     go false rest = later g gs (place_of n (map name_of_global gs)) ∙ rest
 

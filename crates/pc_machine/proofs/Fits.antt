@@ -5,8 +5,8 @@ use Rattle.pc_source.specs.declared.place.Place.{Place}
 use Rattle.pc_value.specs.Value.{whole, boolean, string, none, tuple_of, location, Heap, Stop, Cut, Out, Gives, Stops}
 use Rattle.pc_value.specs.Actions.{Action, number, binary, compare, negative, negation, truth_of, new_list, new_dict, new_instance, read_item, store_item, read_attribute, store_attribute, append, pop, get, length_of, text_of, iterate, iterate_range, turn, Outcome, gives, iterates, finished, stops, Free}
 use Rattle.pc_value.specs.Numbers.{fits}
-use Rattle.pc_value.specs.Outcomes.{acted, takes_choice}
-use Rattle.pc_value.specs.Plain.{limited, limited_if, makes_number, free_of}
+use Rattle.pc_value.specs.Outcomes.{action_result, takes_choice}
+use Rattle.pc_value.specs.Plain.{limited_outcome, limited_if, makes_number, free_of}
 use Rattle.pc_machine.specs.State.{State, Frame}
 use Rattle.pc_machine.specs.Plain.{Progress, After, Came, Ended}
 use Rattle.pc_machine.specs.Plain as P
@@ -59,7 +59,7 @@ stop_fits stop = record { at = λ w. quiet (Stops stop) w }
 pub charge_fits : Fits P.charge F.may_stop
 charge_fits = record { at = λ w. go w.fuel w }
   where
-    go : (fuel : ℕ) (w : Progress) → RanTo F.may_stop w (P.charged fuel w)
+    go : (fuel : ℕ) (w : Progress) → RanTo F.may_stop w (P.charge_from fuel w)
     go zero w = let h = quiet {A = Unit {0}} (Stops Cut) w in record { new = h.new; events = h.events; runs = inr (inr h.runs) }
     go (suc fuel) w = let h = quiet (Gives tt) w in record { new = h.new; events = h.events; runs = inl h.runs }
 
@@ -81,7 +81,7 @@ pub data Limits (free plainly : Outcome) : Type 0 where
   same_outcome : plainly ≡ free → Limits free plainly
   cut_off : plainly ≡ stops Cut → Limits free plainly
 
-limits : (o : Outcome) → Limits o (limited o)
+limits : (o : Outcome) → Limits o (limited_outcome o)
 limits (gives (whole n)) = go (fits n)
   where
     go : (b : Bool) → Limits (gives (whole n)) (if b then gives (whole n) else stops Cut)
@@ -97,7 +97,7 @@ limits finished = same_outcome refl
 limits (stops stop) = same_outcome refl
 
 -- an action that makes a whole number leaves the heap as it was
-makers_keep : (free : Free) (a : Action) (heap : Heap) → makes_number a ≡ true → (acted free a heap).heap ≡ heap
+makers_keep : (free : Free) (a : Action) (heap : Heap) → makes_number a ≡ true → (action_result free a heap).heap ≡ heap
 makers_keep free (number n) heap e = refl
 makers_keep free (binary operator v w) heap e = refl
 makers_keep free (negative v) heap e = refl
@@ -122,41 +122,41 @@ makers_keep free (turn over i) heap e = refl
 
 -- a plain action against the free one: the same outcome, or cut off with the heap as it was
 pub data Against (free : Free) (a : Action) (heap : Heap) (plainly : Outcome) : Type 0 where
-  as_free : plainly ≡ (acted free a heap).outcome → Against free a heap plainly
-  is_cut : plainly ≡ stops Cut → (acted free a heap).heap ≡ heap → Against free a heap plainly
+  as_free : plainly ≡ (action_result free a heap).outcome → Against free a heap plainly
+  is_cut : plainly ≡ stops Cut → (action_result free a heap).heap ≡ heap → Against free a heap plainly
 
-against : (free : Free) (a : Action) (heap : Heap) → Against free a heap (limited_if (makes_number a) (acted free a heap).outcome)
+against : (free : Free) (a : Action) (heap : Heap) → Against free a heap (limited_if (makes_number a) (action_result free a heap).outcome)
 against free a heap = go (makes_number a) refl
   where
-    made : makes_number a ≡ true → (o p : Outcome) → o ≡ (acted free a heap).outcome → Limits o p → Against free a heap p
+    made : makes_number a ≡ true → (o p : Outcome) → o ≡ (action_result free a heap).outcome → Limits o p → Against free a heap p
     made e o p same (same_outcome h) = as_free (h ∙ same)
     made e o p same (cut_off h) = is_cut h (makers_keep free a heap e)
 
-    go : (b : Bool) → makes_number a ≡ b → Against free a heap (limited_if b (acted free a heap).outcome)
-    go true e = made e (acted free a heap).outcome (limited (acted free a heap).outcome) refl (limits (acted free a heap).outcome)
+    go : (b : Bool) → makes_number a ≡ b → Against free a heap (limited_if b (action_result free a heap).outcome)
+    go true e = made e (action_result free a heap).outcome (limited_outcome (action_result free a heap).outcome) refl (limits (action_result free a heap).outcome)
     go false e = as_free refl
 
 pub act_fits : {A : Type 0} (want : Outcome → Out A) (a : Action) → want (stops Cut) ≡ Stops Cut → Fits (P.act want a) (F.act want a)
-act_fits {A} want a cuts = record { at = λ w. go w (free_of (P.next_choice w.choices)) (takes_choice w.state.heap a) (limited_if (makes_number a) (acted (free_of (P.next_choice w.choices)) a w.state.heap).outcome) (against (free_of (P.next_choice w.choices)) a w.state.heap) }
+act_fits {A} want a cuts = record { at = λ w. go w (free_of (P.next_choice w.choices)) (takes_choice w.state.heap a) (limited_if (makes_number a) (action_result (free_of (P.next_choice w.choices)) a w.state.heap).outcome) (against (free_of (P.next_choice w.choices)) a w.state.heap) }
   where
-    came : (w : Progress) (free : Free) (taken : Bool) (o : Out A) → o ≡ want (acted free a w.state.heap).outcome → RanTo (F.act want a) w (P.comes o (P.after_action taken (acted free a w.state.heap).heap w))
+    came : (w : Progress) (free : Free) (taken : Bool) (o : Out A) → o ≡ want (action_result free a w.state.heap).outcome → RanTo (F.act want a) w (P.comes o (P.after_action taken (action_result free a w.state.heap).heap w))
     came w free taken (Gives v) e = record { new = []; events = no_more w.events; runs = inl (record { free = free; is = e; quiet = refl; after = refl }) }
     came w free taken (Stops stop) e = record { new = []; events = no_more w.events; runs = inl (record { free = free; is = e; quiet = refl; after = refl }) }
 
-    cut : (w : Progress) (free : Free) (taken : Bool) → (acted free a w.state.heap).heap ≡ w.state.heap → RanTo {A = A} (F.act want a) w (Ended Cut (P.after_action taken (acted free a w.state.heap).heap w))
+    cut : (w : Progress) (free : Free) (taken : Bool) → (action_result free a w.state.heap).heap ≡ w.state.heap → RanTo {A = A} (F.act want a) w (Ended Cut (P.after_action taken (action_result free a w.state.heap).heap w))
     cut w free taken e = record { new = []; events = no_more w.events; runs = inr (inr (record { is = refl; quiet = refl; same = ap (λ (h : Heap). record w.state { heap = h }) e })) }
 
-    go : (w : Progress) (free : Free) (taken : Bool) (p : Outcome) → Against free a w.state.heap p → RanTo (F.act want a) w (P.comes (want p) (P.after_action taken (acted free a w.state.heap).heap w))
+    go : (w : Progress) (free : Free) (taken : Bool) (p : Outcome) → Against free a w.state.heap p → RanTo (F.act want a) w (P.comes (want p) (P.after_action taken (action_result free a w.state.heap).heap w))
     go w free taken p (as_free h) = came w free taken (want p) (ap want h)
-    go w free taken p (is_cut h e) = subst (λ (o : Out A). RanTo (F.act want a) w (P.comes o (P.after_action taken (acted free a w.state.heap).heap w))) (sym (ap want h ∙ cuts)) (cut w free taken e)
+    go w free taken p (is_cut h e) = subst (λ (o : Out A). RanTo (F.act want a) w (P.comes o (P.after_action taken (action_result free a w.state.heap).heap w))) (sym (ap want h ∙ cuts)) (cut w free taken e)
 
 pub enter_fits : {A : Type 0} (frame : Frame) (f : P.Step A) (r : F.Step A) → Fits f r → Fits (P.enter frame f) (F.enter frame r)
 enter_fits {A} frame f r x = record { at = λ w. go w (nat_eq w.depth P.call_limit) }
   where
-    back : (w : Progress) (l : After A) → RanTo r (P.entered frame w) l → RanTo (F.enter frame r) w (P.left_to w l)
+    back : (w : Progress) (l : After A) → RanTo r (P.after_entry frame w) l → RanTo (F.enter frame r) w (P.left_to w l)
     back w (Came a v) h = record { new = h.new; events = h.events; runs = inl (record { left = v.state; runs = h.runs; after = refl }) }
     back w (Ended stop v) h = record { new = h.new; events = h.events; runs = inl (record { left = v.state; runs = h.runs; after = refl }) }
 
     go : (w : Progress) (b : Bool) → RanTo (F.enter frame r) w (P.entered_if b frame f w)
     go w true = let h = quiet {A = A} (Stops Cut) w in record { new = h.new; events = h.events; runs = inr (inr h.runs) }
-    go w false = back w (f (P.entered frame w)) (x.at (P.entered frame w))
+    go w false = back w (f (P.after_entry frame w)) (x.at (P.after_entry frame w))

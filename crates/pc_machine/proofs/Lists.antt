@@ -1,7 +1,7 @@
 -- Frames, arguments and suites as lists.
 use Rattle.std.proofs.Common.{◌≡◌, ◌<◌, ◌≤◌, ℕ, zero, suc, List, [], ◌∷◌, ◌++◌, length, get_or, take, drop, map, refl, ap, ◌∙◌, arith, true}
 use Rattle.pc_machine.specs.State.{Local, Parameter}
-use Rattle.pc_machine.specs.Calls.{NamedValue, filled}
+use Rattle.pc_machine.specs.Calls.{NamedValue, filled_parameters}
 use Rattle.pc_machine.specs.declared.state.Parameter.{Parameter as RustParameter}
 use Rattle.std.specs.Prelude.{Option, Some, None, slice_set}
 use Rattle.pc_tree.specs.declared.tree.Stmt.{Stmt as RustStmt}
@@ -36,7 +36,7 @@ map_both f [] ys = refl
 map_both f (x ∷ xs) ys = ap (λ zs. f x ∷ zs) (map_both f xs ys)
 
 -- more arguments by position than parameters
-left_over : (vs : List RustValue) (ns : List NamedValue) (i : ℕ) → i < length vs → filled [] (map value_of (drop i vs)) ns ≡ None
+left_over : (vs : List RustValue) (ns : List NamedValue) (i : ℕ) → i < length vs → filled_parameters [] (map value_of (drop i vs)) ns ≡ None
 left_over [] ns i lt = absurd (omega arith)
 left_over (v ∷ vs) ns zero lt = refl
 left_over (v ∷ vs) ns (suc i) lt = left_over vs ns i (omega arith)
@@ -47,5 +47,5 @@ past [] (suc i) h = refl
 past (p ∷ ps) zero h = absurd (omega arith)
 past (p ∷ ps) (suc i) h = past ps i (omega arith)
 
-pub too_many : (ps : List RustParameter) (vs : List RustValue) (ns : List NamedValue) (ls : List Local) (i : ℕ) → length ps ≤ i → i < length vs → before ls (filled (map parameter_of (drop i ps)) (map value_of (drop i vs)) ns) ≡ None
-too_many ps vs ns ls i le lt = ap (λ (qs : List Parameter). before ls (filled qs (map value_of (drop i vs)) ns)) (past ps i le) ∙ ap (before ls) (left_over vs ns i lt)
+pub too_many : (ps : List RustParameter) (vs : List RustValue) (ns : List NamedValue) (ls : List Local) (i : ℕ) → length ps ≤ i → i < length vs → before ls (filled_parameters (map parameter_of (drop i ps)) (map value_of (drop i vs)) ns) ≡ None
+too_many ps vs ns ls i le lt = ap (λ (qs : List Parameter). before ls (filled_parameters qs (map value_of (drop i vs)) ns)) (past ps i le) ∙ ap (before ls) (left_over vs ns i lt)

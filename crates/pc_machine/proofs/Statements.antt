@@ -3,7 +3,7 @@ use Rattle.std.proofs.Common.{ℕ, zero, suc, List, refl}
 use Rattle.std.specs.Prelude.{Option, Some, None}
 use Rattle.pc_tree.specs.Tree.{Expr, Target, to_name, to_attribute, to_index, Stmt, pass, breaks, continues, returns, asserts, annotated, assigns, evaluates, while_loop, for_loop, conditional, Stmts, no_stmts, more_stmts, Branches, no_branches, more_branches}
 use Rattle.pc_value.specs.Value.{Value, Cut}
-use Rattle.pc_machine.specs.Steps.{Parts, Flow, next, breaking, continuing, leaves, iteration_out, item_out}
+use Rattle.pc_machine.specs.Steps.{Parts, StatementEnd, next, breaking, continuing, leaves, iteration_out, item_out}
 use Rattle.pc_machine.specs.Evaluation as T
 use Rattle.pc_machine.specs.Evaluation.{IterableForm, range_call, any_iterable, iterable_form}
 use Rattle.pc_machine.specs.Plain as P
@@ -11,19 +11,19 @@ use Rattle.pc_machine.specs.Free as F
 use Rattle.pc_machine.proofs.Fits.{Fits, bind_fits, pure_fits, stop_fits, charge_fits, emit_fits, look_fits, change_fits, act_fits}
 use Rattle.pc_machine.proofs.Expressions.{PartsFit, value_fits, choose_fits, all_fits, keywords_fit, node_fits}
 
-then_follows_fits : (flow : Flow) (f : P.Step Flow) (r : F.Step Flow) → Fits f r → Fits (T.then_follows P.Step P.plain flow f) (T.then_follows F.Step F.free flow r)
+then_follows_fits : (flow : StatementEnd) (f : P.Step StatementEnd) (r : F.Step StatementEnd) → Fits f r → Fits (T.then_follows P.Step P.plain flow f) (T.then_follows F.Step F.free flow r)
 then_follows_fits next f r x = x
 then_follows_fits breaking f r x = pure_fits breaking
 then_follows_fits continuing f r x = pure_fits continuing
 then_follows_fits (leaves v) f r x = pure_fits (leaves v)
 
-after_turn_fits : (flow : Flow) (f : P.Step Flow) (r : F.Step Flow) → Fits f r → Fits (T.after_turn P.Step P.plain flow f) (T.after_turn F.Step F.free flow r)
+after_turn_fits : (flow : StatementEnd) (f : P.Step StatementEnd) (r : F.Step StatementEnd) → Fits f r → Fits (T.after_turn P.Step P.plain flow f) (T.after_turn F.Step F.free flow r)
 after_turn_fits next f r x = x
 after_turn_fits breaking f r x = pure_fits next
 after_turn_fits continuing f r x = x
 after_turn_fits (leaves v) f r x = pure_fits (leaves v)
 
-body_fits : (f : Stmts → P.Step Flow) (r : Stmts → F.Step Flow) → ((body : Stmts) → Fits (f body) (r body)) → (body : Stmts) → Fits (T.exec_body P.Step P.plain f body) (T.exec_body F.Step F.free r body)
+body_fits : (f : Stmts → P.Step StatementEnd) (r : Stmts → F.Step StatementEnd) → ((body : Stmts) → Fits (f body) (r body)) → (body : Stmts) → Fits (T.exec_body P.Step P.plain f body) (T.exec_body F.Step F.free r body)
 body_fits f r h no_stmts = bind_fits _ _ _ _ charge_fits λ u. pure_fits next
 body_fits f r h (more_stmts s rest) = h (more_stmts s rest)
 
@@ -67,7 +67,7 @@ module _ (f : Parts P.Step) (r : Parts F.Step) (h : PartsFit f r) where
   eval_fits : (e : Expr) → Fits (T.eval_over P.Step P.plain f e) (T.eval_over F.Step F.free r e)
   eval_fits e = bind_fits _ _ _ _ charge_fits λ u. node_fits f r h e
 
-  item_fits : (g : P.Step Flow) (q : F.Step Flow) → Fits g q → (n : List ℕ) (body : Stmts) (item : Option Value) → Fits (T.with_item P.Step P.plain (T.exec_all P.Step P.plain f) g n body item) (T.with_item F.Step F.free (T.exec_all F.Step F.free r) q n body item)
+  item_fits : (g : P.Step StatementEnd) (q : F.Step StatementEnd) → Fits g q → (n : List ℕ) (body : Stmts) (item : Option Value) → Fits (T.with_item P.Step P.plain (T.exec_all P.Step P.plain f) g n body item) (T.with_item F.Step F.free (T.exec_all F.Step F.free r) q n body item)
   item_fits g q x n body None = pure_fits next
   item_fits g q x n body (Some v) = bind_fits _ _ _ _ (change_fits _) λ u. bind_fits _ _ _ _ (body_fits _ _ stmts_fit body) λ flow. after_turn_fits flow _ _ x
 

@@ -2,11 +2,11 @@
 -- Language Reference 6.3.4 "Calls", 8.7 "Function definitions", 3.2.8.2 "Instance methods".
 use Rattle.std.specs.Prelude.{ℕ, Bool, true, false, ◌&&◌, ◌||◌, nat_eq, List, [], ◌∷◌, if◌then◌else◌, Option, Some, None, slice_get, codes}
 use Rattle.pc_tree.specs.Tree.{Expr, name}
-use Rattle.pc_value.specs.Value.{Value, whole, boolean, string, Slot, Out, Gives, Stops, Raised, TypeError, UnboundLocalError, NameError, Outside, Seen, a_list, a_dict, seen, class_of, is_list}
+use Rattle.pc_value.specs.Value.{Value, whole, boolean, string, Slot, Out, Gives, Stops, Raised, TypeError, UnboundLocalError, NameError, Outside, Seen, a_list, a_dict, seen, class_number_of, is_list}
 use Rattle.pc_value.specs.Texts.{same_text}
 use Rattle.pc_value.specs.Actions.{Action, append, pop, get, length_of, text_of}
 use Rattle.pc_machine.specs.State.{State, Parameter, Function, Class, Local}
-use Rattle.pc_machine.specs.Names.{Meaning, means_value, means_unbound, means_function, means_class, means_reserved, means_nothing, meaning}
+use Rattle.pc_machine.specs.Names.{Meaning, means_value, means_unbound, means_function, means_class, means_reserved, means_nothing, meaning_in_run}
 
 -- the built-in methods of lists and dicts
 pub data BuiltinMethod : Type 0 where
@@ -56,7 +56,7 @@ class_at classes (Some c) = slice_get classes c
 
 -- the method that an object's class has by a name, its own or the nearest ancestor's
 abbrev pub method_of : State → Value → List ℕ → Option Function
-method_of s v m = method_of_class m (class_at s.classes (class_of s.heap v))
+method_of s v m = method_of_class m (class_at s.classes (class_number_of s.heap v))
 
 -- the built-in method that a list or a dict has by a name
 abbrev pub builtin_method_of : Seen → List ℕ → Option BuiltinMethod
@@ -100,10 +100,10 @@ first_some (Some a) second = Some a
 first_some None second = second
 
 -- what a parameter takes: an argument by position, or one by name, or its default; not two arguments
-abbrev pub taken : Parameter → Option Value → Option Value → Option Value
-taken p (Some v) (Some w) = None
-taken p (Some v) None = Some v
-taken p None by_name = first_some by_name p.default
+abbrev pub value_taken : Parameter → Option Value → Option Value → Option Value
+value_taken p (Some v) (Some w) = None
+value_taken p (Some v) None = Some v
+value_taken p None by_name = first_some by_name p.default
 
 -- one parameter's value before the others'
 abbrev pub and_others : Parameter → Option Value → Option (List Local) → Option (List Local)
@@ -112,20 +112,20 @@ and_others p (Some v) None = None
 and_others p (Some v) (Some others) = Some (record { name = p.name; value = Some v } ∷ others)
 
 -- the parameters with the values that they take, in order, where each takes one and no argument by position is left
-abbrev pub filled : List Parameter → List Value → List NamedValue → Option (List Local)
-filled [] [] named = Some []
-filled [] (v ∷ values) named = None
-filled (p ∷ rest) [] named = and_others p (taken p None (value_named p.name named)) (filled rest [] named)
-filled (p ∷ rest) (v ∷ values) named = and_others p (taken p (Some v) (value_named p.name named)) (filled rest values named)
+abbrev pub filled_parameters : List Parameter → List Value → List NamedValue → Option (List Local)
+filled_parameters [] [] named = Some []
+filled_parameters [] (v ∷ values) named = None
+filled_parameters (p ∷ rest) [] named = and_others p (value_taken p None (value_named p.name named)) (filled_parameters rest [] named)
+filled_parameters (p ∷ rest) (v ∷ values) named = and_others p (value_taken p (Some v) (value_named p.name named)) (filled_parameters rest values named)
 
 -- the parameters with their values: none where the arguments do not suit them
 abbrev pub bound_arguments : List Parameter → List Value → List NamedValue → Option (List Local)
-bound_arguments parameters values named = if are_parameters named parameters then filled parameters values named else None
+bound_arguments parameters values named = if are_parameters named parameters then filled_parameters parameters values named else None
 
 -- arguments that do not suit are TypeError
-abbrev pub suited : Option (List Local) → Out (List Local)
-suited None = Stops (Raised TypeError)
-suited (Some locals) = Gives locals
+abbrev pub or_type_error : Option (List Local) → Out (List Local)
+or_type_error None = Stops (Raised TypeError)
+or_type_error (Some locals) = Gives locals
 
 -- a field with its value before others, where it has one
 abbrev pub slot_before : List ℕ → Option Value → List Slot → List Slot
@@ -187,9 +187,9 @@ test_of_meaning n means_reserved = test_of_reserved n
 test_of_meaning n m = Stops Outside
 
 -- what the second argument of `isinstance` tests for; one that is no name is out of the profile
-abbrev pub test_of : Expr → State → Out Test
-test_of (name n) s = test_of_meaning n.text (meaning n.text s)
-test_of e s = Stops Outside
+abbrev pub instance_test_of : Expr → State → Out Test
+instance_test_of (name n) s = test_of_meaning n.text (meaning_in_run n.text s)
+instance_test_of e s = Stops Outside
 
 -- whether this number is among those of a class and its ancestors
 abbrev pub is_ancestor : ℕ → List ℕ → Bool
@@ -208,5 +208,5 @@ passes s (boolean b) tests_int = true
 passes s (boolean b) tests_bool = true
 passes s (string cs) tests_str = true
 passes s v tests_list = is_list (seen s.heap v)
-passes s v (tests_class c) = descends_from c (class_at s.classes (class_of s.heap v))
+passes s v (tests_class c) = descends_from c (class_at s.classes (class_number_of s.heap v))
 passes s v test = false

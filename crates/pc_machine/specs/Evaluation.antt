@@ -10,18 +10,18 @@ use Rattle.pc_value.specs.Actions as action
 use Rattle.pc_value.specs.Actions.{Action, Iteration}
 use Rattle.pc_value.specs.Numbers.{number_of_digits, negative_of_digits}
 use Rattle.pc_value.specs.Texts.{same_text}
-use Rattle.pc_machine.specs.State.{State, Parameter, Function, Class, Bound, a_value, a_function, a_class, Local}
-use Rattle.pc_machine.specs.Names.{Meaning, means_class, means_nothing, meaning, with_local, frame_of}
-use Rattle.pc_machine.specs.Calls.{Callee, calls_value, calls_function, calls_class, calls_reserved, calls_method, calls_builtin_method, callee_of_meaning, value_of_meaning, method_of, named_method, class_at, NamedValue, bound_arguments, suited, slots_of, builtin_method_action, ReservedCall, prints, performs, reserved_call, range_argument, test_of, passes}
-use Rattle.pc_machine.specs.Steps.{Reading, Parts, Flow, next, breaking, continuing, leaves, value_out, iteration_out, item_out}
+use Rattle.pc_machine.specs.State.{State, Parameter, Function, Class, GlobalBinding, a_value, a_function, a_class, Local}
+use Rattle.pc_machine.specs.Names.{Meaning, means_class, means_nothing, meaning_in_run, with_local, frame_of}
+use Rattle.pc_machine.specs.Calls.{Callee, calls_value, calls_function, calls_class, calls_reserved, calls_method, calls_builtin_method, callee_of_meaning, value_of_meaning, method_of, named_method, class_at, NamedValue, bound_arguments, or_type_error, slots_of, builtin_method_action, ReservedCall, prints, performs, reserved_call, range_argument, instance_test_of, passes}
+use Rattle.pc_machine.specs.Steps.{Interpretation, Parts, StatementEnd, next, breaking, continuing, leaves, value_out, iteration_out, item_out}
 
 -- a value is None
-abbrev pub is_nothing : Value → Bool
-is_nothing value.none = true
-is_nothing v = false
+abbrev pub is_none_value : Value → Bool
+is_none_value value.none = true
+is_none_value v = false
 
 -- what a call gives, by how the body ended
-abbrev pub value_of_flow : Flow → Value
+abbrev pub value_of_flow : StatementEnd → Value
 value_of_flow next = value.none
 value_of_flow breaking = value.none
 value_of_flow continuing = value.none
@@ -78,23 +78,23 @@ base_of_meaning means_nothing = Stops (Raised NameError)
 base_of_meaning m = Stops Outside
 
 -- the number of the base that a class names, if it names one
-abbrev pub base_of : Option Name → State → Out (Option ℕ)
-base_of None s = Gives None
-base_of (Some n) s = base_of_meaning (meaning n.text s)
+abbrev pub base_number : Option Name → State → Out (Option ℕ)
+base_number None s = Gives None
+base_number (Some n) s = base_of_meaning (meaning_in_run n.text s)
 
 -- each of these fields has a default
-abbrev pub all_with : List Parameter → Bool
-all_with [] = true
-all_with (p ∷ rest) = if is_some p.default then all_with rest else false
+abbrev pub all_have_defaults : List Parameter → Bool
+all_have_defaults [] = true
+all_have_defaults (p ∷ rest) = if is_some p.default then all_have_defaults rest else false
 
 -- those with a default stand behind the others
 abbrev pub defaults_last : List Parameter → Bool
 defaults_last [] = true
-defaults_last (p ∷ rest) = if is_some p.default then all_with rest else defaults_last rest
+defaults_last (p ∷ rest) = if is_some p.default then all_have_defaults rest else defaults_last rest
 
 -- a field without default after one with default is TypeError
-abbrev pub in_order : List Parameter → Out (Unit {0})
-in_order fields = if defaults_last fields then Gives tt else Stops (Raised TypeError)
+abbrev pub defaults_in_order : List Parameter → Out (Unit {0})
+defaults_in_order fields = if defaults_last fields then Gives tt else Stops (Raised TypeError)
 
 -- the fields and methods of a class that are its own
 pub record Members : Type 0 where
@@ -110,14 +110,14 @@ abbrev pub binds_local : List ℕ → Value → State → State
 binds_local n v s = record s { frame = with_local n v s.frame }
 
 -- the state after the module bound a name
-abbrev pub binds_global : List ℕ → Bound → State → State
+abbrev pub binds_global : List ℕ → GlobalBinding → State → State
 binds_global n b s = record s { globals = s.globals ++ record { name = n; is = b } ∷ [] }
 
 -- the state after a class was made and its name was bound to its number
 abbrev pub binds_class : List ℕ → Class → State → State
 binds_class n c s = record s { classes = s.classes ++ c ∷ []; globals = s.globals ++ record { name = n; is = a_class (length s.classes) } ∷ [] }
 
-module _ {ℓ} (Step : Type 0 → Type ℓ) (reading : Reading Step) where
+module _ {ℓ} (Step : Type 0 → Type ℓ) (reading : Interpretation Step) where
   infixl 20 ◌>>=◌ ◌>>◌
   open reading use {pure, ◌>>=◌, stop, charge, emit, look, change, act, enter}
 
@@ -177,7 +177,7 @@ module _ {ℓ} (Step : Type 0 → Type ℓ) (reading : Reading Step) where
   eval_callee parts (name n) = do
     charge
     emit n.place
-    look (λ s. callee_of_meaning n.text (meaning n.text s))
+    look (λ s. callee_of_meaning n.text (meaning_in_run n.text s))
   eval_callee parts (attribute p e m) = do
     charge
     v ← parts.eval e
@@ -191,14 +191,14 @@ module _ {ℓ} (Step : Type 0 → Type ℓ) (reading : Reading Step) where
   -- a function runs from a frame of its own
   abbrev pub call_function : Parts Step → Function → List Value → List NamedValue → Step Value
   call_function parts f values named = do
-    arguments ← answer (suited (bound_arguments f.parameters values named))
+    arguments ← answer (or_type_error (bound_arguments f.parameters values named))
     flow ← enter (frame_of f arguments) (parts.exec f.body)
     pure (value_of_flow flow)
 
   -- a method too, with its object as `self`; its name's place is evaluated as it is entered
   abbrev pub call_method : Parts Step → Value → Function → List Value → List NamedValue → Step Value
   call_method parts object f values named = do
-    arguments ← answer (suited (bound_arguments f.parameters values named))
+    arguments ← answer (or_type_error (bound_arguments f.parameters values named))
     flow ← enter (frame_of f (self_local object ∷ arguments)) (emit f.name.place >> parts.exec f.body)
     pure (value_of_flow flow)
 
@@ -206,7 +206,7 @@ module _ {ℓ} (Step : Type 0 → Type ℓ) (reading : Reading Step) where
   abbrev pub call_class : ℕ → List Value → List NamedValue → Step Value
   call_class c values named = do
     fields ← look (λ s. Gives (fields_of (class_at s.classes (Some c))))
-    arguments ← answer (suited (bound_arguments fields values named))
+    arguments ← answer (or_type_error (bound_arguments fields values named))
     act value_out (action.new_instance c (slots_of arguments))
 
   -- what a call of a reserved name gives: None for `print`, else what its action gives
@@ -234,7 +234,7 @@ module _ {ℓ} (Step : Type 0 → Type ℓ) (reading : Reading Step) where
     emit n.place
     v ← parts.eval e
     emit p
-    test ← look (test_of t)
+    test ← look (instance_test_of t)
     look (λ s. Gives (boolean (passes s v test)))
   eval_call parts p callee arguments by_name ordinary = do
     called ← eval_callee parts callee
@@ -247,7 +247,7 @@ module _ {ℓ} (Step : Type 0 → Type ℓ) (reading : Reading Step) where
   abbrev pub eval_node : Parts Step → Expr → Step Value
   eval_node parts (name n) = do
     emit n.place
-    look (λ s. value_of_meaning (meaning n.text s))
+    look (λ s. value_of_meaning (meaning_in_run n.text s))
   eval_node parts (number p digits) = do
     emit p
     act value_out (action.number (number_of_digits digits))
@@ -293,11 +293,11 @@ module _ {ℓ} (Step : Type 0 → Type ℓ) (reading : Reading Step) where
   eval_node parts (is_none p e) = do
     v ← parts.eval e
     emit p
-    pure (boolean (is_nothing v))
+    pure (boolean (is_none_value v))
   eval_node parts (is_not_none p e) = do
     v ← parts.eval e
     emit p
-    pure (boolean (not (is_nothing v)))
+    pure (boolean (not (is_none_value v)))
   -- the right side only where it is needed; the deciding operand's value
   eval_node parts (conjunction p l r) = do
     v ← parts.eval l
@@ -326,7 +326,7 @@ module _ {ℓ} (Step : Type 0 → Type ℓ) (reading : Reading Step) where
   -- ---- statements
 
   -- after its value, a target: its parts, its event, the store
-  abbrev pub assign : Parts Step → Target → Value → Step Flow
+  abbrev pub assign : Parts Step → Target → Value → Step StatementEnd
   assign parts (to_name n) v = do
     change (binds_local n.text v)
     pure next
@@ -343,14 +343,14 @@ module _ {ℓ} (Step : Type 0 → Type ℓ) (reading : Reading Step) where
     pure next
 
   -- an `assert` whose condition was false: its message, then another exception
-  abbrev pub fail : Parts Step → Option Expr → Step Flow
+  abbrev pub fail : Parts Step → Option Expr → Step StatementEnd
   fail parts None = stop Other
   fail parts (Some e) = do
     v ← parts.eval e
     stop Other
 
   -- the first branch whose condition is true, else the suite of `else`
-  abbrev pub exec_branches : Parts Step → Branches → Stmts → Step Flow
+  abbrev pub exec_branches : Parts Step → Branches → Stmts → Step StatementEnd
   exec_branches parts no_branches otherwise = parts.exec otherwise
   exec_branches parts (more_branches e body rest) otherwise = do
     v ← parts.eval e
@@ -373,7 +373,7 @@ module _ {ℓ} (Step : Type 0 → Type ℓ) (reading : Reading Step) where
     act iteration_out (action.iterate v)
 
   -- a statement: its expressions, what it binds or stores, its suites, and how it ends
-  abbrev pub exec_node : Parts Step → Stmt → Step Flow
+  abbrev pub exec_node : Parts Step → Stmt → Step StatementEnd
   exec_node parts (pass p) = pure next
   exec_node parts (breaks p) = pure breaking
   exec_node parts (continues p) = pure continuing
@@ -403,14 +403,14 @@ module _ {ℓ} (Step : Type 0 → Type ℓ) (reading : Reading Step) where
   exec_node parts (conditional p branches otherwise) = exec_branches parts branches otherwise
 
   -- what follows a statement, if anything does
-  abbrev pub then_follows : Flow → Step Flow → Step Flow
+  abbrev pub then_follows : StatementEnd → Step StatementEnd → Step StatementEnd
   then_follows next rest = rest
   then_follows breaking rest = pure breaking
   then_follows continuing rest = pure continuing
   then_follows (leaves v) rest = pure (leaves v)
 
   -- statements, one after another
-  abbrev pub exec_all : Parts Step → Stmts → Step Flow
+  abbrev pub exec_all : Parts Step → Stmts → Step StatementEnd
   exec_all parts no_stmts = pure next
   exec_all parts (more_stmts s rest) = do
     charge
@@ -420,28 +420,28 @@ module _ {ℓ} (Step : Type 0 → Type ℓ) (reading : Reading Step) where
   -- ---- loops
 
   -- the suite of a loop; an empty one, which no text spells, runs as `pass` does
-  abbrev pub exec_body : (Stmts → Step Flow) → Stmts → Step Flow
+  abbrev pub exec_body : (Stmts → Step StatementEnd) → Stmts → Step StatementEnd
   exec_body exec no_stmts = do
     charge
     pure next
   exec_body exec (more_stmts s rest) = exec (more_stmts s rest)
 
   -- what follows the suite of a loop: `break` leaves the loop
-  abbrev pub after_turn : Flow → Step Flow → Step Flow
+  abbrev pub after_turn : StatementEnd → Step StatementEnd → Step StatementEnd
   after_turn next more = more
   after_turn continuing more = more
   after_turn breaking more = pure next
   after_turn (leaves v) more = pure (leaves v)
 
   -- a turn of a `while`: the condition, the suite, the further turns
-  abbrev pub while_turn : (Expr → Step Value) → (Stmts → Step Flow) → Step Flow → Expr → Stmts → Step Flow
+  abbrev pub while_turn : (Expr → Step Value) → (Stmts → Step StatementEnd) → Step StatementEnd → Expr → Stmts → Step StatementEnd
   while_turn eval exec more e body = do
     v ← eval e
     b ← condition v
     choose b (exec_body exec body >>= λ flow. after_turn flow more) (pure next)
 
   -- a turn of a `for`: the item if there is one, the target, the suite, the further turns
-  abbrev pub with_item : (Stmts → Step Flow) → Step Flow → List ℕ → Stmts → Option Value → Step Flow
+  abbrev pub with_item : (Stmts → Step StatementEnd) → Step StatementEnd → List ℕ → Stmts → Option Value → Step StatementEnd
   with_item exec more n body None = pure next
   with_item exec more n body (Some v) = do
     change (binds_local n v)
@@ -449,7 +449,7 @@ module _ {ℓ} (Step : Type 0 → Type ℓ) (reading : Reading Step) where
     after_turn flow more
 
   -- a turn of a `for`, counted from 0: the action that gives its item, then the turn with it
-  abbrev pub for_turn : (Stmts → Step Flow) → Step Flow → Iteration → ℕ → List ℕ → Stmts → Step Flow
+  abbrev pub for_turn : (Stmts → Step StatementEnd) → Step StatementEnd → Iteration → ℕ → List ℕ → Stmts → Step StatementEnd
   for_turn exec more over i n body = do
     item ← act item_out (action.turn over i)
     with_item exec more n body item
@@ -523,10 +523,10 @@ module _ {ℓ} (Step : Type 0 → Type ℓ) (reading : Reading Step) where
   abbrev pub make_class : Bool → ClassDef → Step (Unit {0})
   make_class imports_dataclass c = do
     answer (dataclass_found imports_dataclass)
-    base ← look (base_of c.base)
+    base ← look (base_number c.base)
     own ← make_members c.members
     class ← look (λ s. Gives (class_behind (class_at s.classes base) own (length s.classes)))
-    answer (in_order class.fields)
+    answer (defaults_in_order class.fields)
     change (binds_class c.name.text class)
 
   -- a constant, a class or a def runs
@@ -550,7 +550,7 @@ module _ {ℓ} (Step : Type 0 → Type ℓ) (reading : Reading Step) where
   -- the last line: `main` is entered, without an event
   abbrev pub enter_main : Parts Step → Step Value
   enter_main parts = do
-    called ← look (λ s. callee_of_meaning (codes "main") (meaning (codes "main") s))
+    called ← look (λ s. callee_of_meaning (codes "main") (meaning_in_run (codes "main") s))
     call_callee parts called [] []
 
   -- a module runs: its items, then `main`

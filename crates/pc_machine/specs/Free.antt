@@ -5,9 +5,9 @@ use Rattle.std.specs.Prelude.{◌≡◌, ◌⊎◌, List, [], ◌∷◌, ◌++�
 use Rattle.pc_source.specs.declared.place.Place.{Place}
 use Rattle.pc_value.specs.Value.{Stop, Other, Cut, Out, Gives, Stops}
 use Rattle.pc_value.specs.Actions.{Action, Outcome, Free}
-use Rattle.pc_value.specs.Outcomes.{acted}
+use Rattle.pc_value.specs.Outcomes.{action_result}
 use Rattle.pc_machine.specs.State.{State, Frame}
-use Rattle.pc_machine.specs.Steps.{Reading}
+use Rattle.pc_machine.specs.Steps.{Interpretation}
 
 -- what may happen from a state: the places that are evaluated, in order, what it comes to, and the state after it
 abbrev pub Step : Type 0 → Type 1
@@ -35,22 +35,22 @@ abbrev pub ◌>>=◌ : {A B : Type 0} → Step A → (A → Step B) → Step B
 (first >>= next) s events out s' = WentOn first next s events out s' ⊎ StoppedIn first s events out s'
 
 -- no place is evaluated, the state stays, and it comes to this
-pub record Comes {A : Type 0} (to : Out A) (s : State) (events : List Place) (out : Out A) (s' : State) : Type 0 where
+pub record ComesQuietly {A : Type 0} (to : Out A) (s : State) (events : List Place) (out : Out A) (s' : State) : Type 0 where
   pub is : out ≡ to
   pub quiet : events ≡ []
   pub same : s' ≡ s
 
 -- a step that does nothing but come to this
 abbrev pub comes : {A : Type 0} → Out A → Step A
-comes to = Comes to
+comes to = ComesQuietly to
 
 -- it may end in another exception, or be cut off
 abbrev pub may_end : {A : Type 0} → Step A
-may_end s events out s' = Comes (Stops Other) s events out s' ⊎ Comes (Stops Cut) s events out s'
+may_end s events out s' = ComesQuietly (Stops Other) s events out s' ⊎ ComesQuietly (Stops Cut) s events out s'
 
 -- it goes on and nothing changes; or it ends in another exception, or is cut off
 abbrev pub may_stop : Step (Unit {0})
-may_stop s events out s' = Comes (Gives tt) s events out s' ⊎ may_end s events out s'
+may_stop s events out s' = ComesQuietly (Gives tt) s events out s' ⊎ may_end s events out s'
 
 -- it goes on, or ends in another exception, or is cut off
 abbrev pub GoesOn : Out (Unit {0}) → Type 0
@@ -80,9 +80,9 @@ pub record Changes (f : State → State) (s : State) (events : List Place) (out 
 -- an action, at any free answers
 pub record Acts {A : Type 0} (want : Outcome → Out A) (a : Action) (s : State) (events : List Place) (out : Out A) (s' : State) : Type 0 where
   pub free : Free
-  pub is : out ≡ want (acted free a s.heap).outcome
+  pub is : out ≡ want (action_result free a s.heap).outcome
   pub quiet : events ≡ []
-  pub after : s' ≡ record s { heap = (acted free a s.heap).heap }
+  pub after : s' ≡ record s { heap = (action_result free a s.heap).heap }
 
 -- a body runs from its own frame, and the caller's is put back
 pub record Enters {A : Type 0} (frame : Frame) (body : Step A) (s : State) (events : List Place) (out : Out A) (s' : State) : Type 0 where
@@ -103,7 +103,7 @@ abbrev pub enter : {A : Type 0} → Frame → Step A → Step A
 enter frame body s events out s' = Enters frame body s events out s' ⊎ may_end s events out s'
 
 -- the text read as what may happen
-abbrev pub free : Reading Step
+abbrev pub free : Interpretation Step
 free = record {
   pure = λ a. comes (Gives a);
   ◌>>=◌ = λ first next. first >>= next;

@@ -18,7 +18,7 @@ use Rattle.pc_value.specs.Plain.{plainly_acted}
 use Rattle.pc_value.specs.Outcomes.{takes_choice}
 use Rattle.pc_value.specs.declared.value.Value.{Value as RustValue}
 use Rattle.pc_value.specs.declared.action.Outcome.{Outcome as RustOutcome}
-use Rattle.pc_machine.specs.State.{State, Parameter, Function, Class, Bound, a_value, a_function, a_class, Global, Local, Frame}
+use Rattle.pc_machine.specs.State.{State, Parameter, Function, Class, GlobalBinding, a_value, a_function, a_class, Global, Local, Frame}
 use Rattle.pc_machine.specs.Calls.{NamedValue, Callee, calls_value, calls_function, calls_class, calls_reserved, calls_method, calls_builtin_method, BuiltinMethod, list_append, list_pop, dict_get, Test, tests_int, tests_str, tests_bool, tests_list, tests_class}
 use Rattle.pc_machine.specs.Evaluation.{self_local}
 use Rattle.pc_machine.specs.declared.state.Callee.{Callee as RustCallee}
@@ -28,7 +28,7 @@ use Rattle.pc_machine.specs.declared.state.Test.TheVariants as rust_test
 use Rattle.pc_machine.specs.declared.state.BuiltinMethod.{BuiltinMethod as RustBuiltinMethod}
 use Rattle.pc_machine.specs.declared.state.BuiltinMethod.TheVariants as rust_method
 use Rattle.pc_machine.specs.Names.{Meaning, means_value, means_unbound, means_function, means_class, means_reserved, means_nothing}
-use Rattle.pc_machine.specs.Steps.{Flow, next, breaking, continuing, leaves}
+use Rattle.pc_machine.specs.Steps.{StatementEnd, next, breaking, continuing, leaves}
 use Rattle.pc_machine.specs.Plain.{Progress, After, Came, Ended, later_choices, next_choice, after_action}
 use Rattle.pc_machine.specs.declared.state.Parameter.{Parameter as RustParameter}
 use Rattle.pc_machine.specs.declared.state.Class.{Class as RustClass}
@@ -92,7 +92,7 @@ abbrev pub class_of : RustClass → Class
 class_of c = record { ancestors = c.ancestors.items; fields = map parameter_of c.fields.items; methods = map method_of_def c.methods.items }
 
 -- what the module binds to a name, as the program holds it
-abbrev pub bound_of : RustBound → Bound
+abbrev pub bound_of : RustBound → GlobalBinding
 bound_of (rust_bound.Value v) = a_value (value_of v)
 bound_of (rust_bound.Function f) = a_function (function_of (func_of f.now))
 bound_of (rust_bound.Class c) = a_class c
@@ -102,20 +102,20 @@ abbrev pub global_of : RustGlobal → Global
 global_of g = record { name = g.name.now; is = bound_of g.bound }
 
 -- a value that may be missing, as the program holds it
-abbrev pub item_of : Option RustValue → Option Value
-item_of None = None
-item_of (Some v) = Some (value_of v)
+abbrev pub value_if_any : Option RustValue → Option Value
+value_if_any None = None
+value_if_any (Some v) = Some (value_of v)
 
 -- a local with its value where it is bound, as the program holds it
 abbrev pub local_of : RustLocal → Local
-local_of l = record { name = l.name.now; value = item_of l.value }
+local_of l = record { name = l.name.now; value = value_if_any l.value }
 
 -- an argument by name, as the program holds it
 abbrev pub named_of : RustNamedValue → NamedValue
 named_of a = record { name = a.name.now; value = value_of a.value }
 
 -- how a statement ends, as the program tells it
-abbrev pub flow_of : RustFlow → Flow
+abbrev pub flow_of : RustFlow → StatementEnd
 flow_of rust_flow.Next = next
 flow_of rust_flow.Breaking = breaking
 flow_of rust_flow.Continuing = continuing
@@ -138,11 +138,11 @@ stop_of rust_stop.Cut = Cut
 
 -- ---- what steps tell
 
--- a value, or the end of the run, with the progress then; of want of memory nothing is said
-abbrev pub Tells : {A B : Type 0} → (A → B) → Result A Halt → Machine → After B → Type 0
-Tells view (Ok a) m l = l ≡ Came (view a) (progress_of m)
-Tells view (Err (halt.Stopped s)) m l = l ≡ Ended (stop_of s) (progress_of m)
-Tells view (Err halt.OutOfMemory) m l = Unit {0}
+-- a value, or the end of the run, with the progress then; of a failed allocation nothing is said
+abbrev pub TellsProgress : {A B : Type 0} → (A → B) → Result A Halt → Machine → After B → Type 0
+TellsProgress view (Ok a) m l = l ≡ Came (view a) (progress_of m)
+TellsProgress view (Err (halt.Stopped s)) m l = l ≡ Ended (stop_of s) (progress_of m)
+TellsProgress view (Err halt.OutOfMemory) m l = Unit {0}
 
 -- no value
 abbrev pub unit : Unit {0} → Unit {0}
@@ -162,10 +162,10 @@ pub record Performs (o : RustOutcome) (m : Machine) (a : Action) (w : Progress) 
 -- the local that the program found, if it found one, with its value if it is bound
 abbrev pub found_local : Option (Bor RustLocal) → Option (Option Value)
 found_local None = None
-found_local (Some l) = Some (item_of l.now.value)
+found_local (Some l) = Some (value_if_any l.now.value)
 
 -- what the program found that the module has bound to a name, if anything
-abbrev pub found_global : Option (Bor RustBound) → Option Bound
+abbrev pub found_global : Option (Bor RustBound) → Option GlobalBinding
 found_global None = None
 found_global (Some b) = Some (bound_of b.now)
 
@@ -232,8 +232,8 @@ abbrev pub with_object : Option Value → List Local → List Local
 with_object None locals = locals
 with_object (Some object) locals = self_local object ∷ locals
 
--- a step that changes nothing comes to this; of want of memory nothing is said
-abbrev pub Comes : {A B : Type 0} → (A → B) → Result A Halt → Out B → Type 0
-Comes view (Ok a) out = out ≡ Gives (view a)
-Comes view (Err (halt.Stopped s)) out = out ≡ Stops (stop_of s)
-Comes view (Err halt.OutOfMemory) out = Unit {0}
+-- a step that changes nothing comes to this; of a failed allocation nothing is said
+abbrev pub TellsOutcome : {A B : Type 0} → (A → B) → Result A Halt → Out B → Type 0
+TellsOutcome view (Ok a) out = out ≡ Gives (view a)
+TellsOutcome view (Err (halt.Stopped s)) out = out ≡ Stops (stop_of s)
+TellsOutcome view (Err halt.OutOfMemory) out = Unit {0}

@@ -5,7 +5,7 @@ use Rattle.pc_token.specs.Keywords.{is_reserved}
 use Rattle.pc_tree.specs.Tree.{Stmts, no_stmts, more_stmts, Stmt, pass, breaks, continues, returns, asserts, annotated, assigns, evaluates, while_loop, for_loop, conditional, Branches, no_branches, more_branches, Target, to_name, to_attribute, to_index}
 use Rattle.pc_value.specs.Value.{Value}
 use Rattle.pc_value.specs.Texts.{same_text}
-use Rattle.pc_machine.specs.State.{Local, Frame, Function, Globals, Bound, a_value, a_function, a_class, State}
+use Rattle.pc_machine.specs.State.{Local, Frame, Function, Globals, GlobalBinding, a_value, a_function, a_class, State}
 
 -- the names that a target binds
 abbrev pub target_names : Target → List (List ℕ)
@@ -47,9 +47,9 @@ abbrev pub frame_of : Function → List Local → Frame
 frame_of f arguments = arguments ++ map unbound (names_bound f.body)
 
 -- a local of the frame: none of that name, or one with its value if it is bound
-abbrev pub local_of : List ℕ → Frame → Option (Option Value)
-local_of name [] = None
-local_of name (l ∷ rest) = if same_text l.name name then Some l.value else local_of name rest
+abbrev pub local_by_name : List ℕ → Frame → Option (Option Value)
+local_by_name name [] = None
+local_by_name name (l ∷ rest) = if same_text l.name name then Some l.value else local_by_name name rest
 
 -- the frame after a local was bound
 abbrev pub with_local : List ℕ → Value → Frame → Frame
@@ -57,9 +57,9 @@ with_local name v [] = []
 with_local name v (l ∷ rest) = if same_text l.name name then record { name = l.name; value = Some v } ∷ rest else l ∷ with_local name v rest
 
 -- what the module has bound to a name so far
-abbrev pub global_of : List ℕ → Globals → Option Bound
-global_of name [] = None
-global_of name (g ∷ rest) = if same_text g.name name then Some g.is else global_of name rest
+abbrev pub global_by_name : List ℕ → Globals → Option GlobalBinding
+global_by_name name [] = None
+global_by_name name (g ∷ rest) = if same_text g.name name then Some g.is else global_by_name name rest
 
 -- what a name means where it is read: a value, a local that is not bound, a function, a class, a reserved name, nothing
 pub data Meaning : Type 0 where
@@ -71,13 +71,13 @@ pub data Meaning : Type 0 where
   means_nothing : Meaning
 
 -- what a name means that the module has bound to this
-abbrev pub meaning_of_bound : Bound → Meaning
+abbrev pub meaning_of_bound : GlobalBinding → Meaning
 meaning_of_bound (a_value v) = means_value v
 meaning_of_bound (a_function f) = means_function f
 meaning_of_bound (a_class c) = means_class c
 
 -- the module, then the reserved names
-abbrev pub meaning_of_global : Bool → Option Bound → Meaning
+abbrev pub meaning_of_global : Bool → Option GlobalBinding → Meaning
 meaning_of_global reserved (Some g) = meaning_of_bound g
 meaning_of_global true None = means_reserved
 meaning_of_global false None = means_nothing
@@ -89,5 +89,5 @@ meaning_of_local outer (Some None) = means_unbound
 meaning_of_local outer (Some (Some v)) = means_value v
 
 -- a name that the function binds is local in all of it; others are the module's, then reserved
-abbrev pub meaning : List ℕ → State → Meaning
-meaning name s = meaning_of_local (meaning_of_global (is_reserved name) (global_of name s.globals)) (local_of name s.frame)
+abbrev pub meaning_in_run : List ℕ → State → Meaning
+meaning_in_run name s = meaning_of_local (meaning_of_global (is_reserved name) (global_by_name name s.globals)) (local_by_name name s.frame)

@@ -7,9 +7,9 @@ use Rattle.pc_value.specs.Actions as action
 use Rattle.pc_value.specs.Actions.{Iteration}
 use Rattle.pc_machine.specs.State.{Function, Frame}
 use Rattle.pc_machine.specs.Names.{frame_of}
-use Rattle.pc_machine.specs.Calls.{Callee, NamedValue, named_method, bound_arguments, suited, range_argument, test_of, passes}
-use Rattle.pc_machine.specs.Steps.{Flow, next, value_out, iteration_out}
-use Rattle.pc_machine.specs.Plain.{Came, Ended, Step, and_then, comes, charge, emitted, entered, call_limit, plain, act}
+use Rattle.pc_machine.specs.Calls.{Callee, NamedValue, named_method, bound_arguments, or_type_error, range_argument, instance_test_of, passes}
+use Rattle.pc_machine.specs.Steps.{StatementEnd, next, value_out, iteration_out}
+use Rattle.pc_machine.specs.Plain.{Came, Ended, Step, and_then, comes, charge, after_event, after_entry, call_limit, plain, act}
 use Rattle.pc_machine.specs.Runs.{plain_parts}
 use Rattle.pc_machine.specs.Evaluation as text
 use Rattle.pc_machine.specs.Evaluation.{self_local}
@@ -28,14 +28,14 @@ attribute_callee v m w = text.callee_of_attribute Step plain v m (named_method w
 
 -- what `isinstance(e, T)` gives, once e has its value and the event is left
 abbrev pub instance_tested : Value → Expr → Step Value
-instance_tested v t w = and_then (comes (test_of t w.state) w) (λ test v'. Came (boolean (passes v'.state v test)) v')
+instance_tested v t w = and_then (comes (instance_test_of t w.state) w) (λ test v'. Came (boolean (passes v'.state v test)) v')
 
 -- the store of `e.f = v`, once v and e have their values and the event is left
-abbrev pub attribute_stored : Value → List ℕ → Value → Step Flow
+abbrev pub attribute_stored : Value → List ℕ → Value → Step StatementEnd
 attribute_stored o f v w = and_then (act value_out (action.store_attribute o f v) w) (λ stored w'. Came next w')
 
 -- the store of `e[i] = v`, once v, e and i have their values and the event is left
-abbrev pub item_stored : Value → Value → Value → Step Flow
+abbrev pub item_stored : Value → Value → Value → Step StatementEnd
 item_stored o k v w = and_then (act value_out (action.store_item o k v) w) (λ stored w'. Came next w')
 
 -- what a `for` goes over at `range(..)`, once the arguments have their values and the event is left
@@ -50,9 +50,9 @@ empty_charged (more_stmts s rest) w = Came tt w
 -- a frame is entered, if a further call may be open; what it comes to is the caller's frame
 abbrev pub entered_unless : Bool → Frame → Step Frame
 entered_unless true frame w = Ended Cut w
-entered_unless false frame w = Came w.state.frame (entered frame w)
+entered_unless false frame w = Came w.state.frame (after_entry frame w)
 
 -- a function, or a method with its object, is entered with its arguments; what it comes to is the caller's frame
-abbrev pub opened : Function → Option Value → List Value → List NamedValue → Step Frame
-opened f None values named w = and_then (comes (suited (bound_arguments f.parameters values named)) w) (λ arguments w'. entered_unless (nat_eq w'.depth call_limit) (frame_of f arguments) w')
-opened f (Some object) values named w = and_then (comes (suited (bound_arguments f.parameters values named)) w) (λ arguments w'. and_then (entered_unless (nat_eq w'.depth call_limit) (frame_of f (self_local object ∷ arguments)) w') (λ caller w''. Came caller (emitted f.name.place w'')))
+abbrev pub opened_frame : Function → Option Value → List Value → List NamedValue → Step Frame
+opened_frame f None values named w = and_then (comes (or_type_error (bound_arguments f.parameters values named)) w) (λ arguments w'. entered_unless (nat_eq w'.depth call_limit) (frame_of f arguments) w')
+opened_frame f (Some object) values named w = and_then (comes (or_type_error (bound_arguments f.parameters values named)) w) (λ arguments w'. and_then (entered_unless (nat_eq w'.depth call_limit) (frame_of f (self_local object ∷ arguments)) w') (λ caller w''. Came caller (after_event f.name.place w'')))

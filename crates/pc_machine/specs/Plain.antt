@@ -3,11 +3,11 @@
 use Rattle.std.specs.Prelude.{ℕ, zero, suc, Bool, true, false, nat_eq, List, [], ◌∷◌, ◌++◌}
 use Rattle.pc_source.specs.declared.place.Place.{Place}
 use Rattle.pc_value.specs.Value.{Heap, Stop, Cut, Out, Gives, Stops}
-use Rattle.pc_value.specs.Actions.{Action, Outcome, Acted}
+use Rattle.pc_value.specs.Actions.{Action, Outcome, ActionResult}
 use Rattle.pc_value.specs.Outcomes.{takes_choice}
 use Rattle.pc_value.specs.Plain.{plainly_acted}
 use Rattle.pc_machine.specs.State.{State, Frame, nothing_bound}
-use Rattle.pc_machine.specs.Steps.{Reading}
+use Rattle.pc_machine.specs.Steps.{Interpretation}
 
 -- a plain run so far: its state, the places evaluated, the fuel and the choice bytes that are left, the open calls
 pub record Progress : Type 0 where
@@ -42,33 +42,33 @@ comes (Gives a) w = Came a w
 comes (Stops stop) w = Ended stop w
 
 -- one of fuel; cut off where none is left
-abbrev pub charged : ℕ → Step (Unit {0})
-charged zero w = Ended Cut w
-charged (suc fuel) w = Came tt (record w { fuel = fuel })
+abbrev pub charge_from : ℕ → Step (Unit {0})
+charge_from zero w = Ended Cut w
+charge_from (suc fuel) w = Came tt (record w { fuel = fuel })
 
 -- one of the fuel that is left is taken, or the run is cut off
 abbrev pub charge : Step (Unit {0})
-charge w = charged w.fuel w
+charge w = charge_from w.fuel w
 
 -- the progress after a place was evaluated
-abbrev pub emitted : Place → Progress → Progress
-emitted place w = record w { events = w.events ++ place ∷ [] }
+abbrev pub after_event : Place → Progress → Progress
+after_event place w = record w { events = w.events ++ place ∷ [] }
 
 -- a place is evaluated
 abbrev pub emit : Place → Step (Unit {0})
-emit place w = Came tt (emitted place w)
+emit place w = Came tt (after_event place w)
 
 -- what the state says
 abbrev pub look : {A : Type 0} → (State → Out A) → Step A
 look f w = comes (f w.state) w
 
 -- the progress after the state changed
-abbrev pub changed : (State → State) → Progress → Progress
-changed f w = record w { state = f w.state }
+abbrev pub after_change : (State → State) → Progress → Progress
+after_change f w = record w { state = f w.state }
 
 -- the state changes
 abbrev pub change : (State → State) → Step (Unit {0})
-change f w = Came tt (changed f w)
+change f w = Came tt (after_change f w)
 
 -- the next choice byte, 0 when they are used up, and those after it
 abbrev pub next_choice : List ℕ → ℕ
@@ -86,7 +86,7 @@ abbrev pub after_action : Bool → Heap → Progress → Progress
 after_action taken heap w = record w { state = record w.state { heap = heap }; choices = later_choices taken w.choices }
 
 -- what is wanted of an action's outcome, with the heap and the choices after the action
-abbrev pub acted_to : {A : Type 0} → (Outcome → Out A) → Bool → Acted → Step A
+abbrev pub acted_to : {A : Type 0} → (Outcome → Out A) → Bool → ActionResult → Step A
 acted_to want taken a w = comes (want a.outcome) (after_action taken a.heap w)
 
 -- an action; a free answer takes the next choice
@@ -98,8 +98,8 @@ abbrev pub call_limit : ℕ
 call_limit = 64
 
 -- the progress after a frame was entered, with one more open call
-abbrev pub entered : Frame → Progress → Progress
-entered frame w = record w { state = record w.state { frame = frame }; depth = suc w.depth }
+abbrev pub after_entry : Frame → Progress → Progress
+after_entry frame w = record w { state = record w.state { frame = frame }; depth = suc w.depth }
 
 -- back in the caller's frame
 abbrev pub back_in : Progress → Progress → Progress
@@ -113,14 +113,14 @@ left_to w (Ended stop v) = Ended stop (back_in w v)
 -- the call past the limit is cut off at its entry
 abbrev pub entered_if : Bool → {A : Type 0} → Frame → Step A → Step A
 entered_if true frame body w = Ended Cut w
-entered_if false frame body w = left_to w (body (entered frame w))
+entered_if false frame body w = left_to w (body (after_entry frame w))
 
 -- a body runs in a frame of its own, if a further call may be open
 abbrev pub enter : {A : Type 0} → Frame → Step A → Step A
 enter frame body w = entered_if (nat_eq w.depth call_limit) frame body w
 
 -- the text read as what happens in a plain run
-abbrev pub plain : Reading Step
+abbrev pub plain : Interpretation Step
 plain = record {
   pure = λ a w. Came a w;
   ◌>>=◌ = λ first next. first >>= next;

@@ -69,12 +69,12 @@ abbrev pub PlainRun : Module → ℕ → List ℕ → List Place → End → Typ
 PlainRun m fuel choices events end = (IsFalse (is_runnable m) × NeverRan events end) ⊎ (IsTrue (is_runnable m) × PlainlyRan m fuel choices events end)
 
 -- the ends that the report speaks of: one of the four exceptions, or out of the profile
-abbrev pub IsFault : End → Type 0
-IsFault done = ⊥
-IsFault (stopped (Raised exception)) = Unit {0}
-IsFault (stopped Outside) = Unit {0}
-IsFault (stopped Other) = ⊥
-IsFault (stopped Cut) = ⊥
+abbrev pub IsFaultyEnd : End → Type 0
+IsFaultyEnd done = ⊥
+IsFaultyEnd (stopped (Raised exception)) = Unit {0}
+IsFaultyEnd (stopped Outside) = Unit {0}
+IsFaultyEnd (stopped Other) = ⊥
+IsFaultyEnd (stopped Cut) = ⊥
 
 -- each plain run of a module, whatever the fuel and the choices, is a run of it
 abbrev pub PlainRunsAreRuns : Type 0

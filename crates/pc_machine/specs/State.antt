@@ -24,15 +24,15 @@ pub record Class : Type 0 where
   pub methods : List Function
 
 -- what the module binds to a name: a constant's value, a function, the number of a class
-pub data Bound : Type 0 where
-  a_value : (value : Value) → Bound
-  a_function : (function : Function) → Bound
-  a_class : (class : ℕ) → Bound
+pub data GlobalBinding : Type 0 where
+  a_value : (value : Value) → GlobalBinding
+  a_function : (function : Function) → GlobalBinding
+  a_class : (class : ℕ) → GlobalBinding
 
 -- a name that the module has bound, with what it is bound to
 pub record Global : Type 0 where
   pub name : List ℕ
-  pub is : Bound
+  pub is : GlobalBinding
 
 -- all that the module has bound so far, in that order
 abbrev pub Globals : Type 0

@@ -9,7 +9,7 @@ use Rattle.pc_value.specs.Actions.{Action, Iteration, Outcome, gives, iterates, 
 use Rattle.pc_machine.specs.State.{State, Frame}
 
 -- one reading of the text: what each kind of step is
-pub record Reading {ℓ} (Step : Type 0 → Type ℓ) : Type (ℓ ⊔ 1) where
+pub record Interpretation {ℓ} (Step : Type 0 → Type ℓ) : Type (ℓ ⊔ 1) where
   -- it comes to a value at once
   pub pure : {A : Type 0} → A → Step A
   -- one step and then another
@@ -31,16 +31,16 @@ pub record Reading {ℓ} (Step : Type 0 → Type ℓ) : Type (ℓ ⊔ 1) where
 
 -- how a statement ends: the next one follows, the innermost loop is left or begins its next turn, or the function is
 -- left with a value
-pub data Flow : Type 0 where
-  next breaking continuing : Flow
-  leaves : (value : Value) → Flow
+pub data StatementEnd : Type 0 where
+  next breaking continuing : StatementEnd
+  leaves : (value : Value) → StatementEnd
 
 -- what the parts of a node do: an expression, a suite, the turns of a `while` and of a `for`
 pub record Parts {ℓ} (Step : Type 0 → Type ℓ) : Type ℓ where
   pub eval : Expr → Step Value
-  pub exec : Stmts → Step Flow
-  pub again : Expr → Stmts → Step Flow
-  pub turns : Iteration → ℕ → List ℕ → Stmts → Step Flow
+  pub exec : Stmts → Step StatementEnd
+  pub again : Expr → Stmts → Step StatementEnd
+  pub turns : Iteration → ℕ → List ℕ → Stmts → Step StatementEnd
 
 -- an outcome as a value, as what to go over, as an item if there is one; no action that is so read has another one
 abbrev pub value_out : Outcome → Out Value

@@ -1,12 +1,14 @@
+//! The values of literals, and how arguments fill parameters.
+
 ghost use Rattle.std.specs.Prelude.{◌≡◌, map, IfOk, List, ℕ, chars, string_bytes};
 ghost use Rattle.std.specs.List.{list_all};
 ghost use Rattle.pc_tree.specs.Stopping.{is_among};
 ghost use Rattle.pc_names.specs.Names.{at_text, texts_in};
 ghost use Rattle.pc_tree.specs.Tree.{literal_of, param_of};
 ghost use Rattle.pc_value.specs.Meaning.{value_of};
-ghost use Rattle.pc_value.specs.Keys.{option_value};
-ghost use Rattle.pc_machine.specs.Calls.{value_named, is_parameter, are_parameters, bound_arguments, taken};
-ghost use Rattle.pc_machine.specs.Machine.{literal_value, parameter_of, parameter_of_param, named_of, item_of, locals_of, default_of};
+ghost use Rattle.pc_value.specs.Internal.Keys.{option_value};
+ghost use Rattle.pc_machine.specs.Calls.{value_named, is_parameter, are_parameters, bound_arguments, value_taken};
+ghost use Rattle.pc_machine.specs.Machine.{literal_value, parameter_of, parameter_of_param, named_of, value_if_any, locals_of, default_of};
 
 use crate::state::{Local, NamedValue, Parameter};
 use indexmap::{IndexMap, IndexSet};
@@ -20,7 +22,7 @@ use std::hash::RandomState;
 /// The value of a literal; a whole number has one where it fits 128 signed bits.
 /// Language Reference 2.4 "Literals".
 pub fn literal_value(alloc: Global, literal: &Literal) -> Result<Option<Value>, OutOfMemory>
-    ensures { IfOk result (λ o. item_of o ≡ literal_value (literal_of literal.now)) }
+    ensures { IfOk result (λ o. value_if_any o ≡ literal_value (literal_of literal.now)) }
 {
     match &literal.kind {
         LiteralKind::Int(digits) => Ok(pc_value::read_number(false, digits.as_bytes()).map(
@@ -124,7 +126,7 @@ fn are_parameters(
 
 /// The value of a parameter's default, if it has one.
 fn default_value(alloc: Global, default: Option<&Literal>) -> Result<Option<Value>, OutOfMemory>
-    ensures { IfOk result (λ o. item_of o ≡ default_of default.entry) }
+    ensures { IfOk result (λ o. value_if_any o ≡ default_of default.entry) }
 {
     match default {
         Some(literal) => literal_value(alloc, literal),
@@ -139,7 +141,7 @@ fn take(
     by_position: Option<&Value>,
     by_name: Option<&Value>,
 ) -> Result<Option<Value>, OutOfMemory>
-    ensures { IfOk result (λ o. item_of o ≡ taken (parameter_of parameter.entry) (option_value by_position.entry) (option_value by_name.entry)) }
+    ensures { IfOk result (λ o. value_if_any o ≡ value_taken (parameter_of parameter.entry) (option_value by_position.entry) (option_value by_name.entry)) }
 {
     match (by_position, by_name) {
         (Some(_), Some(_)) => Ok(None),

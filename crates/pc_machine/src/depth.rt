@@ -1,3 +1,5 @@
+//! How many calls are open.
+
 ghost use Rattle.std.specs.Prelude.{◌≡◌, ◌≤◌, ◌+◌, nat_eq, true, false, IsNone, IfSome};
 
 /// How many calls of functions and methods are open. Own rule of the profile: at most 64.

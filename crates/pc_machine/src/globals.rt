@@ -1,6 +1,6 @@
 //! What the module has bound, looked up by name.
 ghost use Rattle.std.specs.Prelude.{◌≡◌, ◌++◌, ◌∷◌, [], map, OnOk};
-ghost use Rattle.pc_machine.specs.Names.{global_of};
+ghost use Rattle.pc_machine.specs.Names.{global_by_name};
 ghost use Rattle.pc_machine.specs.Machine.{global_of as global_seen, bound_of, found_global};
 
 use crate::state::{Bound, Global, Globals};
@@ -23,7 +23,7 @@ impl<'m> Globals<'m> {
 
     /// What is bound to a name, if anything.
     pub fn get(&self, name: &str) -> Option<&Bound<'m>>
-        ensures { found_global result ≡ global_of name.now (map global_seen self.now.bindings.items) }
+        ensures { found_global result ≡ global_by_name name.now (map global_seen self.now.bindings.items) }
     {
         match self.places.get(name) {
             Some(place) => match self.bindings.get(*place) {

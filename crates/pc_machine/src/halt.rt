@@ -1,3 +1,5 @@
+//! How a run ends before its time.
+
 ghost use Rattle.std.specs.Prelude.{◌≡◌};
 ghost use Rattle.pc_machine.specs.declared.halt.Halt.TheVariants as halt;
 
@@ -22,7 +24,7 @@ pub enum Stop {
 pub enum Halt {
     /// The run ends.
     Stopped(Stop),
-    /// Memory is wanting; the model says nothing of it.
+    /// An allocation failed; the model says nothing of it.
     OutOfMemory,
 }
 

@@ -1,11 +1,13 @@
+//! Methods and built-in methods by their names.
+
 ghost use Rattle.std.specs.Prelude.{◌≡◌, ◌<◌, ◌-◌, [], map};
 ghost use Rattle.pc_tree.specs.Tree.{expr_of};
 ghost use Rattle.pc_value.specs.Meaning.{value_of, heap_of};
-ghost use Rattle.pc_value.specs.Value.{is_true, seen, a_list, a_dict, class_of};
+ghost use Rattle.pc_value.specs.Value.{is_true, seen, a_list, a_dict, class_number_of};
 ghost use Rattle.pc_machine.specs.Plain.{comes};
-ghost use Rattle.pc_machine.specs.Calls.{method_of, method_among, builtin_method_of, class_at, callee_of_meaning, test_of, test_of_reserved, passes, is_ancestor, descends_from};
-ghost use Rattle.pc_machine.specs.Names.{meaning};
-ghost use Rattle.pc_machine.specs.Machine.{Tells, Comes, found_method, found_class, found_builtin, test_seen, progress_of, state_of, callee_seen, method_of_def};
+ghost use Rattle.pc_machine.specs.Calls.{method_of, method_among, builtin_method_of, class_at, callee_of_meaning, instance_test_of, test_of_reserved, passes, is_ancestor, descends_from};
+ghost use Rattle.pc_machine.specs.Names.{meaning_in_run};
+ghost use Rattle.pc_machine.specs.Machine.{TellsProgress, TellsOutcome, found_method, found_class, found_builtin, test_seen, progress_of, state_of, callee_seen, method_of_def};
 
 use crate::halt::{Halt, Stop};
 use crate::machine::{Machine, raised};
@@ -53,7 +55,7 @@ fn dict_method(name: &str) -> Option<BuiltinMethod>
 
 /// What the second argument of `isinstance` tests for, where it is a reserved name.
 fn reserved_test(name: &str) -> Result<Test, Halt>
-    ensures { Comes test_seen result (test_of_reserved name.now) }
+    ensures { TellsOutcome test_seen result (test_of_reserved name.now) }
 {
     if is_same(name, "int") {
         Ok(Test::Int)
@@ -83,7 +85,7 @@ fn is_ancestor(class: usize, ancestors: &[usize]) -> bool
 impl<'m> Machine<'m> {
     /// The class of an instance.
     fn class_of(&self, object: &Value) -> Option<&Class<'m>>
-        ensures { found_class result ≡ class_at (state_of self.now).classes (class_of (heap_of self.now.heap) (value_of object.now)) }
+        ensures { found_class result ≡ class_at (state_of self.now).classes (class_number_of (heap_of self.now.heap) (value_of object.now)) }
     {
         match see(&self.heap, object) {
             Seen::Number(_) => None,
@@ -125,7 +127,7 @@ impl<'m> Machine<'m> {
 
     /// What a name is as a callee. Language Reference 6.3.4 "Calls".
     pub fn look_up_callee(&self, alloc: Allocator, name: &'m str) -> Result<Callee<'m>, Halt>
-        ensures { Tells callee_seen result self.now (comes (callee_of_meaning name.now (meaning name.now (state_of self.now))) (progress_of self.now)) }
+        ensures { TellsProgress callee_seen result self.now (comes (callee_of_meaning name.now (meaning_in_run name.now (state_of self.now))) (progress_of self.now)) }
     {
         match self.meaning(name) {
             Meaning::Value(value) => Ok(Callee::Value(value.copy(alloc)?)),
@@ -139,7 +141,7 @@ impl<'m> Machine<'m> {
 
     /// What the second argument of `isinstance` tests for.
     pub(crate) fn test_of(&self, e: &Expr) -> Result<Test, Halt>
-        ensures { Comes test_seen result (test_of (expr_of e.now) (state_of self.now)) }
+        ensures { TellsOutcome test_seen result (instance_test_of (expr_of e.now) (state_of self.now)) }
     {
         let Expr::Name(name) = e else {
             return Err(Halt::Stopped(Stop::Outside));
@@ -156,7 +158,7 @@ impl<'m> Machine<'m> {
 
     /// An object is an instance of a class or of a descendant of it.
     fn is_instance(&self, object: &Value, class: usize) -> bool
-        ensures { result ≡ descends_from class (class_at (state_of self.now).classes (class_of (heap_of self.now.heap) (value_of object.now))) }
+        ensures { result ≡ descends_from class (class_at (state_of self.now).classes (class_number_of (heap_of self.now.heap) (value_of object.now))) }
     {
         match self.class_of(object) {
             Some(made) => is_ancestor(class, &made.ancestors),

@@ -1,14 +1,16 @@
+//! A plain run so far.
+
 ghost use Rattle.std.specs.Prelude.{◌≡◌, ◌≤◌, ◌<◌, OnOk, IfOk};
 ghost use Rattle.pc_value.specs.Meaning.{value_of};
 ghost use Rattle.pc_value.specs.Doing.{action_of, iteration_of};
-ghost use Rattle.pc_machine.specs.Plain.{begin, Came, emitted, charge, act, next_choice, comes, changed};
+ghost use Rattle.pc_machine.specs.Plain.{begin, Came, after_event, charge, act, next_choice, comes, after_change};
 ghost use Rattle.pc_machine.specs.Steps.{value_out, iteration_out, item_out};
-ghost use Rattle.pc_machine.specs.Names.{meaning};
+ghost use Rattle.pc_machine.specs.Names.{meaning_in_run};
 ghost use Rattle.pc_machine.specs.Calls.{value_of_meaning};
 ghost use Rattle.pc_machine.specs.Evaluation.{binds_local};
 ghost use Rattle.pc_machine.specs.declared.halt.Halt.TheVariants as halt;
 ghost use Rattle.pc_machine.specs.declared.halt.Stop.TheVariants as stop;
-ghost use Rattle.pc_machine.specs.Machine.{Tells, meaning_seen, state_of, progress_of, Performs, after_choice, unit, item_of};
+ghost use Rattle.pc_machine.specs.Machine.{TellsProgress, meaning_seen, state_of, progress_of, Performs, after_choice, unit, value_if_any};
 
 use crate::depth::Depth;
 use crate::halt::{Halt, Stop};
@@ -71,7 +73,7 @@ impl<'m> Machine<'m> {
     /// What a name means where it is read: a local, what the module has bound, or a reserved name.
     /// Language Reference 4.2.2 "Resolution of names".
     pub fn meaning(&self, name: &str) -> Meaning<'_, 'm>
-        ensures { meaning_seen result ≡ meaning name.now (state_of self.now) }
+        ensures { meaning_seen result ≡ meaning_in_run name.now (state_of self.now) }
     {
         if let Some(local) = find_local(&self.frame, name) {
             return match &local.value {
@@ -90,7 +92,7 @@ impl<'m> Machine<'m> {
 
     /// The value of a name.
     fn value_of_name(&self, alloc: Allocator, name: &str) -> Result<Value, Halt>
-        ensures { Tells value_of result self.now (comes (value_of_meaning (meaning name.now (state_of self.now))) (progress_of self.now)) }
+        ensures { TellsProgress value_of result self.now (comes (value_of_meaning (meaning_in_run name.now (state_of self.now))) (progress_of self.now)) }
     {
         match self.meaning(name) {
             Meaning::Value(value) => Ok(value.copy(alloc)?),
@@ -105,7 +107,7 @@ impl<'m> Machine<'m> {
     /// A name as an expression: its place, then its value. Language Reference 6.2.1 "Identifiers (Names)".
     #[inline(never)]
     pub fn read_name(&mut self, alloc: Allocator, place: Place, name: &str) -> Result<Value, Halt>
-        ensures plain { Tells value_of result self.new (comes (value_of_meaning (meaning name.now (state_of self.old))) (emitted place (progress_of self.old))) }
+        ensures plain { TellsProgress value_of result self.new (comes (value_of_meaning (meaning_in_run name.now (state_of self.old))) (after_event place (progress_of self.old))) }
         ensures fuel { self.new.fuel ≤ self.old.fuel }
     {
         self.emit(place)?;
@@ -115,7 +117,7 @@ impl<'m> Machine<'m> {
     /// A local is bound to a value. Language Reference 4.2.1 "Binding of names".
     #[inline(never)]
     pub fn bind_local(&mut self, name: &str, value: Value)
-        ensures plain { progress_of self.new ≡ changed (binds_local name.now (value_of value)) (progress_of self.old) }
+        ensures plain { progress_of self.new ≡ after_change (binds_local name.now (value_of value)) (progress_of self.old) }
         ensures fuel { self.new.fuel ≡ self.old.fuel }
     {
         set_local(&mut self.frame, name, value);
@@ -123,7 +125,7 @@ impl<'m> Machine<'m> {
 
     /// One of fuel is taken; the run is cut off where none is left. Own rule of the profile.
     pub fn charge(&mut self) -> Result<(), Halt>
-        ensures plain { Tells unit result self.new (charge (progress_of self.old)) }
+        ensures plain { TellsProgress unit result self.new (charge (progress_of self.old)) }
         ensures fuel { self.new.fuel ≤ self.old.fuel }
         ensures spent { OnOk result (self.new.fuel < self.old.fuel) }
     {
@@ -137,7 +139,7 @@ impl<'m> Machine<'m> {
     /// A place is evaluated. Own rule of the profile.
     #[inline(never)]
     pub fn emit(&mut self, place: Place) -> Result<(), OutOfMemory>
-        ensures ok { OnOk result (progress_of self.new ≡ emitted place (progress_of self.old)) }
+        ensures ok { OnOk result (progress_of self.new ≡ after_event place (progress_of self.old)) }
         ensures fuel { self.new.fuel ≡ self.old.fuel }
     {
         match self.events.push(place) {
@@ -149,7 +151,7 @@ impl<'m> Machine<'m> {
     /// A value, at its place. Own rule of the profile.
     #[inline(never)]
     pub fn give(&mut self, place: Place, value: Value) -> Result<Value, Halt>
-        ensures plain { Tells value_of result self.new (Came (value_of value) (emitted place (progress_of self.old))) }
+        ensures plain { TellsProgress value_of result self.new (Came (value_of value) (after_event place (progress_of self.old))) }
         ensures fuel { self.new.fuel ≤ self.old.fuel }
     {
         self.emit(place)?;
@@ -191,7 +193,7 @@ impl<'m> Machine<'m> {
 
     /// An action that comes to a value.
     pub(crate) fn act_value(&mut self, alloc: Allocator, action: Action) -> Result<Value, Halt>
-        ensures plain { Tells value_of result self.new (act value_out (action_of action) (progress_of self.old)) }
+        ensures plain { TellsProgress value_of result self.new (act value_out (action_of action) (progress_of self.old)) }
         ensures fuel { self.new.fuel ≤ self.old.fuel }
     {
         match self.act(alloc, &action)? {
@@ -208,7 +210,7 @@ impl<'m> Machine<'m> {
     /// An action that comes to what a `for` goes over. Language Reference 8.3 "The for statement".
     #[inline(never)]
     pub fn act_iteration(&mut self, alloc: Allocator, action: Action) -> Result<Iteration, Halt>
-        ensures plain { Tells iteration_of result self.new (act iteration_out (action_of action) (progress_of self.old)) }
+        ensures plain { TellsProgress iteration_of result self.new (act iteration_out (action_of action) (progress_of self.old)) }
         ensures fuel { self.new.fuel ≤ self.old.fuel }
     {
         match self.act(alloc, &action)? {
@@ -225,7 +227,7 @@ impl<'m> Machine<'m> {
     /// A turn of a `for`: the item, or none at the end. Language Reference 8.3 "The for statement".
     #[inline(never)]
     pub fn act_item(&mut self, alloc: Allocator, action: &Action) -> Result<Option<Value>, Halt>
-        ensures plain { Tells item_of result self.new (act item_out (action_of action.now) (progress_of self.old)) }
+        ensures plain { TellsProgress value_if_any result self.new (act item_out (action_of action.now) (progress_of self.old)) }
         ensures fuel { self.new.fuel ≤ self.old.fuel }
     {
         match self.act(alloc, action)? {
@@ -242,7 +244,7 @@ impl<'m> Machine<'m> {
     /// An action that comes to a value, at its place. Own rule of the profile.
     #[inline(never)]
     pub fn perform(&mut self, alloc: Allocator, place: Place, action: Action) -> Result<Value, Halt>
-        ensures plain { Tells value_of result self.new (act value_out (action_of action) (emitted place (progress_of self.old))) }
+        ensures plain { TellsProgress value_of result self.new (act value_out (action_of action) (after_event place (progress_of self.old))) }
         ensures fuel { self.new.fuel ≤ self.old.fuel }
     {
         self.emit(place)?;

@@ -1,9 +1,11 @@
+//! Names at run time.
+
 ghost use Rattle.std.specs.Prelude.{◌≡◌, ◌++◌, ◌∷◌, [], map, OnOk};
 ghost use Rattle.pc_tree.specs.Tree.{stmts_of_list, stmt_of_kind, target_of};
 ghost use Rattle.pc_source.specs.declared.place.Place.{Place as PlaceOf};
 ghost use Rattle.pc_value.specs.Meaning.{value_of};
 ghost use Rattle.pc_value.specs.Texts.{same_text};
-ghost use Rattle.pc_machine.specs.Names.{unbound, names_bound, names_bound_by, names_bound_in, target_names, local_of, with_local};
+ghost use Rattle.pc_machine.specs.Names.{unbound, names_bound, names_bound_by, names_bound_in, target_names, local_by_name, with_local};
 ghost use Rattle.pc_machine.specs.Machine.{local_of as local_seen, found_local};
 ghost use Rattle.pc_tree.specs.Lists.{branches_of_list};
 
@@ -21,7 +23,7 @@ pub fn is_same(a: &str, b: &str) -> bool
 
 /// The local of a name, if the frame has one.
 pub fn find_local<'a, 'm>(frame: &'a [Local<'m>], name: &str) -> Option<&'a Local<'m>>
-    ensures { found_local result ≡ local_of name.now (map local_seen frame.now) }
+    ensures { found_local result ≡ local_by_name name.now (map local_seen frame.now) }
 {
     for local in frame {
         if is_same(local.name, name) {

@@ -1,3 +1,5 @@
+//! What a machine does at a node: calls, actions, stores.
+
 ghost use Rattle.std.specs.Prelude.{◌≡◌, ◌≤◌, ◌<◌, ◌-◌, [], ℕ, map, OnOk, IfOk, chars, is_some};
 ghost use Rattle.pc_tree.specs.Tree.{expr_of, stmts_of_list, name_of};
 ghost use Rattle.pc_value.specs.Meaning.{value_of, slot_of};
@@ -5,12 +7,12 @@ ghost use Rattle.pc_value.specs.Doing.{iteration_of, action_of};
 ghost use Rattle.pc_value.specs.Numbers.{number_of_digits};
 ghost use Rattle.pc_value.specs.Actions as action;
 ghost use Rattle.pc_value.specs.Value.{string};
-ghost use Rattle.pc_machine.specs.Plain.{Came, emitted, act};
+ghost use Rattle.pc_machine.specs.Plain.{Came, after_event, act};
 ghost use Rattle.pc_machine.specs.Steps.{value_out};
-ghost use Rattle.pc_machine.specs.Calls.{method_of, bound_arguments, suited, slots_of, builtin_method_action};
+ghost use Rattle.pc_machine.specs.Calls.{method_of, bound_arguments, or_type_error, slots_of, builtin_method_action};
 ghost use Rattle.pc_machine.specs.Names.{frame_of};
-ghost use Rattle.pc_machine.specs.Performed.{callee_in, callee_called, attribute_callee, instance_tested, attribute_stored, item_stored, range_begun, empty_charged, opened};
-ghost use Rattle.pc_machine.specs.Machine.{Tells, Comes, method_seen, local_of, with_object, unit, progress_of, state_of, flow_of, named_of, item_of, callee_seen, frame_of_vec, method_of_def};
+ghost use Rattle.pc_machine.specs.Performed.{callee_in, callee_called, attribute_callee, instance_tested, attribute_stored, item_stored, range_begun, empty_charged, opened_frame};
+ghost use Rattle.pc_machine.specs.Machine.{TellsProgress, TellsOutcome, method_seen, local_of, with_object, unit, progress_of, state_of, flow_of, named_of, value_if_any, callee_seen, frame_of_vec, method_of_def};
 ghost use Rattle.pc_tree.specs.Tree.{name as name_node};
 ghost use Rattle.pc_machine.specs.Calls.{calls_class, calls_reserved};
 ghost use Rattle.pc_machine.specs.declared.state.Callee.TheVariants as callee;
@@ -50,7 +52,7 @@ fn builtin_action(
     values: &[Value],
     named: &[NamedValue<'_>],
 ) -> Result<Action, Halt>
-    ensures { Comes action_of result (builtin_method_action (value_of object) (method_seen method) (map value_of values.now) (map named_of named.now)) }
+    ensures { TellsOutcome action_of result (builtin_method_action (value_of object) (method_seen method) (map value_of values.now) (map named_of named.now)) }
 {
     if !named.is_empty() {
         return Err(Halt::Stopped(Stop::Outside));
@@ -71,7 +73,7 @@ fn suited_arguments<'m>(
     values: &[Value],
     named: &[NamedValue<'m>],
 ) -> Result<Vec<Local<'m>>, Halt>
-    ensures { Comes frame_of_vec result (suited (bound_arguments (method_of_def def.entry).parameters (map value_of values.now) (map named_of named.now))) }
+    ensures { TellsOutcome frame_of_vec result (or_type_error (bound_arguments (method_of_def def.entry).parameters (map value_of values.now) (map named_of named.now))) }
 {
     let parameters = parameters(alloc, &def.params)?;
     match bound_arguments(alloc, keys, &parameters, values, named)? {
@@ -87,7 +89,7 @@ fn frame_of<'m>(
     arguments: Vec<Local<'m>>,
     def: &'m FuncDef,
 ) -> Result<Vec<Local<'m>>, OutOfMemory>
-    ensures { IfOk result (λ ls. map local_of ls.items ≡ frame_of (method_of_def def.entry) (with_object (item_of object) (map local_of arguments.entry.items))) }
+    ensures { IfOk result (λ ls. map local_of ls.items ≡ frame_of (method_of_def def.entry) (with_object (value_if_any object) (map local_of arguments.entry.items))) }
 {
     let mut frame = Vec::new(alloc);
     if let Some(object) = object {
@@ -107,7 +109,7 @@ impl<'m> Machine<'m> {
     /// A whole number as it is written. Language Reference 2.4.5 "Integer literals".
     #[inline(never)]
     pub fn number(&mut self, alloc: Allocator, place: Place, digits: &str) -> Result<Value, Halt>
-        ensures plain { Tells value_of result self.new (act value_out (action.number (number_of_digits digits.now)) (emitted place (progress_of self.old))) }
+        ensures plain { TellsProgress value_of result self.new (act value_out (action.number (number_of_digits digits.now)) (after_event place (progress_of self.old))) }
         ensures fuel { self.new.fuel ≤ self.old.fuel }
     {
         let digits = text_of(alloc, digits)?;
@@ -117,7 +119,7 @@ impl<'m> Machine<'m> {
     /// A text. Language Reference 2.4.1 "String and Bytes literals".
     #[inline(never)]
     pub fn text(&mut self, alloc: Allocator, place: Place, text: &str) -> Result<Value, Halt>
-        ensures plain { Tells value_of result self.new (Came (string (chars text.now)) (emitted place (progress_of self.old))) }
+        ensures plain { TellsProgress value_of result self.new (Came (string (chars text.now)) (after_event place (progress_of self.old))) }
         ensures fuel { self.new.fuel ≤ self.old.fuel }
     {
         let characters = characters(alloc, text)?;
@@ -133,7 +135,7 @@ impl<'m> Machine<'m> {
         object: Value,
         name: &str,
     ) -> Result<Value, Halt>
-        ensures plain { Tells value_of result self.new (act value_out (action.read_attribute (value_of object) name.now (is_some (method_of (state_of self.old) (value_of object) name.now))) (emitted place (progress_of self.old))) }
+        ensures plain { TellsProgress value_of result self.new (act value_out (action.read_attribute (value_of object) name.now (is_some (method_of (state_of self.old) (value_of object) name.now))) (after_event place (progress_of self.old))) }
         ensures fuel { self.new.fuel ≤ self.old.fuel }
     {
         let is_method = self.find_method(&object, name).is_some();
@@ -144,7 +146,7 @@ impl<'m> Machine<'m> {
     /// A name as a callee: it is charged, then its place, then what it is. Language Reference 6.3.4 "Calls".
     #[inline(never)]
     pub fn callee_of_name(&mut self, alloc: Allocator, name: &'m Name) -> Result<Callee<'m>, Halt>
-        ensures plain { (n : ℕ) → Tells callee_seen result self.new (callee_in n (name_node (name_of name.now)) (progress_of self.old)) }
+        ensures plain { (n : ℕ) → TellsProgress callee_seen result self.new (callee_in n (name_node (name_of name.now)) (progress_of self.old)) }
         ensures fuel { self.new.fuel ≤ self.old.fuel }
     {
         self.charge()?;
@@ -162,7 +164,7 @@ impl<'m> Machine<'m> {
         object: Value,
         name: &str,
     ) -> Result<Callee<'m>, Halt>
-        ensures plain { Tells callee_seen result self.new (attribute_callee (value_of object) name.now (emitted place (progress_of self.old))) }
+        ensures plain { TellsProgress callee_seen result self.new (attribute_callee (value_of object) name.now (after_event place (progress_of self.old))) }
         ensures fuel { self.new.fuel ≤ self.old.fuel }
     {
         self.emit(place)?;
@@ -185,7 +187,7 @@ impl<'m> Machine<'m> {
         object: &Value,
         test: &Expr,
     ) -> Result<Value, Halt>
-        ensures plain { Tells value_of result self.new (instance_tested (value_of object.now) (expr_of test.now) (emitted place (progress_of self.old))) }
+        ensures plain { TellsProgress value_of result self.new (instance_tested (value_of object.now) (expr_of test.now) (after_event place (progress_of self.old))) }
         ensures fuel { self.new.fuel ≤ self.old.fuel }
     {
         self.emit(place)?;
@@ -202,7 +204,7 @@ impl<'m> Machine<'m> {
         values: &[Value],
         named: &[NamedValue<'m>],
     ) -> Result<Value, Halt>
-        ensures plain { (n : ℕ) → Tells value_of result self.new (callee_called n (calls_class class) (map value_of values.now) (map named_of named.now) (progress_of self.old)) }
+        ensures plain { (n : ℕ) → TellsProgress value_of result self.new (callee_called n (calls_class class) (map value_of values.now) (map named_of named.now) (progress_of self.old)) }
         ensures fuel { self.new.fuel ≤ self.old.fuel }
     {
         let fields = match self.classes.get(class) {
@@ -227,7 +229,7 @@ impl<'m> Machine<'m> {
         values: &[Value],
         named: &[NamedValue<'m>],
     ) -> Result<Value, Halt>
-        ensures plain { (n : ℕ) → Tells value_of result self.new (callee_called n (calls_reserved name.now) (map value_of values.now) (map named_of named.now) (progress_of self.old)) }
+        ensures plain { (n : ℕ) → TellsProgress value_of result self.new (callee_called n (calls_reserved name.now) (map value_of values.now) (map named_of named.now) (progress_of self.old)) }
         ensures fuel { self.new.fuel ≤ self.old.fuel }
     {
         if !named.is_empty() {
@@ -265,7 +267,7 @@ impl<'m> Machine<'m> {
         values: &[Value],
         named: &[NamedValue<'m>],
     ) -> Result<Value, Halt>
-        ensures plain { (n : ℕ) → Tells value_of result self.new (callee_called n (callee_seen (callee.BuiltinMethod object method)) (map value_of values.now) (map named_of named.now) (progress_of self.old)) }
+        ensures plain { (n : ℕ) → TellsProgress value_of result self.new (callee_called n (callee_seen (callee.BuiltinMethod object method)) (map value_of values.now) (map named_of named.now) (progress_of self.old)) }
         ensures fuel { self.new.fuel ≤ self.old.fuel }
     {
         let action = builtin_action(alloc, object, method, values, named)?;
@@ -283,7 +285,7 @@ impl<'m> Machine<'m> {
         values: &[Value],
         named: &[NamedValue<'m>],
     ) -> Result<Vec<Local<'m>>, Halt>
-        ensures plain { Tells frame_of_vec result self.new (opened (method_of_def def.entry) (item_of object) (map value_of values.now) (map named_of named.now) (progress_of self.old)) }
+        ensures plain { TellsProgress frame_of_vec result self.new (opened_frame (method_of_def def.entry) (value_if_any object) (map value_of values.now) (map named_of named.now) (progress_of self.old)) }
         ensures fuel { self.new.fuel ≤ self.old.fuel }
     {
         let arguments = suited_arguments(alloc, self.keys, def, values, named)?;
@@ -310,7 +312,7 @@ impl<'m> Machine<'m> {
     /// A loop's suite that is empty is charged. Own rule of the profile.
     #[inline(never)]
     pub fn charge_empty(&mut self, body: &[Stmt]) -> Result<(), Halt>
-        ensures plain { Tells unit result self.new (empty_charged (stmts_of_list body.now) (progress_of self.old)) }
+        ensures plain { TellsProgress unit result self.new (empty_charged (stmts_of_list body.now) (progress_of self.old)) }
         ensures fuel { self.new.fuel ≤ self.old.fuel }
         ensures spent { OnOk result (body.now ≡ [] → self.new.fuel < self.old.fuel) }
     {
@@ -330,7 +332,7 @@ impl<'m> Machine<'m> {
         name: &str,
         value: Value,
     ) -> Result<Flow, Halt>
-        ensures plain { Tells flow_of result self.new (attribute_stored (value_of object) name.now (value_of value) (emitted place (progress_of self.old))) }
+        ensures plain { TellsProgress flow_of result self.new (attribute_stored (value_of object) name.now (value_of value) (after_event place (progress_of self.old))) }
         ensures fuel { self.new.fuel ≤ self.old.fuel }
     {
         let name = text_of(alloc, name)?;
@@ -348,7 +350,7 @@ impl<'m> Machine<'m> {
         key: Value,
         value: Value,
     ) -> Result<Flow, Halt>
-        ensures plain { Tells flow_of result self.new (item_stored (value_of object) (value_of key) (value_of value) (emitted place (progress_of self.old))) }
+        ensures plain { TellsProgress flow_of result self.new (item_stored (value_of object) (value_of key) (value_of value) (after_event place (progress_of self.old))) }
         ensures fuel { self.new.fuel ≤ self.old.fuel }
     {
         self.perform(alloc, place, Action::StoreItem(object, key, value))?;
@@ -364,7 +366,7 @@ impl<'m> Machine<'m> {
         values: Vec<Value>,
         named: &[NamedValue<'m>],
     ) -> Result<Iteration, Halt>
-        ensures plain { Tells iteration_of result self.new (range_begun (map value_of values.items) (map named_of named.now) (emitted place (progress_of self.old))) }
+        ensures plain { TellsProgress iteration_of result self.new (range_begun (map value_of values.items) (map named_of named.now) (after_event place (progress_of self.old))) }
         ensures fuel { self.new.fuel ≤ self.old.fuel }
     {
         self.emit(place)?;

@@ -1,3 +1,5 @@
+//! The state of a run: classes, functions, globals and locals.
+
 ghost use Rattle.std.specs.Prelude.{map};
 ghost use Rattle.pc_machine.specs.Globals.{ArePlaced, name_of_global};
 

@@ -18,7 +18,7 @@ use Rattle.pc_types.specs.Boxed.{tree_of}
 use Rattle.pc_ann.specs.Text.{type_text}
 use Rattle.pc_notes.specs.declared.notes.Flow.{Flow}
 use Rattle.pc_notes.specs.declared.notes.Entry.{Entry}
-use Rattle.pc_notes.specs.Notes.{Note, is_same_place, or_else, flow_or, flow_of, flow_noted, note_of, notes_of, IsGivenFlow}
+use Rattle.pc_notes.specs.Notes.{Note, is_same_place, or_else, flow_or, flow_types, flow_noted, note_of, notes_of, IsGivenFlow}
 use Rattle.pc_notes.specs.Texts.{FlowText, IsFlowText, place_cmp, places_of, HasGivenFlows, HasFirstFlows}
 
 -- ---- one note more
@@ -101,12 +101,12 @@ other_place p k o h b e = rw (not_same p k h b e) refl
 pub left_out : (es : List Entry) (e : Entry) (flows : BTreeMap Place (Bor Flow)) → e.flow ≡ None → HasFirstFlows (notes_of es) flows → HasFirstFlows (notes_of es ++ note_of e ∷ []) flows
 left_out es e flows n has = record { first = first; given = has.given }
   where
-    nothing : (b : Bool) (o : Option Flow) → o ≡ None → (if b then or_else (option_map flow_of o) None else None) ≡ None
+    nothing : (b : Bool) (o : Option Flow) → o ≡ None → (if b then or_else (option_map flow_types o) None else None) ≡ None
     nothing true None h = refl
     nothing true (Some f) h = cc
     nothing false o h = refl
 
-    first : (p : Place) → option_map (λ (f : Bor Flow). flow_of f.now) (get place_cmp flows p) ≡ flow_noted p (notes_of es ++ note_of e ∷ [])
+    first : (p : Place) → option_map (λ (f : Bor Flow). flow_types f.now) (get place_cmp flows p) ≡ flow_noted p (notes_of es ++ note_of e ∷ [])
     first p = has.first p ∙ sym (noted_more p (notes_of es) (note_of e) ∙ ap (or_else (flow_noted p (notes_of es))) (nothing (is_same_place p e.finding.place) e.flow n) ∙ or_else_none (flow_noted p (notes_of es)))
 
 kept_first : (o x : Option (Tree × Tree)) → is_some o ≡ true → or_else o x ≡ o
@@ -124,7 +124,7 @@ known_place es e flows known has = record { first = λ p. has.first p ∙ sym (n
     by : (p : Place) (b : Bool) → is_eq (place_cmp e.finding.place p) ≡ b → or_else (flow_noted p (notes_of es)) (flow_or p (note_of e) None) ≡ flow_noted p (notes_of es)
     by p true h =
         let same : e.finding.place ≡ p = place_same e.finding.place p h in
-        let some : is_some (flow_noted p (notes_of es)) ≡ true = ap is_some (sym (has.first p)) ∙ some_mapped (λ (f : Bor Flow). flow_of f.now) (get place_cmp flows p) ∙ subst (λ q. is_some (get place_cmp flows q) ≡ true) same known in
+        let some : is_some (flow_noted p (notes_of es)) ≡ true = ap is_some (sym (has.first p)) ∙ some_mapped (λ (f : Bor Flow). flow_types f.now) (get place_cmp flows p) ∙ subst (λ q. is_some (get place_cmp flows q) ≡ true) same known in
         kept_first (flow_noted p (notes_of es)) (flow_or p (note_of e) None) some
     by p false h = ap (or_else (flow_noted p (notes_of es))) (other_place p e.finding.place (note_of e).flow h (is_same_place p e.finding.place) refl) ∙ or_else_none (flow_noted p (notes_of es))
 
@@ -137,25 +137,25 @@ pub new_place : (es : List Entry) (e : Entry) (f : Bor Flow) (old new : BTreeMap
     → ((q : Place) → get place_cmp new q ≡ cond (is_eq (place_cmp e.finding.place q)) (Some f) (get place_cmp old q))
     → HasFirstFlows (notes_of es) old → HasFirstFlows (notes_of es ++ note_of e ∷ []) new
 new_place es e f old new is is_given fresh step has =
-    record { first = λ p. ap (option_map (λ (g : Bor Flow). flow_of g.now)) (step p) ∙ by p (is_eq (place_cmp e.finding.place p)) refl ∙ sym (noted_more p (notes_of es) (note_of e)); given = λ p. subst (λ (o : Option (Bor Flow)). IfSome o (λ g. IsGivenFlow g.now)) (sym (step p)) (each p (is_eq (place_cmp e.finding.place p))) }
+    record { first = λ p. ap (option_map (λ (g : Bor Flow). flow_types g.now)) (step p) ∙ by p (is_eq (place_cmp e.finding.place p)) refl ∙ sym (noted_more p (notes_of es) (note_of e)); given = λ p. subst (λ (o : Option (Bor Flow)). IfSome o (λ g. IsGivenFlow g.now)) (sym (step p)) (each p (is_eq (place_cmp e.finding.place p))) }
   where
     each : (p : Place) (b : Bool) → IfSome (cond b (Some f) (get place_cmp old p)) (λ g. IsGivenFlow g.now)
     each p true = is_given
     each p false = has.given p
 
-    own_if : (b : Bool) (o : Option Flow) → b ≡ true → o ≡ Some f.now → (if b then or_else (option_map flow_of o) None else None) ≡ Some (flow_of f.now)
+    own_if : (b : Bool) (o : Option Flow) → b ≡ true → o ≡ Some f.now → (if b then or_else (option_map flow_types o) None else None) ≡ Some (flow_types f.now)
     own_if true None h e = cc
-    own_if true (Some g) h e = let q : g ≡ f.now = cc in ap (λ x. Some (flow_of x)) q
+    own_if true (Some g) h e = let q : g ≡ f.now = cc in ap (λ x. Some (flow_types x)) q
     own_if false o h e = cc
 
-    own : flow_or e.finding.place (note_of e) None ≡ Some (flow_of f.now)
+    own : flow_or e.finding.place (note_of e) None ≡ Some (flow_types f.now)
     own = own_if (is_same_place e.finding.place e.finding.place) e.flow (self_tested e.finding.place) is
 
-    by : (p : Place) (b : Bool) → is_eq (place_cmp e.finding.place p) ≡ b → option_map (λ (g : Bor Flow). flow_of g.now) (cond b (Some f) (get place_cmp old p)) ≡ or_else (flow_noted p (notes_of es)) (flow_or p (note_of e) None)
+    by : (p : Place) (b : Bool) → is_eq (place_cmp e.finding.place p) ≡ b → option_map (λ (g : Bor Flow). flow_types g.now) (cond b (Some f) (get place_cmp old p)) ≡ or_else (flow_noted p (notes_of es)) (flow_or p (note_of e) None)
     by p true h =
         let same : e.finding.place ≡ p = place_same e.finding.place p h in
-        let none : is_some (flow_noted p (notes_of es)) ≡ false = ap is_some (sym (has.first p)) ∙ some_mapped (λ (g : Bor Flow). flow_of g.now) (get place_cmp old p) ∙ subst (λ q. is_some (get place_cmp old q) ≡ false) same fresh in
-        sym (none_first (flow_noted p (notes_of es)) (flow_or p (note_of e) None) none ∙ subst (λ q. flow_or q (note_of e) None ≡ Some (flow_of f.now)) same own)
+        let none : is_some (flow_noted p (notes_of es)) ≡ false = ap is_some (sym (has.first p)) ∙ some_mapped (λ (g : Bor Flow). flow_types g.now) (get place_cmp old p) ∙ subst (λ q. is_some (get place_cmp old q) ≡ false) same fresh in
+        sym (none_first (flow_noted p (notes_of es)) (flow_or p (note_of e) None) none ∙ subst (λ q. flow_or q (note_of e) None ≡ Some (flow_types f.now)) same own)
     by p false h = has.first p ∙ sym (ap (or_else (flow_noted p (notes_of es))) (other_place p e.finding.place (note_of e).flow h (is_same_place p e.finding.place) refl) ∙ or_else_none (flow_noted p (notes_of es)))
 
 -- the map has this entry
@@ -177,8 +177,8 @@ pub given_pair : (flows : BTreeMap Place (Bor Flow)) → HasGivenFlows flows →
 given_pair flows given e is = some_of (get place_cmp flows e.0) e.1 is (given e.0)
 
 -- the types of the flow of an entry are those noted at its place
-pub noted_pair : (flows : BTreeMap Place (Bor Flow)) (notes : List Note) → HasFirstFlows notes flows → (e : Place × Bor Flow) → IsPairOf flows e → flow_noted e.0 notes ≡ Some (flow_of e.1.now)
-noted_pair flows notes has e is = sym (has.first e.0) ∙ ap (option_map (λ (f : Bor Flow). flow_of f.now)) is
+pub noted_pair : (flows : BTreeMap Place (Bor Flow)) (notes : List Note) → HasFirstFlows notes flows → (e : Place × Bor Flow) → IsPairOf flows e → flow_noted e.0 notes ≡ Some (flow_types e.1.now)
+noted_pair flows notes has e is = sym (has.first e.0) ∙ ap (option_map (λ (f : Bor Flow). flow_types f.now)) is
 
 -- one text more is that of the flow of its entry
 pub text_of_pair : (m : Module) (flows : BTreeMap Place (Bor Flow)) (notes : List Note) → HasFirstFlows notes flows → (e : Place × Bor Flow) → IsPairOf flows e
@@ -216,4 +216,4 @@ some_left f (Some a) h = refl
 
 -- each place with a flow is one of a map's
 pub place_found : (flows : BTreeMap Place (Bor Flow)) (notes : List Note) → HasFirstFlows notes flows → (p : Place) → IsSome (flow_noted p notes) → Contains (map (λ e. e.0) flows.entries) p
-place_found flows notes has p some = test_places p flows.entries (some_left (λ (f : Bor Flow). flow_of f.now) (get place_cmp flows p) (subst IsSome (sym (has.first p)) some))
+place_found flows notes has p some = test_places p flows.entries (some_left (λ (f : Bor Flow). flow_types f.now) (get place_cmp flows p) (subst IsSome (sym (has.first p)) some))

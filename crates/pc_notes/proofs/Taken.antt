@@ -9,7 +9,7 @@ use Rattle.pc_types.specs.Shape.{parts, nodes}
 use Rattle.pc_types.specs.Head.{head_of}
 use Rattle.pc_types.specs.Normal.{IsNormal}
 use Rattle.pc_types.specs.declared.head.Head.{Head}
-use Rattle.pc_types.specs.Rebuilding.{rebuilt}
+use Rattle.pc_types.specs.Internal.Rebuilding.{rebuilt}
 use Rattle.pc_types.proofs.Rebuilt.{rebuilt_is, part_fewer}
 
 module _ {S : Type 0} (tree : S → Tree) where

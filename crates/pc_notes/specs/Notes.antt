@@ -17,8 +17,8 @@ pub record Note : Type 0 where
   pub flow : Option (Tree × Tree)
 
 -- a finding that tells of no dynamic flow
-abbrev pub plain : Finding → Note
-plain f = record { finding = f; flow = None }
+abbrev pub plain_note : Finding → Note
+plain_note f = record { finding = f; flow = None }
 
 -- a dynamic flow of a type into another, at the place of what flows
 abbrev pub dynamic : Place → (from into : Tree) → Note
@@ -47,12 +47,12 @@ flow_noted p [] = None
 flow_noted p (n ∷ ns) = flow_or p n (flow_noted p ns)
 
 -- what a kept flow means
-abbrev pub flow_of : Flow → Tree × Tree
-flow_of f = (tree_of f.from, tree_of f.into)
+abbrev pub flow_types : Flow → Tree × Tree
+flow_types f = (tree_of f.from, tree_of f.into)
 
 -- what an entry means
 abbrev pub note_of : Entry → Note
-note_of e = record { finding = e.finding; flow = option_map flow_of e.flow }
+note_of e = record { finding = e.finding; flow = option_map flow_types e.flow }
 
 -- what entries mean
 abbrev pub notes_of : List Entry → List Note
@@ -68,6 +68,6 @@ abbrev pub AreGiven : List Entry → Type 0
 AreGiven es = AllByRecursion (λ e. IfSome e.flow IsGivenFlow) es
 
 -- types of a store that mean these two, or none where there are none
-abbrev pub Explains : {Store Ty : Type 0} → (has : Store → Ty → Type 0) → (tree : Ty → Tree) → Store → Option (Ty × Ty) → Option (Tree × Tree) → Type 0
-Explains has tree store None o = o ≡ None
-Explains has tree store (Some p) o = has store p.0 × has store p.1 × (o ≡ Some (tree p.0, tree p.1))
+abbrev pub ExplainsFlow : {Store Ty : Type 0} → (has : Store → Ty → Type 0) → (tree : Ty → Tree) → Store → Option (Ty × Ty) → Option (Tree × Tree) → Type 0
+ExplainsFlow has tree store None o = o ≡ None
+ExplainsFlow has tree store (Some p) o = has store p.0 × has store p.1 × (o ≡ Some (tree p.0, tree p.1))

@@ -12,7 +12,7 @@ use Rattle.pc_source.specs.declared.place.Place.{Place}
 use Rattle.pc_tree.specs.Tree.{Module}
 use Rattle.pc_ann.specs.Text.{type_text}
 use Rattle.pc_notes.specs.declared.notes.Flow.{Flow}
-use Rattle.pc_notes.specs.Notes.{Note, flow_of, flow_noted, IsGivenFlow}
+use Rattle.pc_notes.specs.Notes.{Note, flow_types, flow_noted, IsGivenFlow}
 
 -- a place, with the texts of the type that flows there and of the type that it flows into
 abbrev pub FlowText : Type 0
@@ -42,5 +42,5 @@ HasGivenFlows flows = (p : Place) → IfSome (get place_cmp flows p) (λ f. IsGi
 
 -- a map has at each place the first flow that is noted there
 pub record HasFirstFlows (notes : List Note) (flows : BTreeMap Place (Bor Flow)) : Type 0 where
-  pub first : (p : Place) → option_map (λ f. flow_of f.now) (get place_cmp flows p) ≡ flow_noted p notes
+  pub first : (p : Place) → option_map (λ f. flow_types f.now) (get place_cmp flows p) ≡ flow_noted p notes
   pub given : HasGivenFlows flows

@@ -1,10 +1,10 @@
-// Findings as they are gathered, each with the two types of the flow that it tells of.
+//! Findings as they are gathered, each with the two types of the flow that it tells of.
 
 ghost use Rattle.std.specs.Prelude.{◌≡◌, ◌++◌, ◌∷◌, [], map, IfOk, IfSome, List, OnOk, None, option_map, if◌then◌else◌};
 ghost use Rattle.pc_tree.specs.Code.{finding};
 ghost use Rattle.pc_tree.specs.Tree.{module_of};
-ghost use Rattle.pc_types.specs.Store.{Keeps};
-ghost use Rattle.pc_notes.specs.Notes.{IsGivenFlow, Note, note_of, notes_of, plain, dynamic, findings_of, is_same_place, flow_noted, Explains};
+ghost use Rattle.pc_types.specs.Store.{KeepsTypes};
+ghost use Rattle.pc_notes.specs.Notes.{IsGivenFlow, Note, note_of, notes_of, plain_note, dynamic, findings_of, is_same_place, flow_noted, ExplainsFlow};
 ghost use Rattle.pc_notes.specs.declared.notes.Entry.{Entry as Kept};
 ghost use Rattle.pc_notes.specs.Texts.{AreFlowTexts, HasFirstFlows, HasGivenFlows};
 
@@ -80,7 +80,7 @@ impl Notes {
 
     /// Notes a code at a place.
     pub fn put(&mut self, place: Place, code: Code) -> Result<(), OutOfMemory>
-        ensures { OnOk result (notes_of self.new ≡ notes_of self.old ++ plain (finding place code) ∷ []) }
+        ensures { OnOk result (notes_of self.new ≡ notes_of self.old ++ plain_note (finding place code) ∷ []) }
     {
         let finding = Finding { place, code };
         self.entries.push(Entry {
@@ -92,7 +92,7 @@ impl Notes {
 
     /// Notes findings that tell of no flow.
     pub fn put_all(&mut self, findings: &[Finding]) -> Result<(), OutOfMemory>
-        ensures { OnOk result (notes_of self.new ≡ notes_of self.old ++ map plain findings.now) }
+        ensures { OnOk result (notes_of self.new ≡ notes_of self.old ++ map plain_note findings.now) }
     {
         for finding in findings {
             self.put(finding.place, finding.code)?;
@@ -145,8 +145,8 @@ impl Notes {
         alloc: Global,
         place: Place,
     ) -> Result<Option<(S::Ty, S::Ty)>, OutOfMemory>
-        ensures value { IfOk result (λ found. Explains S.has S.tree store.new found (flow_noted place (notes_of self.now))) }
-        ensures kept { Keeps S.has store.old store.new }
+        ensures value { IfOk result (λ found. ExplainsFlow S.has S.tree store.new found (flow_noted place (notes_of self.now))) }
+        ensures kept { KeepsTypes S.has store.old store.new }
     {
         for entry in &self.entries {
             if let Some(flow) = entry.flow_at(place) {

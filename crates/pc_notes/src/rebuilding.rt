@@ -1,11 +1,11 @@
-// Types taken from one store into another.
+//! Types taken from one store into another.
 
 ghost use Rattle.std.specs.Prelude.{◌≡◌, IfOk, All, map, length};
 ghost use Rattle.pc_types.specs.Shape.{parts};
 ghost use Rattle.pc_types.specs.Head.{part_count};
 ghost use Rattle.pc_types.specs.Normal.{IsNormal};
-ghost use Rattle.pc_types.specs.Store.{Means, MeansWithin, Keeps};
-ghost use Rattle.pc_types.specs.Rebuilding.{rebuilt};
+ghost use Rattle.pc_types.specs.Store.{Means, MeansWithin, KeepsTypes};
+ghost use Rattle.pc_types.specs.Internal.Rebuilding.{rebuilt};
 
 use pc_source::OutOfMemory;
 use pc_types::{Head, TypeStore};
@@ -22,7 +22,7 @@ fn rebuild<T: TypeStore>(
     requires count { length parts.now ≡ part_count head }
     requires normal { IsNormal (rebuilt head (map T.tree parts.now)) }
     ensures value { IfOk result (λ t. MeansWithin T.has T.tree store.new t (rebuilt head (map T.tree parts.now))) }
-    ensures kept { Keeps T.has store.old store.new }
+    ensures kept { KeepsTypes T.has store.old store.new }
 {
     let made = match head {
         Head::Any => store.any(alloc)?,
@@ -50,7 +50,7 @@ pub fn transfer<S: TypeStore, T: TypeStore>(
 ) -> Result<T::Ty, OutOfMemory>
     requires { S.has from.now ty.now }
     ensures value { IfOk result (λ t. Means T.has T.tree into.new t (S.tree ty.now)) }
-    ensures kept { Keeps T.has into.old into.new }
+    ensures kept { KeepsTypes T.has into.old into.new }
 {
     let parts = from.parts(alloc, ty)?;
     let mut taken = Vec::new(alloc);

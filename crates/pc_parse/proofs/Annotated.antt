@@ -14,7 +14,7 @@ use Rattle.pc_tree.specs.Grammar.{span, name_at}
 use Rattle.pc_tree.specs.Machine.Finishing.{add_ann}
 use Rattle.pc_parse.specs.declared.annotation.Annotation.{Annotation}
 use Rattle.pc_parse.specs.declared.annotation.Annotations.{Annotations}
-use Rattle.pc_parse.specs.Annotating.{KeepsAnn, KeepsAnns, MakesAnn, anns_in}
+use Rattle.pc_parse.specs.Internal.Annotations.{KeepsAnn, KeepsAnns, MakesAnn, anns_in}
 use Rattle.pc_reader.proofs.Building.{span_is, starts_one, ends_one, name_ends}
 
 rows : {n : _} (k : Row_of-Ann n) → anns_of k ≡ anns_in (items-the_row-Ann n k)

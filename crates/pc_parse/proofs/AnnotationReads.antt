@@ -12,20 +12,20 @@ use Rattle.pc_tree.specs.declared.tree.Name.{Name as RustName}
 use Rattle.pc_tree.specs.Tree.{Name, name_of, Ann, named, none_type, applied, union, Anns, no_anns, more_anns}
 use Rattle.pc_tree.specs.Grammar.{span, name_at}
 use Rattle.pc_tree.specs.Machine.{Reading, at, short, stop}
-use Rattle.pc_tree.specs.Machine.States.{AnnStack, ann_whole, ann_inside, AnnContext, State, on, part_due, part_read, argument_due, empty_opened}
+use Rattle.pc_tree.specs.Machine.States.{AnnStack, ann_whole, ann_inside, AnnotationPosition, State, on, part_due, part_read, argument_due, empty_opened}
 use Rattle.pc_tree.specs.Depth.{whole_ann}
 use Rattle.pc_tree.specs.Machine.Finishing.{add_ann, finish_ann}
 use Rattle.pc_parse.specs.declared.parser.Parser.{Parser}
-use Rattle.pc_parse.specs.Whole.{noted, GivesAnn}
+use Rattle.pc_parse.specs.Internal.WholeTrees.{deep_after, GivesAnn}
 use Rattle.pc_parse.proofs.Depths.{note_of, shallow}
 use Rattle.pc_reader.proofs.Steps.{not_seen}
 use Rattle.pc_parse.specs.declared.annotation.Annotation.{Annotation}
 use Rattle.pc_parse.specs.declared.annotation.Annotations.{Annotations}
 use Rattle.pc_reader.specs.declared.reader.Reader.{Reader}
-use Rattle.pc_reader.specs.Operands.{Starts}
+use Rattle.pc_reader.specs.Internal.Operands.{Starts}
 use Rattle.pc_reader.specs.Reading.{Blames, IsAhead, lexeme, Came, IsReady, left_in, Takes, NeedsKind}
-use Rattle.pc_reader.specs.Descent.{GivesName}
-use Rattle.pc_parse.specs.Annotating.{KeepsAnn, KeepsAnns, MakesAnn, GivesUnion, GivesPart, ReadsPart, GivesApplied, ReadsApplied, PartsSoFar, ArgumentsSoFar}
+use Rattle.pc_reader.specs.Internal.Expressions.{GivesName}
+use Rattle.pc_parse.specs.Internal.Annotations.{KeepsAnn, KeepsAnns, MakesAnn, GivesUnion, GivesPart, ReadsPart, GivesApplied, ReadsApplied, PartsSoFar, ArgumentsSoFar}
 use Rattle.pc_reader.proofs.Building.{starts_more, ends_more, ends_one}
 use Rattle.pc_reader.proofs.Streams.{blame}
 use Rattle.pc_parse.proofs.Annotated.{names, nothing}
@@ -197,9 +197,9 @@ module _ {X I : Type 0} {text : X → List ℕ} {steps : I → Option (Result (T
   -- ---- whole annotations
 
   pub whole_annotation : (a b : Parser X I) (m : Reader X I) (o : Annotation) → GivesUnion text steps can left a.reader m o → IsAhead (kind.Operator sign.Bar) m.ahead ≡ false → b.reader ≡ m
-      → b.deep ≡ noted a.deep (record { start = o.place.start; depth = o.depth } ∷ []) → GivesAnn text steps can left a b o.ann
+      → b.deep ≡ deep_after a.deep (record { start = o.place.start; depth = o.depth } ∷ []) → GivesAnn text steps can left a b o.ann
   whole_annotation a b m o n bar same deep =
-      let e : b.deep ≡ noted a.deep (whole_ann n.tree ∷ []) = deep ∙ note_of a.deep o.place.start o.depth (whole_ann n.tree).depth (whole_ann n.tree) n.keeps.first n.keeps.depth refl in record {
+      let e : b.deep ≡ deep_after a.deep (whole_ann n.tree ∷ []) = deep ∙ note_of a.deep o.place.start o.depth (whole_ann n.tree).depth (whole_ann n.tree) n.keeps.first n.keeps.depth refl in record {
         annotation = n.tree;
         keeps = record { deep = e; kept = λ q. n.keeps.kept (let d = n.keeps.depth in let s = shallow a.deep (whole_ann n.tree) (sym e ∙ q) in omega arith) };
         ready = subst (λ z. IsReady can left z) (sym same) n.ready;

@@ -19,8 +19,8 @@ use Rattle.pc_tree.specs.Machine.Lines.{start}
 use Rattle.pc_tree.proofs.Sound.{reads_spells}
 use Rattle.pc_tree.proofs.Front.{misfit, ends_early}
 use Rattle.pc_parse.specs.declared.parser.Parser.{Parser}
-use Rattle.pc_reader.specs.Reading.{Blames, settled, lexeme, run_items, Comes, Came}
-use Rattle.pc_parse.specs.Modules.{GivesModule}
+use Rattle.pc_reader.specs.Reading.{Blames, answer_for, lexeme, run_items, ComesToAnswer, Came}
+use Rattle.pc_parse.specs.Internal.Modules.{GivesModule}
 use Rattle.pc_parse.specs.Answering.{IsRead, IsRefusedByTokens, IsFaulty}
 use Rattle.pc_reader.proofs.Streams.{run_token, run_fault, run_end}
 
@@ -45,7 +45,7 @@ end_is : (ts : List Lexeme) → end_of 0 ts ≡ (last_place ts).end
 end_is [] = refl
 end_is (t ∷ ts) = last_end t ts
 
-settled_ok : (end : ℕ) (x : Outcome) (m : Module) → settled end x ≡ Ok m → x ≡ reads m
+settled_ok : (end : ℕ) (x : Outcome) (m : Module) → answer_for end x ≡ Ok m → x ≡ reads m
 settled_ok end (reads n) m e = let q : n ≡ m = cc in ap reads q
 settled_ok end (refuses byte) m e = cc
 settled_ok end short m e = cc
@@ -59,7 +59,7 @@ fault_in e (Err f) = f
 abbrev Unread : ℕ → Outcome → Fault → Type 0
 Unread end x e = ((byte : ℕ) × (x ≡ refuses byte) × (e ≡ fault.Refused (record { code = code.G1; byte = byte }))) ⊎ ((x ≡ short) × (e ≡ fault.Refused (record { code = code.G1; byte = end })))
 
-settled_err : (end : ℕ) (x : Outcome) (e : Fault) → settled end x ≡ Err e → Unread end x e
+settled_err : (end : ℕ) (x : Outcome) (e : Fault) → answer_for end x ≡ Err e → Unread end x e
 settled_err end (reads n) e q = cc
 settled_err end (refuses byte) e q = let h : fault.Refused (record { code = code.G1; byte = byte }) ≡ e = cc in inl (byte, refl, sym h)
 settled_err end short e q = let h : fault.Refused (record { code = code.G1; byte = end }) ≡ e = cc in inr (refl, sym h)
@@ -88,7 +88,7 @@ module _ {X : Type 0} (text : X → List ℕ) where
     unread : Unread (end_of end (map (lexeme text) tokens)) (run r (map (lexeme text) tokens)) e
 
   module _ {I : Type 0} (steps : I → Option (Result (Token X) Fault) → I → Type 0) where
-    came_fault : (xs : List (Result (Token X) Fault)) (it : I) (end : ℕ) (r : Reading) (e : Fault) → stream.Comes steps it xs → run_items text end r xs ≡ Err e → Faulty xs e ⊎ Unreadable end r xs e
+    came_fault : (xs : List (Result (Token X) Fault)) (it : I) (end : ℕ) (r : Reading) (e : Fault) → stream.Yields steps it xs → run_items text end r xs ≡ Err e → Faulty xs e ⊎ Unreadable end r xs e
     came_fault [] it end r e c q = inr (record { tokens = []; all = refl; unread = subst (λ z. Unread end z e) (sym (run_over r)) (settled_err end (stop r) e (sym (run_end text end r) ∙ q)) })
     came_fault (Ok t ∷ xs) it end r e c q = more (came_fault xs c.0 t.place.end (step r (lexeme text t)) e c.2 (sym (run_token text end r t xs) ∙ q))
       where
@@ -112,38 +112,38 @@ refusal_of ts r (inr (e, q)) = subst (λ z. IsRefusal ts z) (sym (same_refusal r
 
 module _ {X I : Type 0} (text : X → List ℕ) (steps : I → Option (Result (Token X) Fault) → I → Type 0) where
   -- the module that the stream leads to
-  pub answers_module : (it : I) (n m : Module) → Comes text steps it 0 (at start) (Ok m) → n ≡ m → too_deep_at m ≡ None → IsRead text steps it n
+  pub answers_module : (it : I) (n m : Module) → ComesToAnswer text steps it 0 (at start) (Ok m) → n ≡ m → too_deep_at m ≡ None → IsRead text steps it n
   answers_module it n m (xs, c, e) same shallow = let w = came_whole text xs 0 (at start) m e in record {
     tokens = w.tokens;
-    came = subst (λ z. stream.Comes steps it z) w.all c;
+    came = subst (λ z. stream.Yields steps it z) w.all c;
     is = subst (λ z. IsModule (map (lexeme text) w.tokens) z) (sym same) (record { spelled = reads_spells (map (lexeme text) w.tokens) m w.run_is; shallow = shallow });
   }
 
   -- a module that is too deep
-  pub answers_depth : (it : I) (m : Module) (byte : ℕ) → Comes text steps it 0 (at start) (Ok m) → too_deep_at m ≡ Some byte → IsRefusedByTokens text steps it (record { code = code.G2; byte = byte })
+  pub answers_depth : (it : I) (m : Module) (byte : ℕ) → ComesToAnswer text steps it 0 (at start) (Ok m) → too_deep_at m ≡ Some byte → IsRefusedByTokens text steps it (record { code = code.G2; byte = byte })
   answers_depth it m byte (xs, c, e) deep = let w = came_whole text xs 0 (at start) m e in record {
     tokens = w.tokens;
-    came = subst (λ z. stream.Comes steps it z) w.all c;
+    came = subst (λ z. stream.Yields steps it z) w.all c;
     is = inr (refl, record { tree = m; spelled = reads_spells (map (lexeme text) w.tokens) m w.run_is; first = deep });
   }
 
   -- the fault that the stream leads to
-  pub answers_fault : (it : I) (r : Refusal) → Comes text steps it 0 (at start) (Err (fault.Refused r)) → IsRefusedByTokens text steps it r ⊎ IsFaulty text steps it (fault.Refused r)
+  pub answers_fault : (it : I) (r : Refusal) → ComesToAnswer text steps it 0 (at start) (Err (fault.Refused r)) → IsRefusedByTokens text steps it r ⊎ IsFaulty text steps it (fault.Refused r)
   answers_fault it r (xs, c, e) = by_came (came_fault text steps xs it 0 (at start) (fault.Refused r) c e)
     where
       by_came : Faulty text xs (fault.Refused r) ⊎ Unreadable text 0 (at start) xs (fault.Refused r) → IsRefusedByTokens text steps it r ⊎ IsFaulty text steps it (fault.Refused r)
-      by_came (inl f) = inr (record { tokens = f.tokens; came = subst (λ z. stream.Comes steps it z) f.all c })
-      by_came (inr u) = inl (record { tokens = u.tokens; came = subst (λ z. stream.Comes steps it z) u.all c; is = refusal_of (map (lexeme text) u.tokens) r u.unread })
+      by_came (inl f) = inr (record { tokens = f.tokens; came = subst (λ z. stream.Yields steps it z) f.all c })
+      by_came (inr u) = inl (record { tokens = u.tokens; came = subst (λ z. stream.Yields steps it z) u.all c; is = refusal_of (map (lexeme text) u.tokens) r u.unread })
 
   -- what a call answers that ends in a fault
-  pub blamed : (it : I) (e : Fault) → Blames e (λ o. Comes text steps it 0 (at start) o) → OnRefusal (λ r. IsRefusedByTokens text steps it r ⊎ IsFaulty text steps it (fault.Refused r)) e
+  pub blamed : (it : I) (e : Fault) → Blames e (λ o. ComesToAnswer text steps it 0 (at start) o) → OnRefusal (λ r. IsRefusedByTokens text steps it r ⊎ IsFaulty text steps it (fault.Refused r)) e
   blamed it (fault.Refused r) h = answers_fault it r (h.said r refl)
   blamed it fault.OutOfMemory h = tt
 
-  module _ {can : I → Type 0} {left : I → Count} {a b : Parser X I} {v : RustModule} (it : I) (lead : (st : Reading) (o : Result Module Fault) → Came text steps a.reader st o → Comes text steps it 0 st o) (none : a.deep ≡ None)
+  module _ {can : I → Type 0} {left : I → Count} {a b : Parser X I} {v : RustModule} (it : I) (lead : (st : Reading) (o : Result Module Fault) → Came text steps a.reader st o → ComesToAnswer text steps it 0 st o) (none : a.deep ≡ None)
       (x : GivesModule text steps can left a b v) where
     depth_is : b.deep ≡ too_deep_at x.tree
-    depth_is = x.keeps.deep ∙ ap (λ z. Rattle.pc_parse.specs.Whole.noted z (Rattle.pc_tree.specs.Depth.wholes_of_items x.tree.items)) none
+    depth_is = x.keeps.deep ∙ ap (λ z. Rattle.pc_parse.specs.Internal.WholeTrees.deep_after z (Rattle.pc_tree.specs.Depth.wholes_of_items x.tree.items)) none
 
     pub shallow_module : b.deep ≡ None → IsRead text steps it (module_of v)
     shallow_module e = answers_module it (module_of v) x.tree (lead (at start) (Ok x.tree) x.comes) (x.keeps.kept e) (sym depth_is ∙ e)

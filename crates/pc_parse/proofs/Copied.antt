@@ -4,7 +4,7 @@ use Rattle.std.specs.Borrow.{Bor}
 use Rattle.pc_source.specs.declared.fault.Fault.{Fault}
 use Rattle.pc_source.specs.declared.fault.Fault.TheVariants as fault
 use Rattle.pc_source.specs.declared.fault.Refusal.{Refusal}
-use Rattle.pc_source.specs.Stream.{Comes}
+use Rattle.pc_source.specs.Stream.{Yields}
 use Rattle.pc_token.specs.declared.token.Token.{Token}
 use Rattle.pc_token.specs.Lexeme.{Lexeme, lexeme_of}
 use Rattle.pc_source.specs.Answers.{OnRefusal}
@@ -19,15 +19,15 @@ use Rattle.pc_tree.specs.Faults.{IsModule, IsRefusal}
 use Rattle.pc_tree.specs.Machine.{reads}
 use Rattle.pc_tree.proofs.CompleteModules.{spelled_reads}
 use Rattle.pc_parse.specs.declared.listed.Listed.{Listed}
-use Rattle.pc_parse.specs.Copying.{tokens_left, gives_token}
+use Rattle.pc_parse.specs.Internal.ListedTokens.{tokens_left, gives_token}
 
 -- tokens that all came are those of the list
-pub all_came : (ts : List (Token (Bor (List ℕ)))) (s : Listed) → Comes gives_token s (map Ok ts) → map lexeme_of ts ≡ tokens_left s
+pub all_came : (ts : List (Token (Bor (List ℕ)))) (s : Listed) → Yields gives_token s (map Ok ts) → map lexeme_of ts ≡ tokens_left s
 all_came [] s c = sym c.1.0
 all_came (t ∷ ts) s c = ap (λ z. lexeme_of t ∷ z) (all_came ts c.0 c.2) ∙ sym c.1
 
--- no fault comes but want of memory
-pub no_fault : (ts : List (Token (Bor (List ℕ)))) (s : Listed) (e : Fault) → Comes gives_token s (map Ok ts ++ (Err e ∷ [])) → e ≡ fault.OutOfMemory
+-- no fault comes but a failed allocation
+pub no_fault : (ts : List (Token (Bor (List ℕ)))) (s : Listed) (e : Fault) → Yields gives_token s (map Ok ts ++ (Err e ∷ [])) → e ≡ fault.OutOfMemory
 no_fault [] s e c = c.2
 no_fault (t ∷ ts) s e c = no_fault ts c.0 e c.2
 

@@ -8,8 +8,8 @@ use Rattle.pc_tree.specs.Depth.{Whole, depth_limit, whole_expr, wholes_of_stmt, 
 use Rattle.pc_tree.specs.Machine.Finishing.{add_stmt, add_branch}
 use Rattle.pc_tree.specs.Machine.States.{Part}
 use Rattle.pc_reader.specs.declared.operand.Operand.{Operand}
-use Rattle.pc_reader.specs.Operands.{Keeps}
-use Rattle.pc_parse.specs.Whole.{sooner, noted}
+use Rattle.pc_reader.specs.Internal.Operands.{KeepsPart}
+use Rattle.pc_parse.specs.Internal.WholeTrees.{sooner, deep_after}
 
 lt_tells : (a b : ℕ) → ((nat_lt a b ≡ true) × (a < b)) ⊎ ((nat_lt a b ≡ false) × (b ≤ a))
 lt_tells a b = by_tells (leb_tells (suc a) b)
@@ -33,15 +33,15 @@ sooner_assoc None b c = refl
 sooner_assoc (Some x) b c = refl
 
 -- what is noted in two steps is noted in one
-pub noted_more : (d : Option ℕ) (ws us : List Whole) → noted (noted d ws) us ≡ noted d (ws ++ us)
+pub noted_more : (d : Option ℕ) (ws us : List Whole) → deep_after (deep_after d ws) us ≡ deep_after d (ws ++ us)
 noted_more d ws us = sooner_assoc d (first_too_deep ws) (first_too_deep us) ∙ ap (sooner d) (sym (first_split ws us))
 
 -- nothing was too deep before, where nothing is
-pub none_before : (d : Option ℕ) (ws : List Whole) → noted d ws ≡ None → d ≡ None
+pub none_before : (d : Option ℕ) (ws : List Whole) → deep_after d ws ≡ None → d ≡ None
 none_before None ws e = refl
 none_before (Some x) ws e = cc
 
-pub noted_nothing : (d : Option ℕ) → noted d [] ≡ d
+pub noted_nothing : (d : Option ℕ) → deep_after d [] ≡ d
 noted_nothing None = refl
 noted_nothing (Some x) = refl
 
@@ -56,7 +56,7 @@ first_none w e = by_tells (lt_tells depth_limit w.depth)
     by_tells (inr x) = let y = x.1 in omega arith
 
 -- a whole one that was noted is not too deep, where nothing is
-pub shallow : (d : Option ℕ) (w : Whole) → noted d (w ∷ []) ≡ None → w.depth ≤ 64
+pub shallow : (d : Option ℕ) (w : Whole) → deep_after d (w ∷ []) ≡ None → w.depth ≤ 64
 shallow None w e = first_none w e
 shallow (Some x) w e = absurd (no e)
   where
@@ -74,12 +74,12 @@ capped n = by_tells (lt_tells 64 (min 65 n)) (lt_tells 64 n)
     by_tells (inr x) (inr y) = x.0 ∙ sym y.0
 
 -- what is noted of an operand is what is noted of its expression
-pub note_of : (d : Option ℕ) (first depth deep : ℕ) (w : Whole) → first ≡ w.start → depth ≡ min 65 deep → w.depth ≡ deep → noted d (record { start = first; depth = depth } ∷ []) ≡ noted d (w ∷ [])
+pub note_of : (d : Option ℕ) (first depth deep : ℕ) (w : Whole) → first ≡ w.start → depth ≡ min 65 deep → w.depth ≡ deep → deep_after d (record { start = first; depth = depth } ∷ []) ≡ deep_after d (w ∷ [])
 note_of d first depth deep w f e g = ap (sooner d) (ap (λ z. if nat_lt 64 z then Some first else None) (e ∙ ap (λ z. min 65 z) (sym g)) ∙ ap (λ z. if z then Some first else None) (capped w.depth)
     ∙ ap (λ z. if nat_lt 64 w.depth then Some z else None) f)
 
 -- the tree of a whole expression that is not too deep
-pub kept_tree : (o : Operand) (p : Part) (before : Option ℕ) → Keeps o p → noted before (whole_expr p.tree ∷ []) ≡ None → expr_of o.expr ≡ p.tree
+pub kept_tree : (o : Operand) (p : Part) (before : Option ℕ) → KeepsPart o p → deep_after before (whole_expr p.tree ∷ []) ≡ None → expr_of o.expr ≡ p.tree
 kept_tree o p before k e = k.kept (let d = k.depth in let s = shallow before (whole_expr p.tree) e in omega arith)
 
 pub wholes_add : (ss : Stmts) (s : Stmt) → wholes_of_stmts (add_stmt ss s) ≡ wholes_of_stmts ss ++ wholes_of_stmt s

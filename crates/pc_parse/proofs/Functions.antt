@@ -18,19 +18,19 @@ use Rattle.pc_tree.specs.Depth.{optional_anns, wholes_of_params, wholes_of_stmts
 use Rattle.pc_tree.specs.Grammar.{name_at}
 use Rattle.pc_tree.specs.Machine.{at, turn}
 use Rattle.pc_tree.specs.Machine.Kinds.{same_kind, a_form}
-use Rattle.pc_tree.specs.Machine.States.{Owner, of_module, of_class, DefStart, DefHead, Block, def_body, AnnContext, of_return, State, fixed, def_due, self_read, param_due, params_read, Turn, stuck, on}
+use Rattle.pc_tree.specs.Machine.States.{Owner, of_module, of_class, DefStart, DefHead, Block, def_body, AnnotationPosition, of_return, State, fixed, def_due, self_read, param_due, params_read, Turn, stuck, on}
 use Rattle.pc_tree.specs.Machine.Finishing.{suite_of}
 use Rattle.pc_tree.specs.Machine.Lines.{params_of}
 use Rattle.pc_tree.specs.Fronts.Lines.{is_method}
 use Rattle.pc_reader.specs.declared.reader.Reader.{Reader}
 use Rattle.pc_parse.specs.declared.parser.Parser.{Parser}
 use Rattle.pc_reader.specs.Reading.{Blames, IsAhead, lexeme, Came, Onward, Takes, NeedsKind}
-use Rattle.pc_reader.specs.Descent.{GivesName}
-use Rattle.pc_reader.specs.Standing.{Stands, Reached}
-use Rattle.pc_parse.specs.Whole.{noted, Kept}
-use Rattle.pc_parse.specs.Signatures.{opens_ann, or_ann, GivesOpened, GivesParams, ReadsParamsFrom, GivesSignature, ReadsSignature, GivesFunction}
-use Rattle.pc_parse.specs.Suites.{GivesSuite}
-use Rattle.pc_reader.specs.Words.{TakesForm}
+use Rattle.pc_reader.specs.Internal.Expressions.{GivesName}
+use Rattle.pc_reader.specs.Internal.StatesAhead.{StandsBefore, LeadsTo}
+use Rattle.pc_parse.specs.Internal.WholeTrees.{deep_after, KeepsTree}
+use Rattle.pc_parse.specs.Internal.Signatures.{opens_ann, or_ann, GivesOpened, GivesParams, ReadsParamsFrom, GivesSignature, ReadsSignature, GivesFunction}
+use Rattle.pc_parse.specs.Internal.Suites.{GivesSuite}
+use Rattle.pc_reader.specs.Internal.FixedWords.{TakesForm}
 use Rattle.pc_parse.proofs.Depths.{noted_more, none_before}
 use Rattle.pc_parse.proofs.Parameters.{kept_none}
 use Rattle.pc_reader.proofs.Steps.{step_to, not_seen}
@@ -68,7 +68,7 @@ module _ {X I : Type 0} {text : X → List ℕ} {steps : I → Option (Result (T
       → ReadsParamsFrom text steps can left (begun method) p b r → ReadsSignature text steps can left method a b r
   signature_so a p b method h k same (Ok v) x = record {
     params = x.params;
-    keeps = record { deep = subst (λ z. b.deep ≡ noted z (wholes_of_params x.params)) same x.keeps.deep; kept = x.keeps.kept };
+    keeps = record { deep = subst (λ z. b.deep ≡ deep_after z (wholes_of_params x.params)) same x.keeps.deep; kept = x.keeps.kept };
     ready = x.ready;
     later = omega (arith, x.later, h.later);
     leads = λ owner d m o y. opens h k owner d o (subst (λ z. Came text steps p.reader (at (begun z d)) o) (sym m) (x.leads d o y));
@@ -90,7 +90,7 @@ module _ {X I : Type 0} {text : X → List ℕ} {steps : I → Option (Result (T
       → ReadsParamsFrom text steps can left (λ d. param_due d []) p b r → ReadsParamsFrom text steps can left (λ d. fixed (a_form (codes "self")) [] (self_read d)) a b r
   after_self a p b {u = u} f h k same (Ok v) x = record {
     params = x.params;
-    keeps = record { deep = subst (λ z. b.deep ≡ noted z (wholes_of_params x.params)) same x.keeps.deep; kept = x.keeps.kept };
+    keeps = record { deep = subst (λ z. b.deep ≡ deep_after z (wholes_of_params x.params)) same x.keeps.deep; kept = x.keeps.kept };
     ready = x.ready;
     later = omega (arith, x.later, h.later, f.takes.later);
     leads = λ d o y. form_read f [] (self_read d) o (step_to (self_read d) (param_due d []) h (ap (turn (self_read d) (lexeme text u)) k) o (x.leads d o y));
@@ -101,7 +101,7 @@ module _ {X I : Type 0} {text : X → List ℕ} {steps : I → Option (Result (T
       → v.items ≡ [] → GivesParams text steps can left (λ d. fixed (a_form (codes "self")) [] (self_read d)) a b v
   self_alone {a = a} {b = b} {u = u} {v = v} f h k same e = record {
     params = [];
-    keeps = subst (λ z. Kept (λ (w : Vec RustParam Global). map param_of w.items) wholes_of_params a.deep z v []) (sym same) (kept_none param_of wholes_of_params refl {v = v} a.deep e);
+    keeps = subst (λ z. KeepsTree (λ (w : Vec RustParam Global). map param_of w.items) wholes_of_params a.deep z v []) (sym same) (kept_none param_of wholes_of_params refl {v = v} a.deep e);
     ready = h.ready;
     later = omega (arith, h.later, f.takes.later);
     leads = λ d o y. form_read f [] (self_read d) o (step_to (self_read d) (params_read d []) h (ap (turn (self_read d) (lexeme text u)) k) o y);
@@ -128,16 +128,16 @@ module _ {X I : Type 0} {text : X → List ℕ} {steps : I → Option (Result (T
     to_params owner first m o y = let d : DefStart = record { owner = owner; first = first; name = name_at (lexeme text n.token) } in
         step_to (def_due owner first) (params_of owner d) n.takes (ap (turn (def_due owner first) (lexeme text n.token)) n.is) o (x.leads owner d m o y)
 
-    bare : (d : DefStart) → Stands text q.reader (params_read d x.params) (opens_ann sign.Arrow (of_return d x.params) (λ k. on (same_kind k (kind.Operator sign.Colon)) (suite_of (def_body (head_of d x.params None))) stuck))
+    bare : (d : DefStart) → StandsBefore text q.reader (params_read d x.params) (opens_ann sign.Arrow (of_return d x.params) (λ k. on (same_kind k (kind.Operator sign.Colon)) (suite_of (def_body (head_of d x.params None))) stuck))
     bare d = stands_at (params_read d x.params) (opens_ann sign.Arrow (of_return d x.params) (λ k. on (same_kind k (kind.Operator sign.Colon)) (suite_of (def_body (head_of d x.params None))) stuck)) refl (λ t k. refl)
 
-    pub returns_fail : {e : Fault} → Blames e (λ o. (st : State) (c : AnnContext) (other : TokenKind → Turn) → Stands text q.reader st (opens_ann sign.Arrow c other) → Came text steps q.reader (at st) o)
+    pub returns_fail : {e : Fault} → Blames e (λ o. (st : State) (c : AnnotationPosition) (other : TokenKind → Turn) → StandsBefore text q.reader st (opens_ann sign.Arrow c other) → Came text steps q.reader (at st) o)
         → Blames e (λ o. (owner : Owner) (first : Place) → is_method owner ≡ method → Came text steps a.reader (at (def_due owner first)) o)
     returns_fail w = blame (λ o u. λ owner first m. let d : DefStart = record { owner = owner; first = first; name = name_at (lexeme text n.token) } in
         to_params owner first m o (u (params_read d x.params) (of_return d x.params) (λ k. on (same_kind k (kind.Operator sign.Colon)) (suite_of (def_body (head_of d x.params None))) stuck) (bare d))) w
 
     module _ {r : Parser X I} {ann : Option RustAnn} (z : GivesOpened text steps can left sign.Arrow q r ann) where
-      to_colon : (d : DefStart) → Reached text steps q.reader r.reader (params_read d x.params) (λ k. on (same_kind k (kind.Operator sign.Colon)) (suite_of (def_body (head_of d x.params z.annotation))) stuck)
+      to_colon : (d : DefStart) → LeadsTo text steps q.reader r.reader (params_read d x.params) (λ k. on (same_kind k (kind.Operator sign.Colon)) (suite_of (def_body (head_of d x.params z.annotation))) stuck)
       to_colon d = reached_so (λ k. on (same_kind k (kind.Operator sign.Colon)) (suite_of (def_body (head_of d x.params z.annotation))) stuck)
           (z.leads (params_read d x.params) (of_return d x.params) (λ k. on (same_kind k (kind.Operator sign.Colon)) (suite_of (def_body (head_of d x.params None))) stuck) (bare d)) (λ t h. returned d x.params z.annotation t.kind)
 
@@ -159,12 +159,12 @@ module _ {X I : Type 0} {text : X → List ℕ} {steps : I → Option (Result (T
         pub function_read : {b : Parser X I} {body : Vec RustStmt Global} → s.deep ≡ r.deep → GivesSuite text steps can left s b body
             → GivesFunction text steps can left method a b (record { name = name; params = v; returns = ann; body = body })
         function_read {b = b} {body = body} sr y =
-            let third : b.deep ≡ noted r.deep (wholes_of_stmts y.statements) = subst (λ i. b.deep ≡ noted i (wholes_of_stmts y.statements)) sr y.keeps.deep in
-            let first_is : q.deep ≡ noted a.deep (wholes_of_params x.params) = subst (λ i. q.deep ≡ noted i (wholes_of_params x.params)) same x.keeps.deep in record {
+            let third : b.deep ≡ deep_after r.deep (wholes_of_stmts y.statements) = subst (λ i. b.deep ≡ deep_after i (wholes_of_stmts y.statements)) sr y.keeps.deep in
+            let first_is : q.deep ≡ deep_after a.deep (wholes_of_params x.params) = subst (λ i. q.deep ≡ deep_after i (wholes_of_params x.params)) same x.keeps.deep in record {
               function = record { name = name_at (lexeme text n.token); params = x.params; returns = z.annotation; body = y.statements };
               keeps = record {
-                deep = third ∙ ap (λ i. noted i (wholes_of_stmts y.statements)) (z.keeps.deep ∙ ap (λ i. noted i (optional_anns z.annotation)) first_is)
-                    ∙ noted_more (noted a.deep (wholes_of_params x.params)) (optional_anns z.annotation) (wholes_of_stmts y.statements)
+                deep = third ∙ ap (λ i. deep_after i (wholes_of_stmts y.statements)) (z.keeps.deep ∙ ap (λ i. deep_after i (optional_anns z.annotation)) first_is)
+                    ∙ noted_more (deep_after a.deep (wholes_of_params x.params)) (optional_anns z.annotation) (wholes_of_stmts y.statements)
                     ∙ noted_more a.deep (wholes_of_params x.params) (optional_anns z.annotation ++ wholes_of_stmts y.statements);
                 kept = λ e. let er : r.deep ≡ None = none_before r.deep (wholes_of_stmts y.statements) (sym third ∙ e) in let eq : q.deep ≡ None = none_before q.deep (optional_anns z.annotation) (sym z.keeps.deep ∙ er) in
                     let make : Name → List Param → Option Ann → Stmts → FuncDef = λ i ps j ss. record { name = i; params = ps; returns = j; body = ss } in

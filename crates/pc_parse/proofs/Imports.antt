@@ -14,8 +14,8 @@ use Rattle.pc_tree.specs.Machine.Lines.{due, start, no_top, takes_header}
 use Rattle.pc_tree.specs.Machine.States.{Stage, after_future, after_dataclasses, after_headers, Top, of_module, State, fixed, items, importing, item_named, decorator_due, def_due, stuck, on}
 use Rattle.pc_reader.specs.declared.reader.Reader.{Reader}
 use Rattle.pc_reader.specs.Reading.{Blames, IsAhead, lexeme, Came, Onward, Takes}
-use Rattle.pc_reader.specs.Words.{IsFormAhead, GivesFixed, TakesForm}
-use Rattle.pc_parse.specs.Modules.{import_words}
+use Rattle.pc_reader.specs.Internal.FixedWords.{IsFormAhead, GivesFixed, TakesForm}
+use Rattle.pc_parse.specs.Internal.Modules.{import_words}
 use Rattle.pc_reader.proofs.Steps.{step_to, alike, not_seen}
 use Rattle.pc_reader.proofs.Streams.{blame}
 use Rattle.pc_reader.proofs.Words.{form_read, kind_read, form_seen}

@@ -20,10 +20,10 @@ use Rattle.pc_tree.specs.Machine.Finishing.{add_stmt, suite_of, nested_in}
 use Rattle.pc_reader.specs.declared.operand.Operand.{Operand}
 use Rattle.pc_parse.specs.declared.parser.Parser.{Parser}
 use Rattle.pc_reader.specs.declared.reader.Reader.{Reader}
-use Rattle.pc_reader.specs.Descent.{Gives, NextIs, Over, Undotted}
+use Rattle.pc_reader.specs.Internal.Expressions.{Gives, NextIs, Over, Undotted}
 use Rattle.pc_reader.specs.Reading.{kind_ahead, place_ahead, IsAhead, Onward, IsReady, lexeme, left_in}
-use Rattle.pc_parse.specs.Whole.{noted, Kept, GivesWhole}
-use Rattle.pc_parse.specs.Suites.{LineEnds, ReadsLineEnd, ReadsFrom, ReadsSuite, ReadsElse}
+use Rattle.pc_parse.specs.Internal.WholeTrees.{deep_after, KeepsTree, GivesWhole}
+use Rattle.pc_parse.specs.Internal.Suites.{LineEnds, ReadsLineEnd, ReadsFrom, ReadsSuite, ReadsElse}
 use Rattle.pc_parse.proofs.Depths.{note_of}
 use Rattle.pc_parse.proofs.Statements.{whole_turn, out_dedent}
 use Rattle.pc_reader.proofs.Steps.{not_seen}
@@ -41,7 +41,7 @@ ahead_kind {k = k} {t = t} h e = some (sym h ∙ ap kind_ahead e)
 
 module _ {X I : Type 0} (text : X → List ℕ) (steps : I → Option (Result (Token X) Fault) → I → Type 0) (can : I → Type 0) (left : I → Count) where
   -- an expression that was read and noted
-  pub whole_given : (a b : Parser X I) (r : Reader X I) (o : Operand) → b.reader ≡ r → b.deep ≡ noted a.deep (record { start = o.first; depth = o.depth } ∷ [])
+  pub whole_given : (a b : Parser X I) (r : Reader X I) (o : Operand) → b.reader ≡ r → b.deep ≡ deep_after a.deep (record { start = o.first; depth = o.depth } ∷ [])
       → Gives text steps can left (λ s. rank s ≡ 0) 0 a.reader r o → NextIs (Over 0 o.level) r.ahead → NextIs (Undotted o.level) r.ahead → GivesWhole text steps can left a b o
   whole_given a b r o e d g v u = record {
     part = g.part;
@@ -56,7 +56,7 @@ module _ {X I : Type 0} (text : X → List ℕ) (steps : I → Option (Result (T
 
   -- a line whose end was read
   pub line_ended : (start st : Stmts → Block → State) (fits : Stmts → Type 0) (a b c : Parser X I) (s : RustStmt) (r : Result RustStmt Fault) (statement : Stmt)
-      → Kept stmt_of wholes_of_stmt a.deep b.deep s statement → left_in left b.reader ≤ left_in left a.reader
+      → KeepsTree stmt_of wholes_of_stmt a.deep b.deep s statement → left_in left b.reader ≤ left_in left a.reader
       → ((done : Stmts) (block : Block) → fits done → Onward text steps a.reader b.reader (at (start done block)) (at (st done block)))
       → ((done : Stmts) (block : Block) → fits done → LineEnds text b (st done block) (stmts (add_stmt done statement) block))
       → ReadsLineEnd text steps can left b c s r → ReadsFrom text steps can left start fits a c r
@@ -76,7 +76,7 @@ module _ {X I : Type 0} (text : X → List ℕ) (steps : I → Option (Result (T
       → ReadsFrom text steps can left st (λ _. Unit {0}) b c r → ReadsFrom text steps can left start fits a c r
   line_continued start st fits a b c (Ok s) d l path h = record {
     statement = h.statement;
-    keeps = record { deep = h.keeps.deep ∙ ap (λ z. noted z (wholes_of_stmt h.statement)) d; kept = h.keeps.kept };
+    keeps = record { deep = h.keeps.deep ∙ ap (λ z. deep_after z (wholes_of_stmt h.statement)) d; kept = h.keeps.kept };
     ready = h.ready;
     later = let q = h.later in omega arith;
     leads = λ done block f o x. path done block f o (h.leads done block tt o x);
@@ -127,7 +127,7 @@ module _ {X I : Type 0} (text : X → List ℕ) (steps : I → Option (Result (T
       → ReadsSuite text steps can left b c r → ReadsElse text steps can left a c r
   else_read a b c (Ok v) d l path h = record {
     statements = h.statements;
-    keeps = record { deep = h.keeps.deep ∙ ap (λ z. noted z (wholes_of_stmts h.statements)) d; kept = h.keeps.kept };
+    keeps = record { deep = h.keeps.deep ∙ ap (λ z. deep_after z (wholes_of_stmts h.statements)) d; kept = h.keeps.kept };
     ready = h.ready;
     later = let q = h.later in omega arith;
     leads = λ bs site n o x. path bs site n o (h.leads (nested_in site (else_body bs)) o x);

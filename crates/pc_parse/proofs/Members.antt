@@ -23,19 +23,19 @@ use Rattle.pc_tree.specs.Depth.{whole_ann, wholes_of_def, wholes_of_members}
 use Rattle.pc_tree.specs.Grammar.{name_at}
 use Rattle.pc_tree.specs.Machine.{Reading, at, turn, stop, short}
 use Rattle.pc_tree.specs.Machine.Kinds.{same_kind, a_kind}
-use Rattle.pc_tree.specs.Machine.States.{after_headers, Top, ClassStart, of_class, AnnContext, of_field, LiteralContext, default_of_field, ann_whole, State, fixed, items, decorator_due, class_due, class_named, base_due, members, def_due, literal_due, part_due, Turn, stuck, go, on}
+use Rattle.pc_tree.specs.Machine.States.{after_headers, Top, ClassStart, of_class, AnnotationPosition, of_field, LiteralContext, default_of_field, ann_whole, State, fixed, items, decorator_due, class_due, class_named, base_due, members, def_due, literal_due, part_due, Turn, stuck, go, on}
 use Rattle.pc_tree.specs.Machine.Finishing.{field, finish_ann, after_class}
 use Rattle.pc_tree.specs.Machine.Lines.{due, members_end}
 use Rattle.pc_reader.specs.declared.reader.Reader.{Reader}
 use Rattle.pc_parse.specs.declared.parser.Parser.{Parser}
 use Rattle.pc_reader.specs.Reading.{Blames, IsAhead, lexeme, Came, Onward, left_in, Takes, NeedsKind}
-use Rattle.pc_reader.specs.Descent.{GivesName}
-use Rattle.pc_reader.specs.Standing.{Stands, Reached}
-use Rattle.pc_reader.specs.Defaults.{opens_literal, or_literal, GivesDefault}
-use Rattle.pc_parse.specs.Whole.{noted, Kept, GivesAnn}
-use Rattle.pc_parse.specs.Signatures.{GivesFunction}
-use Rattle.pc_reader.specs.Words.{GivesFixed, TakesForm, NeedsForm}
-use Rattle.pc_parse.specs.Classes.{with_base, GoOn, GivesBase, GivesField, GivesMember, GivesMembers, MembersSoFar, GivesClass}
+use Rattle.pc_reader.specs.Internal.Expressions.{GivesName}
+use Rattle.pc_reader.specs.Internal.StatesAhead.{StandsBefore, LeadsTo}
+use Rattle.pc_reader.specs.Internal.Literals.{opens_literal, or_literal, GivesDefault}
+use Rattle.pc_parse.specs.Internal.WholeTrees.{deep_after, KeepsTree, GivesAnn}
+use Rattle.pc_parse.specs.Internal.Signatures.{GivesFunction}
+use Rattle.pc_reader.specs.Internal.FixedWords.{GivesFixed, TakesForm, NeedsForm}
+use Rattle.pc_parse.specs.Internal.Classes.{with_base, GoOn, GivesBase, GivesField, GivesMember, GivesMembers, MembersSoFar, GivesClass}
 use Rattle.pc_parse.proofs.Parameters.{kept_more, kept_none}
 use Rattle.pc_reader.proofs.Steps.{step_to, alike, needs, not_seen, kind_seen}
 use Rattle.pc_reader.proofs.Streams.{blame}
@@ -103,25 +103,25 @@ module _ {X I : Type 0} {text : X → List ℕ} {steps : I → Option (Result (T
       annotated : (c : ClassStart) (ms : List Member) → Onward text steps a.reader p (at (members c ms)) (at (part_due no_anns [] (ann_whole (of_field c ms (name_at (lexeme text n.token))))))
       annotated c ms o y = named c ms o (kind_read (kind.Operator sign.Colon) h k [] (part_due no_anns [] (ann_whole (of_field c ms (name_at (lexeme text n.token))))) o y)
 
-      pub field_annotation_fails : {e : Fault} → Blames e (λ o. (i : AnnContext) → Came text steps p (at (part_due no_anns [] (ann_whole i))) o)
+      pub field_annotation_fails : {e : Fault} → Blames e (λ o. (i : AnnotationPosition) → Came text steps p (at (part_due no_anns [] (ann_whole i))) o)
           → Blames e (λ o. (c : ClassStart) (ms : List Member) → IsAhead (kind.Keyword word.Def) a.reader.ahead ≡ false → GoOn a.reader c ms → Came text steps a.reader (at (members c ms)) o)
       field_annotation_fails w = blame (λ o u. λ c ms d g. annotated c ms o (u (of_field c ms (name_at (lexeme text n.token))))) w
 
       module _ {q b : Parser X I} {ann : RustAnn} (same : q.reader ≡ p) (x : GivesAnn text steps can left q b ann) where
-        behind : (c : ClassStart) (ms : List Member) → Reached text steps p b.reader (part_due no_anns [] (ann_whole (of_field c ms (name_at (lexeme text n.token))))) (finish_ann (of_field c ms (name_at (lexeme text n.token))) x.annotation)
+        behind : (c : ClassStart) (ms : List Member) → LeadsTo text steps p b.reader (part_due no_anns [] (ann_whole (of_field c ms (name_at (lexeme text n.token))))) (finish_ann (of_field c ms (name_at (lexeme text n.token))) x.annotation)
         behind c ms = let i = of_field c ms (name_at (lexeme text n.token)) in record {
           behind = x.behind i;
           stands = record { unfinished = x.unfinished i; goes = x.goes i };
           leads = λ o y. subst (λ z. Came text steps z (at (part_due no_anns [] (ann_whole i))) o) same (x.leads i o y);
         }
 
-        pub field_default_fails : {e : Fault} → Blames e (λ o. (st : State) (i : LiteralContext) (other : TokenKind → Turn) → Stands text b.reader st (opens_literal i other) → Came text steps b.reader (at st) o)
+        pub field_default_fails : {e : Fault} → Blames e (λ o. (st : State) (i : LiteralContext) (other : TokenKind → Turn) → StandsBefore text b.reader st (opens_literal i other) → Came text steps b.reader (at st) o)
             → Blames e (λ o. (c : ClassStart) (ms : List Member) → IsAhead (kind.Keyword word.Def) a.reader.ahead ≡ false → GoOn a.reader c ms → Came text steps a.reader (at (members c ms)) o)
         field_default_fails w = blame (λ o u. λ c ms d g. let N = name_at (lexeme text n.token) in let r = behind c ms in
             annotated c ms o (r.leads o (u r.behind (default_of_field c ms N x.annotation) (λ i. on (same_kind i kind.Newline) (members c (ms ++ (field N x.annotation None ∷ []))) stuck) r.stands))) w
 
         module _ {f : Reader X I} {l : Option RustLiteral} (y : GivesDefault text steps can left b.reader f l) where
-          ended_line : (c : ClassStart) (ms : List Member) → Reached text steps p f (part_due no_anns [] (ann_whole (of_field c ms (name_at (lexeme text n.token)))))
+          ended_line : (c : ClassStart) (ms : List Member) → LeadsTo text steps p f (part_due no_anns [] (ann_whole (of_field c ms (name_at (lexeme text n.token)))))
               (λ k. on (same_kind k kind.Newline) (members c (ms ++ (field (name_at (lexeme text n.token)) x.annotation (option_literal_of l) ∷ []))) stuck)
           ended_line c ms = let N = name_at (lexeme text n.token) in let r = behind c ms in
               let z = y.leads r.behind (default_of_field c ms N x.annotation) (λ i. on (same_kind i kind.Newline) (members c (ms ++ (field N x.annotation None ∷ []))) stuck) r.stands in
@@ -137,7 +137,7 @@ module _ {X I : Type 0} {text : X → List ℕ} {steps : I → Option (Result (T
               let make : Name → Ann → Field = λ e z. record { name = e; annotation = z; default = option_literal_of l } in record {
                 field = record { name = N; annotation = x.annotation; default = option_literal_of l };
                 keeps = record {
-                  deep = sb ∙ x.keeps.deep ∙ ap (λ z. noted z (whole_ann x.annotation ∷ [])) qa;
+                  deep = sb ∙ x.keeps.deep ∙ ap (λ z. deep_after z (whole_ann x.annotation ∷ [])) qa;
                   kept = λ e. ap (λ z. make z (ann_of ann)) n.name ∙ ap (make N) (x.keeps.kept (sym sb ∙ e));
                 };
                 ready = j.ready;
@@ -165,7 +165,7 @@ module _ {X I : Type 0} {text : X → List ℕ} {steps : I → Option (Result (T
   method_as_member a p {b = b} {t = t} h k same x = record {
     member = method_member x.function;
     keeps = record {
-      deep = subst (λ z. b.deep ≡ noted z (wholes_of_def x.function)) same x.keeps.deep ∙ ap (λ z. noted a.deep z) (sym (append-nil (wholes_of_def x.function)));
+      deep = subst (λ z. b.deep ≡ deep_after z (wholes_of_def x.function)) same x.keeps.deep ∙ ap (λ z. deep_after a.deep z) (sym (append-nil (wholes_of_def x.function)));
       kept = λ e. ap method_member (x.keeps.kept e);
     };
     ready = x.ready;
@@ -192,7 +192,7 @@ module _ {X I : Type 0} {text : X → List ℕ} {steps : I → Option (Result (T
       dedent_fails w = blame (λ o u. λ c. s.leads c o (x.leads c s.all o (u (at (members c (s.all ++ (x.member ∷ [])))) (λ z. refl)))) w
 
     module _ {q : Parser X I} {r : RustMember} (x : GivesMember text steps can left m q r) {v' : Vec RustMember Global} (push : v'.items ≡ v.items ++ (r ∷ [])) where
-      kept : Kept (λ (w : Vec RustMember Global). map member_of w.items) wholes_of_members a.deep q.deep v' (s.all ++ (x.member ∷ []))
+      kept : KeepsTree (λ (w : Vec RustMember Global). map member_of w.items) wholes_of_members a.deep q.deep v' (s.all ++ (x.member ∷ []))
       kept = kept_more member_of (λ p. wholes_of_members (p ∷ [])) wholes_of_members members_split push s.keeps x.keeps
 
       pub more_members : IsAhead kind.Dedent q.reader.ahead ≡ false → MembersSoFar text steps can left a q v'
@@ -206,7 +206,7 @@ module _ {X I : Type 0} {text : X → List ℕ} {steps : I → Option (Result (T
       pub last_member : {b : Parser X I} {t : Token X} → Takes text steps can left q.reader b.reader t → t.kind ≡ kind.Dedent → b.deep ≡ q.deep → left_in left m.reader ≤ left_in left a.reader → GivesMembers text steps can left a b v'
       last_member {b = b} {t = t} h k same later = record {
         all = s.all ++ (x.member ∷ []);
-        keeps = subst (λ z. Kept (λ (w : Vec RustMember Global). map member_of w.items) wholes_of_members a.deep z v' (s.all ++ (x.member ∷ []))) (sym same) kept;
+        keeps = subst (λ z. KeepsTree (λ (w : Vec RustMember Global). map member_of w.items) wholes_of_members a.deep z v' (s.all ++ (x.member ∷ []))) (sym same) kept;
         ready = h.ready;
         later = omega (arith, h.later, x.later, later);
         leads = λ c o y. s.leads c o (x.leads c s.all o (step_to (members c (s.all ++ (x.member ∷ []))) (after_class c (s.all ++ (x.member ∷ []))) h
@@ -282,7 +282,7 @@ module _ {X I : Type 0} {text : X → List ℕ} {steps : I → Option (Result (T
               let make : Name → List Member → ClassDef = λ i ms. record { decorator = t.place; name = i; base = option_name_of base; members = ms } in record {
                 class = make (name_at (lexeme text n.token)) y.all;
                 keeps = record {
-                  deep = subst (λ i. b.deep ≡ noted i (wholes_of_members y.all)) same y.keeps.deep;
+                  deep = subst (λ i. b.deep ≡ deep_after i (wholes_of_members y.all)) same y.keeps.deep;
                   kept = λ e. ap (λ i. make i (map member_of v.items)) n.name ∙ ap (make (name_at (lexeme text n.token))) (y.keeps.kept e);
                 };
                 ready = y.ready;

@@ -23,7 +23,7 @@ use Rattle.pc_tree.specs.Depth.{optional_anns, whole_expr, wholes_of_item, whole
 use Rattle.pc_tree.specs.Grammar.{name_at}
 use Rattle.pc_tree.specs.Machine.{Reading, at, turn, stop, short, reads}
 use Rattle.pc_tree.specs.Machine.Kinds.{same_kind, a_kind}
-use Rattle.pc_tree.specs.Machine.States.{after_headers, Top, of_module, AnnContext, of_constant, Context, in_constant, whole, ann_whole, part_due, State, fixed, items, importing, item_named, decorator_due, def_due, operand, have, ended, Turn, stuck, go, on}
+use Rattle.pc_tree.specs.Machine.States.{after_headers, Top, of_module, AnnotationPosition, of_constant, ExpressionPosition, in_constant, whole, ann_whole, part_due, State, fixed, items, importing, item_named, decorator_due, def_due, operand, have, ended, Turn, stuck, go, on}
 use Rattle.pc_tree.specs.Machine.Finishing.{add_item, at_line_end}
 use Rattle.pc_tree.specs.Machine.Lines.{due, module_of as module_over}
 use Rattle.pc_tree.specs.Fronts.Lines.{is_method}
@@ -32,13 +32,13 @@ use Rattle.pc_reader.specs.declared.reader.Reader.{Reader}
 use Rattle.pc_parse.specs.declared.parser.Parser.{Parser}
 use Rattle.pc_parse.specs.declared.headers.Headers.{Headers}
 use Rattle.pc_reader.specs.Reading.{Blames, IsAhead, lexeme, Came, Onward, left_in, Takes, NeedsKind}
-use Rattle.pc_reader.specs.Descent.{GivesName}
-use Rattle.pc_reader.specs.Standing.{Stands, Reached}
-use Rattle.pc_reader.specs.Words.{GivesFixed}
-use Rattle.pc_parse.specs.Whole.{noted, GivesWhole, ending_of}
-use Rattle.pc_parse.specs.Signatures.{opens_ann, or_ann, GivesOpened, GivesFunction}
-use Rattle.pc_parse.specs.Classes.{GivesClass}
-use Rattle.pc_parse.specs.Modules.{IsNoLastLine, top_of, GivesConstant, GivesItem, GivesLast, ItemsSoFar}
+use Rattle.pc_reader.specs.Internal.Expressions.{GivesName}
+use Rattle.pc_reader.specs.Internal.StatesAhead.{StandsBefore, LeadsTo}
+use Rattle.pc_reader.specs.Internal.FixedWords.{GivesFixed}
+use Rattle.pc_parse.specs.Internal.WholeTrees.{deep_after, GivesWhole, ending_of}
+use Rattle.pc_parse.specs.Internal.Signatures.{opens_ann, or_ann, GivesOpened, GivesFunction}
+use Rattle.pc_parse.specs.Internal.Classes.{GivesClass}
+use Rattle.pc_parse.specs.Internal.Modules.{IsNoLastLine, top_of, GivesConstant, GivesItem, GivesLast, ItemsSoFar}
 use Rattle.pc_parse.proofs.Depths.{noted_more, none_before, kept_tree}
 use Rattle.pc_parse.proofs.Parameters.{kept_more}
 use Rattle.pc_reader.proofs.Steps.{step_to, alike, not_seen, kind_seen}
@@ -110,7 +110,7 @@ module _ {X I : Type 0} (text : X → List ℕ) (steps : I → Option (Result (T
 
 module _ {X I : Type 0} {text : X → List ℕ} where
   -- a name with which no last line begins
-  begun : (a : Reader X I) (n : Name) (top : Top) → IsNoLastLine a n → Stands text a (item_named n top) (opens_ann sign.Colon (of_constant n top) (begins_value n None top))
+  begun : (a : Reader X I) (n : Name) (top : Top) → IsNoLastLine a n → StandsBefore text a (item_named n top) (opens_ann sign.Colon (of_constant n top) (begins_value n None top))
   begun a n top unlike = record {
     unfinished = refl;
     goes = λ t h. ap (λ z. on (same_kind t.kind (kind.Operator sign.Colon)) (part_due no_anns [] (ann_whole (of_constant n top))) (on (same_kind t.kind (kind.Operator sign.Equal)) (operand (whole (in_constant n None top)))
@@ -118,7 +118,7 @@ module _ {X I : Type 0} {text : X → List ℕ} where
   }
 
 pub constant_annotation_fails : {X I : Type 0} (text : X → List ℕ) (steps : I → Option (Result (Token X) Fault) → I → Type 0) (a : Reader X I) (n : Name) → IsNoLastLine a n → (e : Fault)
-    → Blames e (λ o. (st : State) (c : AnnContext) (other : TokenKind → Turn) → Stands text a st (opens_ann sign.Colon c other) → Came text steps a (at st) o) → Blames e (λ o. (top : Top) → Came text steps a (at (item_named n top)) o)
+    → Blames e (λ o. (st : State) (c : AnnotationPosition) (other : TokenKind → Turn) → StandsBefore text a st (opens_ann sign.Colon c other) → Came text steps a (at st) o) → Blames e (λ o. (top : Top) → Came text steps a (at (item_named n top)) o)
 constant_annotation_fails text steps a n unlike e w = blame (λ o u. λ top. u (item_named n top) (of_constant n top) (begins_value n None top) (begun a n top unlike)) w
 
 module _ {X I : Type 0} {text : X → List ℕ} {steps : I → Option (Result (Token X) Fault) → I → Type 0} {can : I → Type 0} {left : I → Count} where
@@ -126,7 +126,7 @@ module _ {X I : Type 0} {text : X → List ℕ} {steps : I → Option (Result (T
 
   module _ (a : Parser X I) (n : Name) (unlike : IsNoLastLine a.reader n) where
     module _ {q : Parser X I} {ann : Option RustAnn} (x : GivesOpened text steps can left sign.Colon a q ann) where
-      valued_at : (top : Top) → Reached text steps a.reader q.reader (item_named n top) (begins_value n x.annotation top)
+      valued_at : (top : Top) → LeadsTo text steps a.reader q.reader (item_named n top) (begins_value n x.annotation top)
       valued_at top = reached_so (begins_value n x.annotation top) (x.leads (item_named n top) (of_constant n top) (begins_value n None top) (begun a.reader n top unlike)) (λ t h. valued n top x.annotation t.kind)
 
       pub value_missing : {e : Fault} → Blames e (λ o. (st : State) → NeedsKind text (kind.Operator sign.Equal) st q.reader → Came text steps q.reader (at st) o) → Blames e (λ o. (top : Top) → Came text steps a.reader (at (item_named n top)) o)
@@ -136,7 +136,7 @@ module _ {X I : Type 0} {text : X → List ℕ} {steps : I → Option (Result (T
         to_value : (top : Top) → Onward text steps a.reader p (at (item_named n top)) (at (operand (whole (in_constant n x.annotation top))))
         to_value top = reaches_to (operand (whole (in_constant n x.annotation top))) (valued_at top) h (takes (kind.Operator sign.Equal) t.kind (operand (whole (in_constant n x.annotation top))) stuck k)
 
-        pub value_fails : {e : Fault} → Blames e (λ o. (c : Context) → Came text steps p (at (operand (whole c))) o) → Blames e (λ o. (top : Top) → Came text steps a.reader (at (item_named n top)) o)
+        pub value_fails : {e : Fault} → Blames e (λ o. (c : ExpressionPosition) → Came text steps p (at (operand (whole c))) o) → Blames e (λ o. (top : Top) → Came text steps a.reader (at (item_named n top)) o)
         value_fails w = blame (λ o u. λ top. to_value top o (u (in_constant n x.annotation top))) w
 
         module _ {w b : Parser X I} {o : Operand} (same : w.reader ≡ p) (y : GivesWhole text steps can left w b o) where
@@ -153,11 +153,11 @@ module _ {X I : Type 0} {text : X → List ℕ} {steps : I → Option (Result (T
           pub constant_read : {s : Parser X I} {v : Token X} (name : RustName) → n ≡ name_of name → w.deep ≡ q.deep → s.deep ≡ b.deep → Takes text steps can left b.reader s.reader v → v.kind ≡ kind.Newline
               → GivesConstant text steps can left a s n (record { name = name; annotation = ann; value = o.expr })
           constant_read {s = s} {v = v} name is wq sb j i =
-              let late : s.deep ≡ noted q.deep (whole_expr y.part.tree ∷ []) = sb ∙ y.deep ∙ ap (λ z. noted z (whole_expr y.part.tree ∷ [])) wq in
+              let late : s.deep ≡ deep_after q.deep (whole_expr y.part.tree ∷ []) = sb ∙ y.deep ∙ ap (λ z. deep_after z (whole_expr y.part.tree ∷ [])) wq in
               let make : Name → Option Ann → Expr → Constant = λ d z u. record { name = d; annotation = z; value = u } in record {
                 constant = record { name = n; annotation = x.annotation; value = y.part.tree };
                 keeps = record {
-                  deep = late ∙ ap (λ z. noted z (whole_expr y.part.tree ∷ [])) x.keeps.deep ∙ noted_more a.deep (optional_anns x.annotation) (whole_expr y.part.tree ∷ []);
+                  deep = late ∙ ap (λ z. deep_after z (whole_expr y.part.tree ∷ [])) x.keeps.deep ∙ noted_more a.deep (optional_anns x.annotation) (whole_expr y.part.tree ∷ []);
                   kept = λ e. ap (λ z. make z (option_ann_of ann) (expr_of o.expr)) (sym is) ∙ ap (λ z. make n z (expr_of o.expr)) (x.keeps.kept (none_before q.deep (whole_expr y.part.tree ∷ []) (sym late ∙ e)))
                       ∙ ap (make n x.annotation) (kept_tree o y.part q.deep y.keeps (sym late ∙ e));
                 };
@@ -173,7 +173,7 @@ module _ {X I : Type 0} {text : X → List ℕ} {steps : I → Option (Result (T
       → GivesItem text steps can left a b (record { first = t.place; kind = rust.Class c })
   class_as_item a p {b = b} {t = t} h k same x = record {
     item = class_item t.place x.class;
-    keeps = record { deep = subst (λ z. b.deep ≡ noted z (wholes_of_item (class_item t.place x.class))) same x.keeps.deep; kept = λ e. ap (class_item t.place) (x.keeps.kept e) };
+    keeps = record { deep = subst (λ z. b.deep ≡ deep_after z (wholes_of_item (class_item t.place x.class))) same x.keeps.deep; kept = λ e. ap (class_item t.place) (x.keeps.kept e) };
     ready = x.ready;
     later = omega (arith, x.later, h.later);
     leads = λ top o y. step_to (items after_headers top) (decorator_due t.place top) h (ap (turn (items after_headers top) (lexeme text t)) k) o (x.leads t.place top o y);
@@ -187,7 +187,7 @@ module _ {X I : Type 0} {text : X → List ℕ} {steps : I → Option (Result (T
       → GivesItem text steps can left a b (record { first = t.place; kind = rust.Def f })
   function_as_item a p {b = b} {t = t} h k same x = record {
     item = def_item t.place x.function;
-    keeps = record { deep = subst (λ z. b.deep ≡ noted z (wholes_of_item (def_item t.place x.function))) same x.keeps.deep; kept = λ e. ap (def_item t.place) (x.keeps.kept e) };
+    keeps = record { deep = subst (λ z. b.deep ≡ deep_after z (wholes_of_item (def_item t.place x.function))) same x.keeps.deep; kept = λ e. ap (def_item t.place) (x.keeps.kept e) };
     ready = x.ready;
     later = omega (arith, x.later, h.later);
     leads = λ top o y. step_to (items after_headers top) (def_due (of_module top) t.place) h (ap (turn (items after_headers top) (lexeme text t)) k) o (x.leads (of_module top) t.place refl o y);
@@ -216,7 +216,7 @@ module _ {X I : Type 0} {text : X → List ℕ} {steps : I → Option (Result (T
     pub constant_as_item : (p : Parser X I) {b : Parser X I} {v : RustConstant} → p.reader ≡ m → p.deep ≡ a.deep → GivesConstant text steps can left p b (name_of name) v → GivesItem text steps can left a b (record { first = name.place; kind = rust.Constant v })
     constant_as_item p {b = b} pm same x = record {
       item = constant_item name.place x.constant;
-      keeps = record { deep = subst (λ z. b.deep ≡ noted z (wholes_of_item (constant_item name.place x.constant))) same x.keeps.deep; kept = λ e. ap (constant_item name.place) (x.keeps.kept e) };
+      keeps = record { deep = subst (λ z. b.deep ≡ deep_after z (wholes_of_item (constant_item name.place x.constant))) same x.keeps.deep; kept = λ e. ap (constant_item name.place) (x.keeps.kept e) };
       ready = x.ready;
       later = omega (arith, x.later, n.takes.later, ap (left_in left) pm);
       leads = λ top o y. named top o (subst (λ z. Came text steps z (at (item_named (name_of name) top)) o) pm (x.leads top o y));

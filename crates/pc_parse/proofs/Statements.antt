@@ -7,17 +7,17 @@ use Rattle.pc_token.specs.declared.token.Operator.TheVariants as sign
 use Rattle.pc_token.specs.Lexeme.{Lexeme}
 use Rattle.pc_tree.specs.Tree.{Expr, Stmt, asserts, evaluates, Stmts, no_stmts, more_stmts}
 use Rattle.pc_tree.specs.Machine.Kinds.{same_kind, leads_out, lead_of, Follow, link, a_dot, calls, indexes, ends, no_ending}
-use Rattle.pc_tree.specs.Machine.States.{Part, Block, Site, assigned, annotated_value, returned, asserted, asserted_with, looping, iterating, branching, Context, in_line, in_statement, in_constant, whole, State, Turn, stuck, go, on}
+use Rattle.pc_tree.specs.Machine.States.{Part, Block, Site, assigned, annotated_value, returned, asserted, asserted_with, looping, iterating, branching, ExpressionPosition, in_line, in_statement, in_constant, whole, State, Turn, stuck, go, on}
 use Rattle.pc_tree.specs.Machine.Expressions.{left_of_link, have_turn}
 use Rattle.pc_tree.specs.Machine.Finishing.{add_stmt, after_stmt, after_suite, at_line_end, at_colon, finish_condition, finish_line, finish}
 use Rattle.pc_tree.specs.Machine.Lines.{end_suite}
-use Rattle.pc_reader.specs.Descent.{Over, Undotted}
-use Rattle.pc_parse.specs.Whole.{ending_in, ending_of}
+use Rattle.pc_reader.specs.Internal.Expressions.{Over, Undotted}
+use Rattle.pc_parse.specs.Internal.WholeTrees.{ending_in, ending_of}
 use Rattle.pc_reader.proofs.Frames.{loose}
 
 -- ---- behind a whole expression
 
-finish_none : (c : Context) (p : Part) → finish c p no_ending ≡ stuck
+finish_none : (c : ExpressionPosition) (p : Part) → finish c p no_ending ≡ stuck
 finish_none (in_line done block) p = refl
 finish_none (in_statement (assigned t) site) p = refl
 finish_none (in_statement (annotated_value n a) site) p = refl
@@ -30,7 +30,7 @@ finish_none (in_statement (branching bs) site) p = refl
 finish_none (in_constant n a top) p = refl
 
 -- what does not go on with a whole expression finishes it
-pub whole_turn : (level : ℕ) (p : Part) (c : Context) (t : Lexeme) (f : Follow) → Over 0 level f → Undotted level f → have_turn level p (whole c) t f ≡ finish c p (ending_in f)
+pub whole_turn : (level : ℕ) (p : Part) (c : ExpressionPosition) (t : Lexeme) (f : Follow) → Over 0 level f → Undotted level f → have_turn level p (whole c) t f ≡ finish c p (ending_in f)
 whole_turn level p c t (link l) (inl h) u = absurd (omega arith)
 whole_turn level p c t (link l) (inr h) u = loose (left_of_link l) level _ h ∙ sym (finish_none c p)
 whole_turn level p c t a_dot v u = loose 7 level _ u ∙ sym (finish_none c p)

@@ -22,7 +22,7 @@ use Rattle.pc_parse.specs.declared.headers.Headers.{Headers}
 use Rattle.pc_reader.specs.declared.reader.Reader.{Reader}
 use Rattle.pc_parse.specs.declared.parser.Parser.{Parser}
 use Rattle.pc_reader.specs.Reading.{Blames, kind_ahead, lexeme, Came, Rejects}
-use Rattle.pc_parse.specs.Modules.{top_of, GivesLast, GivesModule, ItemsSoFar}
+use Rattle.pc_parse.specs.Internal.Modules.{top_of, GivesLast, GivesModule, ItemsSoFar}
 use Rattle.pc_reader.proofs.Streams.{blame, at_end, same_step}
 
 -- a state that waits for another token than one of this kind

@@ -5,7 +5,7 @@ use Rattle.pc_tree.specs.Depth.{whole_expr, whole_target}
 use Rattle.pc_tree.specs.Machine.States.{Part}
 use Rattle.pc_tree.specs.Machine.Finishing.{if_plain, name_of_tree, target_of_tree}
 use Rattle.pc_reader.specs.declared.operand.Operand.{Operand}
-use Rattle.pc_reader.specs.Operands.{a_name, another, form_of, Keeps}
+use Rattle.pc_reader.specs.Internal.Operands.{a_name, another, form_of, KeepsPart}
 
 -- ---- targets
 
@@ -48,14 +48,14 @@ none_plain true e e' f h = none_by_form e e' f h
 none_plain false e e' f h = refl
 
 -- the target of an operand is that of the part that it keeps
-pub a_target : (o : Operand) (p : Part) (t : Target) → Keeps o p → if_plain o.plain (target_of_tree (expr_of o.expr)) ≡ Some t → IsTarget p.tree p.plain
+pub a_target : (o : Operand) (p : Part) (t : Target) → KeepsPart o p → if_plain o.plain (target_of_tree (expr_of o.expr)) ≡ Some t → IsTarget p.tree p.plain
 a_target o p t k h = target_plain p.plain (expr_of o.expr) p.tree t k.form (ap (λ z. if_plain z (target_of_tree (expr_of o.expr))) (sym k.plain) ∙ h)
 
-pub no_target : (o : Operand) (p : Part) → Keeps o p → if_plain o.plain (target_of_tree (expr_of o.expr)) ≡ None → if_plain p.plain (target_of_tree p.tree) ≡ None
+pub no_target : (o : Operand) (p : Part) → KeepsPart o p → if_plain o.plain (target_of_tree (expr_of o.expr)) ≡ None → if_plain p.plain (target_of_tree p.tree) ≡ None
 no_target o p k h = none_plain p.plain (expr_of o.expr) p.tree k.form (ap (λ z. if_plain z (target_of_tree (expr_of o.expr))) (sym k.plain) ∙ h)
 
 -- and the same target, where its tree is kept
-pub same_target : (o : Operand) (p : Part) (t : Target) (i : IsTarget p.tree p.plain) → Keeps o p → if_plain o.plain (target_of_tree (expr_of o.expr)) ≡ Some t → expr_of o.expr ≡ p.tree → t ≡ i.tree
+pub same_target : (o : Operand) (p : Part) (t : Target) (i : IsTarget p.tree p.plain) → KeepsPart o p → if_plain o.plain (target_of_tree (expr_of o.expr)) ≡ Some t → expr_of o.expr ≡ p.tree → t ≡ i.tree
 same_target o p t i k h e = some (sym h ∙ ap (λ z. if_plain z (target_of_tree (expr_of o.expr))) k.plain ∙ ap (λ z. if_plain p.plain (target_of_tree z)) e ∙ i.is)
   where
     some : Some t ≡ Some i.tree → t ≡ i.tree
@@ -93,8 +93,8 @@ no_name_plain true e (name n) f h = absurd (unnamed e n h f)
 no_name_plain true e _ f h = refl
 no_name_plain false e e' f h = refl
 
-pub a_plain_name : (o : Operand) (p : Part) (n : Name) → Keeps o p → if_plain o.plain (name_of_tree (expr_of o.expr)) ≡ Some n → IsName p.tree p.plain n
+pub a_plain_name : (o : Operand) (p : Part) (n : Name) → KeepsPart o p → if_plain o.plain (name_of_tree (expr_of o.expr)) ≡ Some n → IsName p.tree p.plain n
 a_plain_name o p n k h = name_plain p.plain (expr_of o.expr) p.tree n k.form (ap (λ z. if_plain z (name_of_tree (expr_of o.expr))) (sym k.plain) ∙ h)
 
-pub no_plain_name : (o : Operand) (p : Part) → Keeps o p → if_plain o.plain (name_of_tree (expr_of o.expr)) ≡ None → if_plain p.plain (name_of_tree p.tree) ≡ None
+pub no_plain_name : (o : Operand) (p : Part) → KeepsPart o p → if_plain o.plain (name_of_tree (expr_of o.expr)) ≡ None → if_plain p.plain (name_of_tree p.tree) ≡ None
 no_plain_name o p k h = no_name_plain p.plain (expr_of o.expr) p.tree k.form (ap (λ z. if_plain z (name_of_tree (expr_of o.expr))) (sym k.plain) ∙ h)

@@ -2,7 +2,7 @@
 use Rattle.std.specs.Prelude.{ℕ, List, [], ◌∷◌, ◌++◌, map, Option, Result, Ok, Err}
 use Rattle.pc_source.specs.declared.fault.Fault.{Fault}
 use Rattle.pc_source.specs.declared.fault.Refusal.{Refusal}
-use Rattle.pc_source.specs.Stream.{Comes}
+use Rattle.pc_source.specs.Stream.{Yields}
 use Rattle.pc_token.specs.declared.token.Token.{Token}
 use Rattle.pc_tree.specs.Tree.{Module}
 use Rattle.pc_tree.specs.Faults.{IsModule, IsRefusal}
@@ -12,16 +12,16 @@ module _ {X I : Type 0} (text : X → List ℕ) (steps : I → Option (Result (T
   -- all tokens came, and they spell the module
   pub record IsRead (it : I) (m : Module) : Type 0 where
     pub tokens : List (Token X)
-    pub came : Comes steps it (map Ok tokens)
+    pub came : Yields steps it (map Ok tokens)
     pub is : IsModule (map (lexeme text) tokens) m
 
   -- all tokens came, and they are refused
   pub record IsRefusedByTokens (it : I) (r : Refusal) : Type 0 where
     pub tokens : List (Token X)
-    pub came : Comes steps it (map Ok tokens)
+    pub came : Yields steps it (map Ok tokens)
     pub is : IsRefusal (map (lexeme text) tokens) r
 
   -- some tokens came, and then this fault
   pub record IsFaulty (it : I) (e : Fault) : Type 0 where
     pub tokens : List (Token X)
-    pub came : Comes steps it (map Ok tokens ++ Err e ∷ [])
+    pub came : Yields steps it (map Ok tokens ++ Err e ∷ [])

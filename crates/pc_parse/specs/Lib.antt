@@ -1,9 +1,3 @@
-pub mod Annotating
 pub mod Answering
-pub mod Classes
-pub mod Copying
 pub mod Laws
-pub mod Modules
-pub mod Signatures
-pub mod Suites
-pub mod Whole
+pub mod Internal

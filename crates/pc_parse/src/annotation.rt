@@ -9,8 +9,8 @@ ghost use Rattle.pc_tree.specs.Machine.States.{argument_due, empty_opened};
 ghost use Rattle.pc_token.specs.Lexeme.{Lexeme};
 ghost use Rattle.std.specs.Prelude.{List};
 ghost use Rattle.pc_reader.specs.Reading.{IsReady, IsAhead};
-ghost use Rattle.pc_parse.specs.Whole.{ReadsAnn};
-ghost use Rattle.pc_parse.specs.Annotating.{KeepsAnn, KeepsAnns, MakesAnn, ReadsUnion, ReadsPart, ReadsApplied};
+ghost use Rattle.pc_parse.specs.Internal.WholeTrees.{ReadsAnn};
+ghost use Rattle.pc_parse.specs.Internal.Annotations.{KeepsAnn, KeepsAnns, MakesAnn, ReadsUnion, ReadsPart, ReadsApplied};
 
 use crate::parser::Parser;
 use pc_reader::{Reader, above, deeper};

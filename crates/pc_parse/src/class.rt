@@ -1,7 +1,7 @@
 //! Dataclasses and their members.
 ghost use Rattle.std.specs.Prelude.{◌≡◌};
 ghost use Rattle.pc_reader.specs.Reading.{IsReady};
-ghost use Rattle.pc_parse.specs.Classes.{ReadsBase, ReadsField, ReadsMember, ReadsMembers, ReadsClass};
+ghost use Rattle.pc_parse.specs.Internal.Classes.{ReadsBase, ReadsField, ReadsMember, ReadsMembers, ReadsClass};
 
 use crate::parser::Parser;
 use pc_reader::Reader;

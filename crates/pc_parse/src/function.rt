@@ -1,7 +1,7 @@
 //! Functions and methods.
 ghost use Rattle.std.specs.Prelude.{◌≡◌};
 ghost use Rattle.pc_reader.specs.Reading.{IsReady};
-ghost use Rattle.pc_parse.specs.Signatures.{ReadsMethodParams, ReadsSignature, ReadsFunction};
+ghost use Rattle.pc_parse.specs.Internal.Signatures.{ReadsMethodParams, ReadsSignature, ReadsFunction};
 
 use crate::parser::Parser;
 use pc_source::Fault;

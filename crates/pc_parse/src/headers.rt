@@ -1,8 +1,8 @@
 //! The headers of a module.
 ghost use Rattle.std.specs.Prelude.{◌≡◌};
 ghost use Rattle.pc_reader.specs.Reading.{IsReady};
-ghost use Rattle.pc_reader.specs.Words.{ReadsFixed};
-ghost use Rattle.pc_parse.specs.Modules.{import_words, ReadsHeaders};
+ghost use Rattle.pc_reader.specs.Internal.FixedWords.{ReadsFixed};
+ghost use Rattle.pc_parse.specs.Internal.Modules.{import_words, ReadsHeaders};
 
 use pc_reader::Reader;
 use pc_source::Fault;

@@ -34,7 +34,7 @@ impl<'t, 'a> Iterator for Listed<'t, 'a> {
     type Item = Result<Tok<'a>, Fault>;
 
     ghost use Rattle.std.specs.Prelude.{◌-◌, length};
-    ghost use Rattle.pc_parse.specs.Copying.{gives_token};
+    ghost use Rattle.pc_parse.specs.Internal.ListedTokens.{gives_token};
 
     ghost next_gives = { gives_token };
 

@@ -1,7 +1,7 @@
 //! Parameters: names with their annotations and defaults.
 ghost use Rattle.std.specs.Prelude.{◌≡◌};
 ghost use Rattle.pc_reader.specs.Reading.{IsReady};
-ghost use Rattle.pc_parse.specs.Signatures.{ReadsOpened, ReadsParam, ReadsParams};
+ghost use Rattle.pc_parse.specs.Internal.Signatures.{ReadsOpened, ReadsParam, ReadsParams};
 
 use crate::parser::Parser;
 use pc_source::Fault;

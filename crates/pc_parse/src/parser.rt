@@ -1,7 +1,7 @@
 //! Whole expressions, and where the first one begins that is too deep.
 ghost use Rattle.std.specs.Prelude.{◌≡◌, ◌∷◌, [], None};
 ghost use Rattle.pc_reader.specs.Reading.{IsReady};
-ghost use Rattle.pc_parse.specs.Whole.{noted, ReadsWhole};
+ghost use Rattle.pc_parse.specs.Internal.WholeTrees.{deep_after, ReadsWhole};
 
 use pc_reader::{Operand, Reader};
 use pc_source::Fault;
@@ -29,7 +29,7 @@ impl<X: AsStr + Drop, I: Iterator<Item = Result<Token<X>, Fault>> + Drop> Parser
     /// begins at the byte `first`.
     pub(crate) fn note(&mut self, first: usize, depth: u8)
         ensures reader { self.new.reader ≡ self.old.reader }
-        ensures deep { self.new.deep ≡ noted self.old.deep (record { start = first; depth = depth } ∷ []) }
+        ensures deep { self.new.deep ≡ deep_after self.old.deep (record { start = first; depth = depth } ∷ []) }
     {
         if depth > 64 && self.deep.is_none() {
             self.deep = Some(first);

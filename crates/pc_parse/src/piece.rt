@@ -4,7 +4,7 @@ ghost use Rattle.pc_token.specs.declared.token.TokenKind.TheVariants as kind;
 ghost use Rattle.pc_token.specs.declared.token.Operator.TheVariants as sign;
 ghost use Rattle.pc_tree.specs.Tree.{name_of};
 ghost use Rattle.pc_reader.specs.Reading.{IsReady, IsAhead};
-ghost use Rattle.pc_parse.specs.Modules.{ReadsConstant, ReadsPiece, ReadsModule};
+ghost use Rattle.pc_parse.specs.Internal.Modules.{ReadsConstant, ReadsPiece, ReadsModule};
 
 use crate::headers::read_headers;
 use crate::parser::Parser;

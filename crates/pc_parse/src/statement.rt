@@ -4,7 +4,7 @@ ghost use Rattle.pc_tree.specs.Tree.{expr_of, target_of};
 ghost use Rattle.pc_tree.specs.Machine.Finishing.{if_plain, target_of_tree};
 ghost use Rattle.pc_tree.specs.Machine.Kinds.{lead_of as lead_of_kind, leads_return, leads_assert, leads_other};
 ghost use Rattle.pc_reader.specs.Reading.{IsReady};
-ghost use Rattle.pc_parse.specs.Suites.{lead_view, HasLead, HasWord, kind_of_word, ReadsStmt, ReadsLineEnd, ReadsLocal};
+ghost use Rattle.pc_parse.specs.Internal.Suites.{lead_view, HasLead, HasWord, kind_of_word, ReadsStmt, ReadsLineEnd, ReadsLocal};
 
 use crate::parser::Parser;
 use pc_reader::{Operand, plain_name};

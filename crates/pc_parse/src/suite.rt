@@ -2,7 +2,7 @@
 ghost use Rattle.std.specs.Prelude.{◌≡◌};
 ghost use Rattle.pc_tree.specs.Machine.Kinds.{leads_while, leads_for, leads_if};
 ghost use Rattle.pc_reader.specs.Reading.{IsReady};
-ghost use Rattle.pc_parse.specs.Suites.{MayStand, HasLead, ReadsSuite, ReadsStmt, ReadsHeaded, ReadsElse};
+ghost use Rattle.pc_parse.specs.Internal.Suites.{MayGoOn, HasLead, ReadsSuite, ReadsStmt, ReadsHeaded, ReadsElse};
 
 use crate::parser::Parser;
 use crate::statement::{Lead, Word};
@@ -37,7 +37,7 @@ impl<X: AsStr + Drop, I: Iterator<Item = Result<Token<X>, Fault>> + Drop> Parser
     #[cycle(statements)]
     fn statement(&mut self, alloc: Global) -> Result<Stmt, Fault>
         requires { IsReady I.can_next I.remaining self.old.reader }
-        ensures { ReadsStmt X.text I.next_gives I.can_next I.remaining (λ done. MayStand done self.old) self.old self.new result }
+        ensures { ReadsStmt X.text I.next_gives I.can_next I.remaining (λ done. MayGoOn done self.old) self.old self.new result }
     {
         match self.lead() {
             Lead::Pass => self.word(Word::Pass),

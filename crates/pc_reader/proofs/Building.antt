@@ -12,7 +12,7 @@ use Rattle.pc_tree.specs.Machine.States.{Part}
 use Rattle.pc_tree.specs.Machine.Expressions.{infix_tree, grouped}
 use Rattle.pc_tree.specs.Machine.Finishing.{if_plain, name_of_tree}
 use Rattle.pc_reader.specs.declared.operand.Operand.{Operand}
-use Rattle.pc_reader.specs.Operands.{Starts, Ends, Form, a_name, another, form_of, Keeps, Builds, node_of}
+use Rattle.pc_reader.specs.Internal.Operands.{Starts, Ends, Form, a_name, another, form_of, KeepsPart, Builds, node_of}
 
 pub starts_more : {ts : List Lexeme} {n : ℕ} (us : List Lexeme) → Starts ts n → Starts (ts ++ us) n
 starts_more us s = record { head = s.head; tail = s.tail ++ us; is = ap (λ z. z ++ us) s.is; start = s.start }
@@ -89,11 +89,11 @@ pub built : (expr : RustExpr) (level depth deep a b : ℕ) (make : Place → Exp
 built expr level depth deep a b make pl dp d k f = builds (node_of expr (record { start = a; end = b }) level depth) make a b deep refl refl refl refl pl dp d k f
 
 -- a part that was kept at a depth over its own
-pub part_kept : (o : Operand) (p : Part) (e : RustExpr) (depth n : ℕ) → Keeps o p → depth ≡ min 65 n → o.depth + 1 ≤ n → (depth ≤ 64 → e ≡ o.expr) → depth ≤ 64 → expr_of e ≡ p.tree
+pub part_kept : (o : Operand) (p : Part) (e : RustExpr) (depth n : ℕ) → KeepsPart o p → depth ≡ min 65 n → o.depth + 1 ≤ n → (depth ≤ 64 → e ≡ o.expr) → depth ≤ 64 → expr_of e ≡ p.tree
 part_kept o p e depth n k d h f s = let q : o.depth ≤ 64 = omega arith in ap expr_of (f s) ∙ k.kept q
 
 -- a node over one part
-pub built_one : (o : Operand) (p : Part) (inner expr : RustExpr) (level depth a b : ℕ) (make : Expr → Place → Expr) → Keeps o p
+pub built_one : (o : Operand) (p : Part) (inner expr : RustExpr) (level depth a b : ℕ) (make : Expr → Place → Expr) → KeepsPart o p
     → ((t : Expr) (q : Place) → (place_of (make t q)).start ≡ q.start) → ((t : Expr) (q : Place) → depth_of (make t q) ≡ depth_of t + 1)
     → ((t u : Expr) (q r : Place) → form_of (make t q) ≡ form_of (make u r))
     → depth ≡ min 65 (o.depth + 1) → (depth ≤ 64 → inner ≡ o.expr) → expr_of expr ≡ make (expr_of inner) (record { start = a; end = b })
@@ -104,7 +104,7 @@ built_one o p inner expr level depth a b make k pl dp fm d f e =
     (λ q. ap form_of e ∙ fm (expr_of inner) p.tree _ q)
 
 -- a node over two parts
-pub built_two : (o o' : Operand) (p p' : Part) (first second expr : RustExpr) (level depth a b : ℕ) (make : Expr → Expr → Place → Expr) → Keeps o p → Keeps o' p'
+pub built_two : (o o' : Operand) (p p' : Part) (first second expr : RustExpr) (level depth a b : ℕ) (make : Expr → Expr → Place → Expr) → KeepsPart o p → KeepsPart o' p'
     → ((t t' : Expr) (q : Place) → (place_of (make t t' q)).start ≡ q.start) → ((t t' : Expr) (q : Place) → depth_of (make t t' q) ≡ max (depth_of t) (depth_of t') + 1)
     → ((t t' u u' : Expr) (q r : Place) → form_of (make t t' q) ≡ form_of (make u u' r))
     → depth ≡ min 65 (max o.depth o'.depth + 1) → (depth ≤ 64 → first ≡ o.expr) → (depth ≤ 64 → second ≡ o'.expr)
@@ -117,7 +117,7 @@ built_two o o' p p' first second expr level depth a b make k k' pl dp fm d f f' 
     (λ q. ap form_of e ∙ fm (expr_of first) (expr_of second) p.tree p'.tree _ q)
 
 -- parentheses around an operand
-pub keeps_grouped : (o : Operand) (p : Part) (t u : Lexeme) → Keeps o p → Keeps (record o { start = t.place.start; end = u.place.end; plain = false; level = 7 }) (grouped (t ∷ []) p u)
+pub keeps_grouped : (o : Operand) (p : Part) (t u : Lexeme) → KeepsPart o p → KeepsPart (record o { start = t.place.start; end = u.place.end; plain = false; level = 7 }) (grouped (t ∷ []) p u)
 keeps_grouped o p t u k = record { starts = starts_one t _; ends = ends_more (t ∷ p.tokens) (ends_one u); first = k.first; plain = refl; depth = k.depth; kept = k.kept; form = k.form }
 
 -- the name that an expression is, if it is one
@@ -131,7 +131,7 @@ name_by_form (attribute p e f) = refl
 name_by_form (index p e i) = refl
 name_by_form _ = refl
 
-pub named_alike : {o : Operand} {p : Part} → Keeps o p → if_plain p.plain (name_of_tree p.tree) ≡ if_plain o.plain (name_of_tree (expr_of o.expr))
+pub named_alike : {o : Operand} {p : Part} → KeepsPart o p → if_plain p.plain (name_of_tree p.tree) ≡ if_plain o.plain (name_of_tree (expr_of o.expr))
 named_alike {o} {p} k = ap (λ z. if_plain z (name_of_tree p.tree)) (sym k.plain) ∙ ap (λ z. if_plain o.plain z) (name_by_form p.tree ∙ ap name_in (sym k.form) ∙ sym (name_by_form (expr_of o.expr)))
 
 -- a name ends where its token does

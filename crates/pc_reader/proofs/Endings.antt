@@ -15,7 +15,7 @@ use Rattle.pc_tree.specs.Machine.Finishing.{add_expr}
 use Rattle.pc_tree.specs.Machine.Expressions.{left_of_link, reduce, part, head_tree, closer, close, close_group, close_item, close_index, close_keyword, close_key, close_value, have_turn}
 use Rattle.pc_reader.specs.declared.reader.Reader.{Reader}
 use Rattle.pc_reader.specs.Reading.{lexeme, IsAhead, NeedsKind}
-use Rattle.pc_reader.specs.Descent.{NextIs, Over, Undotted, Closes}
+use Rattle.pc_reader.specs.Internal.Expressions.{NextIs, Over, Undotted, Closes}
 use Rattle.pc_reader.proofs.Frames.{loose}
 use Rattle.pc_reader.proofs.Joining.{next}
 

@@ -7,7 +7,7 @@ use Rattle.pc_tree.specs.declared.tree.BinaryOperator.TheVariants.{Add, Sub, Mul
 use Rattle.pc_tree.specs.Machine.Kinds.{Infix, arithmetic, comparison, both, either, Link, linking, denying, identifying, Follow, link, a_dot, calls, indexes, ends}
 use Rattle.pc_tree.specs.Machine.States.{Part, Prefix, Stack, joining, applying, Turn, stuck, on}
 use Rattle.pc_tree.specs.Machine.Expressions.{own_of, right_of, own_of_link, left_of_link, prefix_level, rank, joined, applied, reduce, after_link, if_tight, have_turn}
-use Rattle.pc_reader.specs.Descent.{Over, Undotted}
+use Rattle.pc_reader.specs.Internal.Expressions.{Over, Undotted}
 
 pub not_le : (a b : ℕ) → b < a → nat_le a b ≡ false
 not_le a b h = by_tells (leb_tells a b)

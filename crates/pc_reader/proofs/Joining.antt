@@ -8,9 +8,9 @@ use Rattle.pc_tree.specs.Machine.Kinds.{Infix, Link, Follow, link, a_dot, calls,
 use Rattle.pc_tree.specs.Machine.States.{Part, Prefix, Stack, joining, have}
 use Rattle.pc_tree.specs.Machine.Expressions.{own_of, right_of, own_of_link, left_of_link, prefix_level, joined}
 use Rattle.pc_reader.specs.declared.reader.Reader.{Reader}
-use Rattle.pc_reader.specs.Operands.{signs_on, applied_all}
+use Rattle.pc_reader.specs.Internal.Operands.{signs_on, applied_all}
 use Rattle.pc_reader.specs.Reading.{lexeme, Onward}
-use Rattle.pc_reader.specs.Descent.{NextIs, Over, Undotted, HasLink, wrapped_level}
+use Rattle.pc_reader.specs.Internal.Expressions.{NextIs, Over, Undotted, HasLink, wrapped_level}
 use Rattle.pc_reader.proofs.Frames.{join_turn, link_low}
 use Rattle.pc_reader.proofs.Signs.{signs_turn}
 use Rattle.pc_reader.proofs.Steps.{alike}

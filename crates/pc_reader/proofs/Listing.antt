@@ -17,11 +17,11 @@ use Rattle.pc_reader.specs.declared.reader.Reader.{Reader}
 use Rattle.pc_reader.specs.declared.operand.Operand.{Operand}
 use Rattle.pc_reader.specs.declared.items.Items.{Items}
 use Rattle.pc_reader.specs.declared.items.Listed.{Listed}
-use Rattle.pc_reader.specs.Bracketed.{KeepsItems}
-use Rattle.pc_reader.specs.Operands.{Keeps, Builds, Starts}
+use Rattle.pc_reader.specs.Internal.Brackets.{KeepsItems}
+use Rattle.pc_reader.specs.Internal.Operands.{KeepsPart, Builds, Starts}
 use Rattle.pc_reader.specs.Reading.{lexeme, IsAhead, Came, Onward, Takes, IsReady, left_in}
-use Rattle.pc_reader.specs.Descent.{Gives, GoesOn, ListsOn}
-use Rattle.pc_reader.specs.Looping.{ItemsSoFar}
+use Rattle.pc_reader.specs.Internal.Expressions.{Gives, OperandGoesOn, ListsOn}
+use Rattle.pc_reader.proofs.BracketLoops.{ElementsSoFar}
 use Rattle.pc_reader.proofs.Endings.{item_closes}
 use Rattle.pc_reader.proofs.Building.{first_more, starts_more, ends_more, ends_one}
 use Rattle.pc_reader.proofs.SameKind.{is_same}
@@ -50,7 +50,7 @@ module _ {X I : Type 0} (text : X → List ℕ) (steps : I → Option (Result (T
 
 module _ {X I : Type 0} (text : X → List ℕ) (steps : I → Option (Result (Token X) Fault) → I → Type 0) (can : I → Type 0) (left : I → Count) where
   -- before the first item
-  pub items_none : {K : Type 0} (a : Reader X I) (now : Items) (h : Head) (xs : Exprs) (ts : List Lexeme) → (K → KeepsItems now xs) → ItemsSoFar text steps can left K a a now h xs ts
+  pub items_none : {K : Type 0} (a : Reader X I) (now : Items) (h : Head) (xs : Exprs) (ts : List Lexeme) → (K → KeepsItems now xs) → ElementsSoFar text steps can left K a a now h xs ts
   items_none a now h xs ts f = record {
     items = xs;
     more = [];
@@ -59,14 +59,14 @@ module _ {X I : Type 0} (text : X → List ℕ) (steps : I → Option (Result (T
   }
 
   -- an item after those before it
-  pub item_read : {K : Type 0} {a b c : Reader X I} {now : Items} {h : Head} {xs : Exprs} {ts : List Lexeme} {o : Operand} (v : ItemsSoFar text steps can left K a b now h xs ts) (s : Stack) → IsAhead (closer h) b.ahead ≡ false
+  pub item_read : {K : Type 0} {a b c : Reader X I} {now : Items} {h : Head} {xs : Exprs} {ts : List Lexeme} {o : Operand} (v : ElementsSoFar text steps can left K a b now h xs ts) (s : Stack) → IsAhead (closer h) b.ahead ≡ false
       → (q : Gives text steps can left (λ s. rank s ≡ 0) 0 b c o) → Onward text steps a c (at (item_due h xs ts s)) (at (have o.level q.part (listing h v.items (ts ++ v.more) s)))
   item_read {b = b} {h = h} {ts = ts} v s n q r x = v.leads s r (item_begins text steps b h v.items (ts ++ v.more) s n r (q.leads (listing h v.items (ts ++ v.more) s) refl r x))
 
   -- with a comma behind it
-  pub item_more : {K : Type 0} {a b c d : Reader X I} {now now' : Items} {h : Head} {xs : Exprs} {ts : List Lexeme} {o : Operand} {t : Token X} (v : ItemsSoFar text steps can left K a b now h xs ts) → IsAhead (closer h) b.ahead ≡ false
-      → (q : Gives text steps can left (λ s. rank s ≡ 0) 0 b c o) → ((es : Exprs) (p : Part) → KeepsItems now es → Keeps o p → KeepsItems now' (add_expr es p.tree))
-      → Takes text steps can left c d t → t.kind ≡ kind.Operator sign.Comma → ItemsSoFar text steps can left K a d now' h xs ts
+  pub item_more : {K : Type 0} {a b c d : Reader X I} {now now' : Items} {h : Head} {xs : Exprs} {ts : List Lexeme} {o : Operand} {t : Token X} (v : ElementsSoFar text steps can left K a b now h xs ts) → IsAhead (closer h) b.ahead ≡ false
+      → (q : Gives text steps can left (λ s. rank s ≡ 0) 0 b c o) → ((es : Exprs) (p : Part) → KeepsItems now es → KeepsPart o p → KeepsItems now' (add_expr es p.tree))
+      → Takes text steps can left c d t → t.kind ≡ kind.Operator sign.Comma → ElementsSoFar text steps can left K a d now' h xs ts
   item_more {d = d} {h = h} {ts = ts} {o = o} {t = t} v n q f k e = record {
     items = add_expr v.items q.part.tree;
     more = v.more ++ (q.part.tokens ++ (lexeme text t ∷ []));
@@ -77,8 +77,8 @@ module _ {X I : Type 0} (text : X → List ℕ) (steps : I → Option (Result (T
   }
 
   -- with the closing bracket behind it
-  pub item_last : {K : Type 0} {a b c d : Reader X I} {now now' : Items} {h : Head} {xs : Exprs} {ts : List Lexeme} {o : Operand} {t : Token X} (v : ItemsSoFar text steps can left K a b now h xs ts) → IsAhead (closer h) b.ahead ≡ false
-      → (q : Gives text steps can left (λ s. rank s ≡ 0) 0 b c o) → ((es : Exprs) (p : Part) → KeepsItems now es → Keeps o p → KeepsItems now' (add_expr es p.tree))
+  pub item_last : {K : Type 0} {a b c d : Reader X I} {now now' : Items} {h : Head} {xs : Exprs} {ts : List Lexeme} {o : Operand} {t : Token X} (v : ElementsSoFar text steps can left K a b now h xs ts) → IsAhead (closer h) b.ahead ≡ false
+      → (q : Gives text steps can left (λ s. rank s ≡ 0) 0 b c o) → ((es : Exprs) (p : Part) → KeepsItems now es → KeepsPart o p → KeepsItems now' (add_expr es p.tree))
       → Takes text steps can left c d t → t.kind ≡ closer h → K → ListsOn text steps can left a d (record { items = now'; end = t.place.end }) h xs ts
   item_last {d = d} {h = h} {ts = ts} {o = o} {t = t} v n q f k e z = record {
     items = add_expr v.items q.part.tree;
@@ -91,7 +91,7 @@ module _ {X I : Type 0} (text : X → List ℕ) (steps : I → Option (Result (T
   }
 
   -- with the closing bracket and no further item
-  pub items_end : {K : Type 0} {a b c : Reader X I} {now : Items} {h : Head} {xs : Exprs} {ts : List Lexeme} {t : Token X} (v : ItemsSoFar text steps can left K a b now h xs ts)
+  pub items_end : {K : Type 0} {a b c : Reader X I} {now : Items} {h : Head} {xs : Exprs} {ts : List Lexeme} {t : Token X} (v : ElementsSoFar text steps can left K a b now h xs ts)
       → Takes text steps can left b c t → t.kind ≡ closer h → K → ListsOn text steps can left a c (record { items = now; end = t.place.end }) h xs ts
   items_end {c = c} {h = h} {ts = ts} {t = t} v k e z = record {
     items = v.items;
@@ -118,9 +118,9 @@ module _ {X I : Type 0} (text : X → List ℕ) (steps : I → Option (Result (T
   }
 
   -- what stands behind an operand in parentheses, as a call
-  pub called_with : {a b : Reader X I} {l : Listed} {callee made : Operand} (t : Lexeme) (p : Part) → Keeps callee p → (n : ListsOn text steps can left a b l (in_call p.tree) no_exprs (p.tokens ++ (t ∷ [])))
+  pub called_with : {a b : Reader X I} {l : Listed} {callee made : Operand} (t : Lexeme) (p : Part) → KeepsPart callee p → (n : ListsOn text steps can left a b l (in_call p.tree) no_exprs (p.tokens ++ (t ∷ [])))
       → ((es : Exprs) → KeepsItems l.items es → Builds made (λ q. call q p.tree es no_keywords) callee.start l.end)
-      → GoesOn text steps can left (λ t p s. item_due (in_call p.tree) no_exprs (p.tokens ++ (t ∷ [])) s) 7 a b callee made t p
+      → OperandGoesOn text steps can left (λ t p s. item_due (in_call p.tree) no_exprs (p.tokens ++ (t ∷ [])) s) 7 a b callee made t p
   called_with t p k n f = record {
     part = call_part p.tree n.items no_keywords ((p.tokens ++ (t ∷ [])) ++ n.more);
     keeps = f n.items n.keeps _ (starts_more n.more (starts_more (t ∷ []) k.starts)) (ends_more (p.tokens ++ (t ∷ [])) n.ends);

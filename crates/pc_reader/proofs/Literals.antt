@@ -21,8 +21,8 @@ use Rattle.pc_tree.specs.Machine.Finishing.{finish_literal}
 use Rattle.pc_tree.specs.Machine.Lines.{literal_turn}
 use Rattle.pc_reader.specs.declared.reader.Reader.{Reader}
 use Rattle.pc_reader.specs.Reading.{Blames, IsAhead, lexeme, Came, IsReady, Takes, Rejects}
-use Rattle.pc_reader.specs.Standing.{Stands}
-use Rattle.pc_reader.specs.Defaults.{is_literal_kind, literal_ahead, IsLiteral, opens_literal, GivesLiteral, ReadsLiteral, ReadsLiteralFrom, GivesDefault}
+use Rattle.pc_reader.specs.Internal.StatesAhead.{StandsBefore}
+use Rattle.pc_reader.specs.Internal.Literals.{is_literal_kind, literal_ahead, IsLiteral, opens_literal, GivesLiteral, ReadsLiteral, ReadsLiteralFrom, GivesDefault}
 use Rattle.pc_reader.proofs.Steps.{step_to, not_seen}
 use Rattle.pc_reader.proofs.Streams.{blame}
 use Rattle.pc_reader.proofs.Stands.{stands_at, stands_so, passes, takes, stays, goes_to}
@@ -95,7 +95,7 @@ module _ {X I : Type 0} {text : X → List ℕ} {steps : I → Option (Result (T
   }
 
   pub default_fails : {a m : Reader X I} {t : Token X} {e : Fault} → Takes text steps can left a m t → t.kind ≡ kind.Operator sign.Equal → Blames e (λ o. (c : LiteralContext) → Came text steps m (at (literal_due c)) o)
-      → Blames e (λ o. (st : State) (c : LiteralContext) (other : TokenKind → Turn) → Stands text a st (opens_literal c other) → Came text steps a (at st) o)
+      → Blames e (λ o. (st : State) (c : LiteralContext) (other : TokenKind → Turn) → StandsBefore text a st (opens_literal c other) → Came text steps a (at st) o)
   default_fails {t = t} h k w = blame (λ o u. λ st c other x. goes_to (literal_due c) x h (takes (kind.Operator sign.Equal) t.kind (literal_due c) (other t.kind) k) o (u c)) w
 
   pub default_read : {a m b : Reader X I} {t : Token X} {l : RustLiteral} → Takes text steps can left a m t → t.kind ≡ kind.Operator sign.Equal → GivesLiteral text steps can left (λ c. literal_due c) m b l → GivesDefault text steps can left a b (Some l)

@@ -18,11 +18,11 @@ use Rattle.pc_tree.specs.Machine.Expressions.{rank, begin_keyword, call_part}
 use Rattle.pc_reader.specs.declared.reader.Reader.{Reader}
 use Rattle.pc_reader.specs.declared.operand.Operand.{Operand}
 use Rattle.pc_reader.specs.declared.items.Keywords.{Keywords}
-use Rattle.pc_reader.specs.Bracketed.{KeepsKeywords}
-use Rattle.pc_reader.specs.Operands.{Keeps}
+use Rattle.pc_reader.specs.Internal.Brackets.{KeepsKeywords}
+use Rattle.pc_reader.specs.Internal.Operands.{KeepsPart}
 use Rattle.pc_reader.specs.Reading.{lexeme, IsAhead, Came, Onward, Takes, NeedsKind}
-use Rattle.pc_reader.specs.Descent.{Gives, GivesName, NamesOn}
-use Rattle.pc_reader.specs.Looping.{NamesSoFar}
+use Rattle.pc_reader.specs.Internal.Expressions.{Gives, GivesName, NamesOn}
+use Rattle.pc_reader.proofs.BracketLoops.{NamesSoFar}
 use Rattle.pc_reader.proofs.Building.{ends_more, ends_one}
 use Rattle.pc_reader.proofs.Listing.{regroup}
 use Rattle.pc_reader.proofs.Steps.{step_to, not_seen}
@@ -71,7 +71,7 @@ module _ {X I : Type 0} (text : X → List ℕ) (steps : I → Option (Result (T
 
   -- with the closing parenthesis behind the value
   pub argument_last : {a b c d : Reader X I} {first name : Name} {now now' : Keywords} {e : Expr} {xs : Exprs} {ts : List Lexeme} {o : Operand} {t : Token X} (v : NamesSoFar text steps can left a b first now name e xs ts)
-      → (q : Gives text steps can left (λ s. rank s ≡ 0) 0 b c o) → ((ks : KeywordTrees) (p : Part) → KeepsKeywords now ks → Keeps o p → KeepsKeywords now' (add_keyword ks name p.tree))
+      → (q : Gives text steps can left (λ s. rank s ≡ 0) 0 b c o) → ((ks : KeywordTrees) (p : Part) → KeepsKeywords now ks → KeepsPart o p → KeepsKeywords now' (add_keyword ks name p.tree))
       → Takes text steps can left c d t → t.kind ≡ kind.Operator sign.RightParenthesis → NamesOn text steps can left a d (record { keywords = now'; end = t.place.end }) e xs no_keywords first ts
   argument_last {d = d} {name = name} {e = e} {xs = xs} {ts = ts} {o = o} {t = t} v q f h i = record {
     arguments = add_keyword v.arguments name q.part.tree;
@@ -86,7 +86,7 @@ module _ {X I : Type 0} (text : X → List ℕ) (steps : I → Option (Result (T
 
   -- with the closing parenthesis behind a comma
   pub arguments_end : {a b c d f : Reader X I} {first name : Name} {now now' : Keywords} {e : Expr} {xs : Exprs} {ts : List Lexeme} {o : Operand} {t u : Token X} (v : NamesSoFar text steps can left a b first now name e xs ts)
-      → (q : Gives text steps can left (λ s. rank s ≡ 0) 0 b c o) → ((ks : KeywordTrees) (p : Part) → KeepsKeywords now ks → Keeps o p → KeepsKeywords now' (add_keyword ks name p.tree))
+      → (q : Gives text steps can left (λ s. rank s ≡ 0) 0 b c o) → ((ks : KeywordTrees) (p : Part) → KeepsKeywords now ks → KeepsPart o p → KeepsKeywords now' (add_keyword ks name p.tree))
       → Takes text steps can left c d t → t.kind ≡ kind.Operator sign.Comma → Takes text steps can left d f u → u.kind ≡ kind.Operator sign.RightParenthesis
       → NamesOn text steps can left a f (record { keywords = now'; end = u.place.end }) e xs no_keywords first ts
   arguments_end {f = f} {name = name} {e = e} {xs = xs} {ts = ts} {t = t} {u = u} v q g h i k l = record {
@@ -114,7 +114,7 @@ module _ {X I : Type 0} (text : X → List ℕ) (steps : I → Option (Result (T
 
   -- and its `=`
   pub names_more : {a b c d f g : Reader X I} {first name : Name} {now now' : Keywords} {e : Expr} {xs : Exprs} {ts : List Lexeme} {o : Operand} {t u : Token X} {n : RustName} (v : NamesSoFar text steps can left a b first now name e xs ts)
-      → (q : Gives text steps can left (λ s. rank s ≡ 0) 0 b c o) → ((ks : KeywordTrees) (p : Part) → KeepsKeywords now ks → Keeps o p → KeepsKeywords now' (add_keyword ks name p.tree))
+      → (q : Gives text steps can left (λ s. rank s ≡ 0) 0 b c o) → ((ks : KeywordTrees) (p : Part) → KeepsKeywords now ks → KeepsPart o p → KeepsKeywords now' (add_keyword ks name p.tree))
       → Takes text steps can left c d t → t.kind ≡ kind.Operator sign.Comma → GivesName text steps can left d f n → Takes text steps can left f g u → u.kind ≡ kind.Operator sign.Equal
       → NamesSoFar text steps can left a g first now' (name_of n) e xs ts
   names_more {g = g} {name = name} {e = e} {xs = xs} {ts = ts} {t = t} {u = u} {n = n} v q m h i w k l = record {

@@ -14,11 +14,11 @@ use Rattle.pc_tree.specs.Machine.Expressions.{rank, part, operand_turn}
 use Rattle.pc_reader.specs.declared.reader.Reader.{Reader}
 use Rattle.pc_reader.specs.declared.operand.Operand.{Operand}
 use Rattle.pc_reader.specs.declared.items.Entries.{Entries}
-use Rattle.pc_reader.specs.Bracketed.{KeepsEntries}
-use Rattle.pc_reader.specs.Operands.{Keeps, Builds}
+use Rattle.pc_reader.specs.Internal.Brackets.{KeepsEntries}
+use Rattle.pc_reader.specs.Internal.Operands.{KeepsPart, Builds}
 use Rattle.pc_reader.specs.Reading.{lexeme, IsAhead, Came, Onward, Takes, left_in}
-use Rattle.pc_reader.specs.Descent.{Gives}
-use Rattle.pc_reader.specs.Looping.{EntriesSoFar}
+use Rattle.pc_reader.specs.Internal.Expressions.{Gives}
+use Rattle.pc_reader.proofs.BracketLoops.{EntriesSoFar}
 use Rattle.pc_reader.proofs.Building.{first_more, starts_more, ends_more, ends_one}
 use Rattle.pc_reader.proofs.Listing.{key_begins}
 use Rattle.pc_reader.proofs.SameKind.{is_same}
@@ -43,7 +43,7 @@ module _ {X I : Type 0} (text : X → List ℕ) (steps : I → Option (Result (T
   -- an entry and a comma behind it
   pub entry_more : {a b c d f g : Reader X I} {start : ℕ} {now now' : Entries} {o o' : Operand} {t u : Token X} (v : EntriesSoFar text steps can left a b start now) → IsAhead (kind.Operator sign.RightBrace) b.ahead ≡ false
       → (q : Gives text steps can left (λ s. rank s ≡ 0) 0 b c o) → Takes text steps can left c d t → t.kind ≡ kind.Operator sign.Colon → (w : Gives text steps can left (λ s. rank s ≡ 0) 0 d f o')
-      → ((es : EntryTrees) (x y : Part) → KeepsEntries now es → Keeps o x → Keeps o' y → KeepsEntries now' (add_entry es x.tree y.tree)) → Takes text steps can left f g u → u.kind ≡ kind.Operator sign.Comma
+      → ((es : EntryTrees) (x y : Part) → KeepsEntries now es → KeepsPart o x → KeepsPart o' y → KeepsEntries now' (add_entry es x.tree y.tree)) → Takes text steps can left f g u → u.kind ≡ kind.Operator sign.Comma
       → EntriesSoFar text steps can left a g start now'
   entry_more {o' = o'} {t = t} {u = u} v n q k e w p h i = record {
     entries = add_entry v.entries q.part.tree w.part.tree;
@@ -59,7 +59,7 @@ module _ {X I : Type 0} (text : X → List ℕ) (steps : I → Option (Result (T
   -- the last entry and the closing brace
   pub entry_last : {a b c d f g : Reader X I} {start : ℕ} {now now' : Entries} {o o' made : Operand} {t u : Token X} (v : EntriesSoFar text steps can left a b start now) → IsAhead (kind.Operator sign.RightBrace) b.ahead ≡ false
       → (q : Gives text steps can left (λ s. rank s ≡ 0) 0 b c o) → Takes text steps can left c d t → t.kind ≡ kind.Operator sign.Colon → (w : Gives text steps can left (λ s. rank s ≡ 0) 0 d f o')
-      → ((es : EntryTrees) (x y : Part) → KeepsEntries now es → Keeps o x → Keeps o' y → KeepsEntries now' (add_entry es x.tree y.tree)) → (h : Takes text steps can left f g u) → u.kind ≡ kind.Operator sign.RightBrace
+      → ((es : EntryTrees) (x y : Part) → KeepsEntries now es → KeepsPart o x → KeepsPart o' y → KeepsEntries now' (add_entry es x.tree y.tree)) → (h : Takes text steps can left f g u) → u.kind ≡ kind.Operator sign.RightBrace
       → made.level ≡ 7 → ((es : EntryTrees) → KeepsEntries now' es → Builds made (λ z. dict z es) start u.place.end) → left_in left b < left_in left a → Gives text steps can left (λ s. IsAhead (kind.Operator sign.LeftBrace) a.ahead ≡ true) 7 a g made
   entry_last {g = g} {o' = o'} {t = t} {u = u} v n q k e w p h i l m y = record {
     part = part (λ z. dict z (add_entry v.entries q.part.tree w.part.tree)) ((v.tokens ++ (q.part.tokens ++ (lexeme text t ∷ []))) ++ (w.part.tokens ++ (lexeme text u ∷ [])));

@@ -14,9 +14,9 @@ use Rattle.pc_tree.specs.Machine.States.{Part, minus, in_call, Stack, applying, 
 use Rattle.pc_tree.specs.Machine.Expressions.{rank, part}
 use Rattle.pc_reader.specs.declared.reader.Reader.{Reader}
 use Rattle.pc_reader.specs.declared.operand.Operand.{Operand}
-use Rattle.pc_reader.specs.Operands.{Keeps, Builds, signs_on, starts_of}
+use Rattle.pc_reader.specs.Internal.Operands.{KeepsPart, Builds, signs_on, starts_of}
 use Rattle.pc_reader.specs.Reading.{lexeme, IsAhead, Came, Takes}
-use Rattle.pc_reader.specs.Descent.{Gives, GivesOn, NextIs, Undotted, IsPrimary, wrapped_level}
+use Rattle.pc_reader.specs.Internal.Expressions.{Gives, GivesOn, NextIs, Undotted, IsPrimary, wrapped_level}
 use Rattle.pc_reader.proofs.Building.{first_more, starts_more, ends_more, ends_one}
 use Rattle.pc_reader.proofs.Frames.{tight}
 use Rattle.pc_reader.proofs.Joining.{low_undotted}
@@ -63,7 +63,7 @@ module _ {X I : Type 0} (text : X → List ℕ) (steps : I → Option (Result (T
   -- an operand, and what stands in brackets behind it
   pub index_on : {fits : Stack → Type 0} {a b c d f : Reader X I} {o inner made : Operand} {t u : Token X} (v : Gives text steps can left fits 7 a b o) → Takes text steps can left b c t → t.kind ≡ kind.Operator sign.LeftBracket
       → (q : Gives text steps can left (λ s. rank s ≡ 0) 0 c d inner) → Takes text steps can left d f u → u.kind ≡ kind.Operator sign.RightBracket
-      → made.level ≡ 7 → ((p k : Part) → Keeps o p → Keeps inner k → Builds made (λ z. index z p.tree k.tree) o.start u.place.end) → Gives text steps can left fits 7 a f made
+      → made.level ≡ 7 → ((p k : Part) → KeepsPart o p → KeepsPart inner k → Builds made (λ z. index z p.tree k.tree) o.start u.place.end) → Gives text steps can left fits 7 a f made
   index_on {f = f} {o = o} {inner = inner} {t = t} {u = u} v h i q k j lv m = record {
     part = part (λ z. index z v.part.tree q.part.tree) ((v.part.tokens ++ (lexeme text t ∷ [])) ++ (q.part.tokens ++ (lexeme text u ∷ [])));
     keeps = m v.part q.part v.keeps q.keeps _ (starts_more _ (starts_more _ v.keeps.starts)) (ends_more (v.part.tokens ++ (lexeme text t ∷ [])) (ends_more q.part.tokens (ends_one (lexeme text u))));

@@ -18,8 +18,8 @@ use Rattle.pc_reader.specs.declared.items.Items.{Items}
 use Rattle.pc_reader.specs.declared.items.Entries.{Entries as RustEntries}
 use Rattle.pc_reader.specs.declared.items.Keywords.{Keywords as RustKeywords}
 use Rattle.pc_reader.specs.declared.operand.Operand.{Operand}
-use Rattle.pc_reader.specs.Operands.{Keeps, Builds, node_of, form_of}
-use Rattle.pc_reader.specs.Bracketed.{KeepsItems, KeepsEntries, KeepsKeywords}
+use Rattle.pc_reader.specs.Internal.Operands.{KeepsPart, Builds, node_of, form_of}
+use Rattle.pc_reader.specs.Internal.Brackets.{KeepsItems, KeepsEntries, KeepsKeywords}
 use Rattle.pc_reader.proofs.Building.{built}
 
 rows : {n : _} (k : Row_of-Expr n) → exprs_of k ≡ exprs_of_list (items-the_row-Expr n k)
@@ -68,14 +68,14 @@ add_keyword_depth no_keywords n v = omega arith
 add_keyword_depth (more_keywords m x es) n v = omega (arith, add_keyword_depth es n v)
 
 pub pushed_items : (i j : Items) (o : Operand) (es : Exprs) (p : Part) → j.exprs.items ≡ i.exprs.items ++ (o.expr ∷ []) → j.depth ≡ max i.depth (min 65 (o.depth + 1))
-    → KeepsItems i es → Keeps o p → KeepsItems j (add_expr es p.tree)
+    → KeepsItems i es → KeepsPart o p → KeepsItems j (add_expr es p.tree)
 pushed_items i j o es p e d ki ko = record {
   depth = let a = ki.depth in let b = ko.depth in omega (arith, add_depth es p.tree);
   kept = λ h. ap exprs_of_list e ∙ push_exprs i.exprs.items o.expr ∙ ap (λ z. add_expr z (expr_of o.expr)) (ki.kept (omega arith)) ∙ ap (λ z. add_expr es z) (ko.kept (omega arith));
 }
 
 pub pushed_entries : (i j : RustEntries) (k v : Operand) (x : Entry) (es : Entries) (p q : Part) → x.key ≡ k.expr → x.value ≡ v.expr → j.entries.items ≡ i.entries.items ++ (x ∷ []) → j.depth ≡ max i.depth (min 65 (max k.depth v.depth + 1))
-    → KeepsEntries i es → Keeps k p → Keeps v q → KeepsEntries j (add_entry es p.tree q.tree)
+    → KeepsEntries i es → KeepsPart k p → KeepsPart v q → KeepsEntries j (add_entry es p.tree q.tree)
 pushed_entries i j k v x es p q xk xv e d ki kk kv = record {
   depth = let a = ki.depth in let b = kk.depth in let c = kv.depth in omega (arith, add_entry_depth es p.tree q.tree);
   kept = λ h. ap entries_of_list e ∙ push_entries i.entries.items x ∙ ap (λ z. add_entry z (expr_of x.key) (expr_of x.value)) (ki.kept (omega arith))
@@ -83,7 +83,7 @@ pushed_entries i j k v x es p q xk xv e d ki kk kv = record {
 }
 
 pub pushed_keywords : (i j : RustKeywords) (v : Operand) (x : KeywordArgument) (ks : Keywords) (q : Part) → x.value ≡ v.expr → j.arguments.items ≡ i.arguments.items ++ (x ∷ []) → j.depth ≡ max i.depth (min 65 (v.depth + 1))
-    → KeepsKeywords i ks → Keeps v q → KeepsKeywords j (add_keyword ks (name_of x.name) q.tree)
+    → KeepsKeywords i ks → KeepsPart v q → KeepsKeywords j (add_keyword ks (name_of x.name) q.tree)
 pushed_keywords i j v x ks q xv e d ki kv = record {
   depth = let a = ki.depth in let c = kv.depth in omega (arith, add_keyword_depth ks (name_of x.name) q.tree);
   kept = λ h. ap keywords_of_list e ∙ push_keywords i.arguments.items x ∙ ap (λ z. add_keyword z (name_of x.name) (expr_of x.value)) (ki.kept (omega arith))
@@ -110,7 +110,7 @@ in_call p e v w = ap (λ z. call p (expr_of e.value) z (keywords_of (Block.hidde
     ∙ ap (λ z. call p (expr_of e.value) (exprs_of_list v.items) z) (keyword_rows (Block.hidden-the_row-KeywordArgument-2 w) ∙ ap keywords_of_list (items_hidden-the_row-KeywordArgument-2 w))
 
 pub called : (o : Operand) (e : Box RustExpr Global) (v : Vec RustExpr Global) (w : Vec KeywordArgument Global) (i : Items) (j : RustKeywords) (depth a b : ℕ) (p : Part) (es : Exprs) (ks : Keywords)
-    → Keeps o p → KeepsItems i es → KeepsKeywords j ks → depth ≡ max (min 65 (o.depth + 1)) (max i.depth j.depth) → (depth ≤ 64 → e.value ≡ o.expr) → (depth ≤ 64 → v.items ≡ i.exprs.items) → (depth ≤ 64 → w.items ≡ j.arguments.items)
+    → KeepsPart o p → KeepsItems i es → KeepsKeywords j ks → depth ≡ max (min 65 (o.depth + 1)) (max i.depth j.depth) → (depth ≤ 64 → e.value ≡ o.expr) → (depth ≤ 64 → v.items ≡ i.exprs.items) → (depth ≤ 64 → w.items ≡ j.arguments.items)
     → Builds (node_of (rust.Call (record { start = a; end = b }) e v w) (record { start = a; end = b }) 7 depth) (λ q. call q p.tree es ks) a b
 called o e v w i j depth a b p es ks ko ki kj d f g h = let od = ko.depth in let id = ki.depth in let jd = kj.depth in
     built _ 7 depth (max (depth_of p.tree + 1) (max (depth_over es) (depth_over_keywords ks))) a b (λ q. call q p.tree es ks) (λ q. refl) (λ q. refl) (omega arith)

@@ -12,8 +12,8 @@ use Rattle.pc_tree.specs.Machine.Kinds.{same_kind, arithmetic, comparison, both,
 use Rattle.pc_tree.specs.Machine.States.{Part, minus, denial, Stack, whole, joining, applying, grouping, listing, indexing, naming, keying, valuing, State, stuck, go, on}
 use Rattle.pc_tree.specs.Machine.Expressions.{own_of, right_of, own_of_link, left_of_link, prefix_level, rank, reduce, linked, have_turn}
 use Rattle.pc_reader.specs.declared.reader.Reader.{Reader}
-use Rattle.pc_reader.specs.Descent.{HasLink}
-use Rattle.pc_reader.specs.Reading.{kind_ahead, IsAhead, Blames, settled, lexeme, came, Came, Onward, Takes, NeedsKind}
+use Rattle.pc_reader.specs.Internal.Expressions.{HasLink}
+use Rattle.pc_reader.specs.Reading.{kind_ahead, IsAhead, Blames, answer_for, lexeme, came, Came, Onward, Takes, NeedsKind}
 use Rattle.pc_reader.proofs.Frames.{is_le, not_le, tight, right_is, link_low, own_left}
 use Rattle.pc_reader.proofs.SameKind.{same_is}
 use Rattle.pc_source.specs.declared.fault.Fault.TheVariants as fault
@@ -30,7 +30,7 @@ pub alike : {X I : Type 0} (text : X → List ℕ) (steps : I → Option (Result
 alike {X = X} text steps a st st' u u' f o x = by_ahead a.ahead refl
   where
     by_ahead : (v : Option (Token X)) → a.ahead ≡ v → Came text steps a (at st) o
-    by_ahead None q = at_end text steps a (at st) o q (ap (settled a.end) (u ∙ sym u') ∙ sym (run_end text a.end (at st')) ∙ subst (λ z. came text steps z a.tokens a.end (at st') o) q x)
+    by_ahead None q = at_end text steps a (at st) o q (ap (answer_for a.end) (u ∙ sym u') ∙ sym (run_end text a.end (at st')) ∙ subst (λ z. came text steps z a.tokens a.end (at st') o) q x)
     by_ahead (Some t) q = same_step text steps a (at st) (at st') t q (ap (λ z. arrive z (lexeme text t)) (f t q)) o x
 
 -- where a state waits for one kind of token

@@ -10,7 +10,7 @@ use Rattle.pc_reader.specs.declared.reader.Reader.{Reader}
 use Rattle.std.specs.Iterator.{Count, IsFinite}
 use Rattle.pc_token.specs.declared.token.TokenKind.{TokenKind}
 use Rattle.pc_reader.proofs.SameKind.{same_is}
-use Rattle.pc_reader.specs.Reading.{IsAhead, settled, Blames, lexeme, run_items, Comes, came, Came, Rejects, misfit_at, ready, IsReady}
+use Rattle.pc_reader.specs.Reading.{IsAhead, answer_for, Blames, lexeme, run_items, ComesToAnswer, came, Came, Rejects, misfit_at, ready, IsReady}
 
 module _ {X : Type 0} (text : X → List ℕ) where
   pub run_token : (end : ℕ) (r : Reading) (t : Token X) (xs : List (Result (Token X) Fault)) → run_items text end r (Ok t ∷ xs) ≡ run_items text t.place.end (step r (lexeme text t)) xs
@@ -21,7 +21,7 @@ module _ {X : Type 0} (text : X → List ℕ) where
   unfolding run_items
   run_fault end r e xs = refl
 
-  pub run_end : (end : ℕ) (r : Reading) → run_items text end r [] ≡ settled end (stop r)
+  pub run_end : (end : ℕ) (r : Reading) → run_items text end r [] ≡ answer_for end (stop r)
   unfolding run_items
   run_end end r = refl
 
@@ -32,7 +32,7 @@ blame {e} f h = record { said = λ r q. f (Err e) (h.said r q) }
 pub blame_any : {e : Fault} {P : Result Module Fault → Type 0} → P (Err e) → Blames e P
 blame_any h = record { said = λ r q. h }
 
--- of want of memory nothing is said
+-- of a failed allocation nothing is said
 pub blame_memory : {e : Fault} {P : Result Module Fault → Type 0} → e ≡ fault.OutOfMemory → Blames e P
 blame_memory m = record { said = λ r q. absurd (cc) }
 
@@ -67,11 +67,11 @@ module _ {X I : Type 0} (text : X → List ℕ) (steps : I → Option (Result (T
   pub fault_after : (r : Reading) (t : Token X) (end : ℕ) (e : Fault) (it jt : I) → steps it (Some (Err e)) jt → came text steps (Some t) it end r (Err e)
   fault_after r t end e it jt s = (Err e ∷ [], (refl, jt, s), run_token text end r t (Err e ∷ []) ∙ run_fault text t.place.end _ e [])
 
-  pub fault_first : (r : Reading) (e : Fault) (it jt : I) → steps it (Some (Err e)) jt → Comes text steps it 0 r (Err e)
+  pub fault_first : (r : Reading) (e : Fault) (it jt : I) → steps it (Some (Err e)) jt → ComesToAnswer text steps it 0 r (Err e)
   fault_first r e it jt s = (Err e ∷ [], (refl, jt, s), run_fault text 0 r e [])
 
   -- nothing is ahead
-  pub at_end : (a : Reader X I) (r : Reading) (o : Result Module Fault) → a.ahead ≡ None → settled a.end (stop r) ≡ o → Came text steps a r o
+  pub at_end : (a : Reader X I) (r : Reading) (o : Result Module Fault) → a.ahead ≡ None → answer_for a.end (stop r) ≡ o → Came text steps a r o
   at_end a r o h e = subst (λ x. came text steps x a.tokens a.end r o) (sym h) (run_end text a.end r ∙ e)
 
   -- the token ahead leads two readings to the same
@@ -84,7 +84,7 @@ module _ {X I : Type 0} (text : X → List ℕ) (steps : I → Option (Result (T
 
   -- nothing that goes on from a state is ahead
   pub rejected_end : (st : State) (a : Reader X I) → Rejects text st a → a.ahead ≡ None → Came text steps a (at st) (misfit_at a.end)
-  rejected_end st a j h = at_end a (at st) (misfit_at a.end) h (ap (settled a.end) j.unfinished)
+  rejected_end st a j h = at_end a (at st) (misfit_at a.end) h (ap (answer_for a.end) j.unfinished)
 
   pub rejected : (st : State) (a : Reader X I) (t : Token X) → Rejects text st a → a.ahead ≡ Some t
       → Came text steps a (lost t.place.start) (misfit_at t.place.start) → Came text steps a (at st) (misfit_at t.place.start)

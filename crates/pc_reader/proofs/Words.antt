@@ -10,7 +10,7 @@ use Rattle.pc_tree.specs.Machine.Lines.{due}
 use Rattle.pc_tree.specs.Machine.States.{State, fixed, stuck, on}
 use Rattle.pc_reader.specs.declared.reader.Reader.{Reader}
 use Rattle.pc_reader.specs.Reading.{Blames, Came, lexeme, Onward, Takes, NeedsKind, Rejects}
-use Rattle.pc_reader.specs.Words.{kinds_of, IsFormAhead, NeedsForm, TakesForm, ReadsForm}
+use Rattle.pc_reader.specs.Internal.FixedWords.{kinds_of, IsFormAhead, NeedsForm, TakesForm, ReadsForm}
 use Rattle.pc_reader.proofs.Steps.{step_to, needs, meets}
 use Rattle.pc_reader.proofs.Streams.{blame}
 

@@ -1,9 +1,2 @@
-pub mod Bracketed
-pub mod Defaults
-pub mod Descent
-pub mod Links
-pub mod Looping
-pub mod Operands
 pub mod Reading
-pub mod Standing
-pub mod Words
+pub mod Internal

@@ -17,16 +17,16 @@ use Rattle.pc_tree.specs.Machine.States.{State, stuck}
 use Rattle.pc_reader.specs.declared.reader.Reader.{Reader}
 
 -- the answer for an outcome of tokens that end at this byte
-abbrev pub settled : ℕ → Outcome → Result Module Fault
-settled end (reads m) = Ok m
-settled end (refuses byte) = Err (fault.Refused (record { code = code.G1; byte = byte }))
-settled end short = Err (fault.Refused (record { code = code.G1; byte = end }))
+abbrev pub answer_for : ℕ → Outcome → Result Module Fault
+answer_for end (reads m) = Ok m
+answer_for end (refuses byte) = Err (fault.Refused (record { code = code.G1; byte = byte }))
+answer_for end short = Err (fault.Refused (record { code = code.G1; byte = end }))
 
 -- the answer for a token after which no module can follow
 abbrev pub misfit_at : ℕ → Result Module Fault
 misfit_at byte = Err (fault.Refused (record { code = code.G1; byte = byte }))
 
--- what is said of the answer where a call ends in a fault, unless memory is wanting
+-- what is said of the answer where a call ends in a fault, unless an allocation failed
 pub record Blames (e : Fault) (P : Result Module Fault → Type 0) : Type 0 where
   pub said : (r : Refusal) → e ≡ fault.Refused r → P (Err e)
 
@@ -52,19 +52,19 @@ module _ {X : Type 0} (text : X → List ℕ) where
 
   -- over items, the last of the tokens before which ended at this byte: a fault among them decides
   unfoldable pub run_items : ℕ → Reading → List (Result (Token X) Fault) → Result Module Fault
-  run_items end r [] = settled end (stop r)
+  run_items end r [] = answer_for end (stop r)
   run_items end r (Ok t ∷ rest) = run_items t.place.end (step r (lexeme t)) rest
   run_items end r (Err e ∷ rest) = Err e
 
 module _ {X I : Type 0} (text : X → List ℕ) (steps : I → Option (Result (Token X) Fault) → I → Type 0) where
   -- the items that come from an iterator lead from a reading to this answer
-  abbrev pub Comes : I → ℕ → Reading → Result Module Fault → Type 0
-  Comes it end r o = (xs : List (Result (Token X) Fault)) × stream.Comes steps it xs × (run_items text end r xs ≡ o)
+  abbrev pub ComesToAnswer : I → ℕ → Reading → Result Module Fault → Type 0
+  ComesToAnswer it end r o = (xs : List (Result (Token X) Fault)) × stream.Yields steps it xs × (run_items text end r xs ≡ o)
 
   -- so for this token ahead, if there is one, and the items behind it
   abbrev pub came : Option (Token X) → I → ℕ → Reading → Result Module Fault → Type 0
   came None it end r o = run_items text end r [] ≡ o
-  came (Some t) it end r o = (xs : List (Result (Token X) Fault)) × stream.Comes steps it xs × (run_items text end r (Ok t ∷ xs) ≡ o)
+  came (Some t) it end r o = (xs : List (Result (Token X) Fault)) × stream.Yields steps it xs × (run_items text end r (Ok t ∷ xs) ≡ o)
 
   -- the same with the token ahead before them; with none ahead they have ended
   abbrev pub Came : Reader X I → Reading → Result Module Fault → Type 0

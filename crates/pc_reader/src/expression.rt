@@ -8,7 +8,7 @@ ghost use Rattle.pc_tree.specs.Machine.Kinds.{start_of};
 ghost use Rattle.pc_tree.specs.Machine.Expressions.{rank};
 ghost use Rattle.pc_tree.specs.Machine.States.{item_due, in_call};
 ghost use Rattle.pc_reader.specs.Reading.{IsReady, IsAhead, lexeme};
-ghost use Rattle.pc_reader.specs.Descent.{NextIs, Over, Undotted, IsPrimary, IsSingle, IsValue, is_value_start, value_ahead, ReadsOperand, ReadsItems, ReadsKeywords, ReadsOn};
+ghost use Rattle.pc_reader.specs.Internal.Expressions.{NextIs, Over, Undotted, IsPrimary, IsSingle, IsValue, is_value_start, value_ahead, ReadsOperand, ReadsItems, ReadsKeywords, ReadsOn};
 
 use crate::items::{Arguments, Entries, Items, Keywords, Listed, called, dict, list, tuple};
 use crate::name::{characters, digits, named};

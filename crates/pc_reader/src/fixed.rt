@@ -1,7 +1,7 @@
 //! Tokens of which the grammar says exactly which one must stand.
 ghost use Rattle.std.specs.Prelude.{◌≡◌};
 ghost use Rattle.pc_reader.specs.Reading.{IsReady};
-ghost use Rattle.pc_reader.specs.Words.{kinds_of, ReadsForm, ReadsFixed};
+ghost use Rattle.pc_reader.specs.Internal.FixedWords.{kinds_of, ReadsForm, ReadsFixed};
 
 use crate::reader::Reader;
 use pc_source::Fault;

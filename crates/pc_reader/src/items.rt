@@ -4,8 +4,8 @@ ghost use Rattle.pc_source.specs.declared.fault.Fault.TheVariants as fault;
 ghost use Rattle.pc_tree.specs.Tree.{Exprs, Entries as EntryTrees, Keywords as KeywordTrees, tuple as tuple_tree, list as list_tree, dict as dict_tree, call as call_tree, no_exprs, no_entries, no_keywords, name_of};
 ghost use Rattle.pc_tree.specs.Machine.Finishing.{add_expr, add_entry, add_keyword};
 ghost use Rattle.pc_tree.specs.Machine.States.{Part};
-ghost use Rattle.pc_reader.specs.Operands.{Keeps, Builds};
-ghost use Rattle.pc_reader.specs.Bracketed.{KeepsItems, KeepsEntries, KeepsKeywords};
+ghost use Rattle.pc_reader.specs.Internal.Operands.{KeepsPart, Builds};
+ghost use Rattle.pc_reader.specs.Internal.Brackets.{KeepsItems, KeepsEntries, KeepsKeywords};
 
 use crate::operand::{Operand, above, deeper, kept, node};
 use pc_source::{Fault, Place};
@@ -60,7 +60,7 @@ impl Items {
     /// Adds an expression at the end.
     pub(crate) fn push(&mut self, item: Operand) -> Result<(), Fault>
         requires { item.depth ≤ 65 }
-        ensures { MatchResult result (λ _. (es : Exprs) (p : Part) → KeepsItems self.old es → Keeps item p → KeepsItems self.new (add_expr es p.tree)) (λ e. e ≡ fault.OutOfMemory) }
+        ensures { MatchResult result (λ _. (es : Exprs) (p : Part) → KeepsItems self.old es → KeepsPart item p → KeepsItems self.new (add_expr es p.tree)) (λ e. e ≡ fault.OutOfMemory) }
     {
         self.depth = deeper(self.depth, above(item.depth));
         self.exprs.push(item.expr)?;
@@ -82,7 +82,7 @@ impl Entries {
     pub(crate) fn push(&mut self, key: Operand, value: Operand) -> Result<(), Fault>
         requires key { key.depth ≤ 65 }
         requires value { value.depth ≤ 65 }
-        ensures { MatchResult result (λ _. (es : EntryTrees) (k v : Part) → KeepsEntries self.old es → Keeps key k → Keeps value v → KeepsEntries self.new (add_entry es k.tree v.tree)) (λ e. e ≡ fault.OutOfMemory) }
+        ensures { MatchResult result (λ _. (es : EntryTrees) (k v : Part) → KeepsEntries self.old es → KeepsPart key k → KeepsPart value v → KeepsEntries self.new (add_entry es k.tree v.tree)) (λ e. e ≡ fault.OutOfMemory) }
     {
         self.depth = deeper(self.depth, above(deeper(key.depth, value.depth)));
         self.entries.push(Entry {
@@ -106,7 +106,7 @@ impl Keywords {
     /// Adds an argument by name at the end.
     pub(crate) fn push(&mut self, name: Name, value: Operand) -> Result<(), Fault>
         requires { value.depth ≤ 65 }
-        ensures { MatchResult result (λ _. (ks : KeywordTrees) (v : Part) → KeepsKeywords self.old ks → Keeps value v → KeepsKeywords self.new (add_keyword ks (name_of name) v.tree)) (λ e. e ≡ fault.OutOfMemory) }
+        ensures { MatchResult result (λ _. (ks : KeywordTrees) (v : Part) → KeepsKeywords self.old ks → KeepsPart value v → KeepsKeywords self.new (add_keyword ks (name_of name) v.tree)) (λ e. e ≡ fault.OutOfMemory) }
     {
         self.depth = deeper(self.depth, above(value.depth));
         self.arguments.push(KeywordArgument {
@@ -159,7 +159,7 @@ pub(crate) fn called(
     end: usize,
 ) -> Result<Operand, Fault>
     requires { callee.depth ≤ 65 }
-    ensures { MatchResult result (λ o. (o.level ≡ 7) × ((p : Part) (es : Exprs) (ks : KeywordTrees) → Keeps callee p → KeepsItems items es → KeepsKeywords keywords ks → Builds o (λ q. call_tree q p.tree es ks) callee.start end)) (λ e. e ≡ fault.OutOfMemory) }
+    ensures { MatchResult result (λ o. (o.level ≡ 7) × ((p : Part) (es : Exprs) (ks : KeywordTrees) → KeepsPart callee p → KeepsItems items es → KeepsKeywords keywords ks → Builds o (λ q. call_tree q p.tree es ks) callee.start end)) (λ e. e ≡ fault.OutOfMemory) }
 {
     let place = Place {
         start: callee.start,

@@ -2,7 +2,7 @@
 ghost use Rattle.std.specs.Prelude.{◌≡◌, MatchResult, true};
 ghost use Rattle.pc_source.specs.declared.fault.Fault.TheVariants as fault;
 ghost use Rattle.pc_reader.specs.Reading.{IsReady, lexeme};
-ghost use Rattle.pc_reader.specs.Defaults.{ReadsLiteral, ReadsNegative, ReadsDefault, is_literal_kind, literal_ahead, IsLiteral};
+ghost use Rattle.pc_reader.specs.Internal.Literals.{ReadsLiteral, ReadsNegative, ReadsDefault, is_literal_kind, literal_ahead, IsLiteral};
 
 use crate::name::{characters, digits};
 use crate::reader::Reader;

@@ -4,7 +4,7 @@ ghost use Rattle.pc_source.specs.declared.fault.Fault.TheVariants as fault;
 ghost use Rattle.pc_tree.specs.Grammar.{digits_of, characters_of, escaped, name_at, unclosed, unopened};
 ghost use Rattle.pc_tree.specs.Tree.{name_of};
 ghost use Rattle.pc_reader.specs.Reading.{IsReady, lexeme};
-ghost use Rattle.pc_reader.specs.Descent.{ReadsName};
+ghost use Rattle.pc_reader.specs.Internal.Expressions.{ReadsName};
 
 use crate::reader::Reader;
 use pc_source::Fault;

@@ -5,7 +5,7 @@ ghost use Rattle.pc_tree.specs.Tree.{attribute, index as index_tree, expr_of, na
 ghost use Rattle.pc_tree.specs.Machine.Expressions.{infix_tree, prefix_tree, prefix_level, own_of};
 ghost use Rattle.pc_tree.specs.Machine.Finishing.{if_plain, name_of_tree};
 ghost use Rattle.pc_tree.specs.Machine.States.{Part};
-ghost use Rattle.pc_reader.specs.Operands.{Keeps, Builds, node_of, infix_of, prefix_of, none_tree};
+ghost use Rattle.pc_reader.specs.Internal.Operands.{KeepsPart, Builds, node_of, infix_of, prefix_of, none_tree};
 
 use pc_source::{Fault, Place};
 use pc_tree::{BinaryOperator, ComparisonOperator, Expr, Name};
@@ -124,7 +124,7 @@ pub(crate) fn join(
 ) -> Result<Operand, Fault>
     requires left { left.depth ≤ 65 }
     requires right { right.depth ≤ 65 }
-    ensures { MatchResult result (λ o. (o.level ≡ own_of (infix_of operator)) × ((l r : Part) → Keeps left l → Keeps right r → Builds o (infix_tree (infix_of operator) l.tree r.tree) left.start right.end)) (λ e. e ≡ fault.OutOfMemory) }
+    ensures { MatchResult result (λ o. (o.level ≡ own_of (infix_of operator)) × ((l r : Part) → KeepsPart left l → KeepsPart right r → Builds o (infix_tree (infix_of operator) l.tree r.tree) left.start right.end)) (λ e. e ≡ fault.OutOfMemory) }
 {
     let place = Place {
         start: left.start,
@@ -145,7 +145,7 @@ pub(crate) fn wrap(
     operand: Operand,
 ) -> Result<Operand, Fault>
     requires { operand.depth ≤ 65 }
-    ensures { MatchResult result (λ o. (o.level ≡ prefix_level (prefix_of prefix)) × ((p : Part) → Keeps operand p → Builds o (prefix_tree (prefix_of prefix) p.tree) start operand.end) × (o.depth ≤ 65)) (λ e. e ≡ fault.OutOfMemory) }
+    ensures { MatchResult result (λ o. (o.level ≡ prefix_level (prefix_of prefix)) × ((p : Part) → KeepsPart operand p → Builds o (prefix_tree (prefix_of prefix) p.tree) start operand.end) × (o.depth ≤ 65)) (λ e. e ≡ fault.OutOfMemory) }
 {
     let place = Place {
         start,
@@ -167,7 +167,7 @@ pub(crate) fn none_test(
     end: usize,
 ) -> Result<Operand, Fault>
     requires { operand.depth ≤ 65 }
-    ensures { MatchResult result (λ o. (o.level ≡ 3) × ((p : Part) → Keeps operand p → Builds o (none_tree negated p.tree) operand.start end)) (λ e. e ≡ fault.OutOfMemory) }
+    ensures { MatchResult result (λ o. (o.level ≡ 3) × ((p : Part) → KeepsPart operand p → Builds o (none_tree negated p.tree) operand.start end)) (λ e. e ≡ fault.OutOfMemory) }
 {
     let place = Place {
         start: operand.start,
@@ -189,7 +189,7 @@ pub(crate) fn member(
     end: usize,
 ) -> Result<Operand, Fault>
     requires { operand.depth ≤ 65 }
-    ensures { MatchResult result (λ o. (o.level ≡ 7) × ((p : Part) → Keeps operand p → Builds o (λ q. attribute q p.tree (name_of name)) operand.start end)) (λ e. e ≡ fault.OutOfMemory) }
+    ensures { MatchResult result (λ o. (o.level ≡ 7) × ((p : Part) → KeepsPart operand p → Builds o (λ q. attribute q p.tree (name_of name)) operand.start end)) (λ e. e ≡ fault.OutOfMemory) }
 {
     let place = Place {
         start: operand.start,
@@ -209,7 +209,7 @@ pub(crate) fn indexed(
 ) -> Result<Operand, Fault>
     requires operand { operand.depth ≤ 65 }
     requires key { key.depth ≤ 65 }
-    ensures { MatchResult result (λ o. (o.level ≡ 7) × ((p k : Part) → Keeps operand p → Keeps key k → Builds o (λ q. index_tree q p.tree k.tree) operand.start end)) (λ e. e ≡ fault.OutOfMemory) }
+    ensures { MatchResult result (λ o. (o.level ≡ 7) × ((p k : Part) → KeepsPart operand p → KeepsPart key k → Builds o (λ q. index_tree q p.tree k.tree) operand.start end)) (λ e. e ≡ fault.OutOfMemory) }
 {
     let place = Place {
         start: operand.start,

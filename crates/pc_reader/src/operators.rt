@@ -4,10 +4,10 @@ ghost use Rattle.pc_source.specs.declared.fault.Fault.TheVariants as fault;
 ghost use Rattle.pc_token.specs.Lexeme.{Lexeme};
 ghost use Rattle.pc_tree.specs.Machine.States.{Part, identified, dotted};
 ghost use Rattle.pc_tree.specs.Fronts.Expressions.{prefix_kind};
-ghost use Rattle.pc_reader.specs.Operands.{Keeps, prefix_of, starts_of, applied_all};
+ghost use Rattle.pc_reader.specs.Internal.Operands.{KeepsPart, prefix_of, starts_of, applied_all};
 ghost use Rattle.pc_reader.specs.Reading.{IsReady, IsAhead};
-ghost use Rattle.pc_reader.specs.Links.{link_view};
-ghost use Rattle.pc_reader.specs.Descent.{NextIs, Over, HasLink, ReadsInfix, ReadsOn, ReadsSigns, wrapped_level};
+ghost use Rattle.pc_reader.specs.Internal.Links.{link_view};
+ghost use Rattle.pc_reader.specs.Internal.Expressions.{NextIs, Over, HasLink, ReadsInfix, ReadsOn, ReadsSigns, wrapped_level};
 
 use crate::link::{Link, link_of};
 use crate::operand::{Infix, Operand, Prefix, member, none_test, wrap};
@@ -38,7 +38,7 @@ pub(crate) fn wrap_all(
     operand: Operand,
 ) -> Result<Operand, Fault>
     requires { operand.depth ≤ 65 }
-    ensures { MatchResult result (λ o. (ts : List Lexeme) (p : Part) → starts_of ts ≡ signs.items → Keeps operand p → Keeps o (applied_all (prefix_of prefix) ts p) × (o.level ≡ wrapped_level (prefix_of prefix) ts operand.level)) (λ e. e ≡ fault.OutOfMemory) }
+    ensures { MatchResult result (λ o. (ts : List Lexeme) (p : Part) → starts_of ts ≡ signs.items → KeepsPart operand p → KeepsPart o (applied_all (prefix_of prefix) ts p) × (o.level ≡ wrapped_level (prefix_of prefix) ts operand.level)) (λ e. e ≡ fault.OutOfMemory) }
 {
     let mut signs = signs;
     let mut operand = operand;

@@ -5,8 +5,8 @@ ghost use Rattle.pc_tree.specs.Machine.Kinds.{kind_number, same_kind};
 ghost use Rattle.pc_tree.specs.Machine.States.{State};
 ghost use Rattle.pc_tree.specs.Machine.{Reading, at, lost, stop, short};
 ghost use Rattle.pc_token.specs.Lexeme.{form_of};
-ghost use Rattle.pc_reader.specs.Words.{IsFormAhead};
-ghost use Rattle.pc_reader.specs.Reading.{Blames, Came, IsAhead, kind_ahead, place_ahead, IsReady, Rejects, Comes, Takes, NeedsKind, misfit_at};
+ghost use Rattle.pc_reader.specs.Internal.FixedWords.{IsFormAhead};
+ghost use Rattle.pc_reader.specs.Reading.{Blames, Came, IsAhead, kind_ahead, place_ahead, IsReady, Rejects, ComesToAnswer, Takes, NeedsKind, misfit_at};
 
 use pc_source::{Fault, Place, Refusal, RefusalCode};
 use pc_token::{Token, TokenKind};
@@ -55,8 +55,8 @@ impl<X: AsStr + Drop, I: Iterator<Item = Result<Token<X>, Fault>> + Drop> Reader
         requires ends { IsFinite (I.remaining tokens) }
         ensures ready { MatchResult result (λ r. IsReady I.can_next I.remaining r) (λ _. Unit {0}) }
         ensures leads { MatchResult result
-            (λ r. (st : Reading) (o : _) → Came X.text I.next_gives r st o → Comes X.text I.next_gives tokens 0 st o)
-            (λ e. Blames e (λ o. (st : Reading) → Comes X.text I.next_gives tokens 0 st o)) }
+            (λ r. (st : Reading) (o : _) → Came X.text I.next_gives r st o → ComesToAnswer X.text I.next_gives tokens 0 st o)
+            (λ e. Blames e (λ o. (st : Reading) → ComesToAnswer X.text I.next_gives tokens 0 st o)) }
     {
         let mut tokens = tokens;
         match tokens.next() {

@@ -11,7 +11,7 @@ use Rattle.pc_report.specs.declared.flow.FlowTexts.{FlowTexts}
 use Rattle.pc_report.specs.declared.format.Format.{Format}
 use Rattle.pc_report.specs.declared.report.Row.{Row}
 use Rattle.pc_report.specs.Format.{format_number}
-use Rattle.pc_report.specs.Report.{findings_of, errors_of, dynamic_of, shown_flow}
+use Rattle.pc_report.specs.Report.{row_findings, errors_of, dynamic_count, shown_flow}
 use Rattle.pc_report.specs.Json.{finding_json, findings_json, report_object, finding_members, finding_data, findings_data, report_data}
 use Rattle.pc_report.specs.ReadBack.{finding_in, findings_of_items, findings_in}
 use Rattle.pc_report.proofs.CodeOrder.{code_again}
@@ -41,7 +41,7 @@ findings_are format (row ∷ next ∷ rows) =
 pub report_is : (format : Format) (rows : List Row) → compact_text (report_data format rows) ≡ report_object format rows
 unfolding serde_json_on_literals
 report_is format rows =
-    ap (λ x. codes "{\"dynamic\":" ++ (decimal (dynamic_of rows) ++ (codes ",\"errors\":" ++ (decimal (errors_of rows) ++ (codes ",\"findings\":[" ++ x)))))
+    ap (λ x. codes "{\"dynamic\":" ++ (decimal (dynamic_count rows) ++ (codes ",\"errors\":" ++ (decimal (errors_of rows) ++ (codes ",\"findings\":[" ++ x)))))
     (ap (λ x. x ++ (codes ",\"format\":" ++ (decimal (format_number format) ++ codes "}"))) (findings_are format rows) ∙ append_assoc (findings_json format rows) (93 ∷ []) _)
 
 -- ---- no float, and no depth
@@ -80,9 +80,9 @@ told : (flow : Option FlowTexts) (row : Row) → finding_in (object (finding_mem
 told None row = ap (option_map (finding row.finding.place)) (code_again row.finding.code)
 told (Some flow) row = ap (option_map (finding row.finding.place)) (code_again row.finding.code)
 
-all_told : (format : Format) (rows : List Row) → findings_of_items (findings_data format rows) ≡ Some (findings_of rows)
+all_told : (format : Format) (rows : List Row) → findings_of_items (findings_data format rows) ≡ Some (row_findings rows)
 all_told format [] = refl
 all_told format (row ∷ rows) = ap₂ (λ f fs. option_and_then (λ g. option_map (λ gs. g ∷ gs) fs) f) (told (shown_flow format row) row) (all_told format rows)
 
-pub report_told : (format : Format) (rows : List Row) → findings_in (report_data format rows) ≡ Some (findings_of rows)
+pub report_told : (format : Format) (rows : List Row) → findings_in (report_data format rows) ≡ Some (row_findings rows)
 report_told = all_told

@@ -10,8 +10,8 @@ use Rattle.std.proofs.lemmas.List.Elements.{Contains-push_cases, Contains-append
 use Rattle.pc_source.specs.declared.place.Place.{Place}
 use Rattle.pc_tree.specs.declared.code.Finding.{Finding}
 use Rattle.pc_report.specs.declared.report.Row.{Row}
-use Rattle.pc_report.specs.Flows.{Flow, IsListed, HasFlows, place_cmp}
-use Rattle.pc_report.specs.Report.{findings_of}
+use Rattle.pc_report.specs.Flows.{FlowEntry, IsListed, HasFlows, place_cmp}
+use Rattle.pc_report.specs.Report.{row_findings}
 use Rattle.pc_report.proofs.Members.{contains_here}
 use Rattle.pc_report.proofs.Order.{then_equal, nat_equal, nat_self}
 
@@ -33,17 +33,17 @@ place_same p q h =
 place_self : (p : Place) → is_eq (place_cmp p p) ≡ true
 place_self p = rw (nat_self p.start, nat_self p.end) refl
 
-listed_more : (xs : List Flow) (f : Flow) (p : Place) → IsListed (xs ++ f ∷ []) p → IsListed xs p ⊎ (f.0 ≡ p)
+listed_more : (xs : List FlowEntry) (f : FlowEntry) (p : Place) → IsListed (xs ++ f ∷ []) p → IsListed xs p ⊎ (f.0 ≡ p)
 listed_more xs f p (g, c, e) = elim (Contains-push_cases xs f g c) [
   | inl a ↦ inl (g, a, e)
-  | inr b ↦ inr (ap (λ (x : Flow). x.0) b ∙ e)
+  | inr b ↦ inr (ap (λ (x : FlowEntry). x.0) b ∙ e)
 ]
 
-module _ (xs : List Flow) (b : Bor Flow) (p : Place) where
-  Here : Option (Bor Flow) → Type 0
+module _ (xs : List FlowEntry) (b : Bor FlowEntry) (p : Place) where
+  Here : Option (Bor FlowEntry) → Type 0
   Here o = MatchOption o (¬ (IsListed (xs ++ b.now ∷ []) p)) (λ f. Contains (xs ++ b.now ∷ []) f.now × (f.now.0 ≡ p))
 
-  kept : is_eq (place_cmp b.now.0 p) ≡ false → (o : Option (Bor Flow)) → MatchOption o (¬ (IsListed xs p)) (λ f. Contains xs f.now × (f.now.0 ≡ p)) → Here o
+  kept : is_eq (place_cmp b.now.0 p) ≡ false → (o : Option (Bor FlowEntry)) → MatchOption o (¬ (IsListed xs p)) (λ f. Contains xs f.now × (f.now.0 ≡ p)) → Here o
   unfolding Here
   kept h None n = λ l. elim (listed_more xs b.now p l) [
     | inl a ↦ n a
@@ -51,12 +51,12 @@ module _ (xs : List Flow) (b : Bor Flow) (p : Place) where
   ]
   kept h (Some f) (c, e) = (Contains-append_left xs (b.now ∷ []) f.now c, e)
 
-  here : (t : Bool) → is_eq (place_cmp b.now.0 p) ≡ t → (o : Option (Bor Flow)) → MatchOption o (¬ (IsListed xs p)) (λ f. Contains xs f.now × (f.now.0 ≡ p)) → Here (cond t (Some b) o)
+  here : (t : Bool) → is_eq (place_cmp b.now.0 p) ≡ t → (o : Option (Bor FlowEntry)) → MatchOption o (¬ (IsListed xs p)) (λ f. Contains xs f.now × (f.now.0 ≡ p)) → Here (cond t (Some b) o)
   unfolding Here
   here true h o old = (Contains-append_right xs (b.now ∷ []) b.now (contains_here b.now [] b.now refl), place_same b.now.0 p h)
   here false h o old = kept h o old
 
-pub flows_more : (xs : List Flow) (b : Bor Flow) (old new : BTreeMap Place (Bor Flow)) → HasFlows xs old → ((q : Place) → get place_cmp new q ≡ cond (is_eq (place_cmp b.now.0 q)) (Some b) (get place_cmp old q)) → HasFlows (xs ++ b.now ∷ []) new
+pub flows_more : (xs : List FlowEntry) (b : Bor FlowEntry) (old new : BTreeMap Place (Bor FlowEntry)) → HasFlows xs old → ((q : Place) → get place_cmp new q ≡ cond (is_eq (place_cmp b.now.0 q)) (Some b) (get place_cmp old q)) → HasFlows (xs ++ b.now ∷ []) new
 unfolding Here
 flows_more xs b old new has step p = subst (Here xs b p) (sym (step p)) (here xs b p (is_eq (place_cmp b.now.0 p)) refl (get place_cmp old p) (has p))
 
@@ -66,6 +66,6 @@ all_more P [] row all one = (one, all)
 all_more P (first ∷ rows) row all one = (all.0, all_more P rows row all.1 one)
 
 -- the findings of rows and of one more, before others
-pub findings_more : (rows : List Row) (row : Row) (rest : List Finding) → findings_of (rows ++ row ∷ []) ++ rest ≡ findings_of rows ++ (row.finding ∷ rest)
+pub findings_more : (rows : List Row) (row : Row) (rest : List Finding) → row_findings (rows ++ row ∷ []) ++ rest ≡ row_findings rows ++ (row.finding ∷ rest)
 findings_more [] row rest = refl
 findings_more (first ∷ rows) row rest = ap (λ (l : List Finding). first.finding ∷ l) (findings_more rows row rest)

@@ -11,19 +11,19 @@ use Rattle.pc_tree.specs.declared.code.Finding.{Finding}
 use Rattle.pc_report.specs.declared.flow.FlowTexts.{FlowTexts}
 
 -- a place, with the texts of the type that a value has there and of the type of where it goes
-abbrev pub Flow : Type 0
-Flow = Place × String Global × String Global
+abbrev pub FlowEntry : Type 0
+FlowEntry = Place × String Global × String Global
 
 -- a flow of the list is at the place
-abbrev pub IsListed : List Flow → Place → Type 0
-IsListed flows place = (f : Flow) × Contains flows f × (f.0 ≡ place)
+abbrev pub IsListed : List FlowEntry → Place → Type 0
+IsListed flows place = (f : FlowEntry) × Contains flows f × (f.0 ≡ place)
 
 -- a flow of the list is at the place, with these texts
-abbrev pub ListsAt : List Flow → Place → FlowTexts → Type 0
-ListsAt flows place texts = (f : Flow) × Contains flows f × (f.0 ≡ place) × (string_bytes texts.from ≡ string_bytes f.1) × (string_bytes texts.to ≡ string_bytes f.2)
+abbrev pub ListsAt : List FlowEntry → Place → FlowTexts → Type 0
+ListsAt flows place texts = (f : FlowEntry) × Contains flows f × (f.0 ≡ place) × (string_bytes texts.from ≡ string_bytes f.1) × (string_bytes texts.to ≡ string_bytes f.2)
 
 -- a finding of a flow through `Any` has the texts that the list has at its place, where it has some; other findings have none
-abbrev pub IsExplained : List Flow → Finding → Option FlowTexts → Type 0
+abbrev pub IsExplained : List FlowEntry → Finding → Option FlowTexts → Type 0
 IsExplained flows finding texts = MatchOption texts (finding.code ≡ A1 → ¬ (IsListed flows finding.place)) (λ t. (finding.code ≡ A1) × ListsAt flows finding.place t)
 
 -- the order of places
@@ -31,5 +31,5 @@ abbrev pub place_cmp : Place → Place → Ordering
 place_cmp p q = ordering_then (nat_cmp p.start q.start) (nat_cmp p.end q.end)
 
 -- a map has, at each place of the list, a flow of the list
-abbrev pub HasFlows : List Flow → BTreeMap Place (Bor Flow) → Type 0
+abbrev pub HasFlows : List FlowEntry → BTreeMap Place (Bor FlowEntry) → Type 0
 HasFlows flows m = (p : Place) → MatchOption (get place_cmp m p) (¬ (IsListed flows p)) (λ f. Contains flows f.now × (f.now.0 ≡ p))

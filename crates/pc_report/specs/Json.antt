@@ -8,7 +8,7 @@ use Rattle.pc_report.specs.declared.flow.FlowTexts.{FlowTexts}
 use Rattle.pc_report.specs.declared.format.Format.{Format}
 use Rattle.pc_report.specs.declared.report.Row.{Row}
 use Rattle.pc_report.specs.Format.{format_number}
-use Rattle.pc_report.specs.Report.{errors_of, dynamic_of, shown_flow}
+use Rattle.pc_report.specs.Report.{errors_of, dynamic_count, shown_flow}
 
 -- ---- the bytes
 
@@ -35,7 +35,7 @@ findings_json format (row ∷ next ∷ rows) = finding_json (shown_flow format r
 
 -- the report in braces
 abbrev pub report_object : Format → List Row → List ℕ
-report_object format rows = codes "{\"dynamic\":" ++ (decimal (dynamic_of rows) ++ (codes ",\"errors\":" ++ (decimal (errors_of rows) ++ (codes ",\"findings\":[" ++ (findings_json format rows
+report_object format rows = codes "{\"dynamic\":" ++ (decimal (dynamic_count rows) ++ (codes ",\"errors\":" ++ (decimal (errors_of rows) ++ (codes ",\"findings\":[" ++ (findings_json format rows
     ++ (codes "],\"format\":" ++ (decimal (format_number format) ++ codes "}")))))))
 
 -- the report, and a line feed
@@ -62,5 +62,5 @@ findings_data format rows = items_of (map (finding_data format) rows)
 
 -- the report as an object
 abbrev pub report_data : Format → List Row → Data
-report_data format rows = object (member (codes "dynamic") (number (unsigned (dynamic_of rows))) (member (codes "errors") (number (unsigned (errors_of rows)))
+report_data format rows = object (member (codes "dynamic") (number (unsigned (dynamic_count rows))) (member (codes "errors") (number (unsigned (errors_of rows)))
     (member (codes "findings") (array (findings_data format rows)) (member (codes "format") (number (unsigned (format_number format))) no_members))))

@@ -5,7 +5,7 @@ use Rattle.pc_source.specs.declared.counted.Counted.{Counted}
 use Rattle.pc_report.specs.declared.reading.ReadFault.{ReadFault}
 use Rattle.pc_report.specs.declared.reading.ReadFault.TheVariants.{OutOfMemory, Read}
 
--- what holds after want of memory, and what after a failed read
+-- what holds after a failed allocation, and what after a failed read
 abbrev pub OnReadFault : ReadFault → Type 0 → Type 0 → Type 0
 OnReadFault OutOfMemory wanting failed = wanting
 OnReadFault Read wanting failed = failed

@@ -12,7 +12,7 @@ use Rattle.pc_report.specs.declared.format.Format.{Format}
 use Rattle.pc_report.specs.declared.format.Format.TheVariants.{One, Two}
 use Rattle.pc_report.specs.declared.flow.FlowTexts.{FlowTexts}
 use Rattle.pc_report.specs.declared.report.Row.{Row}
-use Rattle.pc_report.specs.Flows.{Flow, IsExplained}
+use Rattle.pc_report.specs.Flows.{FlowEntry, IsExplained}
 
 -- one finding stands before another: by start, by end, by the text of the code
 abbrev pub IsBefore : Finding → Finding → Type 0
@@ -27,21 +27,21 @@ IsInOrder (f ∷ []) = Unit {0}
 IsInOrder (f ∷ g ∷ fs) = IsBefore f g × IsInOrder (g ∷ fs)
 
 -- the findings of the rows, in their order
-abbrev pub findings_of : List Row → List Finding
-findings_of rows = map (λ row. row.finding) rows
+abbrev pub row_findings : List Row → List Finding
+row_findings rows = map (λ row. row.finding) rows
 
 -- a row has the line and the column of its finding's start
 abbrev pub IsPlaced : List ℕ → Row → Type 0
 IsPlaced source row = (row.line ≡ line_of source row.finding.place.start) × (row.column ≡ column_of source row.finding.place.start)
 
 -- each row of a flow through `Any` has the texts that the flows have at its place, and no other row has texts
-abbrev pub Explains : List Flow → List Row → Type 0
-Explains flows rows = AllByRecursion (λ row. IsExplained flows row.finding row.flow) rows
+abbrev pub ExplainsRows : List FlowEntry → List Row → Type 0
+ExplainsRows flows rows = AllByRecursion (λ row. IsExplained flows row.finding row.flow) rows
 
 -- the rows list exactly the findings of which P holds
 pub record Lists (source : List ℕ) (P : Finding → Type 0) (rows : List Row) : Type 0 where
-  pub sorted : IsInOrder (findings_of rows)
-  pub exact : (f : Finding) → Contains (findings_of rows) f ↔ P f
+  pub sorted : IsInOrder (row_findings rows)
+  pub exact : (f : Finding) → Contains (row_findings rows) f ↔ P f
   pub placed : AllByRecursion (IsPlaced source) rows
 
 -- what a format shows of a row's flow
@@ -63,10 +63,10 @@ abbrev pub errors_of : List Row → ℕ
 errors_of rows = count_by (λ row. is_error row.finding.code) rows
 
 -- how many rows are dynamic places
-abbrev pub dynamic_of : List Row → ℕ
-dynamic_of rows = count_by (λ row. not (is_error row.finding.code)) rows
+abbrev pub dynamic_count : List Row → ℕ
+dynamic_count rows = count_by (λ row. not (is_error row.finding.code)) rows
 
 -- a line for each row, and a last line with the numbers of errors and of dynamic places
 abbrev pub report_text : Format → List Row → List ℕ
 report_text format rows = flat_map (λ row. row_text format row ++ 10 ∷ []) rows
-    ++ (codes "errors " ++ (decimal (errors_of rows) ++ (codes ", dynamic " ++ (decimal (dynamic_of rows) ++ 10 ∷ []))))
+    ++ (codes "errors " ++ (decimal (errors_of rows) ++ (codes ", dynamic " ++ (decimal (dynamic_count rows) ++ 10 ∷ []))))

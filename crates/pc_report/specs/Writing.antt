@@ -6,7 +6,7 @@ use Rattle.pc_report.specs.declared.writing.WriteFault.{WriteFault}
 use Rattle.pc_report.specs.declared.writing.WriteFault.TheVariants.{OutOfMemory, Write}
 use Rattle.pc_source.specs.Devices.{failures_after}
 
--- what holds after want of memory, and what after a failed write
+-- what holds after a failed allocation, and what after a failed write
 abbrev pub OnWriteFault : WriteFault → Type 0 → Type 0 → Type 0
 OnWriteFault OutOfMemory wanting failed = wanting
 OnWriteFault Write wanting failed = failed

@@ -1,3 +1,5 @@
+//! The texts of explained flows.
+
 ghost use Rattle.std.specs.Prelude.{IfOk};
 ghost use Rattle.pc_report.specs.Flows.{IsExplained, HasFlows};
 

@@ -1,3 +1,5 @@
+//! The formats of a report.
+
 ghost use Rattle.std.specs.Prelude.{◌≡◌};
 ghost use Rattle.pc_report.specs.Format.{format_number};
 

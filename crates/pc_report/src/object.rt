@@ -1,10 +1,12 @@
+//! The report as JSON.
+
 ghost use Rattle.std.specs.Prelude.{◌≡◌, ◌++◌, ◌∷◌, [], List, ℕ, Some, IfOk, string_bytes, option_and_then};
 ghost use Rattle.serde_json.specs.Data.{array};
 ghost use Rattle.serde_json.specs.Read.{read};
 ghost use Rattle.serde_json.specs.View.{view};
 ghost use Rattle.pc_report.specs.Json.{finding_data, findings_data, report_data, report_json};
 ghost use Rattle.pc_report.specs.ReadBack.{findings_in};
-ghost use Rattle.pc_report.specs.Report.{findings_of};
+ghost use Rattle.pc_report.specs.Report.{row_findings};
 
 use crate::format::Format;
 use crate::report::{Report, Row};
@@ -72,7 +74,7 @@ impl Report {
     pub fn to_json(&self, alloc: Global, format: Format) -> Result<String, OutOfMemory>
         ensures text { IfOk result (λ t. string_bytes t ≡ report_json format self.now) }
         ensures read_back { IfOk result (λ t. (line : List ℕ) × (string_bytes t ≡ line ++ 10 ∷ [])
-            × (option_and_then findings_in (read line) ≡ Some (findings_of self.now))) }
+            × (option_and_then findings_in (read line) ≡ Some (row_findings self.now))) }
     {
         let value = report_value(alloc, format, self)?;
         let mut text = value.to_string(alloc)?;

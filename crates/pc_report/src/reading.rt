@@ -1,3 +1,5 @@
+//! Bytes that are read from a device, up to a limit.
+
 ghost use Rattle.std.specs.Prelude.{◌≡◌, IfOk, IfErr};
 ghost use Rattle.pc_report.specs.Reading.{IsRead, OnReadFault};
 ghost use Rattle.pc_report.specs.declared.reading.ReadFault.TheVariants as read_fault;

@@ -1,9 +1,11 @@
+//! The report: findings in order, with lines and columns.
+
 ghost use Rattle.std.specs.Prelude.{◌≡◌, ◌↔◌, ◌≤◌, ◌++◌, ◌∷◌, [], List, ℕ, IfOk, OnOk, Contains, option_map, string_bytes, length};
 ghost use Rattle.std.specs.List.{AllByRecursion};
 ghost use Rattle.pc_source.specs.Lines.{line_of, column_of};
 ghost use Rattle.pc_tree.specs.declared.code.Finding.{Finding};
 ghost use Rattle.pc_report.specs.Flows.{HasFlows};
-ghost use Rattle.pc_report.specs.Report.{IsPlaced, IsInOrder, findings_of, Lists, Explains, errors_of, dynamic_of, shown_flow, row_text, report_text};
+ghost use Rattle.pc_report.specs.Report.{IsPlaced, IsInOrder, row_findings, Lists, ExplainsRows, errors_of, dynamic_count, shown_flow, row_text, report_text};
 ghost use Rattle.pc_report.specs.declared.report.Row.{Row};
 
 use crate::flow::{FlowTexts, by_place, texts_of};
@@ -103,10 +105,10 @@ fn rows(
     set: &BTreeSet<Finding>,
     flows: &BTreeMap<Place, &(Place, String, String)>,
 ) -> Result<Vec<Row>, OutOfMemory>
-    ensures findings { IfOk result (λ v. findings_of v.items ≡ set.now.keys) }
+    ensures findings { IfOk result (λ v. row_findings v.items ≡ set.now.keys) }
     ensures placed { IfOk result (λ v. AllByRecursion (IsPlaced source.now) v.items) }
-    ensures sorted { IfOk result (λ v. IsInOrder (findings_of v.items)) }
-    ensures explained { IfOk result (λ v. (listed : _) → HasFlows listed flows.now → Explains listed v.items) }
+    ensures sorted { IfOk result (λ v. IsInOrder (row_findings v.items)) }
+    ensures explained { IfOk result (λ v. (listed : _) → HasFlows listed flows.now → ExplainsRows listed v.items) }
 {
     let text = source.text().as_bytes();
     let mut rows = Vec::new(alloc);
@@ -138,7 +140,7 @@ impl Report {
         flows: &[(Place, String, String)],
     ) -> Result<Report, OutOfMemory>
         ensures lists { IfOk result (Lists source.now (Contains findings.now)) }
-        ensures explains { IfOk result (Explains flows.now) }
+        ensures explains { IfOk result (ExplainsRows flows.now) }
     {
         let set = set_of(alloc, findings)?;
         let flows = by_place(alloc, flows)?;
@@ -165,7 +167,7 @@ impl Report {
 
     /// How many rows are dynamic places.
     pub fn dynamic(&self) -> u64
-        ensures { result ≡ dynamic_of self.now }
+        ensures { result ≡ dynamic_count self.now }
     {
         self.rows
             .iter()

@@ -1,3 +1,5 @@
+//! A report that is written to a device.
+
 ghost use Rattle.std.specs.Prelude.{◌≡◌};
 ghost use Rattle.pc_report.specs.Json.{report_json};
 ghost use Rattle.pc_report.specs.Report.{report_text};

@@ -4,18 +4,18 @@ use Rattle.pc_value.specs.declared.action.Action.{Action as RustAction}
 use Rattle.pc_value.specs.declared.action.Action.TheVariants as rust_action
 use Rattle.pc_value.specs.Actions.{Iteration}
 use Rattle.pc_tree.specs.Tree.{Expr, Stmts}
-use Rattle.pc_machine.specs.Steps.{Flow}
+use Rattle.pc_machine.specs.Steps.{StatementEnd}
 use Rattle.pc_machine.specs.Plain.{Progress, After}
 use Rattle.pc_machine.specs.Runs.{plain_parts}
 
 -- the further turns of a `while` from here are what is wanted
-pub record Above (fuel : ℕ) (e : Expr) (body : Stmts) (w : Progress) (l : After Flow) : Type 0 where
+pub record Above (fuel : ℕ) (e : Expr) (body : Stmts) (w : Progress) (l : After StatementEnd) : Type 0 where
   pub bound : ℕ
   pub room : fuel < bound
   pub is : l ≡ (plain_parts bound).again e body w
 
 -- the further turns of a `for` too
-pub record Turns (fuel : ℕ) (over : Iteration) (i : ℕ) (name : List ℕ) (body : Stmts) (w : Progress) (l : After Flow) : Type 0 where
+pub record Turns (fuel : ℕ) (over : Iteration) (i : ℕ) (name : List ℕ) (body : Stmts) (w : Progress) (l : After StatementEnd) : Type 0 where
   pub bound : ℕ
   pub room : fuel < bound
   pub is : l ≡ (plain_parts bound).turns over i name body w

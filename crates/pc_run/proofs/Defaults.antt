@@ -10,10 +10,10 @@ use Rattle.pc_value.specs.Numbers.{number_of_digits, negative_of_digits, fits}
 use Rattle.pc_machine.specs.State.{State, Parameter, Function, Class, a_function}
 use Rattle.pc_machine.specs.Calls.{class_at}
 use Rattle.pc_machine.specs.Steps.{value_out}
-use Rattle.pc_machine.specs.Plain.{Progress, After, Came, Ended, Step, plain, and_then, comes, act, after_action, later_choices, changed}
+use Rattle.pc_machine.specs.Plain.{Progress, After, Came, Ended, Step, plain, and_then, comes, act, after_action, later_choices, after_change}
 use Rattle.pc_machine.specs.Evaluation as text
-use Rattle.pc_machine.specs.Evaluation.{Members, base_of, class_behind, defaults_last, binds_class, binds_global}
-use Rattle.pc_machine.specs.Machine.{Tells, Comes, unit, progress_of, state_of, stop_of, number_within, literal_value, default_value, parameter_of_param, function_of}
+use Rattle.pc_machine.specs.Evaluation.{Members, base_number, class_behind, defaults_last, binds_class, binds_global}
+use Rattle.pc_machine.specs.Machine.{TellsProgress, TellsOutcome, unit, progress_of, state_of, stop_of, number_within, literal_value, default_value, parameter_of_param, function_of}
 use Rattle.std.specs.Prelude.{IfOk, ◌⊎◌}
 use Rattle.std.proofs.Common.{inl, inr, subst}
 use Rattle.pc_source.specs.declared.fault.OutOfMemory.{OutOfMemory}
@@ -28,7 +28,7 @@ use Rattle.pc_tree.specs.declared.tree.Item.{Item as RustItem}
 use Rattle.pc_machine.specs.declared.halt.Halt.{Halt}
 use Rattle.pc_machine.specs.declared.halt.Halt.TheVariants.{Stopped, OutOfMemory as NoMemory}
 use Rattle.pc_machine.specs.declared.machine.Machine.{Machine}
-use Rattle.pc_run.specs.Items.{base_seen, items_in, item_in, class_made, has_value, param_has_value, have_values, member_has_values, members_have_values, with_field, with_method, members_made}
+use Rattle.pc_run.specs.Internal.Items.{base_seen, items_in, item_in, class_made, has_value, param_has_value, have_values, member_has_values, members_have_values, with_field_member, with_method, members_made}
 
 -- a literal's value, or the run is cut off
 abbrev come_or_cut : Option Value → Step Value
@@ -85,8 +85,8 @@ function_run f w = ap (λ r. and_then r (λ (ps : List Parameter). Came (record 
 -- ---- members
 
 field_then : (n : List ℕ) (d : Option Literal) (ms : List Member) (b : Bool) (w : Progress) → ((v : Progress) → text.make_members Step plain ms v ≡ made_if (members_have_values ms) (members_made ms) v)
-    → and_then (made_if b (default_value d) w) (λ x v. and_then (text.make_members Step plain ms v) (λ (others : Members). Came (record { fields = record { name = n; default = x } ∷ others.fields; methods = others.methods }))) ≡ made_if (b && members_have_values ms) (with_field n d (members_made ms)) w
-field_then n d ms true w rest = ap (λ r. and_then r (λ (others : Members). Came (with_field n d others))) (rest w) ∙ made_of (members_have_values ms) (members_made ms) (with_field n d) w
+    → and_then (made_if b (default_value d) w) (λ x v. and_then (text.make_members Step plain ms v) (λ (others : Members). Came (record { fields = record { name = n; default = x } ∷ others.fields; methods = others.methods }))) ≡ made_if (b && members_have_values ms) (with_field_member n d (members_made ms)) w
+field_then n d ms true w rest = ap (λ r. and_then r (λ (others : Members). Came (with_field_member n d others))) (rest w) ∙ made_of (members_have_values ms) (members_made ms) (with_field_member n d) w
 field_then n d ms false w rest = refl
 
 method_then : (f : FuncDef) (ms : List Member) (b : Bool) (w : Progress) → ((v : Progress) → text.make_members Step plain ms v ≡ made_if (members_have_values ms) (members_made ms) v)
@@ -103,7 +103,7 @@ members_run (method_member f ∷ ms) w = ap (λ r. and_then r (λ x v. and_then 
 
 -- the class is bound to its name
 abbrev bound_class : ClassDef → Class → Unit {0} → Step (Unit {0})
-bound_class c k u w = Came tt (changed (binds_class c.name.text k) w)
+bound_class c k u w = Came tt (after_change (binds_class c.name.text k) w)
 
 -- where its fields are in order
 abbrev checked : Bool → Out (Unit {0})
@@ -119,27 +119,27 @@ from_members c base own w = bound_if (defaults_last (class_behind (class_at w.st
 abbrev from_base : ClassDef → Option ℕ → Step (Unit {0})
 from_base c base w = and_then (text.make_members Step plain c.members w) (from_members c base)
 
-pub class_unbased : (c : ClassDef) (w : Progress) (s : Stop) → base_of c.base w.state ≡ Stops s → class_made true c w ≡ Ended s w
+pub class_unbased : (c : ClassDef) (w : Progress) (s : Stop) → base_number c.base w.state ≡ Stops s → class_made true c w ≡ Ended s w
 class_unbased c w s h = ap (λ b. and_then (comes b w) (from_base c)) h
 
 -- the same as the tracer tells it
-pub unbased : (c : ClassDef) (m : Machine) (x : Halt) → Comes base_seen (Err x) (base_of c.base (state_of m)) → Tells unit (Err x) m (class_made true c (progress_of m))
+pub unbased : (c : ClassDef) (m : Machine) (x : Halt) → TellsOutcome base_seen (Err x) (base_number c.base (state_of m)) → TellsProgress unit (Err x) m (class_made true c (progress_of m))
 unbased c m (Stopped s) h = class_unbased c (progress_of m) (stop_of s) h
 unbased c m NoMemory h = tt
 
-class_based : (c : ClassDef) (w : Progress) (base : Option ℕ) → base_of c.base w.state ≡ Gives base → class_made true c w ≡ from_base c base w
+class_based : (c : ClassDef) (w : Progress) (base : Option ℕ) → base_number c.base w.state ≡ Gives base → class_made true c w ≡ from_base c base w
 class_based c w base h = ap (λ b. and_then (comes b w) (from_base c)) h
 
-pub class_unvalued : (c : ClassDef) (w : Progress) (base : Option ℕ) → base_of c.base w.state ≡ Gives base → members_have_values c.members ≡ false → class_made true c w ≡ Ended Cut w
+pub class_unvalued : (c : ClassDef) (w : Progress) (base : Option ℕ) → base_number c.base w.state ≡ Gives base → members_have_values c.members ≡ false → class_made true c w ≡ Ended Cut w
 class_unvalued c w base h k = class_based c w base h ∙ ap (λ r. and_then r (from_members c base)) (members_run c.members w ∙ ap (λ b. made_if b (members_made c.members) w) k)
 
-class_valued : (c : ClassDef) (w : Progress) (base : Option ℕ) → base_of c.base w.state ≡ Gives base → members_have_values c.members ≡ true → class_made true c w ≡ from_members c base (members_made c.members) w
+class_valued : (c : ClassDef) (w : Progress) (base : Option ℕ) → base_number c.base w.state ≡ Gives base → members_have_values c.members ≡ true → class_made true c w ≡ from_members c base (members_made c.members) w
 class_valued c w base h k = class_based c w base h ∙ ap (λ r. and_then r (from_members c base)) (members_run c.members w ∙ ap (λ b. made_if b (members_made c.members) w) k)
 
-pub class_disordered : (c : ClassDef) (w : Progress) (base : Option ℕ) (k : Class) → base_of c.base w.state ≡ Gives base → members_have_values c.members ≡ true → k ≡ class_behind (class_at w.state.classes base) (members_made c.members) (length w.state.classes) → defaults_last k.fields ≡ false → class_made true c w ≡ Ended (Raised TypeError) w
+pub class_disordered : (c : ClassDef) (w : Progress) (base : Option ℕ) (k : Class) → base_number c.base w.state ≡ Gives base → members_have_values c.members ≡ true → k ≡ class_behind (class_at w.state.classes base) (members_made c.members) (length w.state.classes) → defaults_last k.fields ≡ false → class_made true c w ≡ Ended (Raised TypeError) w
 class_disordered c w base k h v e d = class_valued c w base h v ∙ ap (λ (b : Bool). bound_if b c (class_behind (class_at w.state.classes base) (members_made c.members) (length w.state.classes)) w) (ap (λ (x : Class). defaults_last x.fields) (sym e) ∙ d)
 
-pub class_done : (c : ClassDef) (w : Progress) (base : Option ℕ) (k : Class) → base_of c.base w.state ≡ Gives base → members_have_values c.members ≡ true → k ≡ class_behind (class_at w.state.classes base) (members_made c.members) (length w.state.classes) → defaults_last k.fields ≡ true → class_made true c w ≡ Came tt (changed (binds_class c.name.text k) w)
+pub class_done : (c : ClassDef) (w : Progress) (base : Option ℕ) (k : Class) → base_number c.base w.state ≡ Gives base → members_have_values c.members ≡ true → k ≡ class_behind (class_at w.state.classes base) (members_made c.members) (length w.state.classes) → defaults_last k.fields ≡ true → class_made true c w ≡ Came tt (after_change (binds_class c.name.text k) w)
 class_done c w base k h v e d = class_valued c w base h v ∙ ap (λ (b : Bool). bound_if b c (class_behind (class_at w.state.classes base) (members_made c.members) (length w.state.classes)) w) (ap (λ (x : Class). defaults_last x.fields) (sym e) ∙ d) ∙ ap (λ (x : Class). bound_class c x tt w) (sym e)
 
 -- ---- items
@@ -160,10 +160,10 @@ items_end n d (y ∷ ys) zero w h = absurd (omega arith)
 items_end n d (y ∷ ys) (suc i) w h = items_end n d ys i w (omega arith)
 
 pub def_unvalued : (n : ℕ) (d : Bool) (p : Place) (f : FuncDef) (w : Progress) → have_values f.params ≡ false → item_in n d (def_item p f) w ≡ Ended Cut w
-def_unvalued n d p f w h = ap (λ r. and_then r (λ (x : Function) v. Came tt (changed (binds_global f.name.text (a_function x)) v))) (function_run f w ∙ ap (λ b. made_if b (function_of f) w) h)
+def_unvalued n d p f w h = ap (λ r. and_then r (λ (x : Function) v. Came tt (after_change (binds_global f.name.text (a_function x)) v))) (function_run f w ∙ ap (λ b. made_if b (function_of f) w) h)
 
-pub def_done : (n : ℕ) (d : Bool) (p : Place) (f : FuncDef) (w : Progress) → have_values f.params ≡ true → item_in n d (def_item p f) w ≡ Came tt (changed (binds_global f.name.text (a_function (function_of f))) w)
-def_done n d p f w h = ap (λ r. and_then r (λ (x : Function) v. Came tt (changed (binds_global f.name.text (a_function x)) v))) (function_run f w ∙ ap (λ b. made_if b (function_of f) w) h)
+pub def_done : (n : ℕ) (d : Bool) (p : Place) (f : FuncDef) (w : Progress) → have_values f.params ≡ true → item_in n d (def_item p f) w ≡ Came tt (after_change (binds_global f.name.text (a_function (function_of f))) w)
+def_done n d p f w h = ap (λ r. and_then r (λ (x : Function) v. Came tt (after_change (binds_global f.name.text (a_function x)) v))) (function_run f w ∙ ap (λ b. made_if b (function_of f) w) h)
 
 -- ---- the trace of a run
 

@@ -13,22 +13,22 @@ use Rattle.pc_value.specs.Meaning.{value_of}
 use Rattle.pc_machine.specs.declared.halt.Halt.{Halt}
 use Rattle.pc_machine.specs.declared.halt.Halt.TheVariants.{Stopped, OutOfMemory}
 use Rattle.pc_machine.specs.declared.machine.Machine.{Machine}
-use Rattle.pc_machine.specs.Steps.{Flow, next, breaking, continuing, leaves, item_out}
-use Rattle.pc_machine.specs.Plain.{Progress, After, Came, Step, and_then, charge, act, changed, plain}
+use Rattle.pc_machine.specs.Steps.{StatementEnd, next, breaking, continuing, leaves, item_out}
+use Rattle.pc_machine.specs.Plain.{Progress, After, Came, Step, and_then, charge, act, after_change, plain}
 use Rattle.pc_machine.specs.Runs.{plain_parts}
 use Rattle.pc_machine.specs.Evaluation as text
 use Rattle.pc_machine.specs.Evaluation.{binds_local}
-use Rattle.pc_run.specs.Traced.{node, exec_one, branches_in}
+use Rattle.pc_run.specs.Internal.Nodes.{node, exec_one, branches_in}
 use Rattle.pc_machine.specs.Performed.{empty_charged}
-use Rattle.pc_machine.specs.Machine.{Tells, unit, flow_of, item_of}
+use Rattle.pc_machine.specs.Machine.{TellsProgress, unit, flow_of, value_if_any}
 
 -- an early end is one of the whole
-pub ends : {A B C D : Type 0} (va : A → B) (vc : C → D) (x : Halt) (m : Machine) (l : After B) (f : B → Step D) → Tells va (Err x) m l → Tells vc (Err x) m (and_then l f)
+pub ends : {A B C D : Type 0} (va : A → B) (vc : C → D) (x : Halt) (m : Machine) (l : After B) (f : B → Step D) → TellsProgress va (Err x) m l → TellsProgress vc (Err x) m (and_then l f)
 ends va vc (Stopped s) m l f h = rw h refl
 ends va vc OutOfMemory m l f h = tt
 
 -- an early end of something that is something else
-pub ends_as : {A B : Type 0} (v : A → B) (x : Halt) (m : Machine) (l k : After B) → k ≡ l → Tells v (Err x) m l → Tells v (Err x) m k
+pub ends_as : {A B : Type 0} (v : A → B) (x : Halt) (m : Machine) (l k : After B) → k ≡ l → TellsProgress v (Err x) m l → TellsProgress v (Err x) m k
 ends_as v x m l k e h = rw e h
 
 -- an expression that was charged
@@ -53,7 +53,7 @@ pub begun : (n : ℕ) (s : Stmt) (rest : Stmts) (w w1 : Progress) → w1.fuel < 
 begun zero s rest w w1 less lt h = absurd (omega arith)
 begun (suc k) s rest w w1 less lt h = record { k = k; room = omega arith; is = ap (λ l. and_then l (λ u w2. and_then (exec_one k s w2) (λ flow. text.then_follows Step plain flow ((plain_parts (suc k)).exec rest)))) h }
 
-pub uncharged : (n : ℕ) (s : Stmt) (rest : Stmts) (w : Progress) (x : Halt) (m : Machine) → w.fuel < n → Tells unit (Err x) m (charge w) → Tells flow_of (Err x) m ((plain_parts n).exec (more_stmts s rest) w)
+pub uncharged : (n : ℕ) (s : Stmt) (rest : Stmts) (w : Progress) (x : Halt) (m : Machine) → w.fuel < n → TellsProgress unit (Err x) m (charge w) → TellsProgress flow_of (Err x) m ((plain_parts n).exec (more_stmts s rest) w)
 uncharged zero s rest w x m lt h = absurd (omega arith)
 uncharged (suc k) s rest w x m lt h = ends unit flow_of x m (charge w) _ h
 
@@ -72,14 +72,14 @@ branch_passed n e body rest o w w1 v h b = rw (h, b) refl
 -- ---- loops
 
 -- the suite of a loop
-abbrev pub suite : ℕ → Stmts → Step Flow
+abbrev pub suite : ℕ → Stmts → Step StatementEnd
 suite n body w = and_then (empty_charged body w) (λ u. (plain_parts n).exec body)
 
 suite_is : (k : ℕ) (body : Stmts) (w : Progress) → text.exec_body Step plain (plain_parts (suc k)).exec body w ≡ suite (suc k) body w
 suite_is k no_stmts w = refl
 suite_is k (more_stmts s rest) w = refl
 
-pub while_err : (n : ℕ) (e : Expr) (body : Stmts) (w : Progress) (x : Halt) (m : Machine) → w.fuel < n → Tells value_of (Err x) m ((plain_parts n).eval e w) → Tells flow_of (Err x) m ((plain_parts n).again e body w)
+pub while_err : (n : ℕ) (e : Expr) (body : Stmts) (w : Progress) (x : Halt) (m : Machine) → w.fuel < n → TellsProgress value_of (Err x) m ((plain_parts n).eval e w) → TellsProgress flow_of (Err x) m ((plain_parts n).again e body w)
 while_err zero e body w x m lt h = absurd (omega arith)
 while_err (suc k) e body w x m lt h = ends value_of flow_of x m ((plain_parts (suc k)).eval e w) _ h
 
@@ -88,7 +88,7 @@ while_over zero e body w w1 v lt h b = absurd (omega arith)
 while_over (suc k) e body w w1 v lt h b = rw (h, b) refl
 
 -- a turn, up to its suite
-pub record Turned (n : ℕ) (body : Stmts) (w1 : Progress) (more : ℕ → Step Flow) (l : After Flow) : Type 0 where
+pub record Turned (n : ℕ) (body : Stmts) (w1 : Progress) (more : ℕ → Step StatementEnd) (l : After StatementEnd) : Type 0 where
   pub k : ℕ
   pub next_bound : n ≡ k + 1
   pub is : l ≡ and_then (suite n body w1) (λ flow. text.after_turn Step plain flow (more k))
@@ -97,66 +97,66 @@ pub while_turn : (n : ℕ) (e : Expr) (body : Stmts) (w w1 : Progress) (v : Valu
 while_turn zero e body w w1 v lt h b = absurd (omega arith)
 while_turn (suc k) e body w w1 v lt h b = record { k = k; next_bound = omega arith; is = rw (h, b) (ap (λ l. and_then l (λ flow. text.after_turn Step plain flow ((plain_parts k).again e body))) (suite_is k body w1)) }
 
-pub for_err : (n : ℕ) (over : Iteration) (i : ℕ) (name : List ℕ) (body : Stmts) (w : Progress) (x : Halt) (m : Machine) → w.fuel < n → Tells item_of (Err x) m (act item_out (action.turn over i) w) → Tells flow_of (Err x) m ((plain_parts n).turns over i name body w)
+pub for_err : (n : ℕ) (over : Iteration) (i : ℕ) (name : List ℕ) (body : Stmts) (w : Progress) (x : Halt) (m : Machine) → w.fuel < n → TellsProgress value_if_any (Err x) m (act item_out (action.turn over i) w) → TellsProgress flow_of (Err x) m ((plain_parts n).turns over i name body w)
 for_err zero over i name body w x m lt h = absurd (omega arith)
-for_err (suc k) over i name body w x m lt h = ends item_of flow_of x m (act item_out (action.turn over i) w) _ h
+for_err (suc k) over i name body w x m lt h = ends value_if_any flow_of x m (act item_out (action.turn over i) w) _ h
 
 pub for_over : (n : ℕ) (over : Iteration) (i : ℕ) (name : List ℕ) (body : Stmts) (w w1 : Progress) → w.fuel < n → act item_out (action.turn over i) w ≡ Came None w1 → (plain_parts n).turns over i name body w ≡ Came next w1
 for_over zero over i name body w w1 lt h = absurd (omega arith)
 for_over (suc k) over i name body w w1 lt h = ap (λ l. and_then l (text.with_item Step plain (plain_parts (suc k)).exec ((plain_parts k).turns over (suc i) name body) name body)) h
 
-pub for_turn : (n : ℕ) (over : Iteration) (i : ℕ) (name : List ℕ) (body : Stmts) (w w1 : Progress) (v : Value) → w.fuel < n → act item_out (action.turn over i) w ≡ Came (Some v) w1 → Turned n body (changed (binds_local name v) w1) (λ k. (plain_parts k).turns over (suc i) name body) ((plain_parts n).turns over i name body w)
+pub for_turn : (n : ℕ) (over : Iteration) (i : ℕ) (name : List ℕ) (body : Stmts) (w w1 : Progress) (v : Value) → w.fuel < n → act item_out (action.turn over i) w ≡ Came (Some v) w1 → Turned n body (after_change (binds_local name v) w1) (λ k. (plain_parts k).turns over (suc i) name body) ((plain_parts n).turns over i name body w)
 for_turn zero over i name body w w1 v lt h = absurd (omega arith)
-for_turn (suc k) over i name body w w1 v lt h = record { k = k; next_bound = omega arith; is = ap (λ l. and_then l (text.with_item Step plain (plain_parts (suc k)).exec ((plain_parts k).turns over (suc i) name body) name body)) h ∙ ap (λ l. and_then l (λ flow. text.after_turn Step plain flow ((plain_parts k).turns over (suc i) name body))) (suite_is k body (changed (binds_local name v) w1)) }
+for_turn (suc k) over i name body w w1 v lt h = record { k = k; next_bound = omega arith; is = ap (λ l. and_then l (text.with_item Step plain (plain_parts (suc k)).exec ((plain_parts k).turns over (suc i) name body) name body)) h ∙ ap (λ l. and_then l (λ flow. text.after_turn Step plain flow ((plain_parts k).turns over (suc i) name body))) (suite_is k body (after_change (binds_local name v) w1)) }
 
 -- how the suite ends
-pub suite_uncharged : (n : ℕ) (body : Stmts) (w : Progress) (x : Halt) (m : Machine) → Tells unit (Err x) m (empty_charged body w) → Tells flow_of (Err x) m (suite n body w)
+pub suite_uncharged : (n : ℕ) (body : Stmts) (w : Progress) (x : Halt) (m : Machine) → TellsProgress unit (Err x) m (empty_charged body w) → TellsProgress flow_of (Err x) m (suite n body w)
 suite_uncharged n body w x m h = ends unit flow_of x m (empty_charged body w) _ h
 
 pub suite_run : (n : ℕ) (body : Stmts) (w w1 : Progress) → empty_charged body w ≡ Came tt w1 → suite n body w ≡ (plain_parts n).exec body w1
 suite_run n body w w1 h = ap (λ l. and_then l (λ u. (plain_parts n).exec body)) h
 
-pub after_suite : (n : ℕ) (body : Stmts) (w w1 : Progress) (f : Flow) (more : Step Flow) → suite n body w ≡ Came f w1 → and_then (suite n body w) (λ flow. text.after_turn Step plain flow more) ≡ text.after_turn Step plain f more w1
+pub after_suite : (n : ℕ) (body : Stmts) (w w1 : Progress) (f : StatementEnd) (more : Step StatementEnd) → suite n body w ≡ Came f w1 → and_then (suite n body w) (λ flow. text.after_turn Step plain flow more) ≡ text.after_turn Step plain f more w1
 after_suite n body w w1 f more h = ap (λ l. and_then l (λ flow. text.after_turn Step plain flow more)) h
 
 -- ---- in the form in which the tracer needs them
 
-pub tells_as : {A B : Type 0} (v : A → B) (r : Result A Halt) (m : Machine) (l k : After B) → k ≡ l → Tells v r m l → Tells v r m k
+pub tells_as : {A B : Type 0} (v : A → B) (r : Result A Halt) (m : Machine) (l k : After B) → k ≡ l → TellsProgress v r m l → TellsProgress v r m k
 tells_as v r m l k e h = rw e h
 
-pub went : {A B C : Type 0} (v : A → B) (r : Result A Halt) (m : Machine) (l : After C) (f : C → Step B) (b : C) (w1 : Progress) → l ≡ Came b w1 → Tells v r m (f b w1) → Tells v r m (and_then l f)
+pub went : {A B C : Type 0} (v : A → B) (r : Result A Halt) (m : Machine) (l : After C) (f : C → Step B) (b : C) (w1 : Progress) → l ≡ Came b w1 → TellsProgress v r m (f b w1) → TellsProgress v r m (and_then l f)
 went v r m l f b w1 e h = rw e h
 
-pub turned_err : (n : ℕ) (body : Stmts) (w1 : Progress) (more : ℕ → Step Flow) (l : After Flow) (x : Halt) (m : Machine) → Turned n body w1 more l → Tells flow_of (Err x) m (suite n body w1) → Tells flow_of (Err x) m l
+pub turned_err : (n : ℕ) (body : Stmts) (w1 : Progress) (more : ℕ → Step StatementEnd) (l : After StatementEnd) (x : Halt) (m : Machine) → Turned n body w1 more l → TellsProgress flow_of (Err x) m (suite n body w1) → TellsProgress flow_of (Err x) m l
 turned_err n body w1 more l x m t h = tells_as flow_of (Err x) m _ l t.is (ends flow_of flow_of x m (suite n body w1) _ h)
 
-pub turned_break : (n : ℕ) (body : Stmts) (w1 w2 : Progress) (more : ℕ → Step Flow) (l : After Flow) → Turned n body w1 more l → suite n body w1 ≡ Came breaking w2 → l ≡ Came next w2
+pub turned_break : (n : ℕ) (body : Stmts) (w1 w2 : Progress) (more : ℕ → Step StatementEnd) (l : After StatementEnd) → Turned n body w1 more l → suite n body w1 ≡ Came breaking w2 → l ≡ Came next w2
 turned_break n body w1 w2 more l t h = t.is ∙ after_suite n body w1 w2 breaking (more t.k) h
 
-pub turned_leave : (n : ℕ) (body : Stmts) (w1 w2 : Progress) (v : Value) (more : ℕ → Step Flow) (l : After Flow) → Turned n body w1 more l → suite n body w1 ≡ Came (leaves v) w2 → l ≡ Came (leaves v) w2
+pub turned_leave : (n : ℕ) (body : Stmts) (w1 w2 : Progress) (v : Value) (more : ℕ → Step StatementEnd) (l : After StatementEnd) → Turned n body w1 more l → suite n body w1 ≡ Came (leaves v) w2 → l ≡ Came (leaves v) w2
 turned_leave n body w1 w2 v more l t h = t.is ∙ after_suite n body w1 w2 (leaves v) (more t.k) h
 
-pub turned_more : (n : ℕ) (body : Stmts) (w1 w2 : Progress) (f : Flow) (more : ℕ → Step Flow) (l : After Flow) (t : Turned n body w1 more l) → suite n body w1 ≡ Came f w2 → (f ≡ next) ⊎ (f ≡ continuing) → l ≡ more t.k w2
+pub turned_more : (n : ℕ) (body : Stmts) (w1 w2 : Progress) (f : StatementEnd) (more : ℕ → Step StatementEnd) (l : After StatementEnd) (t : Turned n body w1 more l) → suite n body w1 ≡ Came f w2 → (f ≡ next) ⊎ (f ≡ continuing) → l ≡ more t.k w2
 turned_more n body w1 w2 f more l t h (inl e) = t.is ∙ after_suite n body w1 w2 f (more t.k) h ∙ ap (λ g. text.after_turn Step plain g (more t.k) w2) e
 turned_more n body w1 w2 f more l t h (inr e) = t.is ∙ after_suite n body w1 w2 f (more t.k) h ∙ ap (λ g. text.after_turn Step plain g (more t.k) w2) e
 
 -- the suite after its charge
-pub suite_to : (n : ℕ) (body : Stmts) (w w1 w2 : Progress) (f : Flow) → empty_charged body w ≡ Came tt w1 → (plain_parts n).exec body w1 ≡ Came f w2 → suite n body w ≡ Came f w2
+pub suite_to : (n : ℕ) (body : Stmts) (w w1 w2 : Progress) (f : StatementEnd) → empty_charged body w ≡ Came tt w1 → (plain_parts n).exec body w1 ≡ Came f w2 → suite n body w ≡ Came f w2
 suite_to n body w w1 w2 f c h = suite_run n body w w1 c ∙ h
 
-pub suite_err : (n : ℕ) (body : Stmts) (w w1 : Progress) (x : Halt) (m : Machine) → empty_charged body w ≡ Came tt w1 → Tells flow_of (Err x) m ((plain_parts n).exec body w1) → Tells flow_of (Err x) m (suite n body w)
+pub suite_err : (n : ℕ) (body : Stmts) (w w1 : Progress) (x : Halt) (m : Machine) → empty_charged body w ≡ Came tt w1 → TellsProgress flow_of (Err x) m ((plain_parts n).exec body w1) → TellsProgress flow_of (Err x) m (suite n body w)
 suite_err n body w w1 x m c h = tells_as flow_of (Err x) m ((plain_parts n).exec body w1) (suite n body w) (suite_run n body w w1 c) h
 
-pub while_more : (n : ℕ) (e : Expr) (body : Stmts) (w w1 w2 w3 : Progress) (v : Value) (f : Flow) (l : After Flow) → w.fuel < n → w3.fuel < w.fuel → l ≡ (plain_parts n).again e body w → (plain_parts n).eval e w ≡ Came v w1 → is_true w1.state.heap v ≡ true → empty_charged body w1 ≡ Came tt w2 → (plain_parts n).exec body w2 ≡ Came f w3 → (f ≡ next) ⊎ (f ≡ continuing) → Above w3.fuel e body w3 l
+pub while_more : (n : ℕ) (e : Expr) (body : Stmts) (w w1 w2 w3 : Progress) (v : Value) (f : StatementEnd) (l : After StatementEnd) → w.fuel < n → w3.fuel < w.fuel → l ≡ (plain_parts n).again e body w → (plain_parts n).eval e w ≡ Came v w1 → is_true w1.state.heap v ≡ true → empty_charged body w1 ≡ Came tt w2 → (plain_parts n).exec body w2 ≡ Came f w3 → (f ≡ next) ⊎ (f ≡ continuing) → Above w3.fuel e body w3 l
 while_more n e body w w1 w2 w3 v f l lt less is h b c x go =
     let t = while_turn n e body w w1 v lt h b in
     record { bound = t.k; room = omega (arith, t.next_bound, lt, less); is = is ∙ turned_more n body w1 w3 f (λ k. (plain_parts k).again e body) ((plain_parts n).again e body w) t (suite_to n body w1 w2 w3 f c x) go }
 
-pub for_more : (n : ℕ) (over : Iteration) (i j : ℕ) (name : List ℕ) (body : Stmts) (w w1 w1' w2 w3 : Progress) (v : Value) (f : Flow) (l : After Flow) → w.fuel < n → w3.fuel < w.fuel → j ≡ i + 1 → l ≡ (plain_parts n).turns over i name body w → act item_out (action.turn over i) w ≡ Came (Some v) w1 → w1' ≡ changed (binds_local name v) w1 → empty_charged body w1' ≡ Came tt w2 → (plain_parts n).exec body w2 ≡ Came f w3 → (f ≡ next) ⊎ (f ≡ continuing) → Turns w3.fuel over j name body w3 l
+pub for_more : (n : ℕ) (over : Iteration) (i j : ℕ) (name : List ℕ) (body : Stmts) (w w1 w1' w2 w3 : Progress) (v : Value) (f : StatementEnd) (l : After StatementEnd) → w.fuel < n → w3.fuel < w.fuel → j ≡ i + 1 → l ≡ (plain_parts n).turns over i name body w → act item_out (action.turn over i) w ≡ Came (Some v) w1 → w1' ≡ after_change (binds_local name v) w1 → empty_charged body w1' ≡ Came tt w2 → (plain_parts n).exec body w2 ≡ Came f w3 → (f ≡ next) ⊎ (f ≡ continuing) → Turns w3.fuel over j name body w3 l
 for_more n over i j name body w w1 w1' w2 w3 v f l lt less ij is h b c x go =
     let t = for_turn n over i name body w w1 v lt h in
     let e : suc i ≡ j = omega (arith, ij) in
-    record { bound = t.k; room = omega (arith, t.next_bound, lt, less); is = is ∙ turned_more n body (changed (binds_local name v) w1) w3 f (λ k. (plain_parts k).turns over (suc i) name body) ((plain_parts n).turns over i name body w) t (suite_to n body (changed (binds_local name v) w1) w2 w3 f (ap (empty_charged body) (sym b) ∙ c) x) go ∙ ap (λ k. (plain_parts t.k).turns over k name body w3) e }
+    record { bound = t.k; room = omega (arith, t.next_bound, lt, less); is = is ∙ turned_more n body (after_change (binds_local name v) w1) w3 f (λ k. (plain_parts k).turns over (suc i) name body) ((plain_parts n).turns over i name body w) t (suite_to n body (after_change (binds_local name v) w1) w2 w3 f (ap (empty_charged body) (sym b) ∙ c) x) go ∙ ap (λ k. (plain_parts t.k).turns over k name body w3) e }
 
 -- ---- the next statement
 
@@ -174,7 +174,7 @@ stmts_end [] (suc i) h = refl
 stmts_end (a ∷ rest) zero h = absurd (omega arith)
 stmts_end (a ∷ rest) (suc i) h = stmts_end rest i (omega arith)
 
-pub other_flow : (g : RustFlow) (rest : Step Flow) (w : Progress) → g ≢ rust_flow.Next → text.then_follows Step plain (flow_of g) rest w ≡ Came (flow_of g) w
+pub other_flow : (g : RustFlow) (rest : Step StatementEnd) (w : Progress) → g ≢ rust_flow.Next → text.then_follows Step plain (flow_of g) rest w ≡ Came (flow_of g) w
 other_flow rust_flow.Next rest w h = absurd (h refl)
 other_flow rust_flow.Breaking rest w h = refl
 other_flow rust_flow.Continuing rest w h = refl

@@ -1,5 +1,2 @@
-pub mod Entering
-pub mod Forms
-pub mod Items
-pub mod Traced
 pub mod Traces
+pub mod Internal

@@ -1,3 +1,5 @@
+//! Lists of values that grow, one value at a time.
+
 ghost use Rattle.std.specs.Prelude.{◌≡◌, ◌<◌, ◌+◌, ◌-◌, ◌++◌, ◌∷◌, [], map, OnOk};
 ghost use Rattle.pc_value.specs.Meaning.{value_of, entry_of};
 ghost use Rattle.pc_machine.specs.Machine.{named_of};

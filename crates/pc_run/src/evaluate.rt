@@ -1,12 +1,14 @@
+//! The evaluation of expressions and statements.
+
 ghost use Rattle.std.specs.Prelude.{◌≡◌, ◌≤◌, ◌<◌, ◌≢◌, ℕ, [], map, OnOk, if◌then◌else◌};
 ghost use Rattle.pc_tree.specs.Tree.{expr_of, stmts_of_list, stmt_of_kind, target_of};
 ghost use Rattle.pc_value.specs.Meaning.{value_of};
 ghost use Rattle.pc_value.specs.Doing.{iteration_of};
 ghost use Rattle.pc_machine.specs.Runs.{plain_parts};
-ghost use Rattle.pc_run.specs.Traced.{node, all_of, entries_in, keywords_in, call_in, test_in, exec_one, assigned, branches_in, iterable_in, entered_body};
+ghost use Rattle.pc_run.specs.Internal.Nodes.{node, all_of, entries_in, keywords_in, call_in, test_in, exec_one, assign_traced, branches_in, iterable_in, entered_body};
 ghost use Rattle.pc_machine.specs.Performed.{callee_in, callee_called};
-ghost use Rattle.pc_machine.specs.Machine.{Tells, progress_of, flow_of, named_of, callee_seen, item_of, method_of_def};
-ghost use Rattle.pc_run.specs.Traced.{values_of_vec, entries_of_vec, named_of_vec};
+ghost use Rattle.pc_machine.specs.Machine.{TellsProgress, progress_of, flow_of, named_of, callee_seen, value_if_any, method_of_def};
+ghost use Rattle.pc_run.specs.Internal.Nodes.{values_of_vec, entries_of_vec, named_of_vec};
 ghost use Rattle.pc_tree.specs.Lists.{branches_of_list, exprs_of_list, entries_of_list, keywords_of_list};
 ghost use Rattle.pc_source.specs.declared.place.Place.{Place as PlaceOf};
 ghost use Rattle.pc_tree.specs.Tree.{asserts, assigns, evaluates, option_expr_of};
@@ -26,7 +28,7 @@ use std::alloc::Global as Allocator;
 /// An expression: it is charged, then its parts, its event, its action.
 #[cycle(evaluate)]
 pub fn eval<'m>(machine: &mut Machine<'m>, alloc: Allocator, e: &'m Expr) -> Result<Value, Halt>
-    ensures plain { (n : ℕ) → machine.old.fuel < n → Tells value_of result machine.new ((plain_parts n).eval (expr_of e.now) (progress_of machine.old)) }
+    ensures plain { (n : ℕ) → machine.old.fuel < n → TellsProgress value_of result machine.new ((plain_parts n).eval (expr_of e.now) (progress_of machine.old)) }
     ensures fuel { machine.new.fuel ≤ machine.old.fuel }
     ensures spent { OnOk result (machine.new.fuel < machine.old.fuel) }
 {
@@ -37,7 +39,7 @@ pub fn eval<'m>(machine: &mut Machine<'m>, alloc: Allocator, e: &'m Expr) -> Res
 /// An expression that was charged.
 #[cycle(evaluate)]
 fn eval_node<'m>(machine: &mut Machine<'m>, alloc: Allocator, e: &'m Expr) -> Result<Value, Halt>
-    ensures plain { (n : ℕ) → machine.old.fuel < n → Tells value_of result machine.new (node n (expr_of e.now) (progress_of machine.old)) }
+    ensures plain { (n : ℕ) → machine.old.fuel < n → TellsProgress value_of result machine.new (node n (expr_of e.now) (progress_of machine.old)) }
     ensures fuel { machine.new.fuel ≤ machine.old.fuel }
 {
     match e {
@@ -81,7 +83,7 @@ fn eval_negative<'m>(
     place: Place,
     operand: &'m Expr,
 ) -> Result<Value, Halt>
-    ensures plain { (n : ℕ) → machine.old.fuel < n → Tells value_of result machine.new (node n (negative place (expr_of operand.now)) (progress_of machine.old)) }
+    ensures plain { (n : ℕ) → machine.old.fuel < n → TellsProgress value_of result machine.new (node n (negative place (expr_of operand.now)) (progress_of machine.old)) }
     ensures fuel { machine.new.fuel ≤ machine.old.fuel }
 {
     let v = eval(machine, alloc, operand)?;
@@ -97,7 +99,7 @@ fn eval_not<'m>(
     place: Place,
     operand: &'m Expr,
 ) -> Result<Value, Halt>
-    ensures plain { (n : ℕ) → machine.old.fuel < n → Tells value_of result machine.new (node n (negation place (expr_of operand.now)) (progress_of machine.old)) }
+    ensures plain { (n : ℕ) → machine.old.fuel < n → TellsProgress value_of result machine.new (node n (negation place (expr_of operand.now)) (progress_of machine.old)) }
     ensures fuel { machine.new.fuel ≤ machine.old.fuel }
 {
     let v = eval(machine, alloc, operand)?;
@@ -114,7 +116,7 @@ fn eval_attribute<'m>(
     object: &'m Expr,
     field: &'m Name,
 ) -> Result<Value, Halt>
-    ensures plain { (n : ℕ) → machine.old.fuel < n → Tells value_of result machine.new (node n (attribute place (expr_of object.now) (name_of field.now)) (progress_of machine.old)) }
+    ensures plain { (n : ℕ) → machine.old.fuel < n → TellsProgress value_of result machine.new (node n (attribute place (expr_of object.now) (name_of field.now)) (progress_of machine.old)) }
     ensures fuel { machine.new.fuel ≤ machine.old.fuel }
 {
     let v = eval(machine, alloc, object)?;
@@ -130,7 +132,7 @@ fn eval_tuple<'m>(
     place: Place,
     items: &'m [Expr],
 ) -> Result<Value, Halt>
-    ensures plain { (n : ℕ) → machine.old.fuel < n → Tells value_of result machine.new (node n (tuple place (exprs_of_list items.now)) (progress_of machine.old)) }
+    ensures plain { (n : ℕ) → machine.old.fuel < n → TellsProgress value_of result machine.new (node n (tuple place (exprs_of_list items.now)) (progress_of machine.old)) }
     ensures fuel { machine.new.fuel ≤ machine.old.fuel }
 {
     let values = eval_all(machine, alloc, items)?;
@@ -146,7 +148,7 @@ fn eval_list<'m>(
     place: Place,
     items: &'m [Expr],
 ) -> Result<Value, Halt>
-    ensures plain { (n : ℕ) → machine.old.fuel < n → Tells value_of result machine.new (node n (list place (exprs_of_list items.now)) (progress_of machine.old)) }
+    ensures plain { (n : ℕ) → machine.old.fuel < n → TellsProgress value_of result machine.new (node n (list place (exprs_of_list items.now)) (progress_of machine.old)) }
     ensures fuel { machine.new.fuel ≤ machine.old.fuel }
 {
     let values = eval_all(machine, alloc, items)?;
@@ -162,7 +164,7 @@ fn eval_dict<'m>(
     place: Place,
     items: &'m [Entry],
 ) -> Result<Value, Halt>
-    ensures plain { (n : ℕ) → machine.old.fuel < n → Tells value_of result machine.new (node n (dict place (entries_of_list items.now)) (progress_of machine.old)) }
+    ensures plain { (n : ℕ) → machine.old.fuel < n → TellsProgress value_of result machine.new (node n (dict place (entries_of_list items.now)) (progress_of machine.old)) }
     ensures fuel { machine.new.fuel ≤ machine.old.fuel }
 {
     let entries = eval_entries(machine, alloc, items)?;
@@ -180,7 +182,7 @@ fn eval_binary<'m>(
     left: &'m Expr,
     right: &'m Expr,
 ) -> Result<Value, Halt>
-    ensures plain { (n : ℕ) → machine.old.fuel < n → Tells value_of result machine.new (node n (binary place operator (expr_of left.now) (expr_of right.now)) (progress_of machine.old)) }
+    ensures plain { (n : ℕ) → machine.old.fuel < n → TellsProgress value_of result machine.new (node n (binary place operator (expr_of left.now) (expr_of right.now)) (progress_of machine.old)) }
     ensures fuel { machine.new.fuel ≤ machine.old.fuel }
 {
     let v = eval(machine, alloc, left)?;
@@ -199,7 +201,7 @@ fn eval_compare<'m>(
     left: &'m Expr,
     right: &'m Expr,
 ) -> Result<Value, Halt>
-    ensures plain { (n : ℕ) → machine.old.fuel < n → Tells value_of result machine.new (node n (compare place operator (expr_of left.now) (expr_of right.now)) (progress_of machine.old)) }
+    ensures plain { (n : ℕ) → machine.old.fuel < n → TellsProgress value_of result machine.new (node n (compare place operator (expr_of left.now) (expr_of right.now)) (progress_of machine.old)) }
     ensures fuel { machine.new.fuel ≤ machine.old.fuel }
 {
     let v = eval(machine, alloc, left)?;
@@ -217,7 +219,7 @@ fn eval_none_test<'m>(
     operand: &'m Expr,
     negated: bool,
 ) -> Result<Value, Halt>
-    ensures plain { (n : ℕ) → machine.old.fuel < n → Tells value_of result machine.new (node n (if negated then is_not_none place (expr_of operand.now) else is_none place (expr_of operand.now)) (progress_of machine.old)) }
+    ensures plain { (n : ℕ) → machine.old.fuel < n → TellsProgress value_of result machine.new (node n (if negated then is_not_none place (expr_of operand.now) else is_none place (expr_of operand.now)) (progress_of machine.old)) }
     ensures fuel { machine.new.fuel ≤ machine.old.fuel }
 {
     let v = eval(machine, alloc, operand)?;
@@ -237,7 +239,7 @@ fn eval_and<'m>(
     left: &'m Expr,
     right: &'m Expr,
 ) -> Result<Value, Halt>
-    ensures plain { (n : ℕ) → machine.old.fuel < n → Tells value_of result machine.new (node n (conjunction place (expr_of left.now) (expr_of right.now)) (progress_of machine.old)) }
+    ensures plain { (n : ℕ) → machine.old.fuel < n → TellsProgress value_of result machine.new (node n (conjunction place (expr_of left.now) (expr_of right.now)) (progress_of machine.old)) }
     ensures fuel { machine.new.fuel ≤ machine.old.fuel }
 {
     let first = eval(machine, alloc, left)?;
@@ -258,7 +260,7 @@ fn eval_or<'m>(
     left: &'m Expr,
     right: &'m Expr,
 ) -> Result<Value, Halt>
-    ensures plain { (n : ℕ) → machine.old.fuel < n → Tells value_of result machine.new (node n (disjunction place (expr_of left.now) (expr_of right.now)) (progress_of machine.old)) }
+    ensures plain { (n : ℕ) → machine.old.fuel < n → TellsProgress value_of result machine.new (node n (disjunction place (expr_of left.now) (expr_of right.now)) (progress_of machine.old)) }
     ensures fuel { machine.new.fuel ≤ machine.old.fuel }
 {
     let first = eval(machine, alloc, left)?;
@@ -279,7 +281,7 @@ fn eval_index<'m>(
     object: &'m Expr,
     key: &'m Expr,
 ) -> Result<Value, Halt>
-    ensures plain { (n : ℕ) → machine.old.fuel < n → Tells value_of result machine.new (node n (index place (expr_of object.now) (expr_of key.now)) (progress_of machine.old)) }
+    ensures plain { (n : ℕ) → machine.old.fuel < n → TellsProgress value_of result machine.new (node n (index place (expr_of object.now) (expr_of key.now)) (progress_of machine.old)) }
     ensures fuel { machine.new.fuel ≤ machine.old.fuel }
 {
     let v = eval(machine, alloc, object)?;
@@ -295,7 +297,7 @@ fn eval_all<'m>(
     alloc: Allocator,
     items: &'m [Expr],
 ) -> Result<Vec<Value>, Halt>
-    ensures plain { (n : ℕ) → machine.old.fuel < n → Tells values_of_vec result machine.new (all_of n (exprs_of_list items.now) (progress_of machine.old)) }
+    ensures plain { (n : ℕ) → machine.old.fuel < n → TellsProgress values_of_vec result machine.new (all_of n (exprs_of_list items.now) (progress_of machine.old)) }
     ensures fuel { machine.new.fuel ≤ machine.old.fuel }
 {
     let mut values = Vec::new(alloc);
@@ -314,7 +316,7 @@ fn eval_entries<'m>(
     alloc: Allocator,
     items: &'m [Entry],
 ) -> Result<Vec<pc_value::Entry>, Halt>
-    ensures plain { (n : ℕ) → machine.old.fuel < n → Tells entries_of_vec result machine.new (entries_in n (entries_of_list items.now) (progress_of machine.old)) }
+    ensures plain { (n : ℕ) → machine.old.fuel < n → TellsProgress entries_of_vec result machine.new (entries_in n (entries_of_list items.now) (progress_of machine.old)) }
     ensures fuel { machine.new.fuel ≤ machine.old.fuel }
 {
     let mut entries = Vec::new(alloc);
@@ -334,7 +336,7 @@ fn eval_keywords<'m>(
     alloc: Allocator,
     by_name: &'m [KeywordArgument],
 ) -> Result<Vec<NamedValue<'m>>, Halt>
-    ensures plain { (n : ℕ) → machine.old.fuel < n → Tells named_of_vec result machine.new (keywords_in n (keywords_of_list by_name.now) (progress_of machine.old)) }
+    ensures plain { (n : ℕ) → machine.old.fuel < n → TellsProgress named_of_vec result machine.new (keywords_in n (keywords_of_list by_name.now) (progress_of machine.old)) }
     ensures fuel { machine.new.fuel ≤ machine.old.fuel }
 {
     let mut named = Vec::new(alloc);
@@ -353,7 +355,7 @@ fn eval_callee<'m>(
     alloc: Allocator,
     callee: &'m Expr,
 ) -> Result<Callee<'m>, Halt>
-    ensures plain { (n : ℕ) → machine.old.fuel < n → Tells callee_seen result machine.new (callee_in n (expr_of callee.now) (progress_of machine.old)) }
+    ensures plain { (n : ℕ) → machine.old.fuel < n → TellsProgress callee_seen result machine.new (callee_in n (expr_of callee.now) (progress_of machine.old)) }
     ensures fuel { machine.new.fuel ≤ machine.old.fuel }
 {
     if let Expr::Name(name) = callee {
@@ -379,7 +381,7 @@ fn eval_instance_test<'m>(
     object: &'m Expr,
     test: &'m Expr,
 ) -> Result<Value, Halt>
-    ensures plain { (n : ℕ) → machine.old.fuel < n → Tells value_of result machine.new (test_in n place (name_of name.now) (expr_of object.now) (expr_of test.now) (progress_of machine.old)) }
+    ensures plain { (n : ℕ) → machine.old.fuel < n → TellsProgress value_of result machine.new (test_in n place (name_of name.now) (expr_of object.now) (expr_of test.now) (progress_of machine.old)) }
     ensures fuel { machine.new.fuel ≤ machine.old.fuel }
 {
     machine.charge()?;
@@ -399,7 +401,7 @@ fn eval_call<'m>(
     arguments: &'m [Expr],
     by_name: &'m [KeywordArgument],
 ) -> Result<Value, Halt>
-    ensures plain { (n : ℕ) → machine.old.fuel < n → Tells value_of result machine.new (call_in n place (expr_of callee.now) (exprs_of_list arguments.now) (keywords_of_list by_name.now) (progress_of machine.old)) }
+    ensures plain { (n : ℕ) → machine.old.fuel < n → TellsProgress value_of result machine.new (call_in n place (expr_of callee.now) (exprs_of_list arguments.now) (keywords_of_list by_name.now) (progress_of machine.old)) }
     ensures fuel { machine.new.fuel ≤ machine.old.fuel }
 {
     if let Some((name, object, test)) = instance_test(callee, arguments, by_name) {
@@ -422,7 +424,7 @@ pub fn call<'m>(
     values: &[Value],
     named: &[NamedValue<'m>],
 ) -> Result<Value, Halt>
-    ensures plain { (n : ℕ) → machine.old.fuel < n → Tells value_of result machine.new (callee_called n (callee_seen callee.entry) (map value_of values.now) (map named_of named.now) (progress_of machine.old)) }
+    ensures plain { (n : ℕ) → machine.old.fuel < n → TellsProgress value_of result machine.new (callee_called n (callee_seen callee.entry) (map value_of values.now) (map named_of named.now) (progress_of machine.old)) }
     ensures fuel { machine.new.fuel ≤ machine.old.fuel }
 {
     match callee {
@@ -448,7 +450,7 @@ fn enter<'m>(
     values: &[Value],
     named: &[NamedValue<'m>],
 ) -> Result<Value, Halt>
-    ensures plain { (n : ℕ) → machine.old.fuel < n → Tells value_of result machine.new (entered_body n (method_of_def def.entry) (item_of object) (map value_of values.now) (map named_of named.now) (progress_of machine.old)) }
+    ensures plain { (n : ℕ) → machine.old.fuel < n → TellsProgress value_of result machine.new (entered_body n (method_of_def def.entry) (value_if_any object) (map value_of values.now) (map named_of named.now) (progress_of machine.old)) }
     ensures fuel { machine.new.fuel ≤ machine.old.fuel }
 {
     let depth = machine.depth;
@@ -462,7 +464,7 @@ fn enter<'m>(
 /// Statements, one after another.
 #[cycle(evaluate)]
 fn exec<'m>(machine: &mut Machine<'m>, alloc: Allocator, body: &'m [Stmt]) -> Result<Flow, Halt>
-    ensures plain { (n : ℕ) → machine.old.fuel < n → Tells flow_of result machine.new ((plain_parts n).exec (stmts_of_list body.now) (progress_of machine.old)) }
+    ensures plain { (n : ℕ) → machine.old.fuel < n → TellsProgress flow_of result machine.new ((plain_parts n).exec (stmts_of_list body.now) (progress_of machine.old)) }
     ensures fuel { machine.new.fuel ≤ machine.old.fuel }
     ensures spent { OnOk result (body.now ≢ [] → machine.new.fuel < machine.old.fuel) }
 {
@@ -484,7 +486,7 @@ fn exec_node<'m>(
     alloc: Allocator,
     kind: &'m StmtKind,
 ) -> Result<Flow, Halt>
-    ensures plain { (n : ℕ) (p : PlaceOf) → machine.old.fuel < n → Tells flow_of result machine.new (exec_one n (stmt_of_kind p kind.now) (progress_of machine.old)) }
+    ensures plain { (n : ℕ) (p : PlaceOf) → machine.old.fuel < n → TellsProgress flow_of result machine.new (exec_one n (stmt_of_kind p kind.now) (progress_of machine.old)) }
     ensures fuel { machine.new.fuel ≤ machine.old.fuel }
 {
     match kind {
@@ -523,7 +525,7 @@ fn exec_assignment<'m>(
     target: &'m Target,
     e: &'m Expr,
 ) -> Result<Flow, Halt>
-    ensures plain { (n : ℕ) (p : PlaceOf) → machine.old.fuel < n → Tells flow_of result machine.new (exec_one n (assigns p (target_of target.now) (expr_of e.now)) (progress_of machine.old)) }
+    ensures plain { (n : ℕ) (p : PlaceOf) → machine.old.fuel < n → TellsProgress flow_of result machine.new (exec_one n (assigns p (target_of target.now) (expr_of e.now)) (progress_of machine.old)) }
     ensures fuel { machine.new.fuel ≤ machine.old.fuel }
 {
     let v = eval(machine, alloc, e)?;
@@ -538,7 +540,7 @@ fn exec_expression<'m>(
     alloc: Allocator,
     e: &'m Expr,
 ) -> Result<Flow, Halt>
-    ensures plain { (n : ℕ) (p : PlaceOf) → machine.old.fuel < n → Tells flow_of result machine.new (exec_one n (evaluates p (expr_of e.now)) (progress_of machine.old)) }
+    ensures plain { (n : ℕ) (p : PlaceOf) → machine.old.fuel < n → TellsProgress flow_of result machine.new (exec_one n (evaluates p (expr_of e.now)) (progress_of machine.old)) }
     ensures fuel { machine.new.fuel ≤ machine.old.fuel }
 {
     eval(machine, alloc, e)?;
@@ -554,7 +556,7 @@ fn exec_assert<'m>(
     condition: &'m Expr,
     message: &'m Option<Expr>,
 ) -> Result<Flow, Halt>
-    ensures plain { (n : ℕ) (p : PlaceOf) → machine.old.fuel < n → Tells flow_of result machine.new (exec_one n (asserts p (expr_of condition.now) (option_expr_of message.now)) (progress_of machine.old)) }
+    ensures plain { (n : ℕ) (p : PlaceOf) → machine.old.fuel < n → TellsProgress flow_of result machine.new (exec_one n (asserts p (expr_of condition.now) (option_expr_of message.now)) (progress_of machine.old)) }
     ensures fuel { machine.new.fuel ≤ machine.old.fuel }
 {
     let v = eval(machine, alloc, condition)?;
@@ -576,7 +578,7 @@ fn assign<'m>(
     target: &'m Target,
     value: Value,
 ) -> Result<Flow, Halt>
-    ensures plain { (n : ℕ) → machine.old.fuel < n → Tells flow_of result machine.new (assigned n (target_of target.now) (value_of value) (progress_of machine.old)) }
+    ensures plain { (n : ℕ) → machine.old.fuel < n → TellsProgress flow_of result machine.new (assign_traced n (target_of target.now) (value_of value) (progress_of machine.old)) }
     ensures fuel { machine.new.fuel ≤ machine.old.fuel }
 {
     match target {
@@ -605,7 +607,7 @@ fn exec_branches<'m>(
     branches: &'m [Branch],
     otherwise: &'m [Stmt],
 ) -> Result<Flow, Halt>
-    ensures plain { (n : ℕ) → machine.old.fuel < n → Tells flow_of result machine.new (branches_in n (branches_of_list branches.now) (stmts_of_list otherwise.now) (progress_of machine.old)) }
+    ensures plain { (n : ℕ) → machine.old.fuel < n → TellsProgress flow_of result machine.new (branches_in n (branches_of_list branches.now) (stmts_of_list otherwise.now) (progress_of machine.old)) }
     ensures fuel { machine.new.fuel ≤ machine.old.fuel }
 {
     for branch in branches {
@@ -626,7 +628,7 @@ fn run_while<'m>(
     condition: &'m Expr,
     body: &'m [Stmt],
 ) -> Result<Flow, Halt>
-    ensures plain { (n : ℕ) → machine.old.fuel < n → Tells flow_of result machine.new ((plain_parts n).again (expr_of condition.now) (stmts_of_list body.now) (progress_of machine.old)) }
+    ensures plain { (n : ℕ) → machine.old.fuel < n → TellsProgress flow_of result machine.new ((plain_parts n).again (expr_of condition.now) (stmts_of_list body.now) (progress_of machine.old)) }
     ensures fuel { machine.new.fuel ≤ machine.old.fuel }
 {
     loop {
@@ -652,7 +654,7 @@ fn eval_iterable<'m>(
     alloc: Allocator,
     e: &'m Expr,
 ) -> Result<Iteration, Halt>
-    ensures plain { (n : ℕ) → machine.old.fuel < n → Tells iteration_of result machine.new (iterable_in n (expr_of e.now) (progress_of machine.old)) }
+    ensures plain { (n : ℕ) → machine.old.fuel < n → TellsProgress iteration_of result machine.new (iterable_in n (expr_of e.now) (progress_of machine.old)) }
     ensures fuel { machine.new.fuel ≤ machine.old.fuel }
 {
     if let Some((place, name, arguments, by_name)) = range_call(e) {
@@ -677,7 +679,7 @@ fn run_for<'m>(
     name: &'m str,
     body: &'m [Stmt],
 ) -> Result<Flow, Halt>
-    ensures plain { (n : ℕ) → machine.old.fuel < n → Tells flow_of result machine.new ((plain_parts n).turns (iteration_of over) 0 name.now (stmts_of_list body.now) (progress_of machine.old)) }
+    ensures plain { (n : ℕ) → machine.old.fuel < n → TellsProgress flow_of result machine.new ((plain_parts n).turns (iteration_of over) 0 name.now (stmts_of_list body.now) (progress_of machine.old)) }
     ensures fuel { machine.new.fuel ≤ machine.old.fuel }
 {
     // A turn takes one of fuel at least, so no more turns than this follow.

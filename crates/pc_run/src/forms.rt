@@ -1,9 +1,11 @@
+//! The forms of calls and of what a `for` goes over.
+
 ghost use Rattle.std.specs.Prelude.{◌≡◌, ◌<◌, ◌+◌, ◌-◌, ◌^◌, ℕ};
 ghost use Rattle.pc_tree.specs.Tree.{expr_of};
 ghost use Rattle.pc_value.specs.Meaning.{value_of};
-ghost use Rattle.pc_machine.specs.Evaluation.{is_nothing, value_of_flow, call_form, iterable_form};
+ghost use Rattle.pc_machine.specs.Evaluation.{is_none_value, value_of_flow, call_form, iterable_form};
 ghost use Rattle.pc_machine.specs.Machine.{flow_of};
-ghost use Rattle.pc_run.specs.Forms.{form_seen, range_seen};
+ghost use Rattle.pc_run.specs.Internal.CallForms.{form_seen, range_seen};
 ghost use Rattle.pc_tree.specs.Lists.{exprs_of_list, keywords_of_list};
 ghost use Rattle.pc_value.specs.declared.action.Iteration.{Iteration as RustIteration};
 ghost use Rattle.pc_value.specs.declared.action.Action.TheVariants as rust_action;
@@ -16,7 +18,7 @@ use pc_value::{Action, Value};
 
 /// A value is None.
 pub fn is_nothing(value: &Value) -> bool
-    ensures { result ≡ is_nothing (value_of value.now) }
+    ensures { result ≡ is_none_value (value_of value.now) }
 {
     match value {
         Value::None => true,

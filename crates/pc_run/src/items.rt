@@ -1,11 +1,13 @@
+//! The items of a module.
+
 ghost use Rattle.std.specs.Prelude.{◌≡◌, ◌≤◌, ◌<◌, ◌++◌, ◌∷◌, ℕ, IfOk, OnOk, map, length, is_some};
 ghost use Rattle.pc_tree.specs.Tree.{literal_of, option_literal_of, option_name_of, param_of, member_of, class_of as class_def_of, item_of, module_of};
 ghost use Rattle.pc_value.specs.Meaning.{value_of};
 ghost use Rattle.pc_machine.specs.Calls.{class_at};
-ghost use Rattle.pc_machine.specs.Evaluation.{base_of, defaults_last, class_behind, fields_of, methods_of, ancestors_of, binds_global, binds_class};
-ghost use Rattle.pc_run.specs.Items.{items_in, item_in, class_made, has_value, have_values, member_has_values, members_have_values, members_made, base_seen};
-ghost use Rattle.pc_machine.specs.Machine.{Tells, Comes, class_of, found_class, bound_of, parameter_of, method_of_def, literal_value, unit, progress_of, state_of};
-ghost use Rattle.pc_machine.specs.Plain.{changed};
+ghost use Rattle.pc_machine.specs.Evaluation.{base_number, defaults_last, class_behind, fields_of, methods_of, ancestors_of, binds_global, binds_class};
+ghost use Rattle.pc_run.specs.Internal.Items.{items_in, item_in, class_made, has_value, have_values, member_has_values, members_have_values, members_made, base_seen};
+ghost use Rattle.pc_machine.specs.Machine.{TellsProgress, TellsOutcome, class_of, found_class, bound_of, parameter_of, method_of_def, literal_value, unit, progress_of, state_of};
+ghost use Rattle.pc_machine.specs.Plain.{after_change};
 ghost use Rattle.pc_machine.specs.Runs.{plain_module};
 
 use crate::evaluate::eval;
@@ -190,7 +192,7 @@ fn methods<'m>(
 
 /// The number of the base of a class, if it names one: a class that was made.
 fn find_base<'m>(machine: &Machine<'m>, base: &Option<Name>) -> Result<Option<usize>, Halt>
-    ensures { Comes base_seen result (base_of (option_name_of base.now) (state_of machine.now)) }
+    ensures { TellsOutcome base_seen result (base_number (option_name_of base.now) (state_of machine.now)) }
 {
     let Some(name) = base else {
         return Ok(None);
@@ -231,7 +233,7 @@ fn bind_global<'m>(
     name: &'m str,
     bound: Bound<'m>,
 ) -> Result<(), OutOfMemory>
-    ensures plain { OnOk result (progress_of machine.new ≡ changed (binds_global name.now (bound_of bound.entry)) (progress_of machine.old)) }
+    ensures plain { OnOk result (progress_of machine.new ≡ after_change (binds_global name.now (bound_of bound.entry)) (progress_of machine.old)) }
     ensures fuel { machine.new.fuel ≡ machine.old.fuel }
 {
     machine.globals.bind(name, bound)
@@ -243,7 +245,7 @@ fn bind_class<'m>(
     name: &'m str,
     class: Class<'m>,
 ) -> Result<(), OutOfMemory>
-    ensures plain { OnOk result (progress_of machine.new ≡ changed (binds_class name.now (class_of class.entry)) (progress_of machine.old)) }
+    ensures plain { OnOk result (progress_of machine.new ≡ after_change (binds_class name.now (class_of class.entry)) (progress_of machine.old)) }
     ensures fuel { machine.new.fuel ≡ machine.old.fuel }
 {
     let number = machine.classes.len();
@@ -260,7 +262,7 @@ fn make_class<'m>(
     imports_dataclass: bool,
     class: &'m ClassDef,
 ) -> Result<(), Halt>
-    ensures plain { Tells unit result machine.new (class_made imports_dataclass (class_def_of class.now) (progress_of machine.old)) }
+    ensures plain { TellsProgress unit result machine.new (class_made imports_dataclass (class_def_of class.now) (progress_of machine.old)) }
     ensures fuel { machine.new.fuel ≤ machine.old.fuel }
 {
     if !imports_dataclass {
@@ -285,7 +287,7 @@ fn run_item<'m>(
     imports_dataclass: bool,
     item: &'m Item,
 ) -> Result<(), Halt>
-    ensures plain { (n : ℕ) → machine.old.fuel < n → Tells unit result machine.new (item_in n imports_dataclass (item_of item.now) (progress_of machine.old)) }
+    ensures plain { (n : ℕ) → machine.old.fuel < n → TellsProgress unit result machine.new (item_in n imports_dataclass (item_of item.now) (progress_of machine.old)) }
     ensures fuel { machine.new.fuel ≤ machine.old.fuel }
 {
     match &item.kind {
@@ -313,7 +315,7 @@ fn run_items<'m>(
     imports_dataclass: bool,
     items: &'m [Item],
 ) -> Result<(), Halt>
-    ensures plain { (n : ℕ) → machine.old.fuel < n → Tells unit result machine.new (items_in n imports_dataclass (map item_of items.now) (progress_of machine.old)) }
+    ensures plain { (n : ℕ) → machine.old.fuel < n → TellsProgress unit result machine.new (items_in n imports_dataclass (map item_of items.now) (progress_of machine.old)) }
     ensures fuel { machine.new.fuel ≤ machine.old.fuel }
 {
     for item in items {
@@ -328,7 +330,7 @@ pub fn run_module<'m>(
     alloc: Allocator,
     program: &'m Module,
 ) -> Result<Value, Halt>
-    ensures plain { (n : ℕ) → machine.old.fuel < n → Tells value_of result machine.new (plain_module n (module_of program.now) (progress_of machine.old)) }
+    ensures plain { (n : ℕ) → machine.old.fuel < n → TellsProgress value_of result machine.new (plain_module n (module_of program.now) (progress_of machine.old)) }
     ensures fuel { machine.new.fuel ≤ machine.old.fuel }
 {
     run_items(machine, alloc, program.imports_dataclass, &program.items)?;

@@ -1,3 +1,5 @@
+//! A plain run of a module, from its first item to its end.
+
 ghost use Rattle.std.specs.Prelude.{◌≡◌, ◌≤◌, ◌<◌, ℕ, IfOk};
 ghost use Rattle.pc_tree.specs.Tree.{module_of};
 ghost use Rattle.pc_value.specs.Value.{Value as ValueOf};
@@ -5,8 +7,8 @@ ghost use Rattle.pc_value.specs.Meaning.{value_of};
 ghost use Rattle.pc_machine.specs.Plain.{After};
 ghost use Rattle.pc_machine.specs.Runs.{stopped, Leaves, PlainRun};
 ghost use Rattle.pc_run.specs.Traces.{end_of_rust};
-ghost use Rattle.pc_run.specs.Entering.{main_entered};
-ghost use Rattle.pc_machine.specs.Machine.{Tells, progress_of, stop_of};
+ghost use Rattle.pc_run.specs.Internal.LastLine.{main_entered};
+ghost use Rattle.pc_machine.specs.Machine.{TellsProgress, progress_of, stop_of};
 
 use crate::evaluate::call;
 use crate::items::run_module;
@@ -36,7 +38,7 @@ fn end_of_stop(stop: Stop) -> End
 
 /// `main` is entered, without an event.
 pub fn enter_main<'m>(machine: &mut Machine<'m>, alloc: Allocator) -> Result<Value, Halt>
-    ensures plain { (n : ℕ) → machine.old.fuel < n → Tells value_of result machine.new (main_entered n (progress_of machine.old)) }
+    ensures plain { (n : ℕ) → machine.old.fuel < n → TellsProgress value_of result machine.new (main_entered n (progress_of machine.old)) }
     ensures fuel { machine.new.fuel ≤ machine.old.fuel }
 {
     let called = machine.look_up_callee(alloc, "main")?;
@@ -45,7 +47,7 @@ pub fn enter_main<'m>(machine: &mut Machine<'m>, alloc: Allocator) -> Result<Val
 
 /// The trace of a run that came to its end.
 fn trace_of(machine: Machine<'_>, ended: Result<Value, Halt>) -> Result<Trace, OutOfMemory>
-    ensures { (l : After ValueOf) → Tells value_of ended machine.entry l → IfOk result (λ trace. Leaves l trace.events.items (end_of_rust trace.end)) }
+    ensures { (l : After ValueOf) → TellsProgress value_of ended machine.entry l → IfOk result (λ trace. Leaves l trace.events.items (end_of_rust trace.end)) }
 {
     match ended {
         Ok(_) => Ok(Trace {

@@ -1,3 +1,5 @@
+//! Traces: the events of a run, and how it ends.
+
 ghost use Rattle.std.specs.Prelude.{◌≡◌, ◌++◌, IfOk, OnOk, string_bytes};
 ghost use Rattle.pc_run.specs.Traces.{word_of, end_of_rust, event_line, trace_lines};
 

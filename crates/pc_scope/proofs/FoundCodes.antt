@@ -17,11 +17,11 @@ use Rattle.pc_scope.specs.declared.resolution.Owner.TheVariants as owners
 use Rattle.pc_scope.specs.declared.resolution.Res.{Res}
 use Rattle.pc_scope.specs.Bindings.{constants_in, classes_in, functions_in, Body, bodies, function_bodies, class_bodies}
 use Rattle.pc_scope.specs.Resolution.{resolve}
-use Rattle.pc_scope.specs.Reach.{unreached}
+use Rattle.pc_scope.specs.Reach.{unreached_places}
 use Rattle.pc_scope.specs.Expressions.{parts_in, exprs_in_all}
 use Rattle.pc_scope.specs.Findings.{IsScopeCode, in_constant, in_body, decorator, ScopeFinds, stopping, unknown, early, unreachable}
-use Rattle.pc_scope.specs.Found.{unreached_in_defs, unknown_in, unknown_in_constants, unknown_in_methods, unknown_in_bodies, decorators_in, unknown_decorators, early_among, early_in, names_in, found_in}
-use Rattle.pc_scope.specs.Tables.{Tables, AreTables, meaning}
+use Rattle.pc_scope.specs.Internal.FindingLists.{unreached_in_defs, unknown_in, unknown_in_constants, unknown_in_methods, unknown_in_bodies, decorators_in, unknown_decorators, early_among, early_in, name_findings, scope_findings}
+use Rattle.pc_scope.specs.Tables.{Tables, AreTables, meaning_by_tables}
 use Rattle.pc_scope.proofs.Meanings.{means}
 use Rattle.pc_stop.proofs.Among.{none_among, either, in_code, to_code}
 use Rattle.pc_scope.proofs.FoundNames.{unknown_of, to_unknown, part_of, to_part, early_of, to_early_name, to_early_callee}
@@ -112,7 +112,7 @@ module _ (m : Module) (f : Finding) where
   behind : Contains (at_code E30 (unreached_in_defs m.items)) f → ScopeFinds m f
   behind h =
       let r = in_code E30 (unreached_in_defs m.items) f h in
-      let b = in_bodies (λ o d. unreached d.body) m f.place (subst (λ ps. Contains ps f.place) (defs_over (λ d. unreached d.body) 0 0 m.items) r.1) in
+      let b = in_bodies (λ o d. unreached_places d.body) m f.place (subst (λ ps. Contains ps f.place) (defs_over (λ d. unreached_places d.body) 0 0 m.items) r.1) in
       unreachable (record { body = b.b; of = b.among; place = f.place; first = b.found; is = is_finding E30 r.0 })
 
   abbrev unknown_constants : List Finding
@@ -130,49 +130,49 @@ module _ (m : Module) (f : Finding) where
   stops : Contains (found_in_scopes m) f → ScopeFinds m f
   stops h = let r = of_scopes m f IsScopeCode tt tt tt tt tt h in stopping r.0 r.1
 
-  names : Contains (names_in (resolve m) m) f → ScopeFinds m f
+  names : Contains (name_findings (resolve m) m) f → ScopeFinds m f
   names h =
       either unknown_constants (unknown_bodies ++ (unknown_classes ++ early_names)) f h (constants) (λ h4. either unknown_bodies (unknown_classes ++ early_names) f h4 (in_all_bodies) (λ h3. either unknown_classes (early_names) f h3 (decorators m.imports_dataclass refl) (λ h2. (initializers) h2)))
 
   -- what the walks find is a finding of the scopes
-  pub sound : Contains (found_in (resolve m) m) f → ScopeFinds m f
-  sound h = either (found_in_scopes m) (at_code E30 (unreached_in_defs m.items) ++ names_in (resolve m) m) f h stops
-      (λ h2. either (at_code E30 (unreached_in_defs m.items)) (names_in (resolve m) m) f h2 behind names)
+  pub sound : Contains (scope_findings (resolve m) m) f → ScopeFinds m f
+  sound h = either (found_in_scopes m) (at_code E30 (unreached_in_defs m.items) ++ name_findings (resolve m) m) f h stops
+      (λ h2. either (at_code E30 (unreached_in_defs m.items)) (name_findings (resolve m) m) f h2 behind names)
 
 -- ---- a finding of the scopes is found
 
 module _ (m : Module) (f : Finding) where
-  in_stops : Contains (found_in_scopes m) f → Contains (found_in (resolve m) m) f
-  in_stops h = Contains-append_left (found_in_scopes m) (at_code E30 (unreached_in_defs m.items) ++ names_in (resolve m) m) f h
+  in_stops : Contains (found_in_scopes m) f → Contains (scope_findings (resolve m) m) f
+  in_stops h = Contains-append_left (found_in_scopes m) (at_code E30 (unreached_in_defs m.items) ++ name_findings (resolve m) m) f h
 
-  behind_stops : Contains (at_code E30 (unreached_in_defs m.items) ++ names_in (resolve m) m) f → Contains (found_in (resolve m) m) f
-  behind_stops h = Contains-append_right (found_in_scopes m) (at_code E30 (unreached_in_defs m.items) ++ names_in (resolve m) m) f h
+  behind_stops : Contains (at_code E30 (unreached_in_defs m.items) ++ name_findings (resolve m) m) f → Contains (scope_findings (resolve m) m) f
+  behind_stops h = Contains-append_right (found_in_scopes m) (at_code E30 (unreached_in_defs m.items) ++ name_findings (resolve m) m) f h
 
-  in_unreached_statements : Contains (at_code E30 (unreached_in_defs m.items)) f → Contains (found_in (resolve m) m) f
-  in_unreached_statements h = behind_stops (Contains-append_left (at_code E30 (unreached_in_defs m.items)) (names_in (resolve m) m) f h)
+  in_unreached_statements : Contains (at_code E30 (unreached_in_defs m.items)) f → Contains (scope_findings (resolve m) m) f
+  in_unreached_statements h = behind_stops (Contains-append_left (at_code E30 (unreached_in_defs m.items)) (name_findings (resolve m) m) f h)
 
-  in_names : Contains (names_in (resolve m) m) f → Contains (found_in (resolve m) m) f
-  in_names h = behind_stops (Contains-append_right (at_code E30 (unreached_in_defs m.items)) (names_in (resolve m) m) f h)
+  in_names : Contains (name_findings (resolve m) m) f → Contains (scope_findings (resolve m) m) f
+  in_names h = behind_stops (Contains-append_right (at_code E30 (unreached_in_defs m.items)) (name_findings (resolve m) m) f h)
 
-  in_unknown_constants : Contains (at_code E02 (unknown_in_constants (resolve m owners.Module) m.items)) f → Contains (found_in (resolve m) m) f
+  in_unknown_constants : Contains (at_code E02 (unknown_in_constants (resolve m owners.Module) m.items)) f → Contains (scope_findings (resolve m) m) f
   in_unknown_constants h = in_names (Contains-append_left (at_code E02 (unknown_in_constants (resolve m owners.Module) m.items)) (at_code E02 (unknown_in_bodies (resolve m) 0 0 m.items) ++ (at_code E02 (unknown_decorators m.imports_dataclass m.items) ++ at_code E03 (early_in 0 0 (resolve m owners.Module) m.items))) f h)
 
-  behind_constants : Contains (at_code E02 (unknown_in_bodies (resolve m) 0 0 m.items) ++ (at_code E02 (unknown_decorators m.imports_dataclass m.items) ++ at_code E03 (early_in 0 0 (resolve m owners.Module) m.items))) f → Contains (found_in (resolve m) m) f
+  behind_constants : Contains (at_code E02 (unknown_in_bodies (resolve m) 0 0 m.items) ++ (at_code E02 (unknown_decorators m.imports_dataclass m.items) ++ at_code E03 (early_in 0 0 (resolve m owners.Module) m.items))) f → Contains (scope_findings (resolve m) m) f
   behind_constants h = in_names (Contains-append_right (at_code E02 (unknown_in_constants (resolve m owners.Module) m.items)) (at_code E02 (unknown_in_bodies (resolve m) 0 0 m.items) ++ (at_code E02 (unknown_decorators m.imports_dataclass m.items) ++ at_code E03 (early_in 0 0 (resolve m owners.Module) m.items))) f h)
 
-  in_unknown_bodies : Contains (at_code E02 (unknown_in_bodies (resolve m) 0 0 m.items)) f → Contains (found_in (resolve m) m) f
+  in_unknown_bodies : Contains (at_code E02 (unknown_in_bodies (resolve m) 0 0 m.items)) f → Contains (scope_findings (resolve m) m) f
   in_unknown_bodies h = behind_constants (Contains-append_left (at_code E02 (unknown_in_bodies (resolve m) 0 0 m.items)) (at_code E02 (unknown_decorators m.imports_dataclass m.items) ++ at_code E03 (early_in 0 0 (resolve m owners.Module) m.items)) f h)
 
-  behind_bodies : Contains (at_code E02 (unknown_decorators m.imports_dataclass m.items) ++ at_code E03 (early_in 0 0 (resolve m owners.Module) m.items)) f → Contains (found_in (resolve m) m) f
+  behind_bodies : Contains (at_code E02 (unknown_decorators m.imports_dataclass m.items) ++ at_code E03 (early_in 0 0 (resolve m owners.Module) m.items)) f → Contains (scope_findings (resolve m) m) f
   behind_bodies h = behind_constants (Contains-append_right (at_code E02 (unknown_in_bodies (resolve m) 0 0 m.items)) (at_code E02 (unknown_decorators m.imports_dataclass m.items) ++ at_code E03 (early_in 0 0 (resolve m owners.Module) m.items)) f h)
 
-  in_unknown_classes : Contains (at_code E02 (unknown_decorators m.imports_dataclass m.items)) f → Contains (found_in (resolve m) m) f
+  in_unknown_classes : Contains (at_code E02 (unknown_decorators m.imports_dataclass m.items)) f → Contains (scope_findings (resolve m) m) f
   in_unknown_classes h = behind_bodies (Contains-append_left (at_code E02 (unknown_decorators m.imports_dataclass m.items)) (at_code E03 (early_in 0 0 (resolve m owners.Module) m.items)) f h)
 
-  in_early_names : Contains (at_code E03 (early_in 0 0 (resolve m owners.Module) m.items)) f → Contains (found_in (resolve m) m) f
+  in_early_names : Contains (at_code E03 (early_in 0 0 (resolve m owners.Module) m.items)) f → Contains (scope_findings (resolve m) m) f
   in_early_names h = behind_bodies (Contains-append_right (at_code E02 (unknown_decorators m.imports_dataclass m.items)) (at_code E03 (early_in 0 0 (resolve m owners.Module) m.items)) f h)
 
-  stopped : (c : Code) → f.code ≡ c → IsScopeCode c → IsStopping m f.place c → Contains (found_in (resolve m) m) f
+  stopped : (c : Code) → f.code ≡ c → IsScopeCode c → IsStopping m f.place c → Contains (scope_findings (resolve m) m) f
   stopped E01 e code h = in_stops (to_twice m f e h)
   stopped E05 e code h = in_stops (to_loose m f e h)
   stopped E28 e code h = in_stops (to_main m f e h)
@@ -191,7 +191,7 @@ module _ (m : Module) (f : Finding) where
   counted n first x item p h = to_early (resolve m owners.Module) 0 0 m.items p n first x item (moved (resolve m owners.Module) (length (constants_in (take n m.items))) (0 + length (constants_in (take n m.items))) (length (classes_in (take n m.items))) (0 + length (classes_in (take n m.items))) x p (omega arith) (omega arith) h)
 
   -- a finding of the scopes is among what the walks find
-  pub complete : ScopeFinds m f → Contains (found_in (resolve m) m) f
+  pub complete : ScopeFinds m f → Contains (scope_findings (resolve m) m) f
   complete (stopping code h) = stopped f.code refl code h
   complete (unknown (in_constant c among u)) = in_unknown_constants (placed E02 u.n.place (unknown_in_constants (resolve m owners.Module) m.items) u.is
       (to_constant (resolve m owners.Module) m.items c u.n.place among (to_unknown (resolve m owners.Module) (parts_in true c.value) u.n u.named u.unknown)))
@@ -204,12 +204,12 @@ module _ (m : Module) (f : Finding) where
     | inr c ↦ in_early_names (placed E03 c.place (early_in 0 0 (resolve m owners.Module) m.items) c.is (counted r.at r.first r.constant r.item c.place (to_early_callee (length (constants_in (take r.at m.items))) (length (classes_in (take r.at m.items))) (resolve m owners.Module) (parts_in false r.constant.value) c.place c.callee)))
   ]
   complete (unreachable r) = in_unreached_statements (placed E30 r.place (unreached_in_defs m.items) r.is
-      (subst (λ ps. Contains ps r.place) (sym (defs_over (λ d. unreached d.body) 0 0 m.items)) (to_bodies (λ o d. unreached d.body) m r.body r.place r.of r.first)))
+      (subst (λ ps. Contains ps r.place) (sym (defs_over (λ d. unreached_places d.body) 0 0 m.items)) (to_bodies (λ o d. unreached_places d.body) m r.body r.place r.of r.first)))
 
 -- ---- where names mean what tables say
 
 -- what is found by the tables of a module is what its scopes find
-pub found_by : (m : Module) (t : Tables) → AreTables m t → (f : Finding) → Contains (found_in (meaning t) m) f ↔ ScopeFinds m f
+pub found_by : (m : Module) (t : Tables) → AreTables m t → (f : Finding) → Contains (scope_findings (meaning_by_tables t) m) f ↔ ScopeFinds m f
 found_by m t are f =
-    let same : found_in (meaning t) m ≡ found_in (resolve m) m = λ i. found_in (λ owner text. means m t are owner text i) m in
+    let same : scope_findings (meaning_by_tables t) m ≡ scope_findings (resolve m) m = λ i. scope_findings (λ owner text. means m t are owner text i) m in
     (λ h. sound m f (subst (λ fs. Contains fs f) same h), λ h. subst (λ fs. Contains fs f) (sym same) (complete m f h))

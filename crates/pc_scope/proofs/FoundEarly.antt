@@ -7,7 +7,7 @@ use Rattle.pc_tree.specs.Tree.{Constant, Item, constant_item, class_item, def_it
 use Rattle.pc_scope.specs.declared.resolution.Res.{Res}
 use Rattle.pc_scope.specs.Bindings.{constants_in, classes_in}
 use Rattle.pc_scope.specs.Expressions.{parts_in}
-use Rattle.pc_scope.specs.Found.{early_among, early_in}
+use Rattle.pc_scope.specs.Internal.FindingLists.{early_among, early_in}
 use Rattle.pc_stop.proofs.Among.{none_among, either}
 
 -- a constant behind so many constants and classes, with something too early in its initializer

@@ -9,7 +9,7 @@ use Rattle.pc_scope.specs.declared.resolution.Owner.TheVariants as owners
 use Rattle.pc_scope.specs.declared.resolution.Res.{Res}
 use Rattle.pc_scope.specs.Bindings.{constants_in, classes_in, functions_in, methods_in, Body, function_bodies, method_bodies, class_bodies}
 use Rattle.pc_scope.specs.Expressions.{parts_in}
-use Rattle.pc_scope.specs.Found.{unknown_among, unknown_in_constants, decorators_in}
+use Rattle.pc_scope.specs.Internal.FindingLists.{unknown_among, unknown_in_constants, decorators_in}
 use Rattle.pc_stop.proofs.Among.{none_among, first_among, later_among, among_first, either}
 
 -- ---- constants

@@ -12,7 +12,7 @@ use Rattle.pc_scope.specs.declared.resolution.Res.{Res}
 use Rattle.pc_scope.specs.declared.resolution.Res.TheVariants as res
 use Rattle.pc_scope.specs.Expressions.{parts_in, other_callee}
 use Rattle.pc_scope.specs.Findings.{IsEarlyMeaning}
-use Rattle.pc_scope.specs.Found.{is_nothing, unknown_at, unknown_among, unknown_in, is_early, early_at, callee_at, early_among}
+use Rattle.pc_scope.specs.Internal.FindingLists.{means_nothing, unknown_at, unknown_among, unknown_in, is_early_meaning, early_at, callee_at, early_among}
 use Rattle.pc_stop.proofs.Among.{none_among, first_among, later_among, among_first, either}
 
 one : (b : Bool) (p q : Place) → Contains (one_if b p) q → (b ≡ true) × (p ≡ q)
@@ -23,7 +23,7 @@ to_one : (b : Bool) (p : Place) → b ≡ true → Contains (one_if b p) p
 to_one true p e = first_among p []
 to_one false p e = absurd (grind (arith, e))
 
-nothing_is : (r : Res) → is_nothing r ≡ true → r ≡ res.None
+nothing_is : (r : Res) → means_nothing r ≡ true → r ≡ res.None
 nothing_is (res.Local n) e = absurd (grind (arith, e))
 nothing_is (res.Const n) e = absurd (grind (arith, e))
 nothing_is (res.Func n) e = absurd (grind (arith, e))
@@ -43,7 +43,7 @@ pub record IsUnknownAmong (resolve : List ℕ → Res) (es : List Expr) (p : Pla
 module _ (resolve : List ℕ → Res) where
   unknown_more : (o : Option Name) (e : Expr) (es : List Expr) (p : Place) → name_of_tree e ≡ o → Contains (unknown_at resolve o) p → IsUnknownAmong resolve (e ∷ es) p
   unknown_more None e es p is h = absurd (none_among p h)
-  unknown_more (Some n) e es p is h = let r = one (is_nothing (resolve n.text)) n.place p h in record { n = n; named = rw is (first_among n (filter_map name_of_tree es)); unknown = nothing_is (resolve n.text) r.0; is = r.1 }
+  unknown_more (Some n) e es p is h = let r = one (means_nothing (resolve n.text)) n.place p h in record { n = n; named = rw is (first_among n (filter_map name_of_tree es)); unknown = nothing_is (resolve n.text) r.0; is = r.1 }
 
   behind : (o : Option Name) (ns : List Name) (n : Name) → Contains ns n → Contains (cons_option o ns) n
   behind None ns n h = h
@@ -62,7 +62,7 @@ module _ (resolve : List ℕ → Res) where
       go : (o : Option Name) → Contains (cons_option o (filter_map name_of_tree es)) n → (Contains (filter_map name_of_tree es) n → Contains (unknown_among resolve es) n.place) → Contains (unknown_at resolve o ++ unknown_among resolve es) n.place
       go None h later = later h
       go (Some m) h later = elim (among_first m (filter_map name_of_tree es) n h) [
-        | inl e ↦ Contains-append_left (unknown_at resolve (Some m)) (unknown_among resolve es) n.place (subst (λ (x : Name). Contains (one_if (is_nothing (resolve m.text)) m.place) x.place) e (to_one (is_nothing (resolve m.text)) m.place (ap (λ (x : Name). is_nothing (resolve x.text)) e ∙ ap is_nothing none)))
+        | inl e ↦ Contains-append_left (unknown_at resolve (Some m)) (unknown_among resolve es) n.place (subst (λ (x : Name). Contains (one_if (means_nothing (resolve m.text)) m.place) x.place) e (to_one (means_nothing (resolve m.text)) m.place (ap (λ (x : Name). means_nothing (resolve x.text)) e ∙ ap means_nothing none)))
         | inr rest ↦ Contains-append_right (unknown_at resolve (Some m)) (unknown_among resolve es) n.place (later rest)
       ]
 
@@ -87,7 +87,7 @@ module _ (resolve : List ℕ → Res) where
 
 -- ---- names too early
 
-early_is : (k c : ℕ) (r : Res) → is_early k c r ≡ true → IsEarlyMeaning k c r
+early_is : (k c : ℕ) (r : Res) → is_early_meaning k c r ≡ true → IsEarlyMeaning k c r
 early_is k c (res.Local n) e = absurd (grind (arith, e))
 early_is k c (res.Const n) e = grind (arith, nat_tests, e)
 early_is k c (res.Func n) e = tt
@@ -95,7 +95,7 @@ early_is k c (res.Class n) e = grind (arith, nat_tests, e)
 early_is k c (res.Builtin b) e = absurd (grind (arith, e))
 early_is k c res.None e = absurd (grind (arith, e))
 
-to_early_is : (k c : ℕ) (r : Res) → IsEarlyMeaning k c r → is_early k c r ≡ true
+to_early_is : (k c : ℕ) (r : Res) → IsEarlyMeaning k c r → is_early_meaning k c r ≡ true
 to_early_is k c (res.Local n) e = absurd e
 to_early_is k c (res.Const n) e = grind (arith, nat_tests, e)
 to_early_is k c (res.Func n) e = refl
@@ -116,7 +116,7 @@ module _ (k c : ℕ) (resolve : List ℕ → Res) where
 
   name_too_early : (o : Option Name) (e : Expr) (es : List Expr) (p : Place) → name_of_tree e ≡ o → Contains (early_at k c resolve o) p → Early (e ∷ es) p
   name_too_early None e es p is h = absurd (none_among p h)
-  name_too_early (Some n) e es p is h = let r = one (is_early k c (resolve n.text)) n.place p h in inl (record { n = n; named = rw is (first_among n (filter_map name_of_tree es)); early = early_is k c (resolve n.text) r.0; is = r.1 })
+  name_too_early (Some n) e es p is h = let r = one (is_early_meaning k c (resolve n.text)) n.place p h in inl (record { n = n; named = rw is (first_among n (filter_map name_of_tree es)); early = early_is k c (resolve n.text) r.0; is = r.1 })
 
   callee_too_early : (o : Option Place) (e : Expr) (es : List Expr) (p : Place) → other_callee e ≡ o → Contains (callee_at o) p → Early (e ∷ es) p
   callee_too_early None e es p is h = absurd (none_among p h)
@@ -143,7 +143,7 @@ module _ (k c : ℕ) (resolve : List ℕ → Res) where
       go : (o : Option Name) → Contains (cons_option o (filter_map name_of_tree es)) n → (Contains (filter_map name_of_tree es) n → Contains (early_among k c resolve es) n.place) → Contains ((early_at k c resolve o ++ callee_at (other_callee e)) ++ early_among k c resolve es) n.place
       go None h later = Contains-append_right (callee_at (other_callee e)) (early_among k c resolve es) n.place (later h)
       go (Some m) h later = elim (among_first m (filter_map name_of_tree es) n h) [
-        | inl is ↦ Contains-append_left (early_at k c resolve (Some m) ++ callee_at (other_callee e)) (early_among k c resolve es) n.place (Contains-append_left (early_at k c resolve (Some m)) (callee_at (other_callee e)) n.place (subst (λ (x : Name). Contains (one_if (is_early k c (resolve m.text)) m.place) x.place) is (to_one (is_early k c (resolve m.text)) m.place (ap (λ (x : Name). is_early k c (resolve x.text)) is ∙ to_early_is k c (resolve n.text) early))))
+        | inl is ↦ Contains-append_left (early_at k c resolve (Some m) ++ callee_at (other_callee e)) (early_among k c resolve es) n.place (Contains-append_left (early_at k c resolve (Some m)) (callee_at (other_callee e)) n.place (subst (λ (x : Name). Contains (one_if (is_early_meaning k c (resolve m.text)) m.place) x.place) is (to_one (is_early_meaning k c (resolve m.text)) m.place (ap (λ (x : Name). is_early_meaning k c (resolve x.text)) is ∙ to_early_is k c (resolve n.text) early))))
         | inr rest ↦ Contains-append_right (early_at k c resolve (Some m) ++ callee_at (other_callee e)) (early_among k c resolve es) n.place (later rest)
       ]
 

@@ -5,11 +5,11 @@ use Rattle.pc_source.specs.declared.place.Place.{Place}
 use Rattle.pc_tree.specs.declared.tree.StmtKind.{StmtKind}
 use Rattle.pc_tree.specs.declared.tree.StmtKind.TheVariants as rust_stmt
 use Rattle.pc_tree.specs.Tree.{Stmts, stmt_of_kind}
-use Rattle.pc_scope.specs.Reach.{first_of, first_places, unreached}
+use Rattle.pc_scope.specs.Reach.{first_of, first_places, unreached_places}
 
 -- what is unreached of the statements behind one, by whether it can complete
 abbrev pub behind : Bool → Stmts → List Place
-behind reached rest = if reached then unreached rest else first_places rest
+behind reached rest = if reached then unreached_places rest else first_places rest
 
 -- a statement's first token is at the place that stands beside its kind
 pub first_is : (p : Place) (k : StmtKind) → first_of (stmt_of_kind p k) ≡ p

@@ -17,9 +17,9 @@ use Rattle.pc_scope.specs.declared.resolution.Owner.TheVariants as owners
 use Rattle.pc_scope.specs.declared.resolution.Res.{Res}
 use Rattle.pc_scope.specs.Expressions.{parts_in, parts_in_all, parts_in_entries, parts_in_keywords, are_two, other_callee}
 use Rattle.pc_stop.specs.Found.{at_code}
-use Rattle.pc_scope.specs.Found.{unknown_at, unknown_among, unknown_in, early_at, early_among, callee_at}
-use Rattle.pc_scope.specs.Seeking.{sought_at, sought_among, some_parts}
-use Rattle.pc_scope.specs.Tables.{Tables, meaning}
+use Rattle.pc_scope.specs.Internal.FindingLists.{unknown_at, unknown_among, unknown_in, early_at, early_among, callee_at}
+use Rattle.pc_scope.specs.Internal.SoughtParts.{sought_at, sought_among, some_parts}
+use Rattle.pc_scope.specs.Tables.{Tables, meaning_by_tables}
 use Rattle.pc_tree.proofs.Stops.{cons_at}
 use Rattle.pc_stop.proofs.Finds.{at_both}
 
@@ -28,9 +28,9 @@ sought_both t s [] b = refl
 sought_both t s (e ∷ a) b = ap (λ (fs : List Finding). sought_at t s e ++ fs) (sought_both t s a b) ∙ sym (append_assoc (sought_at t s e) (sought_among t s a) (sought_among t s b))
 
 -- names that mean nothing, as a walk seeks them
-pub unknown_sought : (t : Tables) (owner : Owner) (es : List Expr) → sought_among t (sought.Unknown owner) es ≡ at_code E02 (unknown_among (meaning t owner) es)
+pub unknown_sought : (t : Tables) (owner : Owner) (es : List Expr) → sought_among t (sought.Unknown owner) es ≡ at_code E02 (unknown_among (meaning_by_tables t owner) es)
 unknown_sought t owner [] = refl
-unknown_sought t owner (e ∷ es) = ap (λ (fs : List Finding). at_code E02 (unknown_at (meaning t owner) (name_of_tree e)) ++ fs) (unknown_sought t owner es) ∙ sym (at_both E02 (unknown_at (meaning t owner) (name_of_tree e)) (unknown_among (meaning t owner) es))
+unknown_sought t owner (e ∷ es) = ap (λ (fs : List Finding). at_code E02 (unknown_at (meaning_by_tables t owner) (name_of_tree e)) ++ fs) (unknown_sought t owner es) ∙ sym (at_both E02 (unknown_at (meaning_by_tables t owner) (name_of_tree e)) (unknown_among (meaning_by_tables t owner) es))
 
 -- the names that mean nothing in two lists of expressions
 pub unknown_both : (r : List ℕ → Res) (a b : List Expr) → unknown_in r (a ++ b) ≡ unknown_in r a ++ unknown_in r b
@@ -38,11 +38,11 @@ unknown_both r [] b = refl
 unknown_both r (e ∷ a) b = ap (λ (ps : List Place). unknown_among r (parts_in true e) ++ ps) (unknown_both r a b) ∙ sym (append_assoc (unknown_among r (parts_in true e)) (unknown_in r a) (unknown_in r b))
 
 -- names and callees that stand too early, as a walk seeks them
-pub early_sought : (t : Tables) (k c : ℕ) (es : List Expr) → sought_among t (sought.Early k c) es ≡ at_code E03 (early_among k c (meaning t owners.Module) es)
+pub early_sought : (t : Tables) (k c : ℕ) (es : List Expr) → sought_among t (sought.Early k c) es ≡ at_code E03 (early_among k c (meaning_by_tables t owners.Module) es)
 early_sought t k c [] = refl
 early_sought t k c (e ∷ es) =
-    let here = early_at k c (meaning t owners.Module) (name_of_tree e) ++ callee_at (other_callee e) in
-    ap (λ (fs : List Finding). at_code E03 here ++ fs) (early_sought t k c es) ∙ sym (at_both E03 here (early_among k c (meaning t owners.Module) es))
+    let here = early_at k c (meaning_by_tables t owners.Module) (name_of_tree e) ++ callee_at (other_callee e) in
+    ap (λ (fs : List Finding). at_code E03 here ++ fs) (early_sought t k c es) ∙ sym (at_both E03 here (early_among k c (meaning_by_tables t owners.Module) es))
 
 -- another number of arguments by position than two
 pub other_count : (es : List RustExpr) (ks : Keywords) → length es ≢ 2 → are_two (exprs_of_list es) ks ≡ false

@@ -5,12 +5,12 @@ use Rattle.std.specs.Prelude.{Bool, true, false, ◌||◌, if◌then◌else◌, 
 use Rattle.std.specs.List.{list_any, position_or_len}
 use Rattle.std.specs.Option.{option_map}
 use lib.Dec.{leb-suc-suc}
-use Rattle.pc_scope.specs.Reserved.{builtin_of, is_reserved}
-use Rattle.pc_scope.specs.Resolution.{is_among, first_of_each, index_of}
-use Rattle.pc_scope.specs.Walking.{with_local}
+use Rattle.pc_scope.specs.Reserved.{builtin_of, is_builtin_name}
+use Rattle.pc_scope.specs.Resolution.{is_one_of, first_of_each, index_of}
+use Rattle.pc_scope.specs.Internal.WalkViews.{with_new_local}
 
 -- a set of texts has a text where the list of its texts does
-pub among : {A : Type 0} (f : A → List ℕ) (t : List ℕ) (ks : List A) → list_any (λ k. bytes_eq t (f k)) ks ≡ is_among t (map f ks)
+pub among : {A : Type 0} (f : A → List ℕ) (t : List ℕ) (ks : List A) → list_any (λ k. bytes_eq t (f k)) ks ≡ is_one_of t (map f ks)
 among f t [] = refl
 among f t (k ∷ ks) = ap (λ b. bytes_eq t (f k) || b) (among f t ks)
 
@@ -44,20 +44,20 @@ put f ks s true e e' = absurd (grind (arith, e'))
 put f ks s false e e' = map_end f ks s
 
 -- a free name that is no local yet becomes one
-pub bound_new : (names : List (List ℕ)) (t : List ℕ) → is_some (builtin_of t) ≡ false → is_among t names ≡ false → with_local names t ≡ names ++ (t ∷ [])
-bound_new names t e e' = added (is_reserved t || is_among t names) names t (or_both (is_reserved t) (is_among t names) e e')
+pub bound_new : (names : List (List ℕ)) (t : List ℕ) → is_some (builtin_of t) ≡ false → is_one_of t names ≡ false → with_new_local names t ≡ names ++ (t ∷ [])
+bound_new names t e e' = added (is_builtin_name t || is_one_of t names) names t (or_both (is_builtin_name t) (is_one_of t names) e e')
 
 -- a reserved name doesn't
-pub bound_reserved : (names : List (List ℕ)) (t : List ℕ) → is_some (builtin_of t) ≡ true → with_local names t ≡ names
-bound_reserved names t e = kept (is_reserved t || is_among t names) names t (or_first (is_reserved t) (is_among t names) e)
+pub bound_reserved : (names : List (List ℕ)) (t : List ℕ) → is_some (builtin_of t) ≡ true → with_new_local names t ≡ names
+bound_reserved names t e = kept (is_builtin_name t || is_one_of t names) names t (or_first (is_builtin_name t) (is_one_of t names) e)
 
 -- nor does a local again
-pub bound_again : (names : List (List ℕ)) (t : List ℕ) → is_among t names ≡ true → with_local names t ≡ names
-bound_again names t e = kept (is_reserved t || is_among t names) names t (or_second (is_reserved t) (is_among t names) e)
+pub bound_again : (names : List (List ℕ)) (t : List ℕ) → is_one_of t names ≡ true → with_new_local names t ≡ names
+bound_again names t e = kept (is_builtin_name t || is_one_of t names) names t (or_second (is_builtin_name t) (is_one_of t names) e)
 
-same_behind : (t x : List ℕ) (names : List (List ℕ)) → is_among t (names ++ (x ∷ [])) ≡ (bytes_eq t x || is_among t names)
+same_behind : (t x : List ℕ) (names : List (List ℕ)) → is_one_of t (names ++ (x ∷ [])) ≡ (bytes_eq t x || is_one_of t names)
 same_behind t x [] = refl
-same_behind t x (n ∷ names) = ap (λ b. bytes_eq t n || b) (same_behind t x names) ∙ turned (bytes_eq t n) (bytes_eq t x) (is_among t names)
+same_behind t x (n ∷ names) = ap (λ b. bytes_eq t n || b) (same_behind t x names) ∙ turned (bytes_eq t n) (bytes_eq t x) (is_one_of t names)
   where
     turned : (a b c : Bool) → (a || (b || c)) ≡ (b || (a || c))
     turned true true c = refl
@@ -65,20 +65,20 @@ same_behind t x (n ∷ names) = ap (λ b. bytes_eq t n || b) (same_behind t x na
     turned false b c = refl
 
 -- names put in one after another: those that stand first, behind those that were there
-pub puts : (before names ts : List (List ℕ)) → ((t : List ℕ) → is_among t before ≡ is_among t names) → fold with_local names ts ≡ names ++ first_of_each before ts
+pub puts : (before names ts : List (List ℕ)) → ((t : List ℕ) → is_one_of t before ≡ is_one_of t names) → fold with_new_local names ts ≡ names ++ first_of_each before ts
 puts before names [] same = sym (append-nil names)
-puts before names (t ∷ ts) same = go (is_reserved t || is_among t names) refl (puts before names ts same) (puts (t ∷ before) (names ++ (t ∷ [])) ts (λ u. ap (λ c. bytes_eq u t || c) (same u) ∙ sym (same_behind u t names)))
+puts before names (t ∷ ts) same = go (is_builtin_name t || is_one_of t names) refl (puts before names ts same) (puts (t ∷ before) (names ++ (t ∷ [])) ts (λ u. ap (λ c. bytes_eq u t || c) (same u) ∙ sym (same_behind u t names)))
   where
-    go : (b : Bool) → (is_reserved t || is_among t names) ≡ b
-        → fold with_local names ts ≡ names ++ first_of_each before ts
-        → fold with_local (names ++ (t ∷ [])) ts ≡ (names ++ (t ∷ [])) ++ first_of_each (t ∷ before) ts
-        → fold with_local (if b then names else names ++ (t ∷ [])) ts ≡ names ++ (if is_reserved t || is_among t before then first_of_each before ts else t ∷ first_of_each (t ∷ before) ts)
-    go true e old new = rw (ap (λ c. is_reserved t || c) (same t) ∙ e) old
-    go false e old new = rw (ap (λ c. is_reserved t || c) (same t) ∙ e) (new ∙ append_assoc names (t ∷ []) (first_of_each (t ∷ before) ts))
+    go : (b : Bool) → (is_builtin_name t || is_one_of t names) ≡ b
+        → fold with_new_local names ts ≡ names ++ first_of_each before ts
+        → fold with_new_local (names ++ (t ∷ [])) ts ≡ (names ++ (t ∷ [])) ++ first_of_each (t ∷ before) ts
+        → fold with_new_local (if b then names else names ++ (t ∷ [])) ts ≡ names ++ (if is_builtin_name t || is_one_of t before then first_of_each before ts else t ∷ first_of_each (t ∷ before) ts)
+    go true e old new = rw (ap (λ c. is_builtin_name t || c) (same t) ∙ e) old
+    go false e old new = rw (ap (λ c. is_builtin_name t || c) (same t) ∙ e) (new ∙ append_assoc names (t ∷ []) (first_of_each (t ∷ before) ts))
 
 -- names put in by three lists in turn are those that stand first in all of them
-pub in_turn : (self params body : List (List ℕ)) → fold with_local (fold with_local (fold with_local [] self) params) body ≡ first_of_each [] (self ++ (params ++ body))
-in_turn self params body = sym (fold-append with_local (fold with_local [] self) params body) ∙ sym (fold-append with_local [] self (params ++ body)) ∙ puts [] [] (self ++ (params ++ body)) (λ t. refl)
+pub in_turn : (self params body : List (List ℕ)) → fold with_new_local (fold with_new_local (fold with_new_local [] self) params) body ≡ first_of_each [] (self ++ (params ++ body))
+in_turn self params body = sym (fold-append with_new_local (fold with_new_local [] self) params body) ∙ sym (fold-append with_new_local [] self (params ++ body)) ∙ puts [] [] (self ++ (params ++ body)) (λ t. refl)
 
 below : (n : ℕ) → nat_lt 0 (suc n) ≡ true
 below n = grind arith

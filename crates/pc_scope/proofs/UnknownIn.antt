@@ -12,7 +12,7 @@ use Rattle.pc_scope.specs.declared.resolution.Res.{Res}
 use Rattle.pc_scope.specs.Expressions.{parts_in, exprs_in, exprs_in_all, exprs_in_branches}
 use Rattle.pc_scope.specs.Reach.{completes}
 use Rattle.pc_stop.specs.Found.{at_code}
-use Rattle.pc_scope.specs.Found.{unknown_among, unknown_in}
+use Rattle.pc_scope.specs.Internal.FindingLists.{unknown_among, unknown_in}
 use Rattle.pc_stop.proofs.Finds.{at_both}
 use Rattle.pc_scope.proofs.Seeking.{unknown_both}
 

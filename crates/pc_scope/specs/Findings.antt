@@ -15,7 +15,7 @@ use Rattle.pc_scope.specs.declared.resolution.Res.{Res}
 use Rattle.pc_scope.specs.declared.resolution.Res.TheVariants as res
 use Rattle.pc_scope.specs.Bindings.{constants_in, classes_in, Body, bodies}
 use Rattle.pc_scope.specs.Resolution.{resolve, resolve_in_module}
-use Rattle.pc_scope.specs.Reach.{unreached}
+use Rattle.pc_scope.specs.Reach.{unreached_places}
 use Rattle.pc_scope.specs.Expressions.{parts_in, other_callee, exprs_in_all}
 
 -- E01, E05, E28, E29, E31: those of the codes that stop a run which are not of classes
@@ -73,7 +73,7 @@ pub record IsUnreachable (m : Module) (f : Finding) : Type 0 where
   pub body : Body
   pub of : Contains (bodies m) body
   pub place : Place
-  pub first : Contains (unreached body.function.body) place
+  pub first : Contains (unreached_places body.function.body) place
   pub is : f ≡ finding place E30
 
 -- the findings of scopes

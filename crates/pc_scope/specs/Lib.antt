@@ -5,7 +5,5 @@ pub mod Reach
 pub mod Reserved
 pub mod Resolution
 pub mod Tables
-pub mod Walking
-pub mod Found
-pub mod Seeking
-pub mod Scoped
+pub mod Internal
+pub mod ModuleScopes

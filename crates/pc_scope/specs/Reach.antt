@@ -54,15 +54,15 @@ first_places (more_stmts s rest) = first_of s ∷ []
 -- the first statements behind one that cannot complete, in the suites that are reached
 abbrev mutual
   pub unreached_in : Stmt → List Place
-  unreached_in (while_loop p condition body) = unreached body
-  unreached_in (for_loop p n iterable body) = unreached body
-  unreached_in (conditional p branches otherwise) = unreached_in_branches branches ++ unreached otherwise
+  unreached_in (while_loop p condition body) = unreached_places body
+  unreached_in (for_loop p n iterable body) = unreached_places body
+  unreached_in (conditional p branches otherwise) = unreached_in_branches branches ++ unreached_places otherwise
   unreached_in _ = []
 
-  pub unreached : Stmts → List Place
-  unreached no_stmts = []
-  unreached (more_stmts s rest) = unreached_in s ++ (if completes s then unreached rest else first_places rest)
+  pub unreached_places : Stmts → List Place
+  unreached_places no_stmts = []
+  unreached_places (more_stmts s rest) = unreached_in s ++ (if completes s then unreached_places rest else first_places rest)
 
   pub unreached_in_branches : Branches → List Place
   unreached_in_branches no_branches = []
-  unreached_in_branches (more_branches condition body rest) = unreached body ++ unreached_in_branches rest
+  unreached_in_branches (more_branches condition body rest) = unreached_places body ++ unreached_in_branches rest

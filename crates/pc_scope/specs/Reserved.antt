@@ -5,8 +5,8 @@ use Rattle.pc_scope.specs.declared.resolution.Builtin.{Builtin}
 use Rattle.pc_scope.specs.declared.resolution.Builtin.TheVariants as builtin
 
 -- the reserved names
-abbrev pub reserved : List (List ℕ × Builtin)
-reserved =
+abbrev pub reserved_builtins : List (List ℕ × Builtin)
+reserved_builtins =
     (codes "Any", builtin.Any)
     ∷ (codes "annotations", builtin.Annotations)
     ∷ (codes "bool", builtin.Bool)
@@ -30,8 +30,8 @@ beside (entry ∷ rest) text = if bytes_eq entry.0 text then Some entry.1 else b
 
 -- the built-in that a name means, if it is reserved
 unfoldable pub builtin_of : List ℕ → Option Builtin
-builtin_of text = beside reserved text
+builtin_of text = beside reserved_builtins text
 
 -- whether a text is a reserved name
-abbrev pub is_reserved : List ℕ → Bool
-is_reserved text = is_some (builtin_of text)
+abbrev pub is_builtin_name : List ℕ → Bool
+is_builtin_name text = is_some (builtin_of text)

@@ -9,7 +9,7 @@ use Rattle.pc_scope.specs.declared.resolution.Owner.{Owner}
 use Rattle.pc_scope.specs.declared.resolution.Owner.TheVariants as owners
 use Rattle.pc_scope.specs.declared.resolution.Res.{Res}
 use Rattle.pc_scope.specs.declared.resolution.Res.TheVariants as res
-use Rattle.pc_scope.specs.Reserved.{builtin_of, is_reserved}
+use Rattle.pc_scope.specs.Reserved.{builtin_of, is_builtin_name}
 use Rattle.pc_tree.specs.Stopping.{bound_by}
 use Rattle.pc_scope.specs.Bindings.{texts, param_names, classes_in, functions_in, methods_in}
 
@@ -19,13 +19,13 @@ index_of text [] = None
 index_of text (t ∷ ts) = if bytes_eq text t then Some 0 else option_map suc (index_of text ts)
 
 -- the text is one of these
-abbrev pub is_among : List ℕ → List (List ℕ) → Bool
-is_among text names = list_any (bytes_eq text) names
+abbrev pub is_one_of : List ℕ → List (List ℕ) → Bool
+is_one_of text names = list_any (bytes_eq text) names
 
 -- each text once, in the order in which it stands first, without reserved names and those that stand before
 abbrev pub first_of_each : List (List ℕ) → List (List ℕ) → List (List ℕ)
 first_of_each before [] = []
-first_of_each before (t ∷ ts) = if is_reserved t || is_among t before then first_of_each before ts else t ∷ first_of_each (t ∷ before) ts
+first_of_each before (t ∷ ts) = if is_builtin_name t || is_one_of t before then first_of_each before ts else t ∷ first_of_each (t ∷ before) ts
 
 -- the text of what a method is entered with before its parameters: `self`
 abbrev pub receiver : Owner → List (List ℕ)
@@ -69,27 +69,27 @@ bound_first k f c (def_item p i ∷ rest) text = if bytes_eq i.name.text text th
 bound_first k f c (class_item p i ∷ rest) text = if bytes_eq i.name.text text then Some (res.Class c) else bound_first k f (suc c) rest text
 
 -- a first answer, else the next
-abbrev pub or_else : Option Res → Res → Res
-or_else None next = next
-or_else (Some r) next = r
+abbrev pub or_meaning : Option Res → Res → Res
+or_meaning None next = next
+or_meaning (Some r) next = r
 
 -- the local of a number as the meaning of a name, if there is one
-abbrev pub local_of : Option ℕ → Option Res
-local_of None = None
-local_of (Some n) = Some (res.Local n)
+abbrev pub local_meaning : Option ℕ → Option Res
+local_meaning None = None
+local_meaning (Some n) = Some (res.Local n)
 
 -- a built-in as the meaning of a name, if there is one
-abbrev pub builtin_res : Option Builtin → Option Res
-builtin_res None = None
-builtin_res (Some b) = Some (res.Builtin b)
+abbrev pub builtin_meaning : Option Builtin → Option Res
+builtin_meaning None = None
+builtin_meaning (Some b) = Some (res.Builtin b)
 
 -- what a name means in the module, where no function has it as a local
 abbrev pub resolve_in_module : Module → List ℕ → Res
-resolve_in_module m text = or_else (builtin_res (builtin_of text)) (or_else (bound_first 0 0 0 m.items text) res.None)
+resolve_in_module m text = or_meaning (builtin_meaning (builtin_of text)) (or_meaning (bound_first 0 0 0 m.items text) res.None)
 
 -- what a name means where these are the locals
 abbrev pub resolve_among : Module → (names : List (List ℕ)) → List ℕ → Res
-resolve_among m names text = or_else (local_of (index_of text names)) (resolve_in_module m text)
+resolve_among m names text = or_meaning (local_meaning (index_of text names)) (resolve_in_module m text)
 
 -- what a name means to its owner
 abbrev pub resolve : Module → Owner → List ℕ → Res

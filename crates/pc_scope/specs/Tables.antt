@@ -8,7 +8,7 @@ use Rattle.pc_scope.specs.declared.resolution.Owner.{Owner}
 use Rattle.pc_scope.specs.declared.resolution.Owner.TheVariants as owners
 use Rattle.pc_scope.specs.declared.resolution.Res.TheVariants as res
 use Rattle.pc_scope.specs.Reserved.{builtin_of, beside}
-use Rattle.pc_scope.specs.Resolution.{first_of_each, index_of, bound_first, or_else, local_of, builtin_res}
+use Rattle.pc_scope.specs.Resolution.{first_of_each, index_of, bound_first, or_meaning, local_meaning, builtin_meaning}
 
 -- the locals of a function or a method, by its parameters and its body
 abbrev pub locals_by : (is_method : Bool) → FuncDef → List (List ℕ)
@@ -41,8 +41,8 @@ locals_for t (owners.Func i) = locals_at (slice_get t.functions i)
 locals_for t (owners.Method c i) = method_locals (slice_get t.methods c) i
 
 -- what a name means by tables: a local, a built-in, what the module binds first, or nothing
-abbrev pub meaning : Tables → Owner → List ℕ → Res
-meaning t owner text = or_else (local_of (index_of text (locals_for t owner))) (or_else (builtin_res (builtin_of text)) (or_else (beside t.globals text) res.None))
+abbrev pub meaning_by_tables : Tables → Owner → List ℕ → Res
+meaning_by_tables t owner text = or_meaning (local_meaning (index_of text (locals_for t owner))) (or_meaning (builtin_meaning (builtin_of text)) (or_meaning (beside t.globals text) res.None))
 
 -- the tables are those of the module
 pub record AreTables (m : Module) (t : Tables) : Type 0 where

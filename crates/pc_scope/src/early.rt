@@ -7,8 +7,8 @@ ghost use Rattle.pc_tree.specs.Tree.{expr_of, item_of};
 ghost use Rattle.pc_scope.specs.declared.resolution.Owner.TheVariants as owners;
 ghost use Rattle.pc_scope.specs.Expressions.{parts_in};
 ghost use Rattle.pc_stop.specs.Found.{at_code};
-ghost use Rattle.pc_scope.specs.Found.{early_among, early_in};
-ghost use Rattle.pc_scope.specs.Tables.{meaning};
+ghost use Rattle.pc_scope.specs.Internal.FindingLists.{early_among, early_in};
+ghost use Rattle.pc_scope.specs.Tables.{meaning_by_tables};
 
 use crate::parts::{Sought, seek};
 use crate::tables::Names;
@@ -24,7 +24,7 @@ fn find_early(
     classes: usize,
     e: &Expr,
 ) -> Result<(), OutOfMemory>
-    ensures { OnOk result (found.new.items ≡ found.old.items ++ at_code E03 (early_among constants classes (meaning names.now owners.Module) (parts_in false (expr_of e.now)))) }
+    ensures { OnOk result (found.new.items ≡ found.old.items ++ at_code E03 (early_among constants classes (meaning_by_tables names.now owners.Module) (parts_in false (expr_of e.now)))) }
 {
     seek(found, names, Sought::Early(constants, classes), e)
 }
@@ -35,7 +35,7 @@ pub fn find_early_names(
     names: &Names,
     items: &[Item],
 ) -> Result<(), OutOfMemory>
-    ensures { OnOk result (found.new.items ≡ found.old.items ++ at_code E03 (early_in 0 0 (meaning names.now owners.Module) (map item_of items.now))) }
+    ensures { OnOk result (found.new.items ≡ found.old.items ++ at_code E03 (early_in 0 0 (meaning_by_tables names.now owners.Module) (map item_of items.now))) }
 {
     let mut constants = 0;
     let mut classes = 0;

@@ -1,3 +1,5 @@
+//! The laws on what names mean.
+
 ghost use Rattle.std.specs.Prelude.{◌≡◌, ℕ, List, Some};
 ghost use Rattle.pc_tree.specs.Tree.{Module};
 ghost use Rattle.pc_scope.specs.declared.resolution.Owner.{Owner};
@@ -5,8 +7,8 @@ ghost use Rattle.pc_scope.specs.declared.resolution.Builtin.{Builtin};
 ghost use Rattle.pc_scope.specs.declared.resolution.Res.TheVariants as res;
 ghost use Rattle.pc_scope.specs.Reserved.{builtin_of};
 ghost use Rattle.pc_scope.specs.Resolution.{resolve};
-ghost use Rattle.pc_scope.specs.Scoped.{Scoped, AreScopes};
-ghost use Rattle.pc_scope.specs.Tables.{meaning};
+ghost use Rattle.pc_scope.specs.ModuleScopes.{ModuleScopes, AreScopes};
+ghost use Rattle.pc_scope.specs.Tables.{meaning_by_tables};
 
 /// The law that a reserved name means its built-in, whatever a module binds.
 pub fn reserved_names_are_unbound()
@@ -15,5 +17,5 @@ pub fn reserved_names_are_unbound()
 
 /// The law that by the tables of a module's scopes each name means what it means in the module.
 pub fn tables_resolve_names()
-    ensures { (m : Module) (s : Scoped) → AreScopes m s → (owner : Owner) (name : List ℕ) → meaning s.tables owner name ≡ resolve m owner name }
+    ensures { (m : Module) (s : ModuleScopes) → AreScopes m s → (owner : Owner) (name : List ℕ) → meaning_by_tables s.tables owner name ≡ resolve m owner name }
 {}

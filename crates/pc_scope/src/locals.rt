@@ -1,10 +1,12 @@
+//! The locals of a function, numbered by their order.
+
 ghost use Rattle.std.specs.Prelude.{◌≡◌, map, fold, true, false, OnOk, IfOk, string_bytes};
 ghost use Rattle.pc_tree.specs.Tree.{func_of, param_of, member_of, item_of};
 ghost use Rattle.pc_tree.specs.Lists.{name_seen};
 ghost use Rattle.pc_tree.specs.Stopping.{self_before};
 ghost use Rattle.pc_scope.specs.Bindings.{texts, param_names, methods_in, functions_in, classes_in};
 ghost use Rattle.pc_scope.specs.Tables.{locals_by, methods_locals};
-ghost use Rattle.pc_scope.specs.Walking.{with_local, texts_in, methods_texts};
+ghost use Rattle.pc_scope.specs.Internal.WalkViews.{with_new_local, texts_in, methods_texts};
 
 use crate::reserved::builtin;
 use indexmap::IndexSet;
@@ -17,7 +19,7 @@ pub type Locals = IndexSet<String>;
 
 /// One more local, unless the name is reserved or a local already.
 fn bind(locals: &mut Locals, alloc: Allocator, name: &str) -> Result<(), OutOfMemory>
-    ensures { OnOk result (map string_bytes locals.new.keys ≡ with_local (map string_bytes locals.old.keys) name.now) }
+    ensures { OnOk result (map string_bytes locals.new.keys ≡ with_new_local (map string_bytes locals.old.keys) name.now) }
 {
     if builtin(name).is_some() || locals.contains(name) {
         return Ok(());
@@ -28,7 +30,7 @@ fn bind(locals: &mut Locals, alloc: Allocator, name: &str) -> Result<(), OutOfMe
 
 /// The object of a method as a local.
 fn bind_self(locals: &mut Locals, alloc: Allocator, is_method: bool) -> Result<(), OutOfMemory>
-    ensures { OnOk result (map string_bytes locals.new.keys ≡ fold with_local (map string_bytes locals.old.keys) (self_before is_method)) }
+    ensures { OnOk result (map string_bytes locals.new.keys ≡ fold with_new_local (map string_bytes locals.old.keys) (self_before is_method)) }
 {
     if is_method {
         bind(locals, alloc, "self")?;
@@ -42,7 +44,7 @@ fn bind_parameters(
     alloc: Allocator,
     params: &[Param],
 ) -> Result<(), OutOfMemory>
-    ensures { OnOk result (map string_bytes locals.new.keys ≡ fold with_local (map string_bytes locals.old.keys) (texts (param_names (map param_of params.now)))) }
+    ensures { OnOk result (map string_bytes locals.new.keys ≡ fold with_new_local (map string_bytes locals.old.keys) (texts (param_names (map param_of params.now)))) }
 {
     for param in params {
         bind(locals, alloc, param.name.text.as_str())?;
@@ -52,7 +54,7 @@ fn bind_parameters(
 
 /// Names as locals.
 fn bind_all(locals: &mut Locals, alloc: Allocator, names: &[&Name]) -> Result<(), OutOfMemory>
-    ensures { OnOk result (map string_bytes locals.new.keys ≡ fold with_local (map string_bytes locals.old.keys) (texts (map name_seen names.now))) }
+    ensures { OnOk result (map string_bytes locals.new.keys ≡ fold with_new_local (map string_bytes locals.old.keys) (texts (map name_seen names.now))) }
 {
     for name in names {
         bind(locals, alloc, name.text.as_str())?;

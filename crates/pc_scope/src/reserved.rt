@@ -1,6 +1,8 @@
+//! The reserved names, each with the built-in that it means.
+
 ghost use Rattle.std.specs.Prelude.{◌≡◌, map};
 ghost use Rattle.pc_scope.specs.Reserved.{beside, builtin_of};
-ghost use Rattle.pc_scope.specs.Walking.{entry_seen};
+ghost use Rattle.pc_scope.specs.Internal.WalkViews.{reserved_entry_seen};
 
 use crate::resolution::Builtin;
 
@@ -24,7 +26,7 @@ const RESERVED: [(&str, Builtin); 14] = [
 
 /// What stands beside a name in a table.
 fn beside(table: &[(&str, Builtin)], name: &str) -> Option<Builtin>
-    ensures { result ≡ beside (map entry_seen table.now) name.now }
+    ensures { result ≡ beside (map reserved_entry_seen table.now) name.now }
 {
     for (other, builtin) in table {
         if *other == name {

@@ -1,3 +1,5 @@
+//! What a name may mean: built-ins, owners, resolutions.
+
 /// A built-in of the profile: what a reserved name means where it is not bound, which it never is.
 ///
 /// Own rule of the profile.

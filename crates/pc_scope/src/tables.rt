@@ -1,8 +1,10 @@
+//! The tables of a module's names.
+
 ghost use Rattle.std.specs.Prelude.{◌≡◌, length, map};
 ghost use Rattle.pc_scope.specs.Resolution.{index_of};
 ghost use Rattle.pc_scope.specs.Reserved.{beside};
-ghost use Rattle.pc_scope.specs.Tables.{Tables, meaning, locals_for};
-ghost use Rattle.pc_scope.specs.Walking.{text_entry, texts_in, methods_texts, locals_seen};
+ghost use Rattle.pc_scope.specs.Tables.{Tables, meaning_by_tables, locals_for};
+ghost use Rattle.pc_scope.specs.Internal.WalkViews.{text_entry, texts_in, methods_texts, locals_seen};
 
 use crate::globals::Globals;
 use crate::locals::Locals;
@@ -68,7 +70,7 @@ impl Names {
 
     /// What a name means: a local, a built-in, what the module binds first, or nothing.
     pub fn mean(&self, owner: Owner, name: &str) -> Res
-        ensures { result ≡ meaning self.now owner name.now }
+        ensures { result ≡ meaning_by_tables self.now owner name.now }
     {
         if let Some(number) = self.local(owner, name) {
             return Res::Local(number);

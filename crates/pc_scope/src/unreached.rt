@@ -7,11 +7,11 @@ ghost use Rattle.pc_tree.specs.declared.code.Code.TheVariants.{E30};
 ghost use Rattle.pc_tree.specs.Tree.{stmts_of_list, stmt_of_kind, member_of, item_of};
 ghost use Rattle.pc_tree.specs.Lists.{branches_of_list};
 ghost use Rattle.pc_tree.specs.Stopping.{of_members};
-ghost use Rattle.pc_scope.specs.Found.{unreached_def, unreached_in_defs};
+ghost use Rattle.pc_scope.specs.Internal.FindingLists.{unreached_def, unreached_in_defs};
 ghost use Rattle.pc_stop.specs.Found.{at_code};
-ghost use Rattle.pc_scope.specs.Reach.{unreached, unreached_in, unreached_in_branches};
+ghost use Rattle.pc_scope.specs.Reach.{unreached_places, unreached_in, unreached_in_branches};
 
-use crate::completing::completes;
+use crate::completion::completes;
 use pc_source::OutOfMemory;
 use pc_stop::find;
 use pc_tree::{Branch, Code, Findings, Item, ItemKind, Member, Stmt, StmtKind};
@@ -20,7 +20,7 @@ use pc_tree::{Branch, Code, Findings, Item, ItemKind, Member, Stmt, StmtKind};
 /// rule of the profile.
 #[cycle(unreached)]
 fn find_unreached(found: &mut Findings, body: &[Stmt]) -> Result<(), OutOfMemory>
-    ensures { OnOk result (found.new.items ≡ found.old.items ++ at_code E30 (unreached (stmts_of_list body.now))) }
+    ensures { OnOk result (found.new.items ≡ found.old.items ++ at_code E30 (unreached_places (stmts_of_list body.now))) }
 {
     let mut reached = true;
     for statement in body {

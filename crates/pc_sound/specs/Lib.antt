@@ -2,11 +2,10 @@ pub mod AliasExample
 pub mod AssignmentExample
 pub mod DispatchExample
 pub mod Examples
-pub mod Judgment
-pub mod Kept
 pub mod LoopExample
 pub mod NarrowingExample
 pub mod Needed
 pub mod OrderExample
 pub mod Sound
 pub mod Values
+pub mod KeptHeaps

@@ -4,7 +4,7 @@ use Rattle.std.specs.Prelude.{List, [], ◌∷◌}
 use Rattle.pc_types.specs.Tree.{Tree, Trees, Never, ListOf, DictOf, TupleOf, Union, end, more}
 use Rattle.pc_types.specs.Below.{Bases}
 use Rattle.pc_class.specs.Facts as facts
-use Rattle.pc_class.specs.Facts.{Parameter}
+use Rattle.pc_class.specs.Facts.{TypedParameter}
 use Rattle.pc_value.specs.Value.{Value, Heap}
 use Rattle.pc_sound.specs.Values.{HeapTyping, HasType, IsWell}
 
@@ -24,17 +24,17 @@ abbrev mutual
   HaveNoNever (more t ts) = HasNoNever t × HaveNoNever ts
 
 -- no field's type holds Never
-abbrev pub NoneHasNever : List Parameter → Type 0
+abbrev pub NoneHasNever : List TypedParameter → Type 0
 NoneHasNever [] = Unit {0}
 NoneHasNever (f ∷ fs) = HasNoNever f.type × NoneHasNever fs
 
 -- no class has a field whose type holds Never
-abbrev pub FieldsHaveNoNever : List facts.Class → Type 0
+abbrev pub FieldsHaveNoNever : List facts.ClassFacts → Type 0
 FieldsHaveNoNever [] = Unit {0}
 FieldsHaveNoNever (c ∷ cs) = NoneHasNever c.fields × FieldsHaveNoNever cs
 
 -- under some well-typed heap of the classes, some value of the first type is not of the second
-pub record IsNeeded (bases : Bases) (classes : List facts.Class) (s t : Tree) : Type 0 where
+pub record IsNeeded (bases : Bases) (classes : List facts.ClassFacts) (s t : Tree) : Type 0 where
   pub typing : HeapTyping
   pub heap : Heap
   pub value : Value

@@ -6,7 +6,7 @@ use Rattle.pc_tree.specs.declared.code.Finding.{Finding}
 use Rattle.pc_tree.specs.Code.{IsError}
 use Rattle.pc_tree.specs.Tree.{Module}
 use Rattle.pc_check.specs.Modules.{IsFinding}
-use Rattle.pc_machine.specs.Runs.{Run, End, IsFault}
+use Rattle.pc_machine.specs.Runs.{Run, End, IsFaultyEnd}
 
 -- no finding is an error
 abbrev pub HasNoError : Module → Type 0
@@ -14,11 +14,11 @@ HasNoError m = (f : Finding) → IsFinding m f → ¬ (IsError f.code)
 
 -- a listed dynamic place is among the events
 pub record HasEvaluated (m : Module) (events : List Place) : Type 0 where
-  pub place : Finding
-  pub found : IsFinding m place
-  pub dynamic : ¬ (IsError place.code)
-  pub event : Contains events place.place
+  pub finding : Finding
+  pub found : IsFinding m finding
+  pub dynamic : ¬ (IsError finding.code)
+  pub event : Contains events finding.place
 
 -- where no finding of a module is an error, each run of it that ends in a fault has by then evaluated a listed dynamic place
 abbrev pub Sound : Type 0
-Sound = (m : Module) → HasNoError m → (events : List Place) (end : End) → Run m events end → IsFault end → HasEvaluated m events
+Sound = (m : Module) → HasNoError m → (events : List Place) (end : End) → Run m events end → IsFaultyEnd end → HasEvaluated m events

@@ -4,7 +4,7 @@ use Rattle.std.specs.Prelude.{◌≡◌, ◌⊎◌, ℕ, List, [], ◌∷◌, le
 use Rattle.pc_types.specs.Tree.{Tree, Trees, Any, Object, Int, Bool, Str, NoneType, Class, ListOf, DictOf, TupleOf, Union, end, more}
 use Rattle.pc_types.specs.Below.{Bases, Below, Static}
 use Rattle.pc_class.specs.Facts as facts
-use Rattle.pc_class.specs.Facts.{Parameter, class_at}
+use Rattle.pc_class.specs.Facts.{TypedParameter, class_facts_at}
 use Rattle.pc_value.specs.Value.{Value, Values, whole, boolean, string, none, tuple_of, location, no_values, more_values, Entry, Slot, Cell, list_cell, dict_cell, instance_cell, Heap}
 
 -- what a heap typing records of a location: the type of a list's items, of a dict's keys and values, or a class
@@ -82,25 +82,25 @@ EntriesHave bases k s t [] = Unit {0}
 EntriesHave bases k s t (e ∷ es) = HasType bases k s e.key × HasType bases k t e.value × EntriesHave bases k s t es
 
 -- an instance has just the fields of its class, each with a value of its type
-abbrev pub SlotsHave : Bases → HeapTyping → List Parameter → List Slot → Type 0
+abbrev pub SlotsHave : Bases → HeapTyping → List TypedParameter → List Slot → Type 0
 SlotsHave bases k [] [] = Unit {0}
 SlotsHave bases k (f ∷ fs) (s ∷ ss) = (s.name ≡ f.name) × HasType bases k f.type s.value × SlotsHave bases k fs ss
 SlotsHave bases k _ _ = ⊥
 
 -- what lies at a location is of what is recorded of it
-abbrev pub CellHas : Bases → List facts.Class → HeapTyping → Recorded → Cell → Type 0
+abbrev pub CellHas : Bases → List facts.ClassFacts → HeapTyping → Recorded → Cell → Type 0
 CellHas bases classes k (a_list t) (list_cell items) = AllHave bases k t items
 CellHas bases classes k (a_dict s t) (dict_cell entries) = EntriesHave bases k s t entries
-CellHas bases classes k (a_class c) (instance_cell d slots) = (d ≡ c) × SlotsHave bases k (class_at classes c).fields slots
+CellHas bases classes k (a_class c) (instance_cell d slots) = (d ≡ c) × SlotsHave bases k (class_facts_at classes c).fields slots
 CellHas bases classes k _ _ = ⊥
 
 -- a cell lies at the location, and it is of what is recorded of it
-pub record CellAt (bases : Bases) (classes : List facts.Class) (k : HeapTyping) (heap : Heap) (l : ℕ) (r : Recorded) : Type 0 where
+pub record CellAt (bases : Bases) (classes : List facts.ClassFacts) (k : HeapTyping) (heap : Heap) (l : ℕ) (r : Recorded) : Type 0 where
   pub cell : Cell
   pub is : slice_get heap l ≡ Some cell
   pub has : CellHas bases classes k r cell
 
 -- a heap is well typed
-pub record IsWell (bases : Bases) (classes : List facts.Class) (k : HeapTyping) (heap : Heap) : Type 0 where
+pub record IsWell (bases : Bases) (classes : List facts.ClassFacts) (k : HeapTyping) (heap : Heap) : Type 0 where
   pub long : length k ≡ length heap
   pub each : (l : ℕ) (r : Recorded) → slice_get k l ≡ Some r → CellAt bases classes k heap l r

@@ -1,3 +1,5 @@
+//! The example of the target of a `for` that is named behind the loop.
+
 ghost use Rattle.pc_check.specs.Modules.{HasLabelling};
 ghost use Rattle.pc_machine.specs.Runs.{Run};
 ghost use Rattle.pc_sound.specs.Examples.{FindsJust};

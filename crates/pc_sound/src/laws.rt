@@ -1,3 +1,5 @@
+//! The soundness law, and the laws that it rests on.
+
 ghost use Rattle.std.specs.Prelude.{◌≡◌, ◌⊎◌, List, Some};
 ghost use Rattle.pc_token.specs.Lexeme.{Lexeme};
 ghost use Rattle.pc_tree.specs.Grammar.Annotations.{Annotation};
@@ -10,14 +12,14 @@ ghost use Rattle.pc_types.specs.Tree.{Int, ListOf, NoneType, Tree};
 ghost use Rattle.pc_types.specs.Normal.{IsNormal};
 ghost use Rattle.pc_types.specs.Shape.{members};
 ghost use Rattle.pc_types.specs.Join.{join};
-ghost use Rattle.pc_class.specs.Facts.{Class, classes_of};
-ghost use Rattle.pc_flow.specs.Narrowing.{Tested, passing, failing};
+ghost use Rattle.pc_class.specs.Facts.{ClassFacts, classes_of};
+ghost use Rattle.pc_flow.specs.Narrowing.{Tested, type_where_true, type_where_false};
 ghost use Rattle.pc_value.specs.Value.{Heap, Value, seen};
 ghost use Rattle.pc_value.specs.Containers.{append_outcome, store_outcome};
 ghost use Rattle.pc_sound.specs.Values.{HeapTyping, HasType, IsWell};
 ghost use Rattle.pc_sound.specs.Needed.{FieldsHaveNoNever, HasNoNever, IsNeeded};
 ghost use Rattle.pc_sound.specs.Sound.{Sound};
-ghost use Rattle.pc_sound.specs.Kept.{ActsWell, CanFollowAll, Passes};
+ghost use Rattle.pc_sound.specs.KeptHeaps.{ActsWell, CanFollowAll, Passes};
 
 /// The law that a value of a type is one of each type that the first is static to.
 pub fn values_flow_statically()
@@ -27,15 +29,15 @@ pub fn values_flow_statically()
 /// The law that what a test leaves of a type has the values of the type that pass it, and what it leaves where it
 /// fails has those that fail; of a test for a list, where no member of the type is Any or object.
 pub fn narrowing_keeps_values()
-    ensures passing { (bases : Bases) → AreSmaller bases → (k : HeapTyping) (test : Tested) (t : Tree) → CanFollowAll test (members t) → (v : Value) → HasType bases k t v → Passes bases k test v → HasType bases k (passing bases test t) v }
-    ensures failing { (bases : Bases) → AreSmaller bases → (k : HeapTyping) (test : Tested) (t : Tree) → CanFollowAll test (members t) → (v : Value) → HasType bases k t v → ¬ (Passes bases k test v) → HasType bases k (failing bases test t) v }
+    ensures passing { (bases : Bases) → AreSmaller bases → (k : HeapTyping) (test : Tested) (t : Tree) → CanFollowAll test (members t) → (v : Value) → HasType bases k t v → Passes bases k test v → HasType bases k (type_where_true bases test t) v }
+    ensures failing { (bases : Bases) → AreSmaller bases → (k : HeapTyping) (test : Tested) (t : Tree) → CanFollowAll test (members t) → (v : Value) → HasType bases k t v → ¬ (Passes bases k test v) → HasType bases k (type_where_false bases test t) v }
 {}
 
 /// The law that what is recorded of a list stays: an item that is appended or stored is of the type that the list was
 /// made with, under whatever name the list is reached.
 pub fn aliases_keep_heaps()
-    ensures append { (bases : Bases) (classes : List Class) (k : HeapTyping) (heap : Heap) (t : Tree) (list item : Value) → IsWell bases classes k heap → HasType bases k (ListOf t) list → HasType bases k t item → ActsWell bases classes k NoneType (append_outcome heap (seen heap list) item) }
-    ensures store { (bases : Bases) (classes : List Class) (k : HeapTyping) (heap : Heap) (t : Tree) (list index item : Value) → IsWell bases classes k heap → HasType bases k (ListOf t) list → HasType bases k Int index → HasType bases k t item → ActsWell bases classes k NoneType (store_outcome heap (seen heap list) (seen heap index) index item) }
+    ensures append { (bases : Bases) (classes : List ClassFacts) (k : HeapTyping) (heap : Heap) (t : Tree) (list item : Value) → IsWell bases classes k heap → HasType bases k (ListOf t) list → HasType bases k t item → ActsWell bases classes k NoneType (append_outcome heap (seen heap list) item) }
+    ensures store { (bases : Bases) (classes : List ClassFacts) (k : HeapTyping) (heap : Heap) (t : Tree) (list index item : Value) → IsWell bases classes k heap → HasType bases k (ListOf t) list → HasType bases k Int index → HasType bases k t item → ActsWell bases classes k NoneType (store_outcome heap (seen heap list) (seen heap index) index item) }
 {}
 
 /// The law that a value of either of two types is one of their join, whatever the two are.
@@ -47,7 +49,7 @@ pub fn joins_keep_values()
 /// in normal form, some well-typed heap of the classes has a value of the first that is not of the second. So it is of
 /// the classes of each module that tokens spell. Nothing is claimed of the heaps that its runs come by.
 pub fn dynamic_flows_are_needed()
-    ensures classes { (bases : Bases) → AreSmaller bases → (classes : List Class) → FieldsHaveNoNever classes
+    ensures classes { (bases : Bases) → AreSmaller bases → (classes : List ClassFacts) → FieldsHaveNoNever classes
         → (s t : Tree) → IsNormal s → IsNormal t → HasNoNever s → ¬ (Static bases s t)
         → IsNeeded bases classes s t }
     ensures modules { (m : Module) (ts : List Lexeme) → SpellsModule m ts

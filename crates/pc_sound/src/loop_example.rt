@@ -1,3 +1,5 @@
+//! The example of a loop that rebinds a narrowed parameter.
+
 ghost use Rattle.pc_check.specs.Modules.{HasLabelling};
 ghost use Rattle.pc_machine.specs.Runs.{Run};
 ghost use Rattle.pc_sound.specs.Examples.{FindsJust};

@@ -1,3 +1,5 @@
+//! The example of tests for a list.
+
 ghost use Rattle.pc_check.specs.Modules.{HasLabelling};
 ghost use Rattle.pc_machine.specs.Runs.{Run};
 ghost use Rattle.pc_sound.specs.Examples.{FindsJust};

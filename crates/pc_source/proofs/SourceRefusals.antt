@@ -10,7 +10,7 @@ use Rattle.pc_source.specs.declared.fault.Refusal.{Refusal}
 use Rattle.pc_source.specs.declared.fault.RefusalCode.{RefusalCode}
 use Rattle.pc_source.specs.declared.fault.RefusalCode.TheVariants.{S1, S2, S3, S4, S5}
 use Rattle.pc_source.specs.Coding.{IsCoding, first_line, later_lines}
-use Rattle.pc_source.specs.Text.{limit, IsMarked, IsText, IsReadable, IsFirstControl, IsFirstCoding, IsSourceFault, IsSourceRefusal}
+use Rattle.pc_source.specs.Text.{source_limit, IsMarked, IsText, IsReadable, IsFirstControl, IsFirstCoding, IsSourceFault, IsSourceRefusal}
 
 -- ---- a refusal stands within the bytes
 
@@ -55,9 +55,9 @@ no_refusal bytes refusal text h = no_fault bytes refusal.code refusal.byte h tex
 
 -- the five reasons, of which at most one is there
 data Reason (bytes : List ℕ) (code : RefusalCode) (byte : ℕ) : Type 0 where
-  too_long : code ≡ S1 → limit < length bytes → byte ≡ limit → Reason bytes code byte
-  marked : code ≡ S3 → length bytes ≤ limit → IsMarked bytes → byte ≡ 0 → Reason bytes code byte
-  no_utf8 : code ≡ S2 → length bytes ≤ limit → ¬ (IsMarked bytes) → ¬ (IsUtf8 bytes) → byte ≡ utf8_valid_len bytes → Reason bytes code byte
+  too_long : code ≡ S1 → source_limit < length bytes → byte ≡ source_limit → Reason bytes code byte
+  marked : code ≡ S3 → length bytes ≤ source_limit → IsMarked bytes → byte ≡ 0 → Reason bytes code byte
+  no_utf8 : code ≡ S2 → length bytes ≤ source_limit → ¬ (IsMarked bytes) → ¬ (IsUtf8 bytes) → byte ≡ utf8_valid_len bytes → Reason bytes code byte
   control : code ≡ S4 → IsReadable bytes → IsFirstControl bytes byte → Reason bytes code byte
   coding : code ≡ S5 → IsReadable bytes → IsFirstCoding bytes byte → Reason bytes code byte
 

@@ -9,8 +9,8 @@ use Rattle.pc_source.specs.declared.fault.RefusalCode.{RefusalCode}
 use Rattle.pc_source.specs.declared.fault.RefusalCode.TheVariants.{S1, S2, S3, S4, S5, L1, L2, L3, L4, L5, L6, L7, L8, I1, I2, I3, N1, N2, N3, N4, N5, G1, G2}
 
 -- the greatest length of a source, in bytes
-abbrev pub limit : ℕ
-limit = 1048576
+abbrev pub source_limit : ℕ
+source_limit = 1048576
 
 -- the bytes are the byte order mark, and anything behind it
 abbrev pub IsMarked : List ℕ → Type 0
@@ -19,7 +19,7 @@ IsMarked bytes = (rest : List ℕ) × (bytes ≡ 0xEF ∷ 0xBB ∷ 0xBF ∷ rest
 -- the bytes are the UTF-8 form of some characters, within the limit and without a byte order mark,
 -- a NUL, a form feed, a lone carriage return, or a comment that names another coding
 pub record IsText (bytes : List ℕ) : Type 0 where
-  pub short : length bytes ≤ limit
+  pub short : length bytes ≤ source_limit
   pub unmarked : ¬ (IsMarked bytes)
   pub utf8 : IsUtf8 bytes
   pub no_control : (k : ℕ) → ¬ (IsControl bytes k)
@@ -27,7 +27,7 @@ pub record IsText (bytes : List ℕ) : Type 0 where
 
 -- the bytes are the UTF-8 form of some characters, within the limit and without a byte order mark
 pub record IsReadable (bytes : List ℕ) : Type 0 where
-  pub short : length bytes ≤ limit
+  pub short : length bytes ≤ source_limit
   pub unmarked : ¬ (IsMarked bytes)
   pub utf8 : IsUtf8 bytes
 
@@ -52,9 +52,9 @@ IsCharacterFault bytes _ byte = ⊥
 -- why the bytes spell no text: too long; a byte order mark; no UTF-8, from the end of their longest front that is;
 -- else the first fault among the characters
 abbrev pub IsSourceFault : List ℕ → RefusalCode → ℕ → Type 0
-IsSourceFault bytes S1 byte = (limit < length bytes) × (byte ≡ limit)
-IsSourceFault bytes S2 byte = (length bytes ≤ limit) × (¬ (IsMarked bytes)) × (¬ (IsUtf8 bytes)) × (byte ≡ utf8_valid_len bytes)
-IsSourceFault bytes S3 byte = (length bytes ≤ limit) × IsMarked bytes × (byte ≡ 0)
+IsSourceFault bytes S1 byte = (source_limit < length bytes) × (byte ≡ source_limit)
+IsSourceFault bytes S2 byte = (length bytes ≤ source_limit) × (¬ (IsMarked bytes)) × (¬ (IsUtf8 bytes)) × (byte ≡ utf8_valid_len bytes)
+IsSourceFault bytes S3 byte = (length bytes ≤ source_limit) × IsMarked bytes × (byte ≡ 0)
 IsSourceFault bytes code byte = IsReadable bytes × IsCharacterFault bytes code byte
 
 -- the refusal of bytes that spell no text

@@ -1,3 +1,5 @@
+//! Why bytes spell no module.
+
 ghost use Rattle.std.specs.Prelude.{◌≡◌, Some};
 ghost use Rattle.pc_source.specs.Refusals.{code_text};
 ghost use Rattle.pc_source.specs.declared.fault.Fault.TheVariants as fault;
@@ -112,7 +114,7 @@ pub struct Refusal {
 #[error("out of memory")]
 pub struct OutOfMemory;
 
-/// Why a call has no answer: the input is refused, or memory is wanting.
+/// Why a call has no answer: the input is refused, or an allocation failed.
 #[derive(Clone, Copy, Debug, PartialEq, Eq, Error)]
 pub enum Fault {
     #[error("{0}")]

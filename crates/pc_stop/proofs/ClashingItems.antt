@@ -8,7 +8,7 @@ use Rattle.indexmap.specs.IndexMap.{IndexMap}
 use Rattle.pc_source.specs.declared.place.Place.{Place}
 use Rattle.pc_token.specs.Keywords.{is_reserved}
 use Rattle.pc_tree.specs.Tree.{Name, ClassDef, Item, constant_item, class_item, def_item}
-use Rattle.pc_tree.specs.Stopping.{Held, is_among, name_of_item, members_of, own_members, is_first_binding, option_text, clashing, clashing_in}
+use Rattle.pc_tree.specs.Stopping.{HeldMember, is_among, name_of_item, members_of, own_members, is_first_binding, option_text, clashes_among, clashing_in}
 use Rattle.pc_tree.proofs.Stops.{more_at}
 use Rattle.pc_names.specs.Names.{at_text, first_of, bound_as}
 use Rattle.pc_stop.specs.declared.holdings.Holdings.{Holdings}
@@ -119,7 +119,7 @@ module _ {S : Type 0} (old new : Holdings) (bound now : IndexMap (Bor (List ℕ)
 pub items_next : (before : List Item) (i : Item) (is : List Item) → clashing_in before (i ∷ is) ≡ clashing_in before (i ∷ []) ++ clashing_in (i ∷ before) is
 items_next before (constant_item p c) is = refl
 items_next before (def_item p f) is = refl
-items_next before (class_item p c) is = ap (λ (ps : List Place). ps ++ clashing_in (class_item p c ∷ before) is) (sym (append-nil (clashing [] (members_of before (option_text c.base)) c.members)))
+items_next before (class_item p c) is = ap (λ (ps : List Place). ps ++ clashing_in (class_item p c ∷ before) is) (sym (append-nil (clashes_among [] (members_of before (option_text c.base)) c.members)))
 
 -- the items before the next one, the nearest first
 pub reverse_more : {X Y : Type 0} (f : X → Y) (xs : List X) (i : ℕ) (d : X) → i < length xs → d ≡ get_or xs i d → reverse (map f (take (i + 1) xs)) ≡ f d ∷ reverse (map f (take i xs))

@@ -6,7 +6,7 @@ use Rattle.std.proofs.lemmas.Bool.{eq-eqb}
 use Rattle.std.proofs.lemmas.Bool.Decides.{eqb_tells}
 use Rattle.std.proofs.lemmas.List.{map-append}
 use Rattle.std.proofs.lemmas.Slice.Eq.{bytes_eq-Decides}
-use Rattle.pc_tree.specs.Stopping.{Held, held_text, is_field_of, is_among}
+use Rattle.pc_tree.specs.Stopping.{HeldMember, held_text, is_field_of, is_among}
 use Rattle.pc_stop.specs.declared.tables.Node.{Node}
 use Rattle.pc_stop.specs.declared.holdings.Holding.{Holding}
 use Rattle.pc_stop.specs.declared.holdings.Holding.TheVariants.{Nothing, Method, Field}
@@ -28,7 +28,7 @@ any_end p (x ∷ xs) y = ap (λ b. p x || b) (any_end p xs y) ∙ sym (or_assoc 
     or_assoc false b c = refl
 
 -- a field of a name is among the names
-pub field_named : (t : List ℕ) (hs : List Held) → list_any (is_field_of t) hs ≡ true → is_among (map held_text hs) t ≡ true
+pub field_named : (t : List ℕ) (hs : List HeldMember) → list_any (is_field_of t) hs ≡ true → is_among (map held_text hs) t ≡ true
 field_named t [] e = e
 field_named t (h ∷ hs) e = go (h.is_field) (bytes_eq h.text t) e (field_named t hs)
   where
@@ -52,7 +52,7 @@ held_cases false false true false h = refl
 held_cases false false false true h = refl
 held_cases false false false false h = refl
 
-pub held_more : (t : List ℕ) (hs : List Held) (h : Held) → held_as t (hs ++ h ∷ []) ≡ (if bytes_eq h.text t then with_member (held_as t hs) h.is_field else held_as t hs)
+pub held_more : (t : List ℕ) (hs : List HeldMember) (h : HeldMember) → held_as t (hs ++ h ∷ []) ≡ (if bytes_eq h.text t then with_member (held_as t hs) h.is_field else held_as t hs)
 held_more t hs h =
     ap (λ (b : Bool). holding b (list_any (is_field_of t) (hs ++ h ∷ []))) (ap (λ names. is_among names t) (map-append held_text hs (h ∷ [])) ∙ any_end (λ x. bytes_eq x t) (map held_text hs) h.text)
     ∙ ap (λ (b : Bool). holding (is_among (map held_text hs) t || bytes_eq h.text t) b) (any_end (is_field_of t) hs h)
@@ -105,14 +105,14 @@ once_more names x once new j k t e f = elim (at_end names x j t e) [
   ]
 ]
 
-held_at_more : (names : List (List ℕ)) (x : List ℕ) (hs : List Held) → held_as x hs ≡ Nothing → (j : ℕ) → held_at (slice_get (names ++ x ∷ []) j) hs ≡ held_at (slice_get names j) hs
+held_at_more : (names : List (List ℕ)) (x : List ℕ) (hs : List HeldMember) → held_as x hs ≡ Nothing → (j : ℕ) → held_at (slice_get (names ++ x ∷ []) j) hs ≡ held_at (slice_get names j) hs
 held_at_more [] x hs none zero = none
 held_at_more [] x hs none (suc j) = refl
 held_at_more (n ∷ names) x hs none zero = refl
 held_at_more (n ∷ names) x hs none (suc j) = held_at_more names x hs none j
 
 -- a table has what it had when a name gets a number
-pub more_names : (digits : ℕ) (names : List (List ℕ)) (x : List ℕ) (nodes : List Node) (t : ℕ) (hs : List Held) → is_among names x ≡ false → Has digits names nodes t hs → Has digits (names ++ x ∷ []) nodes t hs
+pub more_names : (digits : ℕ) (names : List (List ℕ)) (x : List ℕ) (nodes : List Node) (t : ℕ) (hs : List HeldMember) → is_among names x ≡ false → Has digits names nodes t hs → Has digits (names ++ x ∷ []) nodes t hs
 more_names digits names x nodes t hs new h = record {
   ready = h.ready;
   once = once_more names x h.once new;
@@ -151,7 +151,7 @@ at_first digits = record {
 }
 
 -- the tables that were there stay
-pub kept : (digits : ℕ) (names : List (List ℕ)) (old new : List Node) (table number value added : ℕ) → IsWith old new digits table number value added → (t : ℕ) (hs : List Held) → Has digits names old t hs → Has digits names new t hs
+pub kept : (digits : ℕ) (names : List (List ℕ)) (old new : List Node) (table number value added : ℕ) → IsWith old new digits table number value added → (t : ℕ) (hs : List HeldMember) → Has digits names old t hs → Has digits names new t hs
 kept digits names old new table number value added w t hs h = record {
   ready = record { bounded = w.bounded; values = omega (arith, w.more, h.ready.values) };
   once = h.once;
@@ -161,7 +161,7 @@ kept digits names old new table number value added w t hs h = record {
 }
 
 -- and the new one has a member more
-pub held : (digits : ℕ) (names : List (List ℕ)) (old new : List Node) (table number added : ℕ) (m : Held) (hs : List Held) → number < 2 ^ digits → slice_get names number ≡ Some m.text → Has digits names old table hs
+pub held : (digits : ℕ) (names : List (List ℕ)) (old new : List Node) (table number added : ℕ) (m : HeldMember) (hs : List HeldMember) → number < 2 ^ digits → slice_get names number ≡ Some m.text → Has digits names old table hs
     → IsWith old new digits table number (number_of (with_member (holding_of (value_at old digits table number)) m.is_field)) added → Has digits names new added (hs ++ m ∷ [])
 held digits names old new table number added m hs small at h w = record {
   ready = record { bounded = w.bounded; values = omega (arith, w.more, h.ready.values) };

@@ -2,7 +2,7 @@
 -- Own device; what a class has: own rule of the profile (the codes that stop a run).
 use Rattle.std.specs.Prelude.{◌≡◌, ◌<◌, ◌^◌, ℕ, zero, suc, Bool, true, false, List, length, map, Option, Some, None, slice_get}
 use Rattle.std.specs.List.{list_any}
-use Rattle.pc_tree.specs.Stopping.{Held, held_text, is_field_of, is_among}
+use Rattle.pc_tree.specs.Stopping.{HeldMember, held_text, is_field_of, is_among}
 use Rattle.pc_names.specs.Names.{texts_in}
 use Rattle.pc_stop.specs.declared.tables.Node.{Node}
 use Rattle.pc_stop.specs.declared.holdings.Holding.{Holding}
@@ -18,7 +18,7 @@ holding true false = Method
 holding true true = Field
 
 -- what is had by a name among these members
-abbrev pub held_as : List ℕ → List Held → Holding
+abbrev pub held_as : List ℕ → List HeldMember → Holding
 held_as text hs = holding (is_among (map held_text hs) text) (list_any (is_field_of text) hs)
 
 -- what is had with one member more of the same name
@@ -40,7 +40,7 @@ holding_of (suc zero) = Method
 holding_of (suc (suc n)) = Field
 
 -- what is had by the name of a number, nothing where no name has it
-abbrev pub held_at : Option (List ℕ) → List Held → Holding
+abbrev pub held_at : Option (List ℕ) → List HeldMember → Holding
 held_at None hs = Nothing
 held_at (Some text) hs = held_as text hs
 
@@ -54,7 +54,7 @@ abbrev pub AreOnce : List (List ℕ) → Type 0
 AreOnce names = (j k : ℕ) (text : List ℕ) → slice_get names j ≡ Some text → slice_get names k ≡ Some text → j ≡ k
 
 -- a table has just what these members are, by the numbers of their names
-pub record Has (digits : ℕ) (names : List (List ℕ)) (nodes : List Node) (table : ℕ) (hs : List Held) : Type 0 where
+pub record Has (digits : ℕ) (names : List (List ℕ)) (nodes : List Node) (table : ℕ) (hs : List HeldMember) : Type 0 where
   pub ready : IsReady nodes
   pub once : AreOnce names
   pub within : table < length nodes
@@ -62,10 +62,10 @@ pub record Has (digits : ℕ) (names : List (List ℕ)) (nodes : List Node) (tab
   pub unnamed : (text : List ℕ) → is_among names text ≡ false → held_as text hs ≡ Nothing
 
 -- a table of the program has just what these members are
-abbrev pub HasIn : Holdings → ℕ → List Held → Type 0
+abbrev pub HasIn : Holdings → ℕ → List HeldMember → Type 0
 HasIn h table hs = Has DIGITS (texts_in h.numbers) h.nodes.items table hs
 
 -- all tables stay, and another can be added
 pub record Keeps (old new : Holdings) : Type 0 where
   pub ready : IsReady new.nodes.items
-  pub kept : (table : ℕ) (hs : List Held) → HasIn old table hs → HasIn new table hs
+  pub kept : (table : ℕ) (hs : List HeldMember) → HasIn old table hs → HasIn new table hs

@@ -4,7 +4,7 @@ use Rattle.std.specs.Prelude.{◌≡◌, ℕ, Bool, true, false, List, [], ◌�
 use Rattle.std.specs.Borrow.{Bor}
 use Rattle.indexmap.specs.IndexMap.{IndexMap}
 use Rattle.pc_tree.specs.Tree.{Member, Item}
-use Rattle.pc_tree.specs.Stopping.{Held, held_by, is_among, name_of_item, members_of}
+use Rattle.pc_tree.specs.Stopping.{HeldMember, held_by, is_among, name_of_item, members_of}
 use Rattle.pc_names.specs.Names.{at_text}
 use Rattle.pc_stop.specs.declared.holdings.Holding.{Holding}
 use Rattle.pc_stop.specs.declared.holdings.Holding.TheVariants.{Nothing, Method, Field}
@@ -18,7 +18,7 @@ clashes_with Method field = field
 clashes_with Field field = true
 
 -- the member as its class has it, or nothing
-abbrev pub held_unless : Bool → Member → List Held
+abbrev pub held_unless : Bool → Member → List HeldMember
 held_unless unless m = if unless then [] else held_by m ∷ []
 
 -- the table of a base, the empty one where there is none

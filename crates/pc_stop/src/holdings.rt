@@ -1,7 +1,7 @@
 //! What classes have by which names: each class has a table of its own, which shares what its base has.
 ghost use Rattle.std.specs.Prelude.{◌≡◌, ◌<◌, ◌^◌, ◌++◌, ◌∷◌, [], IfOk, OnOk, Some, slice_get, List, ℕ};
 ghost use Rattle.pc_tree.specs.Tree.{member_of};
-ghost use Rattle.pc_tree.specs.Stopping.{Held, held_by, name_of_member, is_field};
+ghost use Rattle.pc_tree.specs.Stopping.{HeldMember, held_by, name_of_member, is_field};
 ghost use Rattle.pc_names.specs.Names.{texts_in};
 ghost use Rattle.pc_stop.specs.Tables.{value_at};
 ghost use Rattle.pc_stop.specs.Holdings.{HasIn, IsReady, Keeps, number_of, holding_of, with_member};
@@ -98,7 +98,7 @@ impl<'m> Holdings<'m> {
         ensures named { IfOk result (λ k. slice_get (texts_in self.new.numbers) k ≡ Some name.now) }
         ensures small { IfOk result (λ k. k < 2 ^ DIGITS) }
         ensures nodes { self.new.nodes ≡ self.old.nodes }
-        ensures kept { OnOk result ((t : ℕ) (hs : List Held) → HasIn self.old t hs → HasIn self.new t hs) }
+        ensures kept { OnOk result ((t : ℕ) (hs : List HeldMember) → HasIn self.old t hs → HasIn self.new t hs) }
     {
         let (number, _) = self.numbers.insert_full(name)?;
         if number >= MOST {
@@ -122,7 +122,7 @@ impl<'m> Holdings<'m> {
         member: &Member,
     ) -> Result<usize, OutOfMemory>
         requires { IsReady self.old.nodes.items }
-        ensures held { IfOk result (λ t. (hs : List Held) → number < 2 ^ DIGITS → slice_get (texts_in self.old.numbers) number ≡ Some (name_of_member (member_of member.now)).text → HasIn self.old table hs → HasIn self.new t (hs ++ held_by (member_of member.now) ∷ [])) }
+        ensures held { IfOk result (λ t. (hs : List HeldMember) → number < 2 ^ DIGITS → slice_get (texts_in self.old.numbers) number ≡ Some (name_of_member (member_of member.now)).text → HasIn self.old table hs → HasIn self.new t (hs ++ held_by (member_of member.now) ∷ [])) }
         ensures keeps { OnOk result (Keeps self.old self.new) }
     {
         let had = self.held(table, number);

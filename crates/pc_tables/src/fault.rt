@@ -1,3 +1,5 @@
+//! Why a table has no answer.
+
 use std::alloc::{AllocError, AllocFailed};
 use thiserror::Error;
 

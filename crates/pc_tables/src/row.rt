@@ -1,3 +1,5 @@
+//! The rows of a table.
+
 use crate::TableFault;
 use std::alloc::Global;
 

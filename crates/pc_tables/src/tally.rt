@@ -1,3 +1,5 @@
+//! The tally of a table's cases.
+
 use std::alloc::{AllocError, Global};
 
 /// How many cases a table has, how many of them differ from it, and what is told of those.

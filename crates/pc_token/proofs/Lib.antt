@@ -2,8 +2,6 @@ pub mod AllLines
 pub mod Boundaries
 pub mod Characters
 pub mod Coming
-pub mod Finds
-pub mod Found
 pub mod Leads
 pub mod Lists
 pub mod LongestNumber
@@ -24,3 +22,5 @@ pub mod Steps
 pub mod StringBodies
 pub mod Turns
 pub mod WithinText
+pub mod ListSearch
+pub mod PiecesAtBytes

@@ -12,7 +12,7 @@ use Rattle.pc_token.specs.declared.token.Operator.TheVariants as o
 use Rattle.pc_token.specs.declared.token.TokenKind.TheVariants as t
 use Rattle.pc_token.specs.Operators.{operator_text, operators}
 use Rattle.pc_token.specs.Spelling.{IsLongest}
-use Rattle.pc_token.proofs.Finds.{found_passes, none_passes}
+use Rattle.pc_token.proofs.ListSearch.{found_passes, none_passes}
 use Rattle.pc_token.proofs.Leads.{is_sign, lead_of, sign_token}
 
 abbrev size : Operator → ℕ

@@ -17,7 +17,7 @@ use Rattle.pc_token.specs.declared.token.TokenKind.{TokenKind}
 use Rattle.pc_token.specs.Keywords.{keyword_text, keywords}
 use Rattle.pc_token.specs.Names.{begins_name, IsName}
 use Rattle.pc_token.specs.Spelling.{IsToken, IsLongest}
-use Rattle.pc_token.proofs.Finds.{found_passes, none_passes}
+use Rattle.pc_token.proofs.ListSearch.{found_passes, none_passes}
 use Rattle.pc_token.proofs.Leads.{is_letter, lead_name, letter_token, some_bytes}
 use Rattle.pc_token.proofs.Names.{ascii_bytes}
 

@@ -13,7 +13,7 @@ use Rattle.pc_token.specs.declared.operators.Role.TheVariants as r
 use Rattle.pc_token.specs.declared.token.Operator.{Operator}
 use Rattle.pc_token.specs.declared.token.Operator.TheVariants as o
 use Rattle.pc_token.specs.declared.token.TokenKind.TheVariants as t
-use Rattle.pc_token.specs.Context.{Context}
+use Rattle.pc_token.specs.Context.{LexicalContext}
 use Rattle.pc_token.specs.Faults.{IsFault, IsStray, IsBadDigits, IsBadTab, IsBadClosing}
 use Rattle.pc_token.specs.Gaps.{is_blank, is_line_byte}
 use Rattle.pc_token.specs.Strings.{is_quote}
@@ -69,7 +69,7 @@ space_blank : (b : ℕ) → (b == 32) ≡ true → start_of b ≡ Blank
 space_blank b h = ap start_of (number_same b 32 h)
 
 -- the first byte of an indentation
-pub tab_start : (c : Context) (text : List ℕ) (k : ℕ) → IsBadTab c text k → start_of (get_or text 0 0) ≡ Blank
+pub tab_start : (c : LexicalContext) (text : List ℕ) (k : ℕ) → IsBadTab c text k → start_of (get_or text 0 0) ≡ Blank
 tab_start c [] k h = let within = h.within in absurd (omega arith)
 tab_start c (b ∷ bs) zero h = ap start_of h.tab
 tab_start c (b ∷ bs) (suc k) h = space_blank b (and_parts (b == 32) (list_all (λ x. x == 32) (take k bs)) h.spaces).0
@@ -106,7 +106,7 @@ blank_back b h none = elim (cases_Bool (b == 35)) [
   ]
 ]
 
-stray_tab : (c : Context) (text : List ℕ) (k : ℕ) → IsStray text → IsBadTab c text k → ⊥
+stray_tab : (c : LexicalContext) (text : List ℕ) (k : ℕ) → IsStray text → IsBadTab c text k → ⊥
 stray_tab c text k s h = blank_back (get_or text 0 0) (tab_start c text k h) s.no_blank
 
 one_digit : (b : ℕ) → is_ascii_digit b ≡ true → is_number (b ∷ []) ≡ true
@@ -124,7 +124,7 @@ ended : (bs : List ℕ) → length bs ≡ 0 → L5 ≡ code_at bs
 ended [] z = refl
 ended (b ∷ bs) z = absurd (omega arith)
 
-module _ (c : Context) (text : List ℕ) where
+module _ (c : LexicalContext) (text : List ℕ) where
   code_2 : (k : ℕ) → IsFault c text L2 k → L2 ≡ code_at text
   code_2 k h = let start = quote_start (get_or text 0 0) h.1.0 in sym (at_start text Quoted (quote_some text start) start)
 

@@ -5,7 +5,7 @@ use Rattle.std.proofs.lemmas.Bool.{and_parts}
 use Rattle.std.proofs.Math.Seq.{take-append_seam}
 use Rattle.pc_token.specs.declared.token.TokenKind.{TokenKind}
 use Rattle.pc_token.specs.declared.token.TokenKind.TheVariants as t
-use Rattle.pc_token.specs.Context.{Context}
+use Rattle.pc_token.specs.Context.{LexicalContext}
 use Rattle.pc_token.specs.Gaps.{is_blank, is_line_byte, IsBlanks, IsLineEnd}
 use Rattle.pc_token.specs.Splitting.{Sort, Blanks, Comment, LineEnd, Lexical, FitsBySort}
 use Rattle.pc_token.proofs.OneLongest.{one_longest}
@@ -49,14 +49,14 @@ start_of_sort Comment = Hash
 start_of_sort LineEnd = Feed
 start_of_sort (Lexical kind) = start_of_kind kind
 
-pub piece_start : (c : Context) (sort : Sort) (bytes rest : List ℕ) → FitsBySort c sort bytes rest → start_of (get_or bytes 0 0) ≡ start_of_sort sort
+pub piece_start : (c : LexicalContext) (sort : Sort) (bytes rest : List ℕ) → FitsBySort c sort bytes rest → start_of (get_or bytes 0 0) ≡ start_of_sort sort
 piece_start c Blanks bytes rest h = blank_start (get_or bytes 0 0) (first_blank bytes rest h.0)
 piece_start c Comment bytes rest h = hash_start (get_or bytes 0 0) h.hash
 piece_start c LineEnd bytes rest h = feed_start (get_or bytes 0 0) (first_feed bytes h)
 piece_start c (Lexical kind) bytes rest h = kind_start kind bytes h.0.token
 
 -- a piece has a byte
-pub some_piece : (c : Context) (sort : Sort) (bytes rest : List ℕ) → FitsBySort c sort bytes rest → length bytes ≡ 0 → ⊥
+pub some_piece : (c : LexicalContext) (sort : Sort) (bytes rest : List ℕ) → FitsBySort c sort bytes rest → length bytes ≡ 0 → ⊥
 some_piece c Blanks bytes rest h e = h.0.some e
 some_piece c Comment [] rest h e = let hash = h.hash in cc
 some_piece c Comment (b ∷ bs) rest h e = omega arith
@@ -69,7 +69,7 @@ first_of [] rest some = absurd (some refl)
 first_of (b ∷ bs) rest some = refl
 
 -- so what stands there begins
-pub text_start : (c : Context) (sort : Sort) (bytes rest : List ℕ) → FitsBySort c sort bytes rest → start_of (get_or (bytes ++ rest) 0 0) ≡ start_of_sort sort
+pub text_start : (c : LexicalContext) (sort : Sort) (bytes rest : List ℕ) → FitsBySort c sort bytes rest → start_of (get_or (bytes ++ rest) 0 0) ≡ start_of_sort sort
 text_start c sort bytes rest h = ap start_of (first_of bytes rest (some_piece c sort bytes rest h)) ∙ piece_start c sort bytes rest h
 
 one_line_end : (x y r s : List ℕ) → x ++ r ≡ y ++ s → IsLineEnd x → IsLineEnd y → x ≡ y
@@ -114,7 +114,7 @@ kind_feed t.End e = cc
 pub kind_no_gap : (kind : TokenKind) → (start_of_kind kind ≡ Blank → ⊥) × (start_of_kind kind ≡ Hash → ⊥) × (start_of_kind kind ≡ Feed → ⊥)
 kind_no_gap kind = (kind_blank kind, kind_hash kind, kind_feed kind)
 
-module _ (c : Context) (x y r s : List ℕ) (e : x ++ r ≡ y ++ s) where
+module _ (c : LexicalContext) (x y r s : List ℕ) (e : x ++ r ≡ y ++ s) where
   starts : (a b : Sort) → FitsBySort c a x r → FitsBySort c b y s → start_of_sort a ≡ start_of_sort b
   starts a b h g = sym (text_start c a x r h) ∙ ap (λ z. start_of (get_or z 0 0)) e ∙ text_start c b y s g
 

@@ -12,7 +12,7 @@ use Rattle.pc_source.specs.declared.fault.RefusalCode.{RefusalCode}
 use Rattle.pc_source.specs.declared.fault.RefusalCode.TheVariants.{S1, L1, L2, L3, L4, L5, L6, L7, L8}
 use Rattle.pc_token.specs.declared.token.Operator.{Operator}
 use Rattle.pc_token.specs.declared.token.TokenKind.TheVariants as t
-use Rattle.pc_token.specs.Context.{Context, line_start}
+use Rattle.pc_token.specs.Context.{LexicalContext, line_start}
 use Rattle.pc_token.specs.Faults.{IsFault, IsStray, IsBadString, IsBadDigits, IsBadName, IsBadClosing, IsBadOpening, IsBadTab, IsLongNumber}
 use Rattle.pc_token.specs.Gaps.{is_blank, starts_line_end, ends_line, after_blanks, IsLineEnd}
 use Rattle.pc_token.specs.Lexeme.{LogicalLine}
@@ -20,7 +20,7 @@ use Rattle.pc_token.specs.Names.{is_bad_name}
 use Rattle.pc_token.specs.Numbers.{is_number_byte, is_bad_number, is_bad_point, number_run, after_number, digit_count}
 use Rattle.pc_token.specs.Operators.{operator_text, role_of}
 use Rattle.pc_token.specs.Spelling.{IsLongest}
-use Rattle.pc_token.specs.Splitting.{Sort, Blanks, Comment, LineEnd, Lexical, Piece, FitsBySort, MayStand, Ending, Whole, Faulty, Splits, after, items_of, at_sort, HasLines}
+use Rattle.pc_token.specs.Splitting.{Sort, Blanks, Comment, LineEnd, Lexical, Piece, FitsBySort, MayOpenOrClose, Ending, Whole, Faulty, Splits, after, items_of, at_sort, HasLines}
 use Rattle.pc_token.proofs.Lists.{list_all-at}
 use Rattle.pc_token.proofs.LongestNumber.{number_longest}
 use Rattle.pc_token.proofs.OneFault.{one_fault, point_first, tab_start, role_there, operator_there, number_same}
@@ -28,7 +28,7 @@ use Rattle.pc_token.proofs.OneLongest.{one_longest}
 use Rattle.pc_token.proofs.OnePiece.{one_piece, some_piece, text_start, first_of, first_blank, run_is, start_of_sort, kind_no_gap}
 use Rattle.pc_token.proofs.Starts.{Start, Blank, Quoted, Numeric, Wordy, Signed, start_of, quote_start, digit_start, kind_start, operator_start, role_by_byte, role_is, some_token}
 
-module _ (c : Context) (bytes rest : List ℕ) where
+module _ (c : LexicalContext) (bytes rest : List ℕ) where
   -- a refusal at this place begins as the piece does
   same_start : (sort : Sort) (st : Start) → FitsBySort c sort bytes rest → start_of (get_or (bytes ++ rest) 0 0) ≡ st → start_of_sort sort ≡ st
   same_start sort st h e = sym (text_start c sort bytes rest h) ∙ e
@@ -87,8 +87,8 @@ module _ (c : Context) (bytes rest : List ℕ) where
   same_role x y more h e =
       role_is y ∙ ap (λ z. role_by_byte (get_or z 0 0)) h.0.token ∙ ap role_by_byte (sym (first_here (Lexical (t.Operator y)) h)) ∙ role_there (bytes ++ rest) x more e
 
-  no_bracket : (sort : Sort) (x : Operator) (more : List ℕ) → FitsBySort c sort bytes rest → bytes ++ rest ≡ operator_text x ++ more → (MayStand (role_of x) c.brackets → ⊥) → ⊥
-  no_bracket (Lexical (t.Operator y)) x more h e none = none (subst (λ role. MayStand role c.brackets) (same_role x y more h e) h.1.0)
+  no_bracket : (sort : Sort) (x : Operator) (more : List ℕ) → FitsBySort c sort bytes rest → bytes ++ rest ≡ operator_text x ++ more → (MayOpenOrClose (role_of x) c.brackets → ⊥) → ⊥
+  no_bracket (Lexical (t.Operator y)) x more h e none = none (subst (λ role. MayOpenOrClose role c.brackets) (same_role x y more h e) h.1.0)
   no_bracket (Lexical t.Newline) x more h e none = h.0.token
   no_bracket (Lexical t.Indent) x more h e none = h.0.token
   no_bracket (Lexical t.Dedent) x more h e none = h.0.token
@@ -159,7 +159,7 @@ module _ (c : Context) (bytes rest : List ℕ) where
   no_fault sort S1 k h f = f
   no_fault sort _ k h f = f
 
-no_end_fault : (c : Context) (code : RefusalCode) (k : ℕ) → c.brackets ≡ [] → IsFault c [] code k → ⊥
+no_end_fault : (c : LexicalContext) (code : RefusalCode) (k : ℕ) → c.brackets ≡ [] → IsFault c [] code k → ⊥
 no_end_fault c L1 k none f = f.1.some refl
 no_end_fault c L2 k none f = let quote = f.1.0 in cc
 no_end_fault c L3 k none (_, inl (digit, bad)) = cc
@@ -174,7 +174,7 @@ no_end_fault c S1 k none f = f
 no_end_fault c _ k none f = f
 
 -- the ways in which a text goes on give the same lines
-pub one_split : (ps qs : List Piece) (c : Context) (text : List ℕ) (e f : Ending) → Splits c ps text e → Splits c qs text f → items_of c ps e ≡ items_of c qs f
+pub one_split : (ps qs : List Piece) (c : LexicalContext) (text : List ℕ) (e f : Ending) → Splits c ps text e → Splits c qs text f → items_of c ps e ≡ items_of c qs f
 one_split [] [] c text Whole Whole h g = refl
 one_split [] [] c text Whole (Faulty code k) h g = absurd (no_end_fault c code k h.1 (subst (λ x. IsFault c x code k) h.0 g))
 one_split [] [] c text (Faulty code k) Whole h g = absurd (no_end_fault c code k g.1 (subst (λ x. IsFault c x code k) g.0 h))

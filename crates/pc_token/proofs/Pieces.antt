@@ -7,10 +7,10 @@ use Rattle.std.proofs.lemmas.Bool.Decides.{nat_tests}
 use Rattle.std.proofs.lemmas.List.{drop-drop, length-take-le}
 use Rattle.std.proofs.lemmas.List.Sums.{prefix_len-le-length, prefix_len_passes, prefix_len_stops}
 use Rattle.std.proofs.lemmas.Str.{IsUtf8-drop, IsCharBoundary-from_rest, IsCharBoundary-before_ascii, IsCharBoundary-end, IsCharBoundary-after_ascii}
-use Rattle.pc_token.specs.Context.{Context}
+use Rattle.pc_token.specs.Context.{LexicalContext}
 use Rattle.pc_token.specs.Faults.{IsBadTab}
 use Rattle.pc_token.specs.Gaps.{is_blank, is_line_byte, starts_line_end, ends_line}
-use Rattle.pc_token.specs.Reading.{GoesTo}
+use Rattle.pc_token.specs.Internal.LineReading.{GoesTo}
 use Rattle.pc_token.specs.Splitting.{Sort, Blanks, Comment, LineEnd, FitsBySort}
 use Rattle.pc_token.proofs.Boundaries.{IsCharBoundary-ascii_run}
 use Rattle.pc_token.proofs.Runs.{front_passes, stops, stops_at, some_pass}
@@ -24,7 +24,7 @@ module _ (text : List ℕ) (at len : ℕ) where
   pub rest_from : drop (at + len) text ≡ drop len (drop at text)
   rest_from = sym (drop-drop len at text)
 
-module _ (c : Context) (text : List ℕ) (len : ℕ) (sort : Sort) where
+module _ (c : LexicalContext) (text : List ℕ) (len : ℕ) (sort : Sort) where
   -- a piece of this length stands here
   pub goes : 0 < len → IsCharBoundary text (c.at + len) → FitsBySort c sort (take len (drop c.at text)) (drop len (drop c.at text)) → GoesTo c text sort (c.at + len)
   goes some boundary fits = record {
@@ -55,7 +55,7 @@ wide_run p bs ascii =
       | inr past ↦ subst (IsCharBoundary bs) (omega (arith, prefix_len-le-length p bs)) (IsCharBoundary-end bs)
     ]
 
-module _ (c : Context) (text : List ℕ) (utf8 : IsUtf8 text) (boundary : IsCharBoundary text c.at) where
+module _ (c : LexicalContext) (text : List ℕ) (utf8 : IsUtf8 text) (boundary : IsCharBoundary text c.at) where
   pub later_boundary : (len : ℕ) → IsCharBoundary (drop c.at text) len → IsCharBoundary text (c.at + len)
   later_boundary len h = IsCharBoundary-from_rest text c.at len boundary.0 h
 
@@ -96,7 +96,7 @@ module _ (c : Context) (text : List ℕ) (utf8 : IsUtf8 text) (boundary : IsChar
       )
 
 -- a tab among the spaces at the front of a line that goes on
-pub bad_tab : (c : Context) (text : List ℕ) → c.last ≡ None → prefix_len (λ b. b == 32) text < prefix_len is_blank text
+pub bad_tab : (c : LexicalContext) (text : List ℕ) → c.last ≡ None → prefix_len (λ b. b == 32) text < prefix_len is_blank text
     → ends_line (drop (prefix_len is_blank text) text) ≡ false → IsBadTab c text (prefix_len (λ b. b == 32) text)
 bad_tab c text fresh fewer more =
     let n = prefix_len (λ b. b == 32) text in
@@ -123,7 +123,7 @@ two_there [] b e h = absurd (omega arith)
 two_there (x ∷ []) b e h = absurd (omega arith)
 two_there (x ∷ y ∷ xs) b e h = omega arith
 
-module _ (c : Context) (text : List ℕ) (utf8 : IsUtf8 text) (boundary : IsCharBoundary text c.at) where
+module _ (c : LexicalContext) (text : List ℕ) (utf8 : IsUtf8 text) (boundary : IsCharBoundary text c.at) where
   -- a line feed ends a line
   pub line_feed_here : 0 < length (drop c.at text) → get_or (drop c.at text) 0 0 ≡ 10 → GoesTo c text LineEnd (c.at + 1)
   line_feed_here some here =

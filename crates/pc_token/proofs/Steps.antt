@@ -9,9 +9,9 @@ use Rattle.pc_source.specs.declared.fault.RefusalCode.TheVariants.{L5}
 use Rattle.pc_token.specs.declared.token.Operator.{Operator}
 use Rattle.pc_token.specs.declared.token.Token.{Token}
 use Rattle.pc_token.specs.declared.token.TokenKind.{TokenKind}
-use Rattle.pc_token.specs.Context.{Context, after_token, brackets_after, lexeme_at, form_by_kind}
+use Rattle.pc_token.specs.Context.{LexicalContext, after_token, brackets_after, lexeme_at, form_by_kind}
 use Rattle.pc_token.specs.Lexeme.{LogicalLine, Lexeme, lexeme_of, form_of}
-use Rattle.pc_token.specs.Reading.{GoesTo, IsRefusedHere}
+use Rattle.pc_token.specs.Internal.LineReading.{GoesTo, IsRefusedHere}
 use Rattle.pc_token.specs.Splitting.{Sort, Whole, Faulty, after_sort, at_sort, close_line, GoesOn}
 use Rattle.pc_token.proofs.Slices.{split_at}
 
@@ -20,28 +20,28 @@ pub piece_length : (text : List ℕ) (i j : ℕ) → i ≤ j → j ≤ length te
 piece_length text i j h g = let len = length-take-le (j - i) (drop i text) (omega (arith, length-drop i text)) in omega arith
 
 -- a piece before what goes on
-pub step_on : (c : Context) (text : List ℕ) (sort : Sort) (end : ℕ) (items : List (Result LogicalLine Refusal)) → GoesTo c text sort end
+pub step_on : (c : LexicalContext) (text : List ℕ) (sort : Sort) (end : ℕ) (items : List (Result LogicalLine Refusal)) → GoesTo c text sort end
     → GoesOn (after_sort c sort (slice_range text c.at end)) (drop end text) items → GoesOn c (drop c.at text) (at_sort sort c items)
 step_on c text sort end items goes (ps, ending, splits, is) =
     let later = goes.later in
     (record { sort = sort; bytes = slice_range text c.at end } ∷ ps, ending, (drop end text, split_at text c.at end (omega arith), goes.fits, splits), ap (at_sort sort c) is)
 
 -- a refusal here
-pub refused_on : (c : Context) (text : List ℕ) (r : Refusal) → IsRefusedHere c text r → GoesOn c (drop c.at text) (Err r ∷ [])
+pub refused_on : (c : LexicalContext) (text : List ℕ) (r : Refusal) → IsRefusedHere c text r → GoesOn c (drop c.at text) (Err r ∷ [])
 refused_on c text r (k, e, fault) = ([], Faulty r.code k, fault, ap (λ n. Err (record { code = r.code; byte = n }) ∷ []) (sym e))
 
 -- the text's end
-pub whole_on : (c : Context) (text : List ℕ) → length text ≤ c.at → c.brackets ≡ [] → GoesOn c (drop c.at text) (close_line c.start c.done [])
+pub whole_on : (c : LexicalContext) (text : List ℕ) → length text ≤ c.at → c.brackets ≡ [] → GoesOn c (drop c.at text) (close_line c.start c.done [])
 whole_on c text past none = ([], Whole, (drop_all c.at text past, none), refl)
 
 -- the text's end in a bracket
-pub open_on : (c : Context) (text : List ℕ) → length text ≤ c.at → (length c.brackets ≡ 0 → ⊥) → GoesOn c (drop c.at text) (Err (record { code = L5; byte = c.at }) ∷ [])
+pub open_on : (c : LexicalContext) (text : List ℕ) → length text ≤ c.at → (length c.brackets ≡ 0 → ⊥) → GoesOn c (drop c.at text) (Err (record { code = L5; byte = c.at }) ∷ [])
 open_on c text past some =
     let none : length (drop c.at text) ≡ 0 = omega (arith, length-drop c.at text) in
     ([], Faulty L5 0, (refl, inl (none, some)), ap (λ n. Err (record { code = L5; byte = n }) ∷ []) (add-zero c.at))
 
 -- the context after a token was taken
-pub taken : (c : Context) (text : List ℕ) (end : ℕ) (kind : TokenKind) (brackets : List Operator) (done : List Lexeme) → c.at ≤ end → end ≤ length text
+pub taken : (c : LexicalContext) (text : List ℕ) (end : ℕ) (kind : TokenKind) (brackets : List Operator) (done : List Lexeme) → c.at ≤ end → end ≤ length text
     → brackets ≡ brackets_after kind c.brackets → done ≡ c.done ++ lexeme_at c.at kind (slice_range text c.at end) ∷ []
     → record { at = end; start = c.start; brackets = brackets; done = done; last = Some kind; ended = end } ≡ after_token c kind (slice_range text c.at end)
 taken c text end kind brackets done h g b d =

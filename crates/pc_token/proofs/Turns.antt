@@ -10,9 +10,9 @@ use Rattle.pc_source.specs.declared.fault.Refusal.{Refusal}
 use Rattle.pc_token.specs.declared.reading.Found.{Found}
 use Rattle.pc_token.specs.declared.reading.Reading.{Reading}
 use Rattle.pc_token.specs.declared.token.Operator.{Operator}
-use Rattle.pc_token.specs.Context.{Context, line_start, after_gap, after_line_end}
+use Rattle.pc_token.specs.Context.{LexicalContext, line_start, after_gap, after_line_end}
 use Rattle.pc_token.specs.Lexeme.{LogicalLine, lexeme_of}
-use Rattle.pc_token.specs.Reading.{GoesTo, IsFound, TakesToken, LeavesFrom, IsRefusedHere, IsRefusedLater, ReadsLine, context_of}
+use Rattle.pc_token.specs.Internal.LineReading.{GoesTo, IsFound, TakesToken, LeavesFrom, IsRefusedHere, IsRefusedLater, ReadsLine, context_of}
 use Rattle.pc_token.specs.Splitting.{Blanks, Comment, LineEnd, Lexical, at_line_end, close_line, GoesOn}
 use Rattle.pc_token.proofs.Steps.{step_on, refused_on, piece_length}
 
@@ -20,11 +20,11 @@ pub nil_is : {A : Type 0} (xs : List A) → length xs ≡ 0 → xs ≡ []
 nil_is [] h = refl
 nil_is (x ∷ xs) h = absurd (omega arith)
 
-inner_context : (brackets : List Operator) (c : Context) (bytes : List ℕ) → (length brackets ≡ 0 → ⊥) → after_line_end brackets c bytes ≡ after_gap c bytes
+inner_context : (brackets : List Operator) (c : LexicalContext) (bytes : List ℕ) → (length brackets ≡ 0 → ⊥) → after_line_end brackets c bytes ≡ after_gap c bytes
 inner_context [] c bytes some = absurd (some refl)
 inner_context (b ∷ bs) c bytes some = refl
 
-inner_items : (brackets : List Operator) (c : Context) (items : List (Result LogicalLine Refusal)) → (length brackets ≡ 0 → ⊥) → at_line_end brackets c items ≡ items
+inner_items : (brackets : List Operator) (c : LexicalContext) (items : List (Result LogicalLine Refusal)) → (length brackets ≡ 0 → ⊥) → at_line_end brackets c items ≡ items
 inner_items [] c items some = absurd (some refl)
 inner_items (b ∷ bs) c items some = refl
 
@@ -87,7 +87,7 @@ refused_leaves old cur (fault.Refused r) leads h = leads (Err r ∷ []) (refused
 refused_leaves old cur fault.OutOfMemory leads h = tt
 
 -- where a gap ends
-pub gap_edge : (c : Context) (text : List ℕ) (end : ℕ) → GoesTo c text Blanks end ⊎ GoesTo c text Comment end → IsCharBoundary text end × (c.at < end)
+pub gap_edge : (c : LexicalContext) (text : List ℕ) (end : ℕ) → GoesTo c text Blanks end ⊎ GoesTo c text Comment end → IsCharBoundary text end × (c.at < end)
 gap_edge c text end (inl goes) = (goes.boundary, goes.later)
 gap_edge c text end (inr goes) = (goes.boundary, goes.later)
 

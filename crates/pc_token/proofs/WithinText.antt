@@ -7,12 +7,12 @@ use Rattle.pc_source.specs.declared.fault.RefusalCode.TheVariants.{L1, L2, L3, L
 use Rattle.pc_source.specs.declared.fault.Fault.{Fault}
 use Rattle.pc_source.specs.declared.fault.Fault.TheVariants as fault
 use Rattle.pc_source.specs.Answers.{OnRefusal}
-use Rattle.pc_source.specs.Stream.{Comes, RefusesWithin}
+use Rattle.pc_source.specs.Stream.{Yields, RefusesWithin}
 use Rattle.pc_source.specs.Within.{StandsWithin, IsWithin}
 use Rattle.pc_token.specs.declared.token.Operator.{Operator}
 use Rattle.pc_token.specs.declared.stream.Lines.{Lines}
 use Rattle.pc_token.specs.declared.token.Line.{Line}
-use Rattle.pc_token.specs.Context.{Context, line_start, after_line_end, lexeme_at}
+use Rattle.pc_token.specs.Context.{LexicalContext, line_start, after_line_end, lexeme_at}
 use Rattle.pc_token.specs.Faults.{IsFault}
 use Rattle.pc_token.specs.Lexeme.{Lexeme, LogicalLine, line_of}
 use Rattle.pc_token.specs.Remaining.{HasLeft, gives}
@@ -26,7 +26,7 @@ push : (len : ℕ) (xs : List Lexeme) (x : Lexeme) → AreWithin len xs → Stan
 push len [] x h s = (s, tt)
 push len (y ∷ ys) x h s = (h.0, push len ys x h.1 s)
 
-fault_within : (c : Context) (text : List ℕ) (code : RefusalCode) (k : ℕ) → IsFault c text code k → k ≤ length text
+fault_within : (c : LexicalContext) (text : List ℕ) (code : RefusalCode) (k : ℕ) → IsFault c text code k → k ≤ length text
 fault_within c text L1 k h = omega (arith, h.0)
 fault_within c text L2 k h = omega (arith, h.0)
 fault_within c text L3 k h = omega (arith, h.0)
@@ -40,21 +40,21 @@ fault_within c text _ k h = absurd h
 -- ---- from one piece to the next
 
 module _ (len : ℕ) where
-  feed_at : (brackets : List Operator) (c : Context) (bytes : List ℕ) → (after_line_end brackets c bytes).at ≡ c.at + length bytes
+  feed_at : (brackets : List Operator) (c : LexicalContext) (bytes : List ℕ) → (after_line_end brackets c bytes).at ≡ c.at + length bytes
   feed_at [] c bytes = refl
   feed_at (b ∷ bs) c bytes = refl
 
-  next_at : (sort : Sort) (c : Context) (bytes : List ℕ) → (after_sort c sort bytes).at ≡ c.at + length bytes
+  next_at : (sort : Sort) (c : LexicalContext) (bytes : List ℕ) → (after_sort c sort bytes).at ≡ c.at + length bytes
   next_at Blanks c bytes = refl
   next_at Comment c bytes = refl
   next_at LineEnd c bytes = feed_at c.brackets c bytes
   next_at (Lexical kind) c bytes = refl
 
-  feed_done : (brackets : List Operator) (c : Context) (bytes : List ℕ) → AreWithin len c.done → AreWithin len (after_line_end brackets c bytes).done
+  feed_done : (brackets : List Operator) (c : LexicalContext) (bytes : List ℕ) → AreWithin len c.done → AreWithin len (after_line_end brackets c bytes).done
   feed_done [] c bytes h = tt
   feed_done (b ∷ bs) c bytes h = h
 
-  next_done : (sort : Sort) (c : Context) (bytes : List ℕ) → c.at + length bytes ≤ len → AreWithin len c.done → AreWithin len (after_sort c sort bytes).done
+  next_done : (sort : Sort) (c : LexicalContext) (bytes : List ℕ) → c.at + length bytes ≤ len → AreWithin len c.done → AreWithin len (after_sort c sort bytes).done
   next_done Blanks c bytes le h = h
   next_done Comment c bytes le h = h
   next_done LineEnd c bytes le h = feed_done c.brackets c bytes h
@@ -64,17 +64,17 @@ module _ (len : ℕ) where
   closed start [] items h rest = rest
   closed start (x ∷ xs) items h rest = (h, rest)
 
-  at_feed : (brackets : List Operator) (c : Context) (items : Items) → AreWithin len c.done → ItemsWithin len items → ItemsWithin len (at_line_end brackets c items)
+  at_feed : (brackets : List Operator) (c : LexicalContext) (items : Items) → AreWithin len c.done → ItemsWithin len items → ItemsWithin len (at_line_end brackets c items)
   at_feed [] c items h rest = closed c.start c.done items h rest
   at_feed (b ∷ bs) c items h rest = rest
 
-  at_piece : (sort : Sort) (c : Context) (items : Items) → AreWithin len c.done → ItemsWithin len items → ItemsWithin len (at_sort sort c items)
+  at_piece : (sort : Sort) (c : LexicalContext) (items : Items) → AreWithin len c.done → ItemsWithin len items → ItemsWithin len (at_sort sort c items)
   at_piece Blanks c items h rest = rest
   at_piece Comment c items h rest = rest
   at_piece LineEnd c items h rest = at_feed c.brackets c items h rest
   at_piece (Lexical kind) c items h rest = rest
 
-  walk : (ps : List Piece) (c : Context) (text : List ℕ) (ending : Ending) → c.at + length text ≡ len → AreWithin len c.done → Splits c ps text ending → ItemsWithin len (items_of c ps ending)
+  walk : (ps : List Piece) (c : LexicalContext) (text : List ℕ) (ending : Ending) → c.at + length text ≡ len → AreWithin len c.done → Splits c ps text ending → ItemsWithin len (items_of c ps ending)
   walk [] c text Whole at h s = closed c.start c.done [] h tt
   walk [] c text (Faulty code k) at h s = (omega (arith, at, fault_within c text code k s), tt)
   walk (p ∷ ps) c text ending at h (rest, is, fits, more) =
@@ -108,7 +108,7 @@ answer_within text (Err fault.OutOfMemory) h = tt
 
 -- ---- of the iterator over lines
 
-left_before : (ls : List Line) (s : Lines) (r : Refusal) → Comes gives s (map Ok ls ++ Err (fault.Refused r) ∷ []) → HasLeft s (map Ok (map line_of ls) ++ Err r ∷ [])
+left_before : (ls : List Line) (s : Lines) (r : Refusal) → Yields gives s (map Ok ls ++ Err (fault.Refused r) ∷ []) → HasLeft s (map Ok (map line_of ls) ++ Err r ∷ [])
 left_before [] s r (none, t, g) = g.1
 left_before (l ∷ ls) s r (t, g, more) = g (map Ok (map line_of ls) ++ Err r ∷ []) (left_before ls t r more)
 

@@ -11,7 +11,7 @@ use Rattle.pc_token.specs.Operators.{role_of}
 
 -- the byte; where the logical line begins; the open brackets, the innermost last; the line's tokens so far,
 -- the kind of the last of them, and where it ends
-pub record Context : Type 0 where
+pub record LexicalContext : Type 0 where
   pub at : ℕ
   pub start : ℕ
   pub brackets : List Operator
@@ -20,7 +20,7 @@ pub record Context : Type 0 where
   pub ended : ℕ
 
 -- where a logical line begins
-abbrev pub line_start : ℕ → Context
+abbrev pub line_start : ℕ → LexicalContext
 line_start at = record { at = at; start = at; brackets = []; done = []; last = None; ended = at }
 
 -- a name, a keyword or a number
@@ -31,15 +31,15 @@ is_word (Some (t.Keyword _)) = true
 is_word _ = false
 
 -- a name, a keyword or a number ends here
-abbrev pub touches_word : Context → Bool
+abbrev pub touches_word : LexicalContext → Bool
 touches_word c = is_word c.last && c.ended == c.at
 
 -- after bytes that are no token and end no line
-abbrev pub after_gap : Context → List ℕ → Context
+abbrev pub after_gap : LexicalContext → List ℕ → LexicalContext
 after_gap c bytes = record c { at = c.at + length bytes }
 
 -- after a line end, which ends the logical line where no bracket is open
-abbrev pub after_line_end : List Operator → Context → List ℕ → Context
+abbrev pub after_line_end : List Operator → LexicalContext → List ℕ → LexicalContext
 after_line_end [] c bytes = line_start (c.at + length bytes)
 after_line_end (_ ∷ _) c bytes = after_gap c bytes
 
@@ -65,7 +65,7 @@ lexeme_at at kind bytes =
     record { kind = kind; place = record { start = at; end = at + length bytes }; text = bytes; form = form_by_kind kind bytes }
 
 -- after a token
-abbrev pub after_token : Context → TokenKind → List ℕ → Context
+abbrev pub after_token : LexicalContext → TokenKind → List ℕ → LexicalContext
 after_token c kind bytes = record {
   at = c.at + length bytes;
   start = c.start;

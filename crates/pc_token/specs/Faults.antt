@@ -7,7 +7,7 @@ use Rattle.pc_source.specs.declared.fault.RefusalCode.TheVariants.{L1, L2, L3, L
 use Rattle.pc_token.specs.declared.token.Operator.{Operator}
 use Rattle.pc_token.specs.declared.token.TokenKind.{TokenKind}
 use Rattle.pc_token.specs.declared.token.TokenKind.TheVariants as t
-use Rattle.pc_token.specs.Context.{Context, touches_word}
+use Rattle.pc_token.specs.Context.{LexicalContext, touches_word}
 use Rattle.pc_token.specs.Gaps.{is_blank, starts_line_end, ends_line, after_blanks}
 use Rattle.pc_token.specs.Names.{is_bad_name}
 use Rattle.pc_token.specs.Numbers.{is_bad_number, is_bad_point, number_run, digit_count, digit_limit}
@@ -35,7 +35,7 @@ NoString text = (bytes rest : List ℕ) → text ≡ bytes ++ rest → IsString 
 
 -- L2: a quote at which no string begins, or that stands directly after a word or number,
 -- or that begins an empty string with the same quote directly after it
-abbrev pub IsBadString : Context → List ℕ → Type 0
+abbrev pub IsBadString : LexicalContext → List ℕ → Type 0
 IsBadString c text = (is_quote (slice_index text 0) ≡ true) × (NoString text ⊎ (touches_word c ≡ true) ⊎ (is_tripled text ≡ true))
 
 -- L3: a digit at which no number stands as it may, or a point with a digit directly after it
@@ -43,7 +43,7 @@ abbrev pub IsBadDigits : List ℕ → Type 0
 IsBadDigits text = ((is_ascii_digit (slice_index text 0) ≡ true) × (is_bad_number text ≡ true)) ⊎ (is_bad_point text ≡ true)
 
 -- L4: a name that may not stand here
-abbrev pub IsBadName : Context → List ℕ → Type 0
+abbrev pub IsBadName : LexicalContext → List ℕ → Type 0
 IsBadName c text = (bytes : List ℕ) × (rest : List ℕ) × (text ≡ bytes ++ rest) × IsLongest t.Name bytes rest × (is_bad_name c.last bytes ≡ true)
 
 -- the innermost open bracket
@@ -51,16 +51,16 @@ abbrev pub innermost : List Operator → Option Operator
 innermost brackets = slice_get brackets (length brackets - 1)
 
 -- L5: a bracket closes what is not the innermost open one, or the text ends in a bracket
-abbrev pub IsBadClosing : Context → List ℕ → Type 0
+abbrev pub IsBadClosing : LexicalContext → List ℕ → Type 0
 IsBadClosing c text = ((length text ≡ 0) × (length c.brackets ≡ 0 → ⊥))
     ⊎ ((o : Operator) × (opener : Operator) × (rest : List ℕ) × (text ≡ operator_text o ++ rest) × (role_of o ≡ Closes opener) × (innermost c.brackets ≡ Some opener → ⊥))
 
 -- L6: a bracket opens where as many are open as may be
-abbrev pub IsBadOpening : Context → List ℕ → Type 0
+abbrev pub IsBadOpening : LexicalContext → List ℕ → Type 0
 IsBadOpening c text = (o : Operator) × (rest : List ℕ) × (text ≡ operator_text o ++ rest) × (role_of o ≡ Opens) × (bracket_limit ≤ length c.brackets)
 
 -- L7: the first tab in the indentation of a line that has more than a comment
-pub record IsBadTab (c : Context) (text : List ℕ) (k : ℕ) : Type 0 where
+pub record IsBadTab (c : LexicalContext) (text : List ℕ) (k : ℕ) : Type 0 where
   pub fresh : c.last ≡ None
   pub spaces : list_all (λ b. b == 32) (take k text) ≡ true
   pub within : k < length text
@@ -72,7 +72,7 @@ abbrev pub IsLongNumber : List ℕ → Type 0
 IsLongNumber text = (is_ascii_digit (slice_index text 0) ≡ true) × (is_bad_number text ≡ false) × (digit_limit < digit_count (number_run text))
 
 -- the refusal that stands k bytes after what stands here
-abbrev pub IsFault : Context → List ℕ → RefusalCode → ℕ → Type 0
+abbrev pub IsFault : LexicalContext → List ℕ → RefusalCode → ℕ → Type 0
 IsFault c text L1 k = (k ≡ 0) × IsStray text
 IsFault c text L2 k = (k ≡ 0) × IsBadString c text
 IsFault c text L3 k = (k ≡ 0) × IsBadDigits text

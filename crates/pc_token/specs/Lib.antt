@@ -6,9 +6,9 @@ pub mod Lexeme
 pub mod Names
 pub mod Numbers
 pub mod Operators
-pub mod Reading
 pub mod Remaining
 pub mod Spelling
 pub mod Splitting
 pub mod Strings
 pub mod Within
+pub mod Internal

@@ -14,7 +14,7 @@ use Rattle.pc_token.specs.Splitting.{GoesOn}
 abbrev pub HasLeft : Lines → List (Result LogicalLine Refusal) → Type 0
 HasLeft s items = MatchBool s.done (items ≡ []) (GoesOn (line_start s.at) (drop s.at s.text.now) items)
 
--- the first of the lines that are left comes, or the refusal there, or memory is wanting; after a fault, and at the end, nothing is left
+-- the first of the lines that are left comes, or the refusal there, or an allocation failed; after a fault, and at the end, nothing is left
 abbrev pub gives : Lines → Option (Result Line Fault) → Lines → Type 0
 gives s r t = MatchOption r (HasLeft s [] × (t.done ≡ true))
     (λ i. MatchResult i
@@ -22,8 +22,8 @@ gives s r t = MatchOption r (HasLeft s [] × (t.done ≡ true))
     (λ e. (t.done ≡ true) × OnRefusal (λ refusal. HasLeft s (Err refusal ∷ [])) e))
 
 -- at most this many calls give an item
-abbrev pub left : Lines → Count
-left s = at_most (if s.done then 0 else length s.text.now - s.at + 1)
+abbrev pub items_left : Lines → Count
+items_left s = at_most (if s.done then 0 else length s.text.now - s.at + 1)
 
 -- lines that were all read
 abbrev pub all_read : List Line → List (Result LogicalLine Refusal)

@@ -6,7 +6,7 @@ use Rattle.pc_source.specs.declared.fault.RefusalCode.{RefusalCode}
 use Rattle.pc_token.specs.declared.token.Operator.{Operator}
 use Rattle.pc_token.specs.declared.token.TokenKind.{TokenKind}
 use Rattle.pc_token.specs.declared.token.TokenKind.TheVariants as t
-use Rattle.pc_token.specs.Context.{Context, line_start, touches_word, after_gap, after_line_end, after_token}
+use Rattle.pc_token.specs.Context.{LexicalContext, line_start, touches_word, after_gap, after_line_end, after_token}
 use Rattle.pc_token.specs.Faults.{IsFault, innermost, bracket_limit}
 use Rattle.pc_token.specs.Gaps.{IsBlanks, IsComment, IsLineEnd, ends_line}
 use Rattle.pc_token.specs.Lexeme.{Lexeme, LogicalLine}
@@ -31,40 +31,40 @@ pub record Piece : Type 0 where
   pub bytes : List ℕ
 
 -- a bracket may open or close here
-abbrev pub MayStand : Role → List Operator → Type 0
-MayStand Opens brackets = length brackets < bracket_limit
-MayStand (Closes opener) brackets = innermost brackets ≡ Some opener
-MayStand Plain brackets = Unit {0}
+abbrev pub MayOpenOrClose : Role → List Operator → Type 0
+MayOpenOrClose Opens brackets = length brackets < bracket_limit
+MayOpenOrClose (Closes opener) brackets = innermost brackets ≡ Some opener
+MayOpenOrClose Plain brackets = Unit {0}
 
 -- no refusal stands at a token of this kind
-abbrev pub IsAllowed : Context → TokenKind → List ℕ → List ℕ → Type 0
+abbrev pub IsAllowed : LexicalContext → TokenKind → List ℕ → List ℕ → Type 0
 IsAllowed c t.Name bytes rest = is_bad_name c.last bytes ≡ false
 IsAllowed c t.Int bytes rest = (is_bad_number (bytes ++ rest) ≡ false) × (digit_count bytes ≤ digit_limit)
 IsAllowed c t.Str bytes rest = (touches_word c ≡ false) × (is_tripled (bytes ++ rest) ≡ false)
-IsAllowed c (t.Operator o) bytes rest = MayStand (role_of o) c.brackets × (is_bad_point (bytes ++ rest) ≡ false)
+IsAllowed c (t.Operator o) bytes rest = MayOpenOrClose (role_of o) c.brackets × (is_bad_point (bytes ++ rest) ≡ false)
 IsAllowed c _ bytes rest = Unit {0}
 
 -- the piece may stand here, before this rest: spaces and tabs, with a tab in no indentation but that of a line without tokens;
 -- a comment; a line end; or a token, the longest here, at which no refusal stands
-abbrev pub FitsBySort : Context → Sort → List ℕ → List ℕ → Type 0
+abbrev pub FitsBySort : LexicalContext → Sort → List ℕ → List ℕ → Type 0
 FitsBySort c Blanks bytes rest = IsBlanks bytes rest × (c.last ≡ None → ends_line rest ≡ false → list_all (λ b. b == 32) bytes ≡ true)
 FitsBySort c Comment bytes rest = IsComment bytes rest
 FitsBySort c LineEnd bytes rest = IsLineEnd bytes
 FitsBySort c (Lexical kind) bytes rest = IsLongest kind bytes rest × IsAllowed c kind bytes rest
 
 -- a piece may stand here, before this rest
-abbrev pub Fits : Context → Piece → List ℕ → Type 0
+abbrev pub Fits : LexicalContext → Piece → List ℕ → Type 0
 Fits c p rest = FitsBySort c p.sort p.bytes rest
 
 -- after a piece
-abbrev pub after_sort : Context → Sort → List ℕ → Context
+abbrev pub after_sort : LexicalContext → Sort → List ℕ → LexicalContext
 after_sort c Blanks bytes = after_gap c bytes
 after_sort c Comment bytes = after_gap c bytes
 after_sort c LineEnd bytes = after_line_end c.brackets c bytes
 after_sort c (Lexical kind) bytes = after_token c kind bytes
 
 -- the context after a piece of the text
-abbrev pub after : Context → Piece → Context
+abbrev pub after : LexicalContext → Piece → LexicalContext
 after c p = after_sort c p.sort p.bytes
 
 -- how a split ends: with the text, or at a fault some bytes further on
@@ -73,7 +73,7 @@ pub data Ending : Type 0 where
   Faulty : RefusalCode → ℕ → Ending
 
 -- the text is these pieces one after the other, each of which may stand where it does; then it ends with no open bracket, or at a fault
-abbrev pub Splits : Context → List Piece → List ℕ → Ending → Type 0
+abbrev pub Splits : LexicalContext → List Piece → List ℕ → Ending → Type 0
 Splits c [] text Whole = (text ≡ []) × (c.brackets ≡ [])
 Splits c [] text (Faulty code k) = IsFault c text code k
 Splits c (p ∷ ps) text ending = (rest : List ℕ) × (text ≡ p.bytes ++ rest) × Fits c p rest × Splits (after c p) ps rest ending
@@ -84,24 +84,24 @@ close_line start [] others = others
 close_line start (x ∷ xs) others = Ok (record { column = x.place.start - start; lexemes = x ∷ xs }) ∷ others
 
 -- a line end ends the logical line where no bracket is open
-abbrev pub at_line_end : List Operator → Context → List (Result LogicalLine Refusal) → List (Result LogicalLine Refusal)
+abbrev pub at_line_end : List Operator → LexicalContext → List (Result LogicalLine Refusal) → List (Result LogicalLine Refusal)
 at_line_end [] c others = close_line c.start c.done others
 at_line_end (_ ∷ _) c others = others
 
 -- the logical line that ends at a piece of this sort, if one does, before the others
-abbrev pub at_sort : Sort → Context → List (Result LogicalLine Refusal) → List (Result LogicalLine Refusal)
+abbrev pub at_sort : Sort → LexicalContext → List (Result LogicalLine Refusal) → List (Result LogicalLine Refusal)
 at_sort LineEnd c others = at_line_end c.brackets c others
 at_sort _ c others = others
 
 -- the logical lines that end in these pieces, each with its column, the number of bytes, which are spaces, before its first token;
 -- then the refusal, where they end at a fault
-abbrev pub items_of : Context → List Piece → Ending → List (Result LogicalLine Refusal)
+abbrev pub items_of : LexicalContext → List Piece → Ending → List (Result LogicalLine Refusal)
 items_of c [] Whole = close_line c.start c.done []
 items_of c [] (Faulty code k) = Err (record { code = code; byte = c.at + k }) ∷ []
 items_of c (p ∷ ps) ending = at_sort p.sort c (items_of (after c p) ps ending)
 
 -- from here on these logical lines end, up to the first fault
-abbrev pub GoesOn : Context → List ℕ → List (Result LogicalLine Refusal) → Type 0
+abbrev pub GoesOn : LexicalContext → List ℕ → List (Result LogicalLine Refusal) → Type 0
 GoesOn c text items = (ps : List Piece) × (ending : Ending) × Splits c ps text ending × (items_of c ps ending ≡ items)
 
 -- the logical lines of a text, up to its first fault

@@ -46,7 +46,7 @@ fn turn_bracket(brackets: &mut Vec<Operator>, kind: TokenKind) -> Result<(), All
 
 impl<'a> Reading<'a> {
     ghost use Rattle.pc_token.specs.Context.{line_start};
-    ghost use Rattle.pc_token.specs.Reading.{context_of, IsFound, TakesToken, ReadsLine, IsRefusedLater};
+    ghost use Rattle.pc_token.specs.Internal.LineReading.{context_of, IsFound, TakesToken, ReadsLine, IsRefusedLater};
 
     /// Where a logical line begins.
     pub(crate) fn new(alloc: Global, text: &'a str, at: usize) -> Reading<'a>

@@ -65,8 +65,8 @@ fn is_bad_tab(bytes: &[u8], spaces: usize, len: usize) -> bool
 }
 
 impl<'a> Reading<'a> {
-    ghost use Rattle.pc_token.specs.Reading.{context_of, GoesTo, IsFound, IsNext, IsRefusedHere, IsBracketFault};
-    ghost use Rattle.pc_token.specs.Splitting.{Blanks, Comment, LineEnd, MayStand};
+    ghost use Rattle.pc_token.specs.Internal.LineReading.{context_of, GoesTo, IsFound, IsNext, IsRefusedHere, IsBracketFault};
+    ghost use Rattle.pc_token.specs.Splitting.{Blanks, Comment, LineEnd, MayOpenOrClose};
 
     /// The bytes from here on.
     fn rest(&self) -> &'a [u8]
@@ -231,7 +231,7 @@ impl<'a> Reading<'a> {
 
     /// Why an operator may not open or close a bracket here.
     fn bracket_fault(&self, operator: Operator) -> Option<RefusalCode>
-        ensures { MatchOption result (MayStand (role_of operator) self.now.brackets.items) (IsBracketFault (role_of operator) self.now.brackets.items) }
+        ensures { MatchOption result (MayOpenOrClose (role_of operator) self.now.brackets.items) (IsBracketFault (role_of operator) self.now.brackets.items) }
     {
         match operator.role() {
             Role::Opens => (self.brackets.len() >= BRACKET_LIMIT).then_some(RefusalCode::L6),

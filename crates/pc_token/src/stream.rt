@@ -17,13 +17,13 @@ pub struct Lines<'a> {
 }
 
 impl<'a> Iterator for Lines<'a> {
-    ghost use Rattle.pc_token.specs.Remaining.{gives, left};
+    ghost use Rattle.pc_token.specs.Remaining.{gives, items_left};
 
     type Item = Result<Line<'a>, Fault>;
 
     ghost next_gives = { gives };
 
-    ghost remaining = { left };
+    ghost remaining = { items_left };
 
     fn next(&mut self) -> Option<Result<Line<'a>, Fault>> {
         if self.done {

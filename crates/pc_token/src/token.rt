@@ -1,3 +1,5 @@
+//! Tokens: keywords, operators and other kinds.
+
 use pc_source::Place;
 
 /// The keywords of Python 3.12, Language Reference 2.3.1 "Keywords".

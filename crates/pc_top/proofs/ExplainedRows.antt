@@ -16,8 +16,8 @@ use Rattle.pc_check.specs.Modules.{IsFinding}
 use Rattle.pc_dynamic.proofs.RightFlows.{flows_found}
 use Rattle.pc_report.specs.declared.flow.FlowTexts.{FlowTexts}
 use Rattle.pc_report.specs.declared.report.Row.{Row}
-use Rattle.pc_report.specs.Flows.{Flow, IsListed, IsExplained}
-use Rattle.pc_report.specs.Report.{Explains, findings_of}
+use Rattle.pc_report.specs.Flows.{FlowEntry, IsListed, IsExplained}
+use Rattle.pc_report.specs.Report.{ExplainsRows, row_findings}
 use Rattle.pc_report.proofs.Members.{contains_here, contains_later, contains_cases, contains_none}
 use Rattle.pc_top.specs.Headline.{AreTextsOf, IsExplainedRow}
 
@@ -39,9 +39,9 @@ with_code : (f : Finding) → f.code ≡ A1 → f ≡ finding f.place A1
 with_code f code = λ i. record { place = f.place; code = code i }
 
 -- what holds of each finding of rows holds of each row's
-each_finding : (P : Finding → Type 0) (rows : List Row) → ((f : Finding) → Contains (findings_of rows) f → P f) → AllByRecursion (λ (row : Row). P row.finding) rows
+each_finding : (P : Finding → Type 0) (rows : List Row) → ((f : Finding) → Contains (row_findings rows) f → P f) → AllByRecursion (λ (row : Row). P row.finding) rows
 each_finding P [] h = tt
-each_finding P (row ∷ rows) h = (h row.finding (contains_here row.finding (findings_of rows) row.finding refl), each_finding P rows (λ f c. h f (contains_later row.finding (findings_of rows) f c)))
+each_finding P (row ∷ rows) h = (h row.finding (contains_here row.finding (row_findings rows) row.finding refl), each_finding P rows (λ f c. h f (contains_later row.finding (row_findings rows) f c)))
 
 -- what follows of two for each
 each_of_both : {X : Type 0} (P Q R : X → Type 0) (xs : List X) → ((x : X) → P x → Q x → R x) → AllByRecursion P xs → AllByRecursion Q xs → AllByRecursion R xs
@@ -69,7 +69,7 @@ module _ (m : Module) (notes : List Note) (texts : List FlowText) (are : AreFlow
             (subst (λ (o : Option (Tree × Tree)). MatchOption o ⊥ (λ f. (string_bytes t.1 ≡ type_text m f.0) × (string_bytes t.2 ≡ type_text m f.1))) noted own),
       )
 
-  pub rows_explained : (rows : List Row) → ((f : Finding) → Contains (findings_of rows) f → IsFinding m f) → Explains texts rows → AllByRecursion (IsExplainedRow m) rows
+  pub rows_explained : (rows : List Row) → ((f : Finding) → Contains (row_findings rows) f → IsFinding m f) → ExplainsRows texts rows → AllByRecursion (IsExplainedRow m) rows
   rows_explained rows found all =
       each_of_both (λ (row : Row). IsFinding m row.finding) (λ (row : Row). IsExplained texts row.finding row.flow) (IsExplainedRow m) rows (λ row f h. explained row.finding row.flow f h)
       (each_finding (IsFinding m) rows found) all

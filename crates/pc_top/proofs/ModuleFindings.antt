@@ -11,9 +11,9 @@ use Rattle.pc_scope.specs.Findings.{ScopeFinds}
 use Rattle.pc_types.specs.Tree.{Tree}
 use Rattle.pc_class.specs.Built.{class_findings}
 use Rattle.pc_class.specs.Findings.{ClassFinds}
-use Rattle.pc_class.specs.Overriding.{override_findings}
+use Rattle.pc_class.specs.OverrideFindings.{override_findings}
 use Rattle.pc_class.proofs.FoundClashes.{just_their_lists}
-use Rattle.pc_notes.specs.Notes.{Note, plain, findings_of, is_same_place, flow_or, flow_noted}
+use Rattle.pc_notes.specs.Notes.{Note, plain_note, findings_of, is_same_place, flow_or, flow_noted}
 use Rattle.pc_check.specs.Modules.{IsFinding}
 use Rattle.pc_check.specs.ComputedModules.{module_finds}
 use Rattle.pc_check.proofs.WalkedModule.{findings_computed}
@@ -21,13 +21,13 @@ use Rattle.pc_check.proofs.WalkedModule.{findings_computed}
 -- ---- findings
 
 -- the findings of notes that tell of no flow
-plain_findings : (fs : List Finding) → findings_of (map plain fs) ≡ fs
+plain_findings : (fs : List Finding) → findings_of (map plain_note fs) ≡ fs
 plain_findings [] = refl
 plain_findings (f ∷ fs) = ap (λ (l : List Finding). f ∷ l) (plain_findings fs)
 
 -- the findings of notes with others behind them that tell of no flow
-with_plain : (notes : List Note) (fs : List Finding) → findings_of (notes ++ map plain fs) ≡ findings_of notes ++ fs
-with_plain notes fs = map-append (λ (n : Note). n.finding) notes (map plain fs) ∙ ap (λ (l : List Finding). findings_of notes ++ l) (plain_findings fs)
+with_plain : (notes : List Note) (fs : List Finding) → findings_of (notes ++ map plain_note fs) ≡ findings_of notes ++ fs
+with_plain notes fs = map-append (λ (n : Note). n.finding) notes (map plain_note fs) ∙ ap (λ (l : List Finding). findings_of notes ++ l) (plain_findings fs)
 
 module _ (m : Module) (of_scopes : List Finding) (scopes_found : (f : Finding) → Contains of_scopes f ↔ ScopeFinds m f) where
   of_classes : List Finding
@@ -62,11 +62,11 @@ module _ (m : Module) (of_scopes : List Finding) (scopes_found : (f : Finding) �
       )
 
   -- what the walk over a module finds, with what is found of scopes and of classes behind it, are just its findings
-  pub exactly : (notes : List Note) → notes ≡ (module_finds m [] ++ map plain of_scopes) ++ map plain (class_findings m ++ override_findings m) → (f : Finding) → Contains (findings_of notes) f ↔ IsFinding m f
+  pub exactly : (notes : List Note) → notes ≡ (module_finds m [] ++ map plain_note of_scopes) ++ map plain_note (class_findings m ++ override_findings m) → (f : Finding) → Contains (findings_of notes) f ↔ IsFinding m f
   unfolding of_classes
   exactly notes is f =
       let whole : findings_of notes ≡ (findings_of (module_finds m []) ++ of_scopes) ++ of_classes =
-      ap findings_of is ∙ with_plain (module_finds m [] ++ map plain of_scopes) of_classes ∙ ap (λ (l : List Finding). l ++ of_classes) (with_plain (module_finds m []) of_scopes) in
+      ap findings_of is ∙ with_plain (module_finds m [] ++ map plain_note of_scopes) of_classes ∙ ap (λ (l : List Finding). l ++ of_classes) (with_plain (module_finds m []) of_scopes) in
       subst (λ (l : List Finding). Contains l f ↔ IsFinding m f) (sym whole) (all_found f)
 
 -- ---- flows
@@ -76,13 +76,13 @@ same_or true o = refl
 same_or false o = refl
 
 -- notes that tell of no flow add none
-none_added : (p : Place) (fs : List Finding) → flow_noted p (map plain fs) ≡ None
+none_added : (p : Place) (fs : List Finding) → flow_noted p (map plain_note fs) ≡ None
 none_added p [] = refl
-none_added p (f ∷ fs) = same_or (is_same_place p f.place) (flow_noted p (map plain fs)) ∙ none_added p fs
+none_added p (f ∷ fs) = same_or (is_same_place p f.place) (flow_noted p (map plain_note fs)) ∙ none_added p fs
 
-flows_stay : (p : Place) (notes : List Note) (fs : List Finding) → flow_noted p (notes ++ map plain fs) ≡ flow_noted p notes
+flows_stay : (p : Place) (notes : List Note) (fs : List Finding) → flow_noted p (notes ++ map plain_note fs) ≡ flow_noted p notes
 flows_stay p [] fs = none_added p fs
 flows_stay p (n ∷ ns) fs = ap (flow_or p n) (flows_stay p ns fs)
 
-pub same_flows : (p : Place) (notes first : List Note) (xs ys : List Finding) → notes ≡ (first ++ map plain xs) ++ map plain ys → flow_noted p notes ≡ flow_noted p first
-same_flows p notes first xs ys is = ap (flow_noted p) is ∙ flows_stay p (first ++ map plain xs) ys ∙ flows_stay p first xs
+pub same_flows : (p : Place) (notes first : List Note) (xs ys : List Finding) → notes ≡ (first ++ map plain_note xs) ++ map plain_note ys → flow_noted p notes ≡ flow_noted p first
+same_flows p notes first xs ys is = ap (flow_noted p) is ∙ flows_stay p (first ++ map plain_note xs) ys ∙ flows_stay p first xs

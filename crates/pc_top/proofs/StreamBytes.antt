@@ -5,14 +5,14 @@ use Rattle.std.proofs.lemmas.Bool.{cases_lt}
 use Rattle.pc_source.specs.declared.fault.Refusal.{Refusal}
 use Rattle.pc_source.specs.declared.fault.RefusalCode.{RefusalCode}
 use Rattle.pc_source.specs.declared.fault.RefusalCode.TheVariants.{S1, S2, S3}
-use Rattle.pc_source.specs.Text.{limit, IsText, IsSourceFault}
+use Rattle.pc_source.specs.Text.{source_limit, IsText, IsSourceFault}
 use Rattle.pc_front.specs.Bytes.{IsRefusalOf, of_source, of_tokens, of_layout, of_grammar}
 use Rattle.pc_source.specs.declared.counted.Counted.{Counted}
 use Rattle.pc_report.specs.declared.format.Format.{Format}
 use Rattle.pc_report.specs.declared.report.Row.{Row}
 use Rattle.pc_report.specs.declared.writing.WriteFault.{WriteFault}
 use Rattle.pc_report.specs.declared.writing.WriteFault.TheVariants as write_fault
-use Rattle.pc_report.specs.Report.{errors_of, dynamic_of}
+use Rattle.pc_report.specs.Report.{errors_of, dynamic_count}
 use Rattle.pc_report.specs.Writing.{OnWriteFault, TakesAll, TakesBeginning}
 use Rattle.pc_top.specs.Headline.{Headline, OnCheckFault}
 use Rattle.pc_top.specs.Streaming.{AreBytesOf, IsRefusedStream, IsReported, IsBegun, WhenRefused, WhenWriteFails, report_bytes, write_checked}
@@ -39,7 +39,7 @@ given_le (Some told) None given p = absurd p
 given_le (Some told) (Some rest) given p = omega (arith, ap length p, length-append given rest)
 
 -- where more was read than a text may have
-module _ (given all : List ℕ) (long : limit < length given) (more : length given ≤ length all) where
+module _ (given all : List ℕ) (long : source_limit < length given) (more : length given ≤ length all) where
   too_long : (code : RefusalCode) (byte : ℕ) → IsSourceFault given code byte → IsSourceFault all code byte
   too_long S1 byte h = (omega arith, h.1)
   too_long S2 byte h = let short = h.0 in absurd (omega arith)
@@ -55,13 +55,13 @@ module _ (given all : List ℕ) (long : limit < length given) (more : length giv
   refused_long r (of_layout h) = absurd (no_text h.lined.text)
   refused_long r (of_grammar h) = absurd (no_text h.laid_out.lined.text)
 
-module _ (told left : Option (List ℕ)) (given : List ℕ) (consumed : Consumes told left given) (whole : length given < limit + 1 → IsAtEnd left) where
-  same : length given ≤ limit → all_bytes told given ≡ given
+module _ (told left : Option (List ℕ)) (given : List ℕ) (consumed : Consumes told left given) (whole : length given < source_limit + 1 → IsAtEnd left) where
+  same : length given ≤ source_limit → all_bytes told given ≡ given
   same short = all_given told left given consumed (whole (omega arith))
 
   -- a refusal of what was read is that of the reader's bytes
   refused_all : (r : Refusal) → IsRefusalOf given r → IsRefusalOf (all_bytes told given) r
-  refused_all r h = elim (cases_lt limit (length given)) [
+  refused_all r h = elim (cases_lt source_limit (length given)) [
     | inl long ↦ refused_long given (all_bytes told given) long (given_le told left given consumed) r h
     | inr short ↦ subst (λ (l : List ℕ). IsRefusalOf l r) (sym (same short)) h
   ]
@@ -77,7 +77,7 @@ module _ (told left : Option (List ℕ)) (given : List ℕ) (consumed : Consumes
   reported_all rows h = subst (λ (l : List ℕ). Headline l rows) (sym (same h.spelled.laid_out.lined.text.short)) h
 
   module _ {W : Type 0} (contents : W → Option (List ℕ)) (json : Bool) (format : Format) (old new : Counted W) (rows : List Row) (h : Headline given rows) where
-    pub reported_stream : (errors dynamic : ℕ) → errors ≡ errors_of rows → dynamic ≡ dynamic_of rows → TakesAll contents (report_bytes json format rows) old new
+    pub reported_stream : (errors dynamic : ℕ) → errors ≡ errors_of rows → dynamic ≡ dynamic_count rows → TakesAll contents (report_bytes json format rows) old new
         → IsReported contents told json format old new errors dynamic
     reported_stream errors dynamic e d written = record {
       bytes = all_bytes told given;

@@ -13,24 +13,24 @@ use Rattle.pc_types.specs.Tree.{Tree}
 use Rattle.pc_ann.specs.Text.{type_text}
 use Rattle.pc_check.specs.DynamicFlows.{dynamic_flow}
 use Rattle.pc_check.specs.Modules.{HasLabelling, IsFinding}
-use Rattle.pc_machine.specs.Runs.{Run, End, IsFault}
+use Rattle.pc_machine.specs.Runs.{Run, End, IsFaultyEnd}
 use Rattle.pc_front.specs.Bytes.{IsModuleOf}
 use Rattle.pc_report.specs.declared.flow.FlowTexts.{FlowTexts}
 use Rattle.pc_report.specs.declared.report.Row.{Row}
 use Rattle.pc_top.specs.declared.fault.CheckFault.{CheckFault}
 use Rattle.pc_top.specs.declared.fault.CheckFault.TheVariants as check_fault
-use Rattle.pc_report.specs.Report.{Lists, findings_of}
+use Rattle.pc_report.specs.Report.{Lists, row_findings}
 
 -- no row has the code of an error
-abbrev pub HasNoError : List Row → Type 0
-HasNoError rows = (f : Finding) → Contains (findings_of rows) f → ¬ (IsError f.code)
+abbrev pub HasNoErrorRow : List Row → Type 0
+HasNoErrorRow rows = (f : Finding) → Contains (row_findings rows) f → ¬ (IsError f.code)
 
 -- a listed dynamic place is among the events
-pub record HasEvaluated (rows : List Row) (events : List Place) : Type 0 where
-  pub place : Finding
-  pub listed : Contains (findings_of rows) place
-  pub dynamic : ¬ (IsError place.code)
-  pub event : Contains events place.place
+pub record HasEvaluatedRow (rows : List Row) (events : List Place) : Type 0 where
+  pub finding : Finding
+  pub listed : Contains (row_findings rows) finding
+  pub dynamic : ¬ (IsError finding.code)
+  pub event : Contains events finding.place
 
 -- the texts are those of the two types of a dynamic flow
 abbrev pub AreTextsOf : Module → Option (Tree × Tree) → FlowTexts → Type 0
@@ -52,9 +52,9 @@ pub record Headline (bytes : List ℕ) (rows : List Row) : Type 0 where
   pub labelled : HasLabelling whole
   pub listed : Lists bytes (IsFinding whole) rows
   pub explained : AllByRecursion (IsExplainedRow whole) rows
-  pub sound : HasNoError rows → (events : List Place) (end : End) → Run whole events end → IsFault end → HasEvaluated rows events
+  pub sound : HasNoErrorRow rows → (events : List Place) (end : End) → Run whole events end → IsFaultyEnd end → HasEvaluatedRow rows events
 
--- of a fault: where it is a refusal, P holds of it; want of memory may come at any time, and no device is used
+-- of a fault: where it is a refusal, P holds of it; an allocation may fail at any time, and no device is used
 abbrev pub OnCheckFault : (Refusal → Type 0) → CheckFault → Type 0
 OnCheckFault P (check_fault.Refused refusal) = P refusal
 OnCheckFault P check_fault.OutOfMemory = Unit {0}
@@ -62,6 +62,6 @@ OnCheckFault P check_fault.Read = ⊥
 OnCheckFault P check_fault.Write = ⊥
 
 -- the fault of a check that a fault of a layer below is
-abbrev pub checked : Fault → CheckFault
-checked (fault.Refused refusal) = check_fault.Refused refusal
-checked fault.OutOfMemory = check_fault.OutOfMemory
+abbrev pub check_fault_of : Fault → CheckFault
+check_fault_of (fault.Refused refusal) = check_fault.Refused refusal
+check_fault_of fault.OutOfMemory = check_fault.OutOfMemory

@@ -9,7 +9,7 @@ use Rattle.pc_report.specs.declared.reading.ReadFault.TheVariants as read_fault
 use Rattle.pc_report.specs.declared.writing.WriteFault.{WriteFault}
 use Rattle.pc_report.specs.declared.writing.WriteFault.TheVariants as write_fault
 use Rattle.pc_report.specs.declared.report.Row.{Row}
-use Rattle.pc_report.specs.Report.{report_text, errors_of, dynamic_of}
+use Rattle.pc_report.specs.Report.{report_text, errors_of, dynamic_count}
 use Rattle.pc_report.specs.Json.{report_json}
 use Rattle.pc_report.specs.Writing.{TakesAll, TakesBeginning}
 use Rattle.pc_top.specs.Headline.{Headline}
@@ -75,7 +75,7 @@ module _ {W : Type 0} (contents : W → Option (List ℕ)) where
     pub rows : List Row
     pub headline : Headline bytes rows
     pub errors_are : errors ≡ errors_of rows
-    pub dynamic_are : dynamic ≡ dynamic_of rows
+    pub dynamic_are : dynamic ≡ dynamic_count rows
     pub written : TakesAll contents (report_bytes json format rows) old new
 
   -- a beginning of the report of the bytes of the reader was written, and then the writer failed

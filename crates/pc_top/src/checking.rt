@@ -1,10 +1,10 @@
-// What is found in a module.
+//! What is found in a module.
 
 ghost use Rattle.std.specs.Prelude.{◌≡◌, ◌↔◌, Contains, IfOk};
 ghost use Rattle.pc_source.specs.declared.place.Place.{Place};
 ghost use Rattle.pc_tree.specs.declared.code.Finding.{Finding};
 ghost use Rattle.pc_tree.specs.Tree.{module_of};
-ghost use Rattle.pc_scope.specs.Scoped.{AreScopes};
+ghost use Rattle.pc_scope.specs.ModuleScopes.{AreScopes};
 ghost use Rattle.pc_class.specs.Bases.{bases_of};
 ghost use Rattle.pc_notes.specs.Notes.{findings_of, flow_noted, notes_of};
 ghost use Rattle.pc_check.specs.DynamicFlows.{dynamic_flow};

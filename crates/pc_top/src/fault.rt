@@ -1,5 +1,7 @@
+//! Why there is no report.
+
 ghost use Rattle.std.specs.Prelude.{◌≡◌};
-ghost use Rattle.pc_top.specs.Headline.{checked};
+ghost use Rattle.pc_top.specs.Headline.{check_fault_of};
 ghost use Rattle.pc_top.specs.Streaming.{read_checked, write_checked};
 ghost use Rattle.pc_top.specs.declared.fault.CheckFault.TheVariants as check_fault;
 
@@ -25,7 +27,7 @@ pub enum CheckFault {
 }
 
 impl From<Fault> for CheckFault {
-    ghost from_gives = { λ f e. e ≡ checked f };
+    ghost from_gives = { λ f e. e ≡ check_fault_of f };
 
     fn from(fault: Fault) -> CheckFault {
         match fault {

@@ -1,3 +1,5 @@
+//! The law that no flow is listed for caution alone.
+
 ghost use Rattle.pc_top.specs.NoNeedlessFlow.{NoNeedlessFlow};
 
 /// The law that no flow is listed for caution alone: of each dynamic flow of a module that bytes spell, the type that flows is

@@ -1,3 +1,5 @@
+//! The check of a stream.
+
 ghost use Rattle.std.specs.Prelude.{◌≡◌, IfOk, IfErr};
 ghost use Rattle.pc_source.specs.Devices.{failures_after};
 ghost use Rattle.pc_report.specs.Writing.{IsWritten};

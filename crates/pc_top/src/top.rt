@@ -1,3 +1,5 @@
+//! The check of bytes.
+
 ghost use Rattle.std.specs.Prelude.{◌≤◌, length, IfOk, IfErr};
 ghost use Rattle.pc_front.specs.Bytes.{IsRefusalOf};
 ghost use Rattle.pc_top.specs.Headline.{Headline, OnCheckFault};

@@ -12,7 +12,7 @@ use Rattle.pc_tree.specs.Grammar.Expressions.{own_level, Spells, Expression, Spe
 use Rattle.pc_tree.specs.Grammar.Annotations.{Annotation}
 use Rattle.pc_tree.specs.Grammar.Statements.{Suite, SpellsStmt, SpellsStmts, SpellsBranches}
 use Rattle.pc_tree.specs.Machine.Kinds.{a_kind, same_kind, start_of, leads_other, lead_of}
-use Rattle.pc_tree.specs.Machine.States.{Block, Site, assigned, annotated_value, returned, asserted, asserted_with, looping, iterating, branching, while_body, for_body, branch_body, else_body, Context, in_line, in_statement, AnnContext, of_local, whole, ann_whole, State, fixed, stmts, return_due, target_due, after_branch, part_due, part_read, operand, have, go, on}
+use Rattle.pc_tree.specs.Machine.States.{Block, Site, assigned, annotated_value, returned, asserted, asserted_with, looping, iterating, branching, while_body, for_body, branch_body, else_body, ExpressionPosition, in_line, in_statement, AnnotationPosition, of_local, whole, ann_whole, State, fixed, stmts, return_due, target_due, after_branch, part_due, part_read, operand, have, go, on}
 use Rattle.pc_tree.specs.Machine.Finishing.{add_stmt, add_branch, suite_of, after_stmt, nested_in, after_suite}
 use Rattle.pc_tree.specs.Machine.Expressions.{tightness}
 use Rattle.pc_tree.specs.Machine.Lines.{stmts_turn, lead_turn, closed_branches}
@@ -73,7 +73,7 @@ reads_name_as n {s} next e = record {
 }
 
 -- a whole expression, the token behind it, and what follows
-pub expression_then : (e : Expr) (c : Context) (k : TokenKind) → tightness k ≤ 1 → {H X : Spelling} {next final : State}
+pub expression_then : (e : Expr) (c : ExpressionPosition) (k : TokenKind) → tightness k ≤ 1 → {H X : Spelling} {next final : State}
     → ((n : ℕ) (ts : List Lexeme) (t : Lexeme) → turn (have 0 (part_at n e ts) (whole c)) t k ≡ go next)
     → Reads H X next final → Reads H (Expression e ⟫ Just k ⟫ X) (operand (whole c)) final
 expression_then e c k loose {next = next} to r = record {
@@ -89,7 +89,7 @@ expression_then e c k loose {next = next} to r = record {
 }
 
 -- and at the end
-pub expression_last : (e : Expr) (c : Context) (k : TokenKind) → tightness k ≤ 1 → {next : State}
+pub expression_last : (e : Expr) (c : ExpressionPosition) (k : TokenKind) → tightness k ≤ 1 → {next : State}
     → ((n : ℕ) (ts : List Lexeme) (t : Lexeme) → turn (have 0 (part_at n e ts) (whole c)) t k ≡ go next)
     → {H : Spelling} → Reads H (Expression e ⟫ Just k) (operand (whole c)) next
 expression_last e c k loose {next = next} to = record {
@@ -102,7 +102,7 @@ expression_last e c k loose {next = next} to = record {
 }
 
 -- a whole annotation, the token behind it, and what follows
-pub annotation_then : (a : Ann) (c : AnnContext) (k : TokenKind) → IsClear k → {H X : Spelling} {next final : State}
+pub annotation_then : (a : Ann) (c : AnnotationPosition) (k : TokenKind) → IsClear k → {H X : Spelling} {next final : State}
     → ((ts : List Lexeme) (t : Lexeme) → turn (part_read a ts no_anns [] (ann_whole c)) t k ≡ go next)
     → Reads H X next final → Reads H (Annotation a ⟫ Just k ⟫ X) (part_due no_anns [] (ann_whole c)) final
 annotation_then a c k clear {next = next} to r = record {
@@ -118,7 +118,7 @@ annotation_then a c k clear {next = next} to r = record {
       ∙ r.over d w.right.right rest g;
 }
 
-pub annotation_last : (a : Ann) (c : AnnContext) (k : TokenKind) → IsClear k → {next : State}
+pub annotation_last : (a : Ann) (c : AnnotationPosition) (k : TokenKind) → IsClear k → {next : State}
     → ((ts : List Lexeme) (t : Lexeme) → turn (part_read a ts no_anns [] (ann_whole c)) t k ≡ go next)
     → {H : Spelling} → Reads H (Annotation a ⟫ Just k) (part_due no_anns [] (ann_whole c)) next
 annotation_last a c k clear {next = next} to = record {

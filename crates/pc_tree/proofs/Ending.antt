@@ -10,7 +10,7 @@ use Rattle.pc_token.specs.Lexeme.{Lexeme}
 use Rattle.pc_tree.specs.Tree.{Name, Expr, Ann, Anns, Stmt, pass, Stmts, no_stmts, more_stmts, Param, Member, Module}
 use Rattle.pc_tree.specs.Grammar.{no_place}
 use Rattle.pc_tree.specs.Machine.Kinds.{Fixed, a_kind, a_form, is_fixed, kind_number}
-use Rattle.pc_tree.specs.Machine.States.{Stage, Top, ClassStart, Owner, of_module, of_class, DefStart, DefHead, def_body, Nest, while_body, for_body, branch_body, else_body, Block, nested, Site, Begun, assigned, annotated_value, returned, asserted, asserted_with, looping, iterating, branching, Context, in_line, in_statement, in_constant, of_constant, of_field, of_param, of_return, of_local, LiteralContext, default_of_param, default_of_field, Part, Head, in_tuple, in_list, in_call, Stack, whole, joining, applying, grouping, listing, indexing, naming, keying, valuing, AnnStack, ann_whole, ann_inside, State, fixed, items, importing, item_named, decorator_due, class_due, class_named, base_due, members, def_due, self_read, param_due, param_named, params_read, literal_due, minus_read, literal_read, stmts, return_due, target_due, after_branch, part_due, part_named, part_read, argument_due, empty_opened, empty_closed, operand, have, denied, identified, unidentified, dotted, group_due, item_due, keyword_due, keyword_named, key_due, ended, stuck, go, on}
+use Rattle.pc_tree.specs.Machine.States.{Stage, Top, ClassStart, Owner, of_module, of_class, DefStart, DefHead, def_body, Nest, while_body, for_body, branch_body, else_body, Block, nested, Site, Begun, assigned, annotated_value, returned, asserted, asserted_with, looping, iterating, branching, ExpressionPosition, in_line, in_statement, in_constant, of_constant, of_field, of_param, of_return, of_local, LiteralContext, default_of_param, default_of_field, Part, Head, in_tuple, in_list, in_call, Stack, whole, joining, applying, grouping, listing, indexing, naming, keying, valuing, AnnStack, ann_whole, ann_inside, State, fixed, items, importing, item_named, decorator_due, class_due, class_named, base_due, members, def_due, self_read, param_due, param_named, params_read, literal_due, minus_read, literal_read, stmts, return_due, target_due, after_branch, part_due, part_named, part_read, argument_due, empty_opened, empty_closed, operand, have, denied, identified, unidentified, dotted, group_due, item_due, keyword_due, keyword_named, key_due, ended, stuck, go, on}
 use Rattle.pc_tree.specs.Machine.Finishing.{add_stmt, suite_of, after_stmt, after_suite, after_def, after_class, after_nested}
 use Rattle.pc_tree.specs.Machine.Expressions.{own_of, right_of, prefix_level, tightness, joined, applied}
 use Rattle.pc_tree.specs.Machine.Lines.{params_of}
@@ -115,7 +115,7 @@ begun_ends looping site level p = ending _ level p (token (kind.Operator sign.Co
 begun_ends (iterating n) site level p = ending _ level p (token (kind.Operator sign.Colon)) _ refl refl (suite_begun _)
 begun_ends (branching bs) site level p = ending _ level p (token (kind.Operator sign.Colon)) _ refl refl (suite_begun _)
 
-context_ends : (c : Context) → HaveEnds (whole c)
+context_ends : (c : ExpressionPosition) → HaveEnds (whole c)
 context_ends (in_line done b) level p = ending _ level p (token kind.Newline) _ refl refl (stmts_end _ b)
 context_ends (in_statement begun site) level p = begun_ends begun site level p
 context_ends (in_constant n a top) level p = ending _ level p (token kind.Newline) _ refl refl (items_end _ _)

@@ -8,7 +8,7 @@ use Rattle.pc_tree.specs.Faults.{IsMisfit, EndsEarly}
 use Rattle.pc_tree.specs.Machine.States.{State, ended, Turn, stuck, go}
 use Rattle.pc_tree.specs.Machine.Lines.{start}
 use Rattle.pc_tree.specs.Machine.{turn, at, lost, arrive, reads, refuses, short, stop_at, run, outcome_of}
-use Rattle.pc_tree.specs.Fronts.{Stands, IsFrontByCases, FrontsAgree}
+use Rattle.pc_tree.specs.Fronts.{LedTo, IsFrontByCases, FrontsAgree}
 use Rattle.pc_tree.proofs.Runs.{run_go, run_stuck, run_lost}
 use Rattle.pc_tree.proofs.CompleteModules.{spelled_reads}
 use Rattle.pc_tree.proofs.Stood.{Stood}
@@ -88,14 +88,14 @@ ends_early ts e = let f = short_ends ts start e in record {
 
 -- ---- fronts by cases
 
-turn_reaches : (ts rest : List Lexeme) (t : Lexeme) (past : List Lexeme) (m : Module) → ((next : State) → Stands next past → run (at next) (ts ++ rest) ≡ reads m → IsFrontByCases (past ++ ts))
+turn_reaches : (ts rest : List Lexeme) (t : Lexeme) (past : List Lexeme) (m : Module) → ((next : State) → LedTo next past → run (at next) (ts ++ rest) ≡ reads m → IsFrontByCases (past ++ ts))
     → (x : Turn) → Stood x past → run (arrive x t) (ts ++ rest) ≡ reads m → IsFrontByCases (past ++ ts)
 turn_reaches ts rest t past m onward stuck h e = let gone : run (lost t.place.start) (ts ++ rest) ≡ refuses t.place.start = run_lost t.place.start (ts ++ rest) in cc
 turn_reaches ts rest t past m onward (go next) h e = onward next h e
 
-reaches : (ts rest past : List Lexeme) (s : State) (m : Module) → Stands s past → run (at s) (ts ++ rest) ≡ reads m → IsFrontByCases (past ++ ts)
+reaches : (ts rest past : List Lexeme) (s : State) (m : Module) → LedTo s past → run (at s) (ts ++ rest) ≡ reads m → IsFrontByCases (past ++ ts)
 unfolding run
-reaches [] rest past s m h e = (s, subst (λ z. Stands s z) (sym (append-nil past)) h)
+reaches [] rest past s m h e = (s, subst (λ z. LedTo s z) (sym (append-nil past)) h)
 reaches (t ∷ ts) rest past s m h e = subst IsFrontByCases (append_assoc past (t ∷ []) ts)
     (turn_reaches ts rest t (past ++ (t ∷ [])) m (λ next h' e'. reaches ts rest (past ++ (t ∷ [])) next m h' e') (turn s t t.kind) (stood s t past h) e)
 

@@ -7,7 +7,7 @@ use Rattle.pc_tree.specs.Machine.Kinds.{start_of, follow_of}
 use Rattle.pc_tree.specs.Machine.States.{State, fixed, items, importing, item_named, decorator_due, class_due, class_named, base_due, members, def_due, self_read, param_due, param_named, params_read, literal_due, minus_read, literal_read, stmts, return_due, target_due, after_branch, part_due, part_named, part_read, argument_due, empty_opened, empty_closed, operand, have, denied, identified, unidentified, dotted, group_due, item_due, keyword_due, keyword_named, key_due, ended, Turn, stuck, go}
 use Rattle.pc_tree.specs.Machine.Lines.{start}
 use Rattle.pc_tree.specs.Machine.{turn, at, lost, arrive, reads, refuses, stop_at, run, outcome_of}
-use Rattle.pc_tree.specs.Fronts.{Stands}
+use Rattle.pc_tree.specs.Fronts.{LedTo}
 use Rattle.pc_tree.proofs.Runs.{run_lost}
 use Rattle.pc_tree.proofs.Sequences.{map_right}
 use Rattle.pc_tree.proofs.Stood.{Stood, end_nothing}
@@ -18,7 +18,7 @@ use Rattle.pc_tree.proofs.SoundFinishing.{finishes, finishes_ann, no_back}
 use Rattle.pc_tree.proofs.SoundLines.{fixed_stood, stmts_stood, return_stood, target_stood, branch_stood, items_stood, importing_stood, item_named_stood, decorator_stood, class_stood, class_named_stood, base_stood, members_stood, def_stood, self_stood, param_stood, param_named_stood, params_read_stood, literal_stood, minus_stood, literal_read_stood}
 
 -- Each token keeps what is known of the tokens before.
-pub stood : (s : State) (t : Lexeme) (ts : List Lexeme) → Stands s ts → Stood (turn s t t.kind) (ts ++ (t ∷ []))
+pub stood : (s : State) (t : Lexeme) (ts : List Lexeme) → LedTo s ts → Stood (turn s t t.kind) (ts ++ (t ∷ []))
 stood (fixed w ws next) t ts h = fixed_stood w ws next t ts h
 stood (items stage top) t ts h = items_stood stage top t ts h
 stood (importing stage top) t ts h = importing_stood stage top t ts h
@@ -60,22 +60,22 @@ stood (key_due es us s) t ts h = key_stood es us s t ts h
 stood (ended m) t ts h = tt
 
 -- only the end of the text is a module
-stop_spells : (s : State) (m : Module) (past : List Lexeme) → Stands s past → stop_at s ≡ reads m → SpellsModule m past
+stop_spells : (s : State) (m : Module) (past : List Lexeme) → LedTo s past → stop_at s ≡ reads m → SpellsModule m past
 stop_spells (ended n) m past h e = let is : n ≡ m = cc in subst (λ z. SpellsModule z past) is h
 stop_spells _ m past h e = cc
 
-turn_spells : (ts : List Lexeme) (t : Lexeme) (past : List Lexeme) (m : Module) → ((s : State) → Stands s past → run (at s) ts ≡ reads m → SpellsModule m (past ++ ts))
+turn_spells : (ts : List Lexeme) (t : Lexeme) (past : List Lexeme) (m : Module) → ((s : State) → LedTo s past → run (at s) ts ≡ reads m → SpellsModule m (past ++ ts))
     → (x : Turn) → Stood x past → run (arrive x t) ts ≡ reads m → SpellsModule m (past ++ ts)
 turn_spells ts t past m onward stuck h e = let no : run (lost t.place.start) ts ≡ refuses t.place.start = run_lost t.place.start ts in cc
 turn_spells ts t past m onward (go s) h e = onward s h e
 
-pub run_spells : (ts past : List Lexeme) (s : State) (m : Module) → Stands s past → run (at s) ts ≡ reads m → SpellsModule m (past ++ ts)
+pub run_spells : (ts past : List Lexeme) (s : State) (m : Module) → LedTo s past → run (at s) ts ≡ reads m → SpellsModule m (past ++ ts)
 unfolding run
 run_spells [] past s m h e = subst (λ z. SpellsModule m z) (sym (append-nil past)) (stop_spells s m past h e)
 run_spells (t ∷ ts) past s m h e = subst (λ z. SpellsModule m z) (append_assoc past (t ∷ []) ts)
     (turn_spells ts t (past ++ (t ∷ [])) m (λ next h' e'. run_spells ts (past ++ (t ∷ [])) next m h' e') (turn s t t.kind) (stood s t past h) e)
 
-pub start_stands : Stands start []
+pub start_stands : LedTo start []
 start_stands = λ us f. (
   (refl, refl, refl),
   end_nothing us (map_right (λ vs v. end_nothing vs v)

@@ -9,10 +9,10 @@ use Rattle.pc_token.specs.Lexeme.{Lexeme}
 use Rattle.pc_tree.specs.Tree.{Name, Ann, named, none_type, applied, applied_empty, union, Anns, no_anns, more_anns}
 use Rattle.pc_tree.specs.Grammar.{Spelling, Sequence, ◌⟫◌, Just, Sign, IsName, span}
 use Rattle.pc_tree.specs.Grammar.Annotations.{AreSeveral, SpellsAnn, Separated, Annotation}
-use Rattle.pc_tree.specs.Machine.States.{AnnContext, AnnStack, ann_whole, ann_inside, part_due, part_named, part_read, argument_due, empty_opened, empty_closed}
+use Rattle.pc_tree.specs.Machine.States.{AnnotationPosition, AnnStack, ann_whole, ann_inside, part_due, part_named, part_read, argument_due, empty_opened, empty_closed}
 use Rattle.pc_tree.specs.Machine.Finishing.{add_ann, finish_ann}
 use Rattle.pc_tree.specs.Machine.Annotations.{whole_ann, ann_end, part_turn, part_read_turn, part_named_turn, argument_turn, empty_opened_turn, empty_closed_turn}
-use Rattle.pc_tree.specs.Fronts.{Stands}
+use Rattle.pc_tree.specs.Fronts.{LedTo}
 use Rattle.pc_tree.specs.Fronts.Lines.{Kept, BeforeAnnContext, EachAnn, BeforeAnn, Parts}
 use Rattle.pc_tree.proofs.Sequences.{to_right, to_left, map_left, map_right}
 use Rattle.pc_tree.proofs.Stood.{Stood, grow, just, is_name, on_kind, kept_join, end_nothing}
@@ -66,7 +66,7 @@ first_part s ts h = record { front = ts; back = []; all = sym (append-nil ts); l
 
 -- what ends a whole annotation, in the lines
 abbrev pub FinishesAnn : Type 0
-FinishesAnn = (c : AnnContext) (a : Ann) (us : List Lexeme) (t : Lexeme) (ts : List Lexeme) → Sequence (BeforeAnnContext c) (Kept us (Annotation a)) ts → Stood (finish_ann c a t.kind) (ts ++ (t ∷ []))
+FinishesAnn = (c : AnnotationPosition) (a : Ann) (us : List Lexeme) (t : Lexeme) (ts : List Lexeme) → Sequence (BeforeAnnContext c) (Kept us (Annotation a)) ts → Stood (finish_ann c a t.kind) (ts ++ (t ∷ []))
 
 applied_spelled : (head : Name) (done : Anns) (a : Ann) (ts us : List Lexeme) → ts ≡ us → Sequence ((IsName head ⟫ Sign sign.LeftBracket) ⟫ EachAnn done sign.Comma true) (Annotation a ⟫ Sign sign.RightBracket) us
     → SpellsAnn (applied (span ts) head (add_ann done a)) false us
@@ -84,32 +84,32 @@ ann_end_stood f a us (ann_inside head done vs parts before s) t ts w = on_kind t
     (on_kind t (kind.Operator sign.RightBracket) _ _ (ts ++ (t ∷ []))
     (λ e. map_right (λ ws k. (k.0, applied_spelled head done a (vs ++ (us ++ (t ∷ []))) ws k.0 k.1)) (behind_two vs us t (kind.Operator sign.RightBracket) ts e w)) tt)
 
-pub part_read_stood : FinishesAnn → (a : Ann) (us : List Lexeme) (parts : Anns) (before : List Lexeme) (s : AnnStack) (t : Lexeme) (ts : List Lexeme) → Stands (part_read a us parts before s) ts
+pub part_read_stood : FinishesAnn → (a : Ann) (us : List Lexeme) (parts : Anns) (before : List Lexeme) (s : AnnStack) (t : Lexeme) (ts : List Lexeme) → LedTo (part_read a us parts before s) ts
     → Stood (part_read_turn a us parts before s t t.kind) (ts ++ (t ∷ []))
 part_read_stood f a us parts before s t ts w = on_kind t (kind.Operator sign.Bar) _ _ (ts ++ (t ∷ []))
     (λ e. map_right (λ ws k. (k.0, each_ann_add parts a sign.Bar false ws k.1)) (behind_two before us t (kind.Operator sign.Bar) ts e w))
     (ann_end_stood f (whole_ann parts a (before ++ us)) (before ++ us) s t ts (map_right (whole_kept parts a before us) (to_right w)))
 
-pub part_named_stood : FinishesAnn → (n : Name) (us : List Lexeme) (parts : Anns) (before : List Lexeme) (s : AnnStack) (t : Lexeme) (ts : List Lexeme) → Stands (part_named n us parts before s) ts
+pub part_named_stood : FinishesAnn → (n : Name) (us : List Lexeme) (parts : Anns) (before : List Lexeme) (s : AnnStack) (t : Lexeme) (ts : List Lexeme) → LedTo (part_named n us parts before s) ts
     → Stood (part_named_turn n us parts before s t t.kind) (ts ++ (t ∷ []))
 part_named_stood f n us parts before s t ts w = on_kind t (kind.Operator sign.LeftBracket) _ _ (ts ++ (t ∷ []))
     (λ e. behind_one us t (kind.Operator sign.LeftBracket) ts e w) (part_read_stood f (named n) us parts before s t ts w)
 
-pub part_stood : (parts : Anns) (before : List Lexeme) (s : AnnStack) (t : Lexeme) (ts : List Lexeme) → Stands (part_due parts before s) ts → Stood (part_turn parts before s t t.kind) (ts ++ (t ∷ []))
+pub part_stood : (parts : Anns) (before : List Lexeme) (s : AnnStack) (t : Lexeme) (ts : List Lexeme) → LedTo (part_due parts before s) ts → Stood (part_turn parts before s t t.kind) (ts ++ (t ∷ []))
 part_stood parts before s t ts w = on_kind t kind.Name _ _ (ts ++ (t ∷ [])) (λ e. grow ts t w (refl, is_name t e))
     (on_kind t (kind.Keyword word.None) _ _ (ts ++ (t ∷ [])) (λ e. grow ts t w (refl, (refl, just t _ e))) tt)
 
-pub argument_stood : (head : Name) (us : List Lexeme) (parts : Anns) (before : List Lexeme) (s : AnnStack) (t : Lexeme) (ts : List Lexeme) → Stands (argument_due head us parts before s) ts
+pub argument_stood : (head : Name) (us : List Lexeme) (parts : Anns) (before : List Lexeme) (s : AnnStack) (t : Lexeme) (ts : List Lexeme) → LedTo (argument_due head us parts before s) ts
     → Stood (argument_turn head us parts before s t t.kind) (ts ++ (t ∷ []))
 argument_stood head us parts before s t ts w = on_kind t (kind.Operator sign.LeftParenthesis) _ _ (ts ++ (t ∷ []))
     (λ e. behind_one us t (kind.Operator sign.LeftParenthesis) ts e w)
     (part_stood no_anns [] (ann_inside head no_anns us parts before s) t ts (first_part (ann_inside head no_anns us parts before s) ts (map_right (λ vs k. (k.0, end_nothing vs k.1)) w)))
 
-pub empty_opened_stood : (head : Name) (us : List Lexeme) (parts : Anns) (before : List Lexeme) (s : AnnStack) (t : Lexeme) (ts : List Lexeme) → Stands (empty_opened head us parts before s) ts
+pub empty_opened_stood : (head : Name) (us : List Lexeme) (parts : Anns) (before : List Lexeme) (s : AnnStack) (t : Lexeme) (ts : List Lexeme) → LedTo (empty_opened head us parts before s) ts
     → Stood (empty_opened_turn head us parts before s t t.kind) (ts ++ (t ∷ []))
 empty_opened_stood head us parts before s t ts w = on_kind t (kind.Operator sign.RightParenthesis) _ _ (ts ++ (t ∷ [])) (λ e. behind_one us t (kind.Operator sign.RightParenthesis) ts e w) tt
 
-pub empty_closed_stood : (head : Name) (us : List Lexeme) (parts : Anns) (before : List Lexeme) (s : AnnStack) (t : Lexeme) (ts : List Lexeme) → Stands (empty_closed head us parts before s) ts
+pub empty_closed_stood : (head : Name) (us : List Lexeme) (parts : Anns) (before : List Lexeme) (s : AnnStack) (t : Lexeme) (ts : List Lexeme) → LedTo (empty_closed head us parts before s) ts
     → Stood (empty_closed_turn head us parts before s t t.kind) (ts ++ (t ∷ []))
 empty_closed_stood head us parts before s t ts w = on_kind t (kind.Operator sign.RightBracket) _ _ (ts ++ (t ∷ []))
     (λ e. map_right (λ vs k. (k.0, (ap span k.0, to_right (to_right (to_right k.1))))) (behind_one us t (kind.Operator sign.RightBracket) ts e w)) tt

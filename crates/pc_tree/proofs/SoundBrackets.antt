@@ -11,10 +11,10 @@ use Rattle.pc_tree.specs.Tree.{Name, Expr, name, tuple, list, dict, is_none, is_
 use Rattle.pc_tree.specs.Grammar.{Spelling, Sequence, ◌⟫◌, Just, Sign, Word, IsName, Nothing, span, name_at}
 use Rattle.pc_tree.specs.Grammar.Expressions.{own_level, Operand, Spells, Items, SpellsEntries, SpellsKeywords, Expression}
 use Rattle.pc_tree.specs.Machine.Kinds.{start_of, Link, linking, denying, identifying, Ending, a_comma, a_colon, an_equal, closes_parenthesis, closes_bracket, closes_brace, Follow, link, a_dot, calls, indexes, ends}
-use Rattle.pc_tree.specs.Machine.States.{Part, Head, in_tuple, in_list, in_call, Context, Stack, whole, joining, applying, grouping, listing, indexing, naming, keying, valuing, operand, have, denied, identified, unidentified, dotted, group_due, item_due, keyword_due, keyword_named, key_due, go}
+use Rattle.pc_tree.specs.Machine.States.{Part, Head, in_tuple, in_list, in_call, ExpressionPosition, Stack, whole, joining, applying, grouping, listing, indexing, naming, keying, valuing, operand, have, denied, identified, unidentified, dotted, group_due, item_due, keyword_due, keyword_named, key_due, go}
 use Rattle.pc_tree.specs.Machine.Finishing.{add_expr, add_entry, add_keyword, name_of_tree, if_plain, finish}
 use Rattle.pc_tree.specs.Machine.Expressions.{own_of_link, left_of_link, rank, part, grouped, head_tree, reduce, closer, group_turn, item_turn, keyword_turn, named_turn, key_turn, dotted_turn, denied_turn, identified_turn, unidentified_turn, close_group, begin_keyword, close_item, close_index, close_keyword, close_key, close_value, close, linked, have_turn}
-use Rattle.pc_tree.specs.Fronts.{Stands}
+use Rattle.pc_tree.specs.Fronts.{LedTo}
 use Rattle.pc_tree.specs.Fronts.Lines.{Kept, BeforeContext}
 use Rattle.pc_tree.specs.Fronts.Expressions.{Holds, EachItem, EachKeyword, EachEntry, IsMoreExprs, ItemsBefore, KeywordsBefore, EntriesBefore, Before}
 use Rattle.pc_tree.proofs.Sequences.{to_right, to_left, map_left, map_right}
@@ -110,7 +110,7 @@ grouped_holds o p t us h = let w = h.1 in record {
 
 -- a node whose tokens were kept
 kept_node : (make : Place → Expr) (B : Spelling) (tokens : List Lexeme) (s : Stack) (ts : List Lexeme) → ((us : List Lexeme) (q : Place) → q ≡ span us → B us → Spells (make q) us)
-    → 7 ≤ own_level (make (span tokens)) → Sequence (Before s) (Kept tokens B) ts → Stands (have 7 (part make tokens) s) ts
+    → 7 ≤ own_level (make (span tokens)) → Sequence (Before s) (Kept tokens B) ts → LedTo (have 7 (part make tokens) s) ts
 kept_node make B tokens s ts spell le w = stands_have (part make tokens) s ts (map_right (λ us h. node_holds 7 make B tokens us (λ q x. spell us q x.0 x.1) le h) w)
 
 group_closed : (o : List Lexeme) (s : Stack) (p : Part) (t : Lexeme) (e : Ending) (ts : List Lexeme) → EndMeans e t.kind → Sequence (Before (grouping o s)) (Holds 0 p) ts
@@ -237,7 +237,7 @@ value_closed es x us s p t _ ts e w = tt
 
 -- what ends a whole expression, in the lines
 abbrev pub Finishes : Type 0
-Finishes = (c : Context) (p : Part) (t : Lexeme) (e : Ending) (ts : List Lexeme) → EndMeans e t.kind → Sequence (BeforeContext c) (Holds 0 p) ts → Stood (finish c p e) (ts ++ (t ∷ []))
+Finishes = (c : ExpressionPosition) (p : Part) (t : Lexeme) (e : Ending) (ts : List Lexeme) → EndMeans e t.kind → Sequence (BeforeContext c) (Holds 0 p) ts → Stood (finish c p e) (ts ++ (t ∷ []))
 
 close_stood : Finishes → (p : Part) (s : Stack) (t : Lexeme) (e : Ending) (ts : List Lexeme) → EndMeans e t.kind → Sequence (Before s) (Holds 0 p) ts → Stood (close p s t e) (ts ++ (t ∷ []))
 close_stood f p (whole c) t e ts m w = f c p t e ts m w
@@ -253,7 +253,7 @@ close_stood f p (applying x u s) t e ts m w = tt
 -- ---- after an operand
 
 linked_stood : (l : Link) (t : Lexeme) (p : Part) (s : Stack) (ts : List Lexeme) → FollowMeans (link l) t.kind → rank s ≤ own_of_link l → Sequence (Before s) (Holds (left_of_link l) p) ts
-    → Stands (linked l t p s) (ts ++ (t ∷ []))
+    → LedTo (linked l t p s) (ts ++ (t ∷ []))
 linked_stood (linking op) t p s ts m r w = (r, grow ts t w (refl, m t refl))
 linked_stood denying t p s ts m r w = (r, grow ts t w (refl, just t _ m))
 linked_stood identifying t p s ts m r w = (r, grow ts t w (refl, just t _ m))
@@ -262,7 +262,7 @@ callee_kept : (p : Part) (k : TokenKind) (t : Lexeme) (s : Stack) (ts : List Lex
     → Sequence (Before s) (Kept (p.tokens ++ (t ∷ [])) (Operand 7 (own_level p.tree) (λ x. Spells p.tree x) ⟫ Just k)) (ts ++ (t ∷ []))
 callee_kept p k t s ts e w = behind_kept p.tokens t k ts e (map_right (holds_kept 7 p) w)
 
-pub have_stood : Finishes → (level : ℕ) (p : Part) (s : Stack) (t : Lexeme) (f : Follow) (ts : List Lexeme) → FollowMeans f t.kind → Stands (have level p s) ts → Stood (have_turn level p s t f) (ts ++ (t ∷ []))
+pub have_stood : Finishes → (level : ℕ) (p : Part) (s : Stack) (t : Lexeme) (f : Follow) (ts : List Lexeme) → FollowMeans f t.kind → LedTo (have level p s) ts → Stood (have_turn level p s t f) (ts ++ (t ∷ []))
 have_stood fin level p s t (link l) ts m h = on_tight (left_of_link l) level _ (ts ++ (t ∷ [])) (λ fit. let r = reduce (left_of_link l) p s in
     on_le (rank r.1) (own_of_link l) (linked l t r.0 r.1) (ts ++ (t ∷ [])) (λ le. linked_stood l t r.0 r.1 ts m le (reduce_holds (left_of_link l) level s p ts h.0 fit h.2)))
 have_stood fin level p s t a_dot ts m h = on_tight 7 level (go (dotted p (t ∷ []) s)) (ts ++ (t ∷ [])) (λ fit. grow ts t (map_right (λ us k. holds_lower 7 level p us fit k) h.2) (refl, just t _ m))
@@ -277,7 +277,7 @@ have_stood fin level p s t (ends e) ts m h = let r = reduce 0 p s in close_stood
 unit_spells : (us : List Lexeme) (q : Place) → q ≡ span us → Sequence (Sign sign.LeftParenthesis) (Sign sign.RightParenthesis) us → Spells (tuple q no_exprs) us
 unit_spells us q e w = (e, w)
 
-pub group_stood : (o : List Lexeme) (s : Stack) (t : Lexeme) (ts : List Lexeme) → Stands (group_due o s) ts → Stood (group_turn o s t t.kind) (ts ++ (t ∷ []))
+pub group_stood : (o : List Lexeme) (s : Stack) (t : Lexeme) (ts : List Lexeme) → LedTo (group_due o s) ts → Stood (group_turn o s t t.kind) (ts ++ (t ∷ []))
 group_stood o s t ts h = on_kind t (kind.Operator sign.RightParenthesis) _ _ (ts ++ (t ∷ []))
     (λ e. kept_node (λ q. tuple q no_exprs) _ (o ++ (t ∷ [])) s (ts ++ (t ∷ [])) unit_spells (omega arith) (behind_kept o t (kind.Operator sign.RightParenthesis) ts e h))
     (operand_stood (grouping o s) t (start_of t.kind) ts (start_means t.kind) h)
@@ -293,24 +293,24 @@ head_own in_list xs q = omega arith
 head_own in_tuple xs q = omega arith
 head_own (in_call f) xs q = omega arith
 
-pub item_stood : (h : Head) (xs : Exprs) (us : List Lexeme) (s : Stack) (t : Lexeme) (ts : List Lexeme) → Stands (item_due h xs us s) ts → Stood (item_turn h xs us s t t.kind) (ts ++ (t ∷ []))
+pub item_stood : (h : Head) (xs : Exprs) (us : List Lexeme) (s : Stack) (t : Lexeme) (ts : List Lexeme) → LedTo (item_due h xs us s) ts → Stood (item_turn h xs us s t t.kind) (ts ++ (t ∷ []))
 item_stood h xs us s t ts k = on_kind t (closer h) _ _ (ts ++ (t ∷ []))
     (λ e. kept_node (head_tree h xs) (ItemsBefore h xs ⟫ Just (closer h)) (us ++ (t ∷ [])) s (ts ++ (t ∷ [])) (closed_spells h xs) (head_own h xs _) (behind_kept us t (closer h) ts e k))
     (operand_stood (listing h xs us s) t (start_of t.kind) ts (start_means t.kind) k)
 
-pub keyword_stood : (f : Expr) (xs : Exprs) (ks : Keywords) (us : List Lexeme) (s : Stack) (t : Lexeme) (ts : List Lexeme) → Stands (keyword_due f xs ks us s) ts → Stood (keyword_turn f xs ks us s t t.kind) (ts ++ (t ∷ []))
+pub keyword_stood : (f : Expr) (xs : Exprs) (ks : Keywords) (us : List Lexeme) (s : Stack) (t : Lexeme) (ts : List Lexeme) → LedTo (keyword_due f xs ks us s) ts → Stood (keyword_turn f xs ks us s t t.kind) (ts ++ (t ∷ []))
 keyword_stood f xs ks us s t ts h = on_kind t kind.Name _ _ (ts ++ (t ∷ [])) (λ e. behind_name us t ts e h)
     (on_kind t (kind.Operator sign.RightParenthesis) _ _ (ts ++ (t ∷ []))
     (λ e. kept_node (λ q. call q f xs ks) (KeywordsBefore f xs ks ⟫ Sign sign.RightParenthesis) (us ++ (t ∷ [])) s (ts ++ (t ∷ [])) (keywords_spell f xs ks) (omega arith) (behind_kept us t (kind.Operator sign.RightParenthesis) ts e h)) tt)
 
-pub named_stood : (f : Expr) (xs : Exprs) (ks : Keywords) (n : Name) (us : List Lexeme) (s : Stack) (t : Lexeme) (ts : List Lexeme) → Stands (keyword_named f xs ks n us s) ts → Stood (named_turn f xs ks n us s t t.kind) (ts ++ (t ∷ []))
+pub named_stood : (f : Expr) (xs : Exprs) (ks : Keywords) (n : Name) (us : List Lexeme) (s : Stack) (t : Lexeme) (ts : List Lexeme) → LedTo (keyword_named f xs ks n us s) ts → Stood (named_turn f xs ks n us s t t.kind) (ts ++ (t ∷ []))
 named_stood f xs ks n us s t ts h = on_kind t (kind.Operator sign.Equal) _ _ (ts ++ (t ∷ []))
     (λ e. map_right (λ vs k. (k.0, to_right k.1)) (behind_kept us t (kind.Operator sign.Equal) ts e h)) tt
 
 dict_spells : (es : Entries) (us : List Lexeme) (q : Place) → q ≡ span us → Sequence (EntriesBefore es) (Sign sign.RightBrace) us → Spells (dict q es) us
 dict_spells es us q e w = (e, map_right (λ xs1 a. map_left (λ bs b. entries_all es bs b) a) (to_right w))
 
-pub key_stood : (es : Entries) (us : List Lexeme) (s : Stack) (t : Lexeme) (ts : List Lexeme) → Stands (key_due es us s) ts → Stood (key_turn es us s t t.kind) (ts ++ (t ∷ []))
+pub key_stood : (es : Entries) (us : List Lexeme) (s : Stack) (t : Lexeme) (ts : List Lexeme) → LedTo (key_due es us s) ts → Stood (key_turn es us s t t.kind) (ts ++ (t ∷ []))
 key_stood es us s t ts h = on_kind t (kind.Operator sign.RightBrace) _ _ (ts ++ (t ∷ []))
     (λ e. kept_node (λ q. dict q es) (EntriesBefore es ⟫ Sign sign.RightBrace) (us ++ (t ∷ [])) s (ts ++ (t ∷ [])) (dict_spells es) (omega arith) (behind_kept us t (kind.Operator sign.RightBrace) ts e h))
     (operand_stood (keying es us s) t (start_of t.kind) ts (start_means t.kind) h)
@@ -324,17 +324,17 @@ behind_operand level C p o t ts e w = map_right (λ us v. kept_join p.tokens (o 
 attribute_spells : (m : Expr) (n : Name) (us : List Lexeme) (q : Place) → q ≡ span us → Sequence (Operand 7 (own_level m) (λ x. Spells m x)) (Sign sign.Dot ⟫ IsName n) us → Spells (attribute q m n) us
 attribute_spells m n us q e w = (e, w)
 
-pub dotted_stood : (p : Part) (o : List Lexeme) (s : Stack) (t : Lexeme) (ts : List Lexeme) → Stands (dotted p o s) ts → Stood (dotted_turn p o s t t.kind) (ts ++ (t ∷ []))
+pub dotted_stood : (p : Part) (o : List Lexeme) (s : Stack) (t : Lexeme) (ts : List Lexeme) → LedTo (dotted p o s) ts → Stood (dotted_turn p o s t t.kind) (ts ++ (t ∷ []))
 dotted_stood p o s t ts h = on_kind t kind.Name _ _ (ts ++ (t ∷ []))
     (λ e. kept_node (λ q. attribute q p.tree (name_at t)) _ (p.tokens ++ (o ++ (t ∷ []))) s (ts ++ (t ∷ [])) (attribute_spells p.tree (name_at t)) (omega arith)
     (behind_operand 7 (IsName (name_at t)) p o t ts (is_name t e) h)) tt
 
-pub denied_stood : (p : Part) (o : List Lexeme) (s : Stack) (t : Lexeme) (ts : List Lexeme) → Stands (denied p o s) ts → Stood (denied_turn p o s t t.kind) (ts ++ (t ∷ []))
+pub denied_stood : (p : Part) (o : List Lexeme) (s : Stack) (t : Lexeme) (ts : List Lexeme) → LedTo (denied p o s) ts → Stood (denied_turn p o s t t.kind) (ts ++ (t ∷ []))
 denied_stood p o s t ts h = on_kind t (kind.Keyword word.In) _ _ (ts ++ (t ∷ [])) (λ e. (h.0, behind_kept o t (kind.Keyword word.In) ts e h.1)) tt
 
 -- a node of a comparison's level
 compared : (make : Place → Expr) (B : Spelling) (tokens : List Lexeme) (s : Stack) (ts : List Lexeme) → ((us : List Lexeme) (q : Place) → q ≡ span us → B us → Spells (make q) us)
-    → 3 ≤ own_level (make (span tokens)) → rank s ≤ 3 → Sequence (Before s) (Kept tokens B) ts → Stands (have 3 (part make tokens) s) ts
+    → 3 ≤ own_level (make (span tokens)) → rank s ≤ 3 → Sequence (Before s) (Kept tokens B) ts → LedTo (have 3 (part make tokens) s) ts
 compared make B tokens s ts spell le r w = (r, omega arith, map_right (λ us h. node_holds 3 make B tokens us (λ q x. spell us q x.0 x.1) le h) w)
 
 is_none_spells : (m : Expr) (us : List Lexeme) (q : Place) → q ≡ span us → Sequence (Operand 4 (own_level m) (λ x. Spells m x)) (Word word.Is ⟫ Word word.None) us → Spells (is_none q m) us
@@ -343,11 +343,11 @@ is_none_spells m us q e w = (e, w)
 is_not_none_spells : (m : Expr) (us : List Lexeme) (q : Place) → q ≡ span us → Sequence (Operand 4 (own_level m) (λ x. Spells m x)) ((Word word.Is ⟫ Word word.Not) ⟫ Word word.None) us → Spells (is_not_none q m) us
 is_not_none_spells m us q e w = (e, map_right (λ vs v. to_right v) w)
 
-pub identified_stood : (p : Part) (o : List Lexeme) (s : Stack) (t : Lexeme) (ts : List Lexeme) → Stands (identified p o s) ts → Stood (identified_turn p o s t t.kind) (ts ++ (t ∷ []))
+pub identified_stood : (p : Part) (o : List Lexeme) (s : Stack) (t : Lexeme) (ts : List Lexeme) → LedTo (identified p o s) ts → Stood (identified_turn p o s t t.kind) (ts ++ (t ∷ []))
 identified_stood p o s t ts h = on_kind t (kind.Keyword word.None) _ _ (ts ++ (t ∷ []))
     (λ e. compared (λ q. is_none q p.tree) _ (p.tokens ++ (o ++ (t ∷ []))) s (ts ++ (t ∷ [])) (is_none_spells p.tree) (omega arith) h.0 (behind_operand 4 (Word word.None) p o t ts (just t _ e) h.1))
     (on_kind t (kind.Keyword word.Not) _ _ (ts ++ (t ∷ [])) (λ e. (h.0, behind_kept o t (kind.Keyword word.Not) ts e h.1)) tt)
 
-pub unidentified_stood : (p : Part) (o : List Lexeme) (s : Stack) (t : Lexeme) (ts : List Lexeme) → Stands (unidentified p o s) ts → Stood (unidentified_turn p o s t t.kind) (ts ++ (t ∷ []))
+pub unidentified_stood : (p : Part) (o : List Lexeme) (s : Stack) (t : Lexeme) (ts : List Lexeme) → LedTo (unidentified p o s) ts → Stood (unidentified_turn p o s t t.kind) (ts ++ (t ∷ []))
 unidentified_stood p o s t ts h = on_kind t (kind.Keyword word.None) _ _ (ts ++ (t ∷ []))
     (λ e. compared (λ q. is_not_none q p.tree) _ (p.tokens ++ (o ++ (t ∷ []))) s (ts ++ (t ∷ [])) (is_not_none_spells p.tree) (omega arith) h.0 (behind_operand 4 (Word word.None) p o t ts (just t _ e) h.1)) tt

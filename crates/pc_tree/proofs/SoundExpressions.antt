@@ -12,7 +12,7 @@ use Rattle.pc_tree.specs.Grammar.Expressions.{own_level, Operand, Spells, truth_
 use Rattle.pc_tree.specs.Machine.Kinds.{Start, a_name, a_number, a_string, a_truth, a_none, opens_parenthesis, opens_bracket, opens_brace, a_minus, a_not, no_start, start_of, Infix, arithmetic, comparison, both, either, linking, denying, identifying, Ending, a_comma, a_colon, an_equal, closes_parenthesis, closes_bracket, closes_brace, a_line_end, no_ending, Follow, link, a_dot, calls, indexes, ends, follow_of}
 use Rattle.pc_tree.specs.Machine.States.{Part, Prefix, minus, denial, Stack, whole, joining, applying, grouping, listing, indexing, naming, keying, valuing, operand, have}
 use Rattle.pc_tree.specs.Machine.Expressions.{own_of, left_of, right_of, prefix_level, rank, part, infix_tree, prefix_tree, joined, applied, reduce, operand_turn}
-use Rattle.pc_tree.specs.Fronts.{Stands}
+use Rattle.pc_tree.specs.Fronts.{LedTo}
 use Rattle.pc_tree.specs.Fronts.Lines.{Kept}
 use Rattle.pc_tree.specs.Fronts.Expressions.{SpellsInfix, prefix_kind, Holds, Before}
 use Rattle.pc_tree.proofs.Runs.{own_small}
@@ -135,7 +135,7 @@ pub node_holds : (level : ℕ) (make : Place → Expr) (B : Spelling) (tokens us
     → Kept tokens B us → Holds level (part make tokens) us
 node_holds level make B tokens us spell le h = record { tokens = h.0; spelled = (0, inl le, spell (span tokens) (ap span h.0, h.1)); plain = λ e. spell (span tokens) (ap span h.0, h.1) }
 
-pub stands_have : (p : Part) (s : Stack) (ts : List Lexeme) → Sequence (Before s) (Holds 7 p) ts → Stands (have 7 p s) ts
+pub stands_have : (p : Part) (s : Stack) (ts : List Lexeme) → Sequence (Before s) (Holds 7 p) ts → LedTo (have 7 p s) ts
 stands_have p s ts h = (omega (arith, rank_six s), omega arith, h)
 
 -- ---- operands

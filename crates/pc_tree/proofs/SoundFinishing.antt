@@ -14,7 +14,7 @@ use Rattle.pc_tree.specs.Grammar.Modules.{SpellsLiteral, SpellsParam, SpellsPara
 use Rattle.pc_tree.specs.Machine.Kinds.{a_kind, SpellsAllFixed, Ending, a_comma, a_colon, an_equal, a_line_end}
 use Rattle.pc_tree.specs.Machine.States.{Top, ClassStart, Owner, of_module, of_class, DefStart, Nest, while_body, for_body, branch_body, Block, def_body, Site, Begun, assigned, annotated_value, returned, asserted, asserted_with, looping, iterating, branching, in_line, in_statement, in_constant, of_constant, of_field, of_param, of_return, of_local, LiteralContext, default_of_param, default_of_field, Part, State, members}
 use Rattle.pc_tree.specs.Machine.Finishing.{add_stmt, add_item, suite_of, after_stmt, nested_in, name_of_tree, target_of_tree, if_plain, begin_value, begin_annotation, line_site, finish_line, at_line_end, at_colon, finish_stmt, param, param_end, param_more, field, finish_literal}
-use Rattle.pc_tree.specs.Fronts.{Stands}
+use Rattle.pc_tree.specs.Fronts.{LedTo}
 use Rattle.pc_tree.specs.Fronts.Lines.{JustAt, Opening, BeforeItems, BeforeMembers, EachParam, ParamsOf, is_method, BeforeParams, BeforeParam, BeforeLiteral, EachStmt, BeforeNest, BeforeBlock, BeforeStmts, BeforeContext}
 use Rattle.pc_tree.specs.Fronts.Expressions.{Holds}
 use Rattle.pc_tree.proofs.Sequences.{to_right, to_left, map_left, map_right}
@@ -62,14 +62,14 @@ pub stmts_all : (s : Stmt) (ss : Stmts) (us : List Lexeme) → EachStmt (more_st
 stmts_all s no_stmts us w = map_right (λ vs v. inr (refl, v)) w
 stmts_all s (more_stmts x xs) us w = map_right (λ vs v. inl (stmts_all x xs vs v)) w
 
-pub stmt_done : (site : Site) (s : Stmt) (ts : List Lexeme) → Sequence (BeforeStmts site.done site.block) (SpellsStmt s) ts → Stands (after_stmt site s) ts
+pub stmt_done : (site : Site) (s : Stmt) (ts : List Lexeme) → Sequence (BeforeStmts site.done site.block) (SpellsStmt s) ts → LedTo (after_stmt site s) ts
 stmt_done site s ts w = map_right (λ us v. stmts_add site.done s us v) (to_right w)
 
 members_add : (ms : List Member) (m : Member) (us : List Lexeme) → Sequence (SpellsMembers ms) (SpellsMember m) us → SpellsMembers (ms ++ (m ∷ [])) us
 members_add [] m us w = end_nothing us (no_front us w)
 members_add (x ∷ xs) m us w = map_right (λ vs v. members_add xs m vs v) (to_right w)
 
-pub member_done : (c : ClassStart) (ms : List Member) (m : Member) (ts : List Lexeme) → Sequence (BeforeMembers c ms) (SpellsMember m) ts → Stands (members c (ms ++ (m ∷ []))) ts
+pub member_done : (c : ClassStart) (ms : List Member) (m : Member) (ts : List Lexeme) → Sequence (BeforeMembers c ms) (SpellsMember m) ts → LedTo (members c (ms ++ (m ∷ []))) ts
 member_done c ms m ts w = map_right (λ us v. members_add ms m us v) (to_right w)
 
 items_add : (is : List Item) (i : Item) (us : List Lexeme) → Sequence (SpellsItems is) (SpellsItem i) us → SpellsItems (is ++ (i ∷ [])) us
@@ -92,7 +92,7 @@ pub suite_from : {A : Spelling} (us : List Lexeme) → Sequence Opening (A ⟫ J
 suite_from us w = to_right (to_right w)
 
 -- a suite that begins
-pub suite_stood : (b : Block) {A : Spelling} (ts : List Lexeme) → ((us : List Lexeme) → Sequence A Opening us → BeforeBlock b us) → Sequence A (Sign sign.Colon) ts → Stands (suite_of b) ts
+pub suite_stood : (b : Block) {A : Spelling} (ts : List Lexeme) → ((us : List Lexeme) → Sequence A Opening us → BeforeBlock b us) → Sequence A (Sign sign.Colon) ts → LedTo (suite_of b) ts
 suite_stood b ts f w us h = end_nothing (ts ++ us) (f (ts ++ us) (opened ts us w h))
 
 -- ---- parameters
@@ -214,16 +214,16 @@ finish_line_stood done b p t _ ts e w = tt
 behind_begun : {S B : Spelling} (C : Spelling) (p : Part) (t : Lexeme) (ts : List Lexeme) → C (t ∷ []) → Sequence (S ⟫ B) (Holds 0 p) ts → Sequence S ((B ⟫ Expression p.tree) ⟫ C) (ts ++ (t ∷ []))
 behind_begun C p t ts c w = map_right (λ us v. to_left (map_right (λ vs z. map_left (holds_spelled p) z) v)) (to_right (to_right (grow {B = C} ts t w c)))
 
-at_end : (s : State) (e : Ending) (t : Lexeme) (ts : List Lexeme) → EndMeans e t.kind → (t.kind ≡ kind.Newline → Stands s ts) → Stood (at_line_end s e) ts
+at_end : (s : State) (e : Ending) (t : Lexeme) (ts : List Lexeme) → EndMeans e t.kind → (t.kind ≡ kind.Newline → LedTo s ts) → Stood (at_line_end s e) ts
 at_end s a_line_end t ts m h = h m
 at_end s _ t ts m h = tt
 
-at_suite : (s : State) (e : Ending) (t : Lexeme) (ts : List Lexeme) → EndMeans e t.kind → (t.kind ≡ kind.Operator sign.Colon → Stands s ts) → Stood (at_colon s e) ts
+at_suite : (s : State) (e : Ending) (t : Lexeme) (ts : List Lexeme) → EndMeans e t.kind → (t.kind ≡ kind.Operator sign.Colon → LedTo s ts) → Stood (at_colon s e) ts
 at_suite s a_colon t ts m h = h m
 at_suite s _ t ts m h = tt
 
 nest_stood : (site : Site) (of : Nest) {B : Spelling} (p : Part) (t : Lexeme) (ts : List Lexeme) → ((us : List Lexeme) → Sequence B (Expression p.tree) us → BeforeNest site.first of us)
-    → t.kind ≡ kind.Operator sign.Colon → Sequence (BeforeStmts site.done site.block ⟫ B) (Holds 0 p) ts → Stands (suite_of (nested_in site of)) (ts ++ (t ∷ []))
+    → t.kind ≡ kind.Operator sign.Colon → Sequence (BeforeStmts site.done site.block ⟫ B) (Holds 0 p) ts → LedTo (suite_of (nested_in site of)) (ts ++ (t ∷ []))
 nest_stood site of p t ts f e w = suite_stood (nested_in site of) (ts ++ (t ∷ [])) (λ us v. to_right v) (to_left (map_right (λ us v. map_left f v) (behind_begun (Sign sign.Colon) p t ts (just t _ e) w)))
 
 finish_stmt_stood : (begun : Begun) (p : Part) (site : Site) (t : Lexeme) (e : Ending) (ts : List Lexeme) → EndMeans e t.kind → Sequence (BeforeContext (in_statement begun site)) (Holds 0 p) ts

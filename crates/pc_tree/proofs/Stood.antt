@@ -7,14 +7,14 @@ use Rattle.pc_tree.specs.Grammar.{Spelling, Sequence, ◌⟫◌, Just, IsName, N
 use Rattle.pc_tree.specs.Machine.Kinds.{same_kind}
 use Rattle.pc_tree.specs.Machine.States.{State, Turn, stuck, go, on}
 use Rattle.pc_tree.specs.Machine.Expressions.{if_tight}
-use Rattle.pc_tree.specs.Fronts.{Stands}
+use Rattle.pc_tree.specs.Fronts.{LedTo}
 use Rattle.pc_tree.specs.Fronts.Lines.{Kept, JustAt}
 use Rattle.pc_tree.proofs.SameKind.{same_kind_is}
 use Rattle.pc_tree.proofs.Sequences.{to_right, map_right}
 
 abbrev pub Stood : Turn → Spelling
 Stood stuck ts = Unit {0}
-Stood (go s) ts = Stands s ts
+Stood (go s) ts = LedTo s ts
 
 -- one more token
 pub grow : {A B : Spelling} (ts : List Lexeme) (t : Lexeme) → A ts → B (t ∷ []) → Sequence A B (ts ++ (t ∷ []))
@@ -31,14 +31,14 @@ is_name t e = (t, e, refl, refl)
 
 -- ---- choices
 
-pub stood_on : (b : Bool) (s : State) (other : Turn) (ts : List Lexeme) → (b ≡ true → Stands s ts) → Stood other ts → Stood (on b s other) ts
+pub stood_on : (b : Bool) (s : State) (other : Turn) (ts : List Lexeme) → (b ≡ true → LedTo s ts) → Stood other ts → Stood (on b s other) ts
 stood_on true s other ts holds otherwise = holds refl
 stood_on false s other ts holds otherwise = otherwise
 
-pub on_kind : (t : Lexeme) (k : TokenKind) (s : State) (other : Turn) (ts : List Lexeme) → (t.kind ≡ k → Stands s ts) → Stood other ts → Stood (on (same_kind t.kind k) s other) ts
+pub on_kind : (t : Lexeme) (k : TokenKind) (s : State) (other : Turn) (ts : List Lexeme) → (t.kind ≡ k → LedTo s ts) → Stood other ts → Stood (on (same_kind t.kind k) s other) ts
 on_kind t k s other ts holds otherwise = stood_on (same_kind t.kind k) s other ts (λ e. holds (same_kind_is t.kind k e)) otherwise
 
-pub on_both : (t : Lexeme) (k : TokenKind) (b : Bool) (s : State) (other : Turn) (ts : List Lexeme) → (t.kind ≡ k → b ≡ true → Stands s ts) → Stood other ts → Stood (on (same_kind t.kind k && b) s other) ts
+pub on_both : (t : Lexeme) (k : TokenKind) (b : Bool) (s : State) (other : Turn) (ts : List Lexeme) → (t.kind ≡ k → b ≡ true → LedTo s ts) → Stood other ts → Stood (on (same_kind t.kind k && b) s other) ts
 on_both t k b s other ts holds otherwise = by_test (same_kind t.kind k) refl b refl
   where
     by_test : (x : Bool) → same_kind t.kind k ≡ x → (y : Bool) → b ≡ y → Stood (on (x && y) s other) ts
@@ -53,7 +53,7 @@ on_tight low level turn ts holds = by_test (nat_le low level) refl
     by_test true e = holds (leb-true low level e)
     by_test false e = tt
 
-pub on_le : (low high : ℕ) (s : State) (ts : List Lexeme) → (low ≤ high → Stands s ts) → Stood (on (nat_le low high) s stuck) ts
+pub on_le : (low high : ℕ) (s : State) (ts : List Lexeme) → (low ≤ high → LedTo s ts) → Stood (on (nat_le low high) s stuck) ts
 on_le low high s ts holds = stood_on (nat_le low high) s stuck ts (λ e. holds (leb-true low high e)) tt
 
 -- ---- kept tokens

@@ -16,50 +16,50 @@ use Rattle.pc_tree.specs.Fronts.Lines.{WordAt, SignAt, Kept, AtStage, BeforeItem
 use Rattle.pc_tree.specs.Fronts.Expressions.{Before, Holds, ItemsBefore, KeywordsBefore, EntriesBefore}
 
 -- these tokens led to the state
-abbrev pub Stands : State → Spelling
-Stands (fixed w ws next) = λ ts. (us : List Lexeme) → SpellsAllFixed (w ∷ ws) us → Stands next (ts ++ us)
-Stands (items stage top) = λ ts. AtStage stage top × BeforeItems top ts
-Stands (importing stage top) = λ ts. (takes_header stage ≡ true) × AtStage stage top × (BeforeItems top ⟫ Word word.From) ts
-Stands (item_named n top) = BeforeItems top ⟫ IsName n
-Stands (decorator_due first top) = BeforeItems top ⟫ SignAt sign.At first
-Stands (class_due first decorator top) = BeforeItems top ⟫ ClassWord first decorator
-Stands (class_named c) = λ ts. (c.base ≡ None) × (BeforeItems c.top ⟫ ClassName c) ts
-Stands (base_due c) = λ ts. (c.base ≡ None) × (BeforeItems c.top ⟫ (ClassName c ⟫ Sign sign.LeftParenthesis)) ts
-Stands (members c ms) = BeforeMembers c ms
-Stands (def_due owner first) = BeforeOwner owner ⟫ DefWord owner first
-Stands (self_read d) = SelfRead d d.owner
-Stands (param_due d ps) = BeforeParams d ps
-Stands (param_named d ps n) = BeforeParams d ps ⟫ IsName n
-Stands (params_read d ps) = ParamsRead d ps
-Stands (literal_due c) = BeforeLiteral c
-Stands (minus_read c us) = BeforeLiteral c ⟫ Kept us (Sign sign.Minus)
-Stands (literal_read c l) = BeforeLiteral c ⟫ SpellsLiteral l
-Stands (stmts done b) = BeforeStmts done b
-Stands (return_due site) = BeforeStmts site.done site.block ⟫ WordAt word.Return site.first
-Stands (target_due site) = BeforeStmts site.done site.block ⟫ WordAt word.For site.first
-Stands (after_branch bs site) = BeforeStmts site.done site.block ⟫ IfBranches site.first bs
-Stands (part_due parts before s) = Parts parts before s
-Stands (part_named n us parts before s) = Parts parts before s ⟫ Kept us (IsName n)
-Stands (part_read a us parts before s) = Parts parts before s ⟫ Kept us (SpellsAnn a false)
-Stands (argument_due head us parts before s) = Parts parts before s ⟫ Kept us (IsName head ⟫ Sign sign.LeftBracket)
-Stands (empty_opened head us parts before s) = Parts parts before s ⟫ Kept us ((IsName head ⟫ Sign sign.LeftBracket) ⟫ Sign sign.LeftParenthesis)
-Stands (empty_closed head us parts before s) = Parts parts before s ⟫ Kept us (((IsName head ⟫ Sign sign.LeftBracket) ⟫ Sign sign.LeftParenthesis) ⟫ Sign sign.RightParenthesis)
-Stands (operand s) = Before s
-Stands (have level p s) = λ ts. (rank s ≤ level) × (level ≤ 7) × (Before s ⟫ Holds level p) ts
-Stands (denied p us s) = λ ts. (rank s ≤ 3) × ((Before s ⟫ Holds 4 p) ⟫ Kept us (Word word.Not)) ts
-Stands (identified p us s) = λ ts. (rank s ≤ 3) × ((Before s ⟫ Holds 4 p) ⟫ Kept us (Word word.Is)) ts
-Stands (unidentified p us s) = λ ts. (rank s ≤ 3) × ((Before s ⟫ Holds 4 p) ⟫ Kept us (Word word.Is ⟫ Word word.Not)) ts
-Stands (dotted p us s) = (Before s ⟫ Holds 7 p) ⟫ Kept us (Sign sign.Dot)
-Stands (group_due us s) = Before s ⟫ Kept us (Sign sign.LeftParenthesis)
-Stands (item_due h xs us s) = Before s ⟫ Kept us (ItemsBefore h xs)
-Stands (keyword_due e xs ks us s) = Before s ⟫ Kept us (KeywordsBefore e xs ks)
-Stands (keyword_named e xs ks n us s) = Before s ⟫ Kept us (KeywordsBefore e xs ks ⟫ IsName n)
-Stands (key_due es us s) = Before s ⟫ Kept us (EntriesBefore es)
-Stands (ended m) = SpellsModule m
+abbrev pub LedTo : State → Spelling
+LedTo (fixed w ws next) = λ ts. (us : List Lexeme) → SpellsAllFixed (w ∷ ws) us → LedTo next (ts ++ us)
+LedTo (items stage top) = λ ts. AtStage stage top × BeforeItems top ts
+LedTo (importing stage top) = λ ts. (takes_header stage ≡ true) × AtStage stage top × (BeforeItems top ⟫ Word word.From) ts
+LedTo (item_named n top) = BeforeItems top ⟫ IsName n
+LedTo (decorator_due first top) = BeforeItems top ⟫ SignAt sign.At first
+LedTo (class_due first decorator top) = BeforeItems top ⟫ ClassWord first decorator
+LedTo (class_named c) = λ ts. (c.base ≡ None) × (BeforeItems c.top ⟫ ClassName c) ts
+LedTo (base_due c) = λ ts. (c.base ≡ None) × (BeforeItems c.top ⟫ (ClassName c ⟫ Sign sign.LeftParenthesis)) ts
+LedTo (members c ms) = BeforeMembers c ms
+LedTo (def_due owner first) = BeforeOwner owner ⟫ DefWord owner first
+LedTo (self_read d) = SelfRead d d.owner
+LedTo (param_due d ps) = BeforeParams d ps
+LedTo (param_named d ps n) = BeforeParams d ps ⟫ IsName n
+LedTo (params_read d ps) = ParamsRead d ps
+LedTo (literal_due c) = BeforeLiteral c
+LedTo (minus_read c us) = BeforeLiteral c ⟫ Kept us (Sign sign.Minus)
+LedTo (literal_read c l) = BeforeLiteral c ⟫ SpellsLiteral l
+LedTo (stmts done b) = BeforeStmts done b
+LedTo (return_due site) = BeforeStmts site.done site.block ⟫ WordAt word.Return site.first
+LedTo (target_due site) = BeforeStmts site.done site.block ⟫ WordAt word.For site.first
+LedTo (after_branch bs site) = BeforeStmts site.done site.block ⟫ IfBranches site.first bs
+LedTo (part_due parts before s) = Parts parts before s
+LedTo (part_named n us parts before s) = Parts parts before s ⟫ Kept us (IsName n)
+LedTo (part_read a us parts before s) = Parts parts before s ⟫ Kept us (SpellsAnn a false)
+LedTo (argument_due head us parts before s) = Parts parts before s ⟫ Kept us (IsName head ⟫ Sign sign.LeftBracket)
+LedTo (empty_opened head us parts before s) = Parts parts before s ⟫ Kept us ((IsName head ⟫ Sign sign.LeftBracket) ⟫ Sign sign.LeftParenthesis)
+LedTo (empty_closed head us parts before s) = Parts parts before s ⟫ Kept us (((IsName head ⟫ Sign sign.LeftBracket) ⟫ Sign sign.LeftParenthesis) ⟫ Sign sign.RightParenthesis)
+LedTo (operand s) = Before s
+LedTo (have level p s) = λ ts. (rank s ≤ level) × (level ≤ 7) × (Before s ⟫ Holds level p) ts
+LedTo (denied p us s) = λ ts. (rank s ≤ 3) × ((Before s ⟫ Holds 4 p) ⟫ Kept us (Word word.Not)) ts
+LedTo (identified p us s) = λ ts. (rank s ≤ 3) × ((Before s ⟫ Holds 4 p) ⟫ Kept us (Word word.Is)) ts
+LedTo (unidentified p us s) = λ ts. (rank s ≤ 3) × ((Before s ⟫ Holds 4 p) ⟫ Kept us (Word word.Is ⟫ Word word.Not)) ts
+LedTo (dotted p us s) = (Before s ⟫ Holds 7 p) ⟫ Kept us (Sign sign.Dot)
+LedTo (group_due us s) = Before s ⟫ Kept us (Sign sign.LeftParenthesis)
+LedTo (item_due h xs us s) = Before s ⟫ Kept us (ItemsBefore h xs)
+LedTo (keyword_due e xs ks us s) = Before s ⟫ Kept us (KeywordsBefore e xs ks)
+LedTo (keyword_named e xs ks n us s) = Before s ⟫ Kept us (KeywordsBefore e xs ks ⟫ IsName n)
+LedTo (key_due es us s) = Before s ⟫ Kept us (EntriesBefore es)
+LedTo (ended m) = SpellsModule m
 
 -- the tokens led to some state
 abbrev pub IsFrontByCases : Spelling
-IsFrontByCases ts = (s : State) × Stands s ts
+IsFrontByCases ts = (s : State) × LedTo s ts
 
 -- the fronts by cases are the tokens that some module begins with
 abbrev pub FrontsAgree : Type 0

@@ -262,25 +262,25 @@ reserved_bound m = reserved_among (map name_of_item m.items) ++ (reserved_in_cla
 -- ---- E06: members
 
 -- a member that a class has, its own or inherited
-pub record Held : Type 0 where
+pub record HeldMember : Type 0 where
   pub text : List ℕ
   pub is_field : Bool
 
 -- the name of a member that a class has
-abbrev pub held_text : Held → List ℕ
+abbrev pub held_text : HeldMember → List ℕ
 held_text h = h.text
 
 -- the member is a field of this name
-abbrev pub is_field_of : List ℕ → Held → Bool
+abbrev pub is_field_of : List ℕ → HeldMember → Bool
 is_field_of sought h = h.is_field && bytes_eq h.text sought
 
 -- a field clashes with whatever the base has by its name, a method with a field
-abbrev pub clashes : List Held → Member → Bool
+abbrev pub clashes : List HeldMember → Member → Bool
 clashes inherited (field_member f) = is_among (map held_text inherited) f.name.text
 clashes inherited (method_member f) = list_any (is_field_of f.name.text) inherited
 
 -- a member's name that an earlier member has, whatever that one binds, or that clashes with the base
-abbrev pub is_clash : List (List ℕ) → List Held → Member → Bool
+abbrev pub is_clash : List (List ℕ) → List HeldMember → Member → Bool
 is_clash before inherited m = is_among before (name_of_member m).text || clashes inherited m
 
 -- the member is a field
@@ -289,11 +289,11 @@ is_field (field_member f) = true
 is_field (method_member f) = false
 
 -- a member as its class has it
-abbrev pub held_by : Member → Held
+abbrev pub held_by : Member → HeldMember
 held_by m = record { text = (name_of_member m).text; is_field = is_field m }
 
 -- the members that bind their names
-abbrev pub own_members : List (List ℕ) → List Held → List Member → List Held
+abbrev pub own_members : List (List ℕ) → List HeldMember → List Member → List HeldMember
 own_members before inherited [] = []
 own_members before inherited (m ∷ ms) = (if is_reserved_member m || is_clash before inherited m then [] else held_by m ∷ [])
     ++ own_members ((name_of_member m).text ∷ before) inherited ms
@@ -303,7 +303,7 @@ abbrev pub is_first_binding : List Item → Name → Bool
 is_first_binding before n = not (is_among (map (λ i. (name_of_item i).text) before) n.text) && not (is_reserved n.text)
 
 -- what the class of this name has, with these items before the point of use, the nearest first; nothing where the name is no class's
-abbrev pub members_of : List Item → Option (List ℕ) → List Held
+abbrev pub members_of : List Item → Option (List ℕ) → List HeldMember
 members_of [] n = []
 members_of (i ∷ before) None = []
 members_of (constant_item first c ∷ before) (Some n) = members_of before (Some n)
@@ -313,16 +313,16 @@ members_of (class_item first c ∷ before) (Some n) = if bytes_eq c.name.text n 
     else members_of before (Some n)
 
 -- the members of a class that clash
-abbrev pub clashing : List (List ℕ) → List Held → List Member → List Place
-clashing before inherited [] = []
-clashing before inherited (m ∷ ms) = one_if (is_clash before inherited m) (name_of_member m).place ++ clashing ((name_of_member m).text ∷ before) inherited ms
+abbrev pub clashes_among : List (List ℕ) → List HeldMember → List Member → List Place
+clashes_among before inherited [] = []
+clashes_among before inherited (m ∷ ms) = one_if (is_clash before inherited m) (name_of_member m).place ++ clashes_among ((name_of_member m).text ∷ before) inherited ms
 
 -- the clashing members of each class, with the items before it, the nearest first
 abbrev pub clashing_in : (before : List Item) → List Item → List Place
 clashing_in before [] = []
 clashing_in before (constant_item first c ∷ is) = clashing_in (constant_item first c ∷ before) is
 clashing_in before (def_item first f ∷ is) = clashing_in (def_item first f ∷ before) is
-clashing_in before (class_item first c ∷ is) = clashing [] (members_of before (option_text c.base)) c.members ++ clashing_in (class_item first c ∷ before) is
+clashing_in before (class_item first c ∷ is) = clashes_among [] (members_of before (option_text c.base)) c.members ++ clashing_in (class_item first c ∷ before) is
 
 -- E06: a member's name twice in a class, a field's name that an ancestor has, a method's name that an ancestor has as a field; at the name
 abbrev pub clashing_members : Module → List Place

@@ -1,3 +1,5 @@
+//! The codes of findings, and findings.
+
 ghost use Rattle.std.specs.Prelude.{◌≡◌};
 ghost use Rattle.pc_tree.specs.Code.{text_of, label_of, is_error};
 

@@ -1,3 +1,5 @@
+//! The tree of a module.
+
 use pc_source::Place;
 
 /// A name at its place, in the normal form NFKC by which names are compared.

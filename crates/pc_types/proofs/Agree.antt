@@ -3,9 +3,9 @@ use Rattle.std.proofs.Common.{◌≡◌, ◌⊎◌, ◌+◌, Bool as Test, true,
 use Rattle.pc_types.specs.Tree.{Tree, Trees, Any, Object, ListOf, DictOf, TupleOf, Union}
 use Rattle.pc_types.specs.Below.{Bases}
 use Rattle.pc_types.specs.Shape.{count}
-use Rattle.pc_types.specs.Normal.{rank, IsBefore, IsMember, IsAfter, IsNormal, AreNormal}
-use Rattle.pc_types.specs.Flow.{Covers, c_from_any, c_to_any, c_never, c_object, c_int, c_bool, c_bool_int, c_str, c_none, c_class, c_list, c_dict, c_tuple, c_both, c_left, c_right, CoversBack}
-use Rattle.pc_types.specs.Flow.{Flow, EachFlow, w_from_any, w_to_any, w_never, w_object, w_int, w_bool, w_bool_int, w_str, w_none, w_class, w_list, w_dict, w_tuple, w_both, w_left, w_right, w_end, w_more}
+use Rattle.pc_types.specs.Normal.{member_rank, IsRankBefore, IsMember, IsAfter, IsNormal, AreNormal}
+use Rattle.pc_types.specs.Internal.HeadFlow.{Covers, c_from_any, c_to_any, c_never, c_object, c_int, c_bool, c_bool_int, c_str, c_none, c_class, c_list, c_dict, c_tuple, c_both, c_left, c_right, CoversBack}
+use Rattle.pc_types.specs.Internal.HeadFlow.{HeadFlow, EachFlow, w_from_any, w_to_any, w_never, w_object, w_int, w_bool, w_bool_int, w_str, w_none, w_class, w_list, w_dict, w_tuple, w_both, w_left, w_right, w_end, w_more}
 use Rattle.pc_types.proofs.Meets.{Meets, EachMeets, m_from_any, m_to_any, m_never, m_object, m_int, m_bool, m_bool_int, m_str, m_none, m_class, m_list, m_dict, m_tuple, m_both, m_left, m_right, m_end, m_more}
 use Rattle.pc_types.proofs.Lookup.{find, first, find_itself, find_behind, found_behind, Agrees, normal_agrees}
 use Rattle.pc_types.proofs.Sound.{same_count}
@@ -62,7 +62,7 @@ record Met (bases : Bases) (ts : Trees) (s : Tree) : Type 0 where
   parts : Trees
   stands : find (7, count ts) s ≡ Some (TupleOf parts)
   met : EachMeets bases ts parts
-  behind : (a : Tree) → IsAfter a s → IsBefore (rank a) (7, count ts)
+  behind : (a : Tree) → IsAfter a s → IsRankBefore (member_rank a) (7, count ts)
 
 tuple_met : {bases : Bases} {ts : Trees} {s : Tree} → Meets bases (TupleOf ts) s → IsNormal s → IsTarget s → Met bases ts s
 tuple_met m_to_any n t = absurd t
@@ -73,7 +73,7 @@ tuple_met (m_tuple {ss = ts} {ts = ss} e) n t =
       parts = ss;
       stands = subst (λ k. find (7, k) (TupleOf ss) ≡ Some (TupleOf ss)) c (find_itself (TupleOf ss) tt);
       met = e;
-      behind = λ a h. subst (λ k. IsBefore (rank a) (7, k)) c h.1;
+      behind = λ a h. subst (λ k. IsRankBefore (member_rank a) (7, k)) c h.1;
     }
 tuple_met {ts = ts} (m_left {a = a} {b = b} p) n t =
     let r = tuple_met p n.1 (member_target a n.0) in
@@ -103,7 +103,7 @@ tuples_meet {bases} {ss} {ts} s c m n e =
 
 -- what meets both ways flows both ways at once; the first stands in a type into which the second flows
 mutual
-  both_of : {bases : Bases} {s t : Tree} → Meets bases s t → (s' : Tree) → Meets bases t s' → IsNormal s → IsNormal t → IsNormal s' → Agrees s s' → Flow bases true s t
+  both_of : {bases : Bases} {s t : Tree} → Meets bases s t → (s' : Tree) → Meets bases t s' → IsNormal s → IsNormal t → IsNormal s' → Agrees s s' → HeadFlow bases true s t
   both_of m_from_any s' m l n k a = w_from_any
   both_of m_to_any s' m l n k a = w_to_any
   both_of m_never s' m l n k a = w_never
@@ -126,11 +126,11 @@ mutual
   each_both m_end q l n = w_end
   each_both (m_more {s = s} p ps) (m_more q qs) l n = w_more (both_of p s q l.0 n.0 l.0 (normal_agrees s l.0)) (covers_of q) (each_both ps qs l.1 n.1)
 
-agree_of : {bases : Bases} {s t : Tree} → Meets bases s t → Meets bases t s → IsNormal s → IsNormal t → Flow bases true s t
+agree_of : {bases : Bases} {s t : Tree} → Meets bases s t → Meets bases t s → IsNormal s → IsNormal t → HeadFlow bases true s t
 agree_of {s = s} p q l n = both_of p s q l n l (normal_agrees s l)
 
 mutual
-  pub flow_of_meets : {bases : Bases} {s t : Tree} → Meets bases s t → IsNormal s → IsNormal t → Flow bases false s t
+  pub flow_of_meets : {bases : Bases} {s t : Tree} → Meets bases s t → IsNormal s → IsNormal t → HeadFlow bases false s t
   flow_of_meets m_from_any l n = w_from_any
   flow_of_meets m_to_any l n = w_to_any
   flow_of_meets m_never l n = w_never
@@ -227,7 +227,7 @@ each_count (w_more f c fs) = ap (λ n. n + 1) (each_count fs)
 
 -- what flows both ways at once meets both ways
 mutual
-  pub meets_of_flow : {bases : Bases} {both : Test} {s t : Tree} → Flow bases both s t → IsNormal s → IsNormal t → Meets bases s t
+  pub meets_of_flow : {bases : Bases} {both : Test} {s t : Tree} → HeadFlow bases both s t → IsNormal s → IsNormal t → Meets bases s t
   meets_of_flow w_from_any l n = m_from_any
   meets_of_flow w_to_any l n = m_to_any
   meets_of_flow w_never l n = m_never
@@ -250,7 +250,7 @@ mutual
   each_meets_of_flow w_end l n = m_end
   each_meets_of_flow (w_more f c fs) l n = m_more (meets_of_flow f l.0 n.0) (each_meets_of_flow fs l.1 n.1)
 
-  backs : {bases : Bases} {both : Test} {s t : Tree} → Flow bases both s t → both ≡ true → IsNormal s → IsNormal t → IsTarget t → Backs bases s t
+  backs : {bases : Bases} {both : Test} {s t : Tree} → HeadFlow bases both s t → both ≡ true → IsNormal s → IsNormal t → IsTarget t → Backs bases s t
   backs w_from_any q l n o = tt
   backs w_to_any q l n o = absurd o
   backs w_never q l n o = tt

@@ -7,7 +7,7 @@ use Rattle.pc_types.specs.Below.{Bases, AreSmaller, Static}
 use Rattle.pc_types.specs.Assignable.{Assignable}
 use Rattle.pc_types.specs.Normal.{IsNormal}
 use Rattle.pc_types.specs.Computed.{fits_some, heads_fit, is_covered, is_covered_back, list_fits, dict_fits, tuple_fits, flows, each_flows, static_test, assignable_test, StaticIsDecided, AssignableIsDecided}
-use Rattle.pc_types.specs.Flow.{Covers, c_from_any, c_to_any, c_never, c_object, c_both, c_left, c_right, CoversBack, Flow, EachFlow, w_from_any, w_to_any, w_never, w_object, w_both, w_left, w_right, w_end, w_more, HeadFits, FlowFits}
+use Rattle.pc_types.specs.Internal.HeadFlow.{Covers, c_from_any, c_to_any, c_never, c_object, c_both, c_left, c_right, CoversBack, HeadFlow, EachFlow, w_from_any, w_to_any, w_never, w_object, w_both, w_left, w_right, w_end, w_more, HeadFits, FlowFits}
 use Rattle.pc_types.proofs.Truth.{yes_is, no_is, is_no, through_is}
 use Rattle.pc_types.proofs.Heads.{IsLeft, covers_is_fits, covers_parts, covers_member, flow_is_fits, flow_parts, flow_member}
 use Rattle.pc_types.proofs.Descent.{reaches_below, below_reaches}
@@ -41,7 +41,7 @@ module _ (bases : Bases) (o : AreSmaller bases) where
     covers_against (Union a b) = either_is _ _ c_left c_right (λ h. covers_member h l) (covers_against a) (covers_against b)
     covers_against t = through_is (heads_are s t) (covers_is_fits bases s t l tt)
 
-    flow_against : (fits : Tree → Test) (both : Test) → ((t : Tree) → IsTrue (fits t) ↔ FlowFits bases both s t) → (t : Tree) → IsTrue (fits_some fits t) ↔ Flow bases both s t
+    flow_against : (fits : Tree → Test) (both : Test) → ((t : Tree) → IsTrue (fits t) ↔ FlowFits bases both s t) → (t : Tree) → IsTrue (fits_some fits t) ↔ HeadFlow bases both s t
     flow_against fits both f Any = yes_is w_to_any
     flow_against fits both f Object = yes_is w_object
     flow_against fits both f (Union a b) = either_is _ _ w_left w_right (λ h. flow_member h l) (flow_against fits both f a) (flow_against fits both f b)
@@ -63,14 +63,14 @@ module _ (bases : Bases) (o : AreSmaller bases) where
   no_end : {both : Test} {s : Tree} {ss : Trees} → EachFlow bases both (more s ss) end → ⊥
   no_end h = elim h [ ]
 
-  each_parts : {both : Test} {s t : Tree} {ss ts : Trees} → EachFlow bases both (more s ss) (more t ts) → (Flow bases both s t × CoversBack bases both s t) × EachFlow bases both ss ts
+  each_parts : {both : Test} {s t : Tree} {ss ts : Trees} → EachFlow bases both (more s ss) (more t ts) → (HeadFlow bases both s t × CoversBack bases both s t) × EachFlow bases both ss ts
   each_parts (w_more f c fs) = ((f, c), fs)
 
-  list_flows : (both : Test) (s : Tree) (into : Tree → Test) → ((t : Tree) → IsTrue (into t) ↔ Flow bases true s t) → (t : Tree) → IsTrue (list_fits bases into s t) ↔ FlowFits bases both (ListOf s) t
+  list_flows : (both : Test) (s : Tree) (into : Tree → Test) → ((t : Tree) → IsTrue (into t) ↔ HeadFlow bases true s t) → (t : Tree) → IsTrue (list_fits bases into s t) ↔ FlowFits bases both (ListOf s) t
   list_flows both s into f (ListOf t) = both_are (into t) (is_covered bases t s) (f t) (covering t s)
   list_flows both s into f _ = no_is (λ h. h)
 
-  dict_flows : (both : Test) (j v : Tree) (key value : Tree → Test) → ((t : Tree) → IsTrue (key t) ↔ Flow bases true j t) → ((t : Tree) → IsTrue (value t) ↔ Flow bases true v t) → (t : Tree) → IsTrue (dict_fits bases key value j v t) ↔ FlowFits bases both (DictOf j v) t
+  dict_flows : (both : Test) (j v : Tree) (key value : Tree → Test) → ((t : Tree) → IsTrue (key t) ↔ HeadFlow bases true j t) → ((t : Tree) → IsTrue (value t) ↔ HeadFlow bases true v t) → (t : Tree) → IsTrue (dict_fits bases key value j v t) ↔ FlowFits bases both (DictOf j v) t
   dict_flows both j v key value f g (DictOf k w) =
       through_is (both_are (key k && is_covered bases k j) (value w && is_covered bases w v) (both_are (key k) (is_covered bases k j) (f k) (covering k j)) (both_are (value w) (is_covered bases w v) (g w) (covering w v))) (λ p. (p.0.0, p.0.1, p.1.0, p.1.1), λ p. ((p.0, p.1), (p.2, p.3)))
   dict_flows both j v key value f g _ = no_is (λ h. h)
@@ -104,7 +104,7 @@ module _ (bases : Bases) (o : AreSmaller bases) where
   class_flows both c _ = no_is (λ h. h)
 
   mutual
-    flow_is_decided : (s : Tree) (both : Test) (t : Tree) → IsTrue (flows bases s both t) ↔ Flow bases both s t
+    flow_is_decided : (s : Tree) (both : Test) (t : Tree) → IsTrue (flows bases s both t) ↔ HeadFlow bases both s t
     flow_is_decided Any both t = yes_is w_from_any
     flow_is_decided Never both t = yes_is w_never
     flow_is_decided (Union a b) both t = through_is (both_are (flows bases a both t) (flows bases b both t) (flow_is_decided a both t) (flow_is_decided b both t)) (λ p. w_both p.0 p.1, flow_parts)
@@ -125,8 +125,8 @@ module _ (bases : Bases) (o : AreSmaller bases) where
     each_is_decided (more s ss) both (more t ts) =
         through_is (both_are (flows bases s both t && is_covered_back bases both s t) (each_flows bases ss both ts) (both_are (flows bases s both t) (is_covered_back bases both s t) (flow_is_decided s both t) (covering_back both s t)) (each_is_decided ss both ts)) (λ p. w_more p.0.0 p.0.1 p.1, each_parts)
 
-  through_seen : (both : Test) (s t x y : Tree) → x ≡ s → y ≡ t → IsTrue (flows bases s both t) ↔ Flow bases both x y
-  through_seen both s t x y e f = subst (λ z. IsTrue (flows bases s both t) ↔ Flow bases both z y) (sym e) (subst (λ z. IsTrue (flows bases s both t) ↔ Flow bases both s z) (sym f) (flow_is_decided s both t))
+  through_seen : (both : Test) (s t x y : Tree) → x ≡ s → y ≡ t → IsTrue (flows bases s both t) ↔ HeadFlow bases both x y
+  through_seen both s t x y e f = subst (λ z. IsTrue (flows bases s both t) ↔ HeadFlow bases both z y) (sym e) (subst (λ z. IsTrue (flows bases s both t) ↔ HeadFlow bases both s z) (sym f) (flow_is_decided s both t))
 
 pub static_decided : StaticIsDecided
 static_decided bases s t o n m = through_is (through_seen bases o false (erase s) (erase t) _ _ (seen_static s) (seen_static t)) (static_is_flow bases s t n m)

@@ -4,8 +4,8 @@ use Rattle.pc_types.specs.Tree.{Tree, Trees, Any, Object, Never, ListOf, DictOf,
 use Rattle.pc_types.specs.Below.{Bases, Static}
 use Rattle.pc_types.specs.Assignable.{IsPlain, ArePlain, Assignable}
 use Rattle.pc_types.specs.Shape.{count}
-use Rattle.pc_types.specs.Normal.{rank, IsBefore, IsMember, IsAfter, IsKey, IsNormal, AreNormal}
-use Rattle.pc_types.specs.Flow.{seen, seen_each, Flow}
+use Rattle.pc_types.specs.Normal.{member_rank, IsRankBefore, IsMember, IsAfter, IsKey, IsNormal, AreNormal}
+use Rattle.pc_types.specs.Internal.HeadFlow.{seen, seen_each, HeadFlow}
 use Rattle.pc_types.proofs.Meets.{Meets, EachMeets, m_from_any, m_to_any, m_never, m_object, m_int, m_bool, m_bool_int, m_str, m_none, m_class, m_list, m_dict, m_tuple, m_both, m_left, m_right, m_end, m_more}
 use Rattle.pc_types.proofs.Structural.{Sub, EachSub, s_never, s_object, s_any, s_int, s_bool, s_bool_int, s_str, s_none, s_class, s_list, s_dict, s_tuple, s_both, s_left, s_right, s_end, s_more, sub_of, below_of}
 use Rattle.pc_types.proofs.Sound.{plain_erase, assignable_from_meets}
@@ -86,7 +86,7 @@ count_erase : (ts : Trees) → count (erase_each ts) ≡ count ts
 count_erase end = refl
 count_erase (more t ts) = ap (λ n. n + 1) (count_erase ts)
 
-rank_erase : (t : Tree) → IsMember t → rank (erase t) ≡ rank t
+rank_erase : (t : Tree) → IsMember t → member_rank (erase t) ≡ member_rank t
 rank_erase (TupleOf ts) m = ap (λ n. (7, n)) (count_erase ts)
 rank_erase Any m = absurd m
 rank_erase _ m = refl
@@ -100,9 +100,9 @@ member_erase _ m = tt
 
 after_erase : (a b : Tree) → IsMember a → IsAfter a b → IsAfter (erase a) (erase b)
 after_erase a (Union c d) m h = (after_erase a c m h.0, after_erase a d m h.1)
-after_erase a (TupleOf ts) m h = (tt, subst₂ IsBefore (sym (rank_erase a m)) (sym (rank_erase (TupleOf ts) tt)) h.1)
+after_erase a (TupleOf ts) m h = (tt, subst₂ IsRankBefore (sym (rank_erase a m)) (sym (rank_erase (TupleOf ts) tt)) h.1)
 after_erase a Any m h = absurd h.0
-after_erase a b m h = (h.0, subst (λ r. IsBefore r (rank b)) (sym (rank_erase a m)) h.1)
+after_erase a b m h = (h.0, subst (λ r. IsRankBefore r (member_rank b)) (sym (rank_erase a m)) h.1)
 
 key_erase : (k : Tree) → IsKey k → IsKey (erase k)
 key_erase Any h = h
@@ -126,17 +126,17 @@ mutual
   normal_each (more t ts) n = (normal_erase t n.0, normal_each ts n.1)
 
 -- with Any read as object, the code decides static subtyping
-pub static_is_flow : (bases : Bases) (s t : Tree) → IsNormal s → IsNormal t → Flow bases false (seen false s) (seen false t) ↔ Static bases s t
+pub static_is_flow : (bases : Bases) (s t : Tree) → IsNormal s → IsNormal t → HeadFlow bases false (seen false s) (seen false t) ↔ Static bases s t
 static_is_flow bases s t m n =
     let l = normal_erase s m in
     let r = normal_erase t n in (
-      λ h. below_of (meets_sub (meets_of_flow (subst₂ (Flow bases false) (seen_static s) (seen_static t) h) l r) (plain_erase s) (plain_erase t)),
-      λ h. subst₂ (Flow bases false) (sym (seen_static s)) (sym (seen_static t)) (flow_of_meets (sub_meets (sub_of h)) l r),
+      λ h. below_of (meets_sub (meets_of_flow (subst₂ (HeadFlow bases false) (seen_static s) (seen_static t) h) l r) (plain_erase s) (plain_erase t)),
+      λ h. subst₂ (HeadFlow bases false) (sym (seen_static s)) (sym (seen_static t)) (flow_of_meets (sub_meets (sub_of h)) l r),
     )
 
 -- with Any as it is, the code decides consistent subtyping
-pub assignable_is_flow : (bases : Bases) (s t : Tree) → IsNormal s → IsNormal t → Flow bases false (seen true s) (seen true t) ↔ Assignable bases s t
+pub assignable_is_flow : (bases : Bases) (s t : Tree) → IsNormal s → IsNormal t → HeadFlow bases false (seen true s) (seen true t) ↔ Assignable bases s t
 assignable_is_flow bases s t m n = (
-  λ h. assignable_from_meets (meets_of_flow (subst₂ (Flow bases false) (seen_gradual s) (seen_gradual t) h) m n) m n,
-  λ a. subst₂ (Flow bases false) (sym (seen_gradual s)) (sym (seen_gradual t)) (flow_of_meets (meets_from_assignable a) m n),
+  λ h. assignable_from_meets (meets_of_flow (subst₂ (HeadFlow bases false) (seen_gradual s) (seen_gradual t) h) m n) m n,
+  λ a. subst₂ (HeadFlow bases false) (sym (seen_gradual s)) (sym (seen_gradual t)) (flow_of_meets (meets_from_assignable a) m n),
 )

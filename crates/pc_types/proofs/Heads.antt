@@ -2,8 +2,8 @@
 use Rattle.std.proofs.Common.{Box, Vec, Global, ap, ◌≡◌, ◌↔◌, ℕ, Some, Bool as Test, cond, IsTrue, true, false, refl, sym, subst, ◌⊎◌, inl, inr}
 use Rattle.pc_types.specs.Tree.{Tree, Trees, Any, Object, Never, Int, Bool, Str, NoneType, Class, ListOf, DictOf, TupleOf, Union}
 use Rattle.pc_types.specs.Below.{Bases, base_of, Below}
-use Rattle.pc_types.specs.Flow.{Covers, c_from_any, c_to_any, c_never, c_object, c_int, c_bool, c_bool_int, c_str, c_none, c_class, c_list, c_dict, c_tuple, c_both, c_left, c_right}
-use Rattle.pc_types.specs.Flow.{seen, HeadFits, FlowFits, Flow, w_from_any, w_to_any, w_never, w_object, w_int, w_bool, w_bool_int, w_str, w_none, w_class, w_list, w_dict, w_tuple, w_both, w_left, w_right}
+use Rattle.pc_types.specs.Internal.HeadFlow.{Covers, c_from_any, c_to_any, c_never, c_object, c_int, c_bool, c_bool_int, c_str, c_none, c_class, c_list, c_dict, c_tuple, c_both, c_left, c_right}
+use Rattle.pc_types.specs.Internal.HeadFlow.{seen, HeadFits, FlowFits, HeadFlow, w_from_any, w_to_any, w_never, w_object, w_int, w_bool, w_bool_int, w_str, w_none, w_class, w_list, w_dict, w_tuple, w_both, w_left, w_right}
 use Rattle.pc_types.specs.Join.{same_tree}
 use Rattle.pc_types.specs.Boxed.{tree_of, IsNoUnion}
 use Rattle.pc_types.specs.declared.boxed.BoxType.{BoxType, out-BoxType, roll-BoxType, roll-out-BoxType}
@@ -28,7 +28,7 @@ IsRight Any = ⊥
 IsRight (Union a b) = ⊥
 IsRight _ = Unit {0}
 
-flow_fits : {bases : Bases} {both : Test} {s t : Tree} → Flow bases both s t → IsLeft s → IsRight t → FlowFits bases both s t
+flow_fits : {bases : Bases} {both : Test} {s t : Tree} → HeadFlow bases both s t → IsLeft s → IsRight t → FlowFits bases both s t
 flow_fits w_from_any p q = absurd p
 flow_fits w_to_any p q = absurd q
 flow_fits w_never p q = absurd p
@@ -46,7 +46,7 @@ flow_fits (w_both f g) p q = absurd p
 flow_fits (w_left f) p q = absurd q
 flow_fits (w_right f) p q = absurd q
 
-fits_flow : (bases : Bases) (both : Test) (s t : Tree) → FlowFits bases both s t → Flow bases both s t
+fits_flow : (bases : Bases) (both : Test) (s t : Tree) → FlowFits bases both s t → HeadFlow bases both s t
 fits_flow bases both Int Int h = w_int
 fits_flow bases both Bool Bool h = w_bool
 fits_flow bases both Bool Int h = w_bool_int
@@ -58,7 +58,7 @@ fits_flow bases both (DictOf j v) (DictOf k w) h = w_dict h.0 h.1 h.2 h.3
 fits_flow bases both (TupleOf ss) (TupleOf ts) h = w_tuple h
 fits_flow bases both _ _ h = absurd h
 
-pub flow_is_fits : (bases : Bases) (both : Test) (s t : Tree) → IsLeft s → IsRight t → FlowFits bases both s t ↔ Flow bases both s t
+pub flow_is_fits : (bases : Bases) (both : Test) (s t : Tree) → IsLeft s → IsRight t → FlowFits bases both s t ↔ HeadFlow bases both s t
 flow_is_fits bases both s t p q = (fits_flow bases both s t, λ h. flow_fits h p q)
 
 covers_fits : {bases : Bases} {s t : Tree} → Covers bases s t → IsLeft s → IsRight t → HeadFits bases s t
@@ -95,14 +95,14 @@ pub covers_is_fits : (bases : Bases) (s t : Tree) → IsLeft s → IsRight t →
 covers_is_fits bases s t p q = (fits_covers bases s t, λ h. covers_fits h p q)
 
 -- a union below, and a union above
-pub flow_parts : {bases : Bases} {both : Test} {a b u : Tree} → Flow bases both (Union a b) u → Flow bases both a u × Flow bases both b u
+pub flow_parts : {bases : Bases} {both : Test} {a b u : Tree} → HeadFlow bases both (Union a b) u → HeadFlow bases both a u × HeadFlow bases both b u
 flow_parts w_to_any = (w_to_any, w_to_any)
 flow_parts w_object = (w_object, w_object)
 flow_parts (w_both p q) = (p, q)
 flow_parts (w_left p) = let r = flow_parts p in (w_left r.0, w_left r.1)
 flow_parts (w_right p) = let r = flow_parts p in (w_right r.0, w_right r.1)
 
-pub flow_member : {bases : Bases} {both : Test} {s a b : Tree} → Flow bases both s (Union a b) → IsLeft s → Flow bases both s a ⊎ Flow bases both s b
+pub flow_member : {bases : Bases} {both : Test} {s a b : Tree} → HeadFlow bases both s (Union a b) → IsLeft s → HeadFlow bases both s a ⊎ HeadFlow bases both s b
 flow_member w_from_any p = absurd p
 flow_member w_never p = absurd p
 flow_member (w_both a b) p = absurd p
@@ -123,7 +123,7 @@ covers_member (c_both a b) p = absurd p
 covers_member (c_left a) p = inl a
 covers_member (c_right a) p = inr a
 
-pub to_any : {bases : Bases} {both : Test} {s : Tree} (g : Test) → Flow bases both s (cond g Any Object)
+pub to_any : {bases : Bases} {both : Test} {s : Tree} (g : Test) → HeadFlow bases both s (cond g Any Object)
 to_any true = w_to_any
 to_any false = w_object
 

@@ -6,7 +6,7 @@ use Rattle.std.specs.Prelude.{if◌then◌else◌}
 use Rattle.pc_types.specs.Tree.{Tree, Trees, Any, Object, Never, Int, Bool, Class, TupleOf, Union}
 use Rattle.pc_types.specs.Below.{Bases, Below, AreSmaller}
 use Rattle.pc_types.specs.Shape.{members, ahead, union}
-use Rattle.pc_types.specs.Normal.{rank, IsBefore, IsMember, IsNormal, IsListed, IsApart, IsReduced}
+use Rattle.pc_types.specs.Normal.{member_rank, IsRankBefore, IsMember, IsNormal, IsOfMembers, IsApart, IsReduced}
 use Rattle.pc_types.specs.Join.{reaches, absorbs}
 use Rattle.pc_types.proofs.Descent.{reaches_below, below_reaches}
 use Rattle.pc_types.proofs.Together.{Behind, AllBehind, after_behind, member_place, listed_rest}
@@ -44,7 +44,7 @@ no_absorb bases Int Bool h = absurd h
 no_absorb bases (Class d) (Class c) h = absurd h
 no_absorb bases _ _ h = refl
 
-apart_incomparable : (bases : Bases) (a b : Tree) → IsBefore (rank a) (rank b) → IsApart bases a b → Incomparable bases a b
+apart_incomparable : (bases : Bases) (a b : Tree) → IsRankBefore (member_rank a) (member_rank b) → IsApart bases a b → Incomparable bases a b
 apart_incomparable bases Int Bool h k = absurd k
 apart_incomparable bases Bool Int h k = absurd (grind arith)
 apart_incomparable bases (Class c) (Class d) h k = (not_below bases d c k.1, not_below bases c d k.0)
@@ -58,10 +58,10 @@ absorbs_below bases c d o n e h =
     let f : (c == d) ≡ false = grind (arith, nat_tests) in
     false≢true (sym e ∙ ap (λ x. not x && reaches bases c c d) f ∙ below_reaches o h)
 
-places_differ : (c d : ℕ) → IsBefore (8, c) (8, d) → c ≡ d → ⊥
+places_differ : (c d : ℕ) → IsRankBefore (8, c) (8, d) → c ≡ d → ⊥
 places_differ c d h e = grind arith
 
-pub incomparable_apart : (bases : Bases) (a b : Tree) → AreSmaller bases → IsMember b → IsBefore (rank a) (rank b) → Incomparable bases a b → IsApart bases a b
+pub incomparable_apart : (bases : Bases) (a b : Tree) → AreSmaller bases → IsMember b → IsRankBefore (member_rank a) (member_rank b) → Incomparable bases a b → IsApart bases a b
 incomparable_apart bases a (Union c d) o m h k = absurd m
 incomparable_apart bases Int Bool o m h k = absurd (true≢false k.0)
 incomparable_apart bases (Class c) (Class d) o m h k =
@@ -75,7 +75,7 @@ incomparable_to_tuple bases (Class c) ts = (refl, refl)
 incomparable_to_tuple bases _ ts = (refl, refl)
 
 -- from a type to its members
-apart_from_members : (bases : Bases) (m t : Tree) → IsListed t → Behind m t → IsApart bases m t → IncomparableToEach bases m (members t)
+apart_from_members : (bases : Bases) (m t : Tree) → IsOfMembers t → Behind m t → IsApart bases m t → IncomparableToEach bases m (members t)
 apart_from_members bases m (Union c d) n h k =
     (apart_incomparable bases m c (member_place m c n.0 h.0) k.0, apart_from_members bases m d (listed_rest c d n.2 n.3) h.1 k.1)
 apart_from_members bases m Never n h k = tt
@@ -84,7 +84,7 @@ apart_from_members bases m Object n h k = absurd n
 apart_from_members bases m (TupleOf ts) n h k = (apart_incomparable bases m (TupleOf ts) h.1 k, tt)
 apart_from_members bases m t n h k = (apart_incomparable bases m t h.1 k, tt)
 
-pub members_incomparable : (bases : Bases) (t : Tree) → IsListed t → IsReduced bases t → ArePairwiseIncomparable bases (members t)
+pub members_incomparable : (bases : Bases) (t : Tree) → IsOfMembers t → IsReduced bases t → ArePairwiseIncomparable bases (members t)
 members_incomparable bases (Union c d) n r =
     let l = listed_rest c d n.2 n.3 in
     ((n.1, r.0), (apart_from_members bases c d l (after_behind c d n.3) r.2, members_incomparable bases d l r.1))

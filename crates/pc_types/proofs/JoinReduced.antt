@@ -7,8 +7,8 @@ use Rattle.std.specs.Option.{option_map, option_and_then}
 use Rattle.pc_types.specs.Tree.{Tree, Trees, Any, Object, Never, TupleOf, Union, end, more}
 use Rattle.pc_types.specs.Below.{Bases, AreSmaller}
 use Rattle.pc_types.specs.Shape.{members, union}
-use Rattle.pc_types.specs.Normal.{IsMember, IsNormal, AreNormal, IsListed, IsReduced, AreReduced}
-use Rattle.pc_types.specs.Join.{same_tree, absorbs, is_absorbed, unabsorbed, is_before, put, parts_of, equal_one, both_parts, by_rule, put_all, join_each, one_of, joined}
+use Rattle.pc_types.specs.Normal.{IsMember, IsNormal, AreNormal, IsOfMembers, IsReduced, AreReduced}
+use Rattle.pc_types.specs.Join.{same_tree, absorbs, is_absorbed, unabsorbed_members, is_before, put_among, parts_of, equal_one, both_parts, by_rule, put_all, join_each, one_of, join_of}
 use Rattle.pc_types.specs.WellFormed.{JoinsAreWellFormed}
 use Rattle.pc_types.proofs.Together.{equal_is, mapped}
 use Rattle.pc_types.proofs.Joined.{normal_parts}
@@ -31,15 +31,15 @@ module _ (m : Tree) (one : Tree → Option Tree) where
   behind_is n ns l None g e = cc
   behind_is n ns l (Some k) g e = let p : n ∷ k ≡ l = cc in subst (Put m one (n ∷ ns)) p (p_behind (g k refl))
 
-  rest_is : (n : Tree) (ns l : List Tree) (x : Test) → ((k : List Tree) → put m one ns ≡ Some k → Put m one ns k) → (if x then option_map (λ k. n ∷ k) (put m one ns) else option_map (λ f. f ∷ ns) (one n)) ≡ Some l → Put m one (n ∷ ns) l
-  rest_is n ns l true g e = behind_is n ns l (put m one ns) g e
+  rest_is : (n : Tree) (ns l : List Tree) (x : Test) → ((k : List Tree) → put_among m one ns ≡ Some k → Put m one ns k) → (if x then option_map (λ k. n ∷ k) (put_among m one ns) else option_map (λ f. f ∷ ns) (one n)) ≡ Some l → Put m one (n ∷ ns) l
+  rest_is n ns l true g e = behind_is n ns l (put_among m one ns) g e
   rest_is n ns l false g e = made_is n ns l (one n) refl e
 
-  before_is : (n : Tree) (ns l : List Tree) (x : Test) → ((k : List Tree) → put m one ns ≡ Some k → Put m one ns k) → (if x then Some (m ∷ n ∷ ns) else (if is_before n m then option_map (λ k. n ∷ k) (put m one ns) else option_map (λ f. f ∷ ns) (one n))) ≡ Some l → Put m one (n ∷ ns) l
+  before_is : (n : Tree) (ns l : List Tree) (x : Test) → ((k : List Tree) → put_among m one ns ≡ Some k → Put m one ns k) → (if x then Some (m ∷ n ∷ ns) else (if is_before n m then option_map (λ k. n ∷ k) (put_among m one ns) else option_map (λ f. f ∷ ns) (one n))) ≡ Some l → Put m one (n ∷ ns) l
   before_is n ns l true g e = let p : m ∷ n ∷ ns ≡ l = cc in subst (Put m one (n ∷ ns)) p p_before
   before_is n ns l false g e = rest_is n ns l (is_before n m) g e
 
-  put_is : (ms l : List Tree) → put m one ms ≡ Some l → Put m one ms l
+  put_is : (ms l : List Tree) → put_among m one ms ≡ Some l → Put m one ms l
   put_is [] l e = let p : m ∷ [] ≡ l = cc in subst (Put m one []) p p_end
   put_is (n ∷ ns) l e = before_is n ns l (is_before m n) (λ k f. put_is ns k f) e
 
@@ -49,7 +49,7 @@ data PutAll (bases : Bases) : List Tree → List Tree → List Tree → Type 0 w
   a_one : {m : Tree} {ns ms k l : List Tree} → PutAll bases ns ms k → Put m (one_of bases m) k l → PutAll bases (m ∷ ns) ms l
 
 -- a member put after others, unless it is absorbed
-tested_is : (bases : Bases) (m : Tree) (x : Test) (ns ms k l : List Tree) → PutAll bases ns ms k → (if x then Some k else put m (one_of bases m) k) ≡ Some l → PutAll bases (if not x then m ∷ ns else ns) ms l
+tested_is : (bases : Bases) (m : Tree) (x : Test) (ns ms k l : List Tree) → PutAll bases ns ms k → (if x then Some k else put_among m (one_of bases m) k) ≡ Some l → PutAll bases (if not x then m ∷ ns else ns) ms l
 tested_is bases m true ns ms k l p e = let q : k ≡ l = cc in subst (PutAll bases ns ms) q p
 tested_is bases m false ns ms k l p e = a_one p (put_is m (one_of bases m) k l e)
 
@@ -65,16 +65,16 @@ bound_is : (f : List Tree → Option (List Tree)) (o : Option (List Tree)) (l : 
 bound_is f None l e = cc
 bound_is f (Some k) l e = (k, refl, e)
 
-listed_of : (a t : Tree) → IsNormal (Union a t) → IsListed t
+listed_of : (a t : Tree) → IsNormal (Union a t) → IsOfMembers t
 listed_of a Any n = n.3.0
 listed_of a Object n = n.3.0
 listed_of a _ n = n.2
 
-all_is : (bases : Bases) (other s : Tree) (ms l : List Tree) → IsListed s → put_all bases other s ms ≡ Some l → PutAll bases (unabsorbed bases s other) ms l
+all_is : (bases : Bases) (other s : Tree) (ms l : List Tree) → IsOfMembers s → put_all bases other s ms ≡ Some l → PutAll bases (unabsorbed_members bases s other) ms l
 all_is bases other Never ms l n e = let q : ms ≡ l = cc in subst (PutAll bases [] ms) q a_none
 all_is bases other (Union c d) ms l n e =
     let r = bound_is (λ k. put_all bases other c k) (put_all bases other d ms) l e in
-    member_is bases other c (unabsorbed bases d other) ms r.0 l n.0 (all_is bases other d ms r.0 (listed_of c d n) r.1) r.2
+    member_is bases other c (unabsorbed_members bases d other) ms r.0 l n.0 (all_is bases other d ms r.0 (listed_of c d n) r.1) r.2
 all_is bases other Any ms l n e = absurd n
 all_is bases other Object ms l n e = absurd n
 all_is bases other (TupleOf ss) ms l n e = member_is bases other (TupleOf ss) [] ms ms l tt a_none e
@@ -136,18 +136,18 @@ module _ (bases : Bases) (s : Tree) where
       across_tested m k (filter (λ n. not (is_absorbed bases n s)) ks) (is_absorbed bases k s) p.0 (h k) (across_one m ks h p.1)
 
   module _ (t : Tree) where
-    across_kept : (m : Tree) (ms : List Tree) (x : Test) → (x ≡ false → IncomparableToEach bases m (unabsorbed bases t s)) → Across bases ms (unabsorbed bases t s) → Across bases (if not x then m ∷ ms else ms) (unabsorbed bases t s)
+    across_kept : (m : Tree) (ms : List Tree) (x : Test) → (x ≡ false → IncomparableToEach bases m (unabsorbed_members bases t s)) → Across bases ms (unabsorbed_members bases t s) → Across bases (if not x then m ∷ ms else ms) (unabsorbed_members bases t s)
     across_kept m ms true h c = c
     across_kept m ms false h c = (h refl, c)
 
-    across_all : (l : List Tree) → ((k : Tree) → is_absorbed bases k s ≡ false → list_any (λ n. absorbs bases n k) l ≡ false) → Across bases (filter (λ m. not (is_absorbed bases m t)) l) (unabsorbed bases t s)
+    across_all : (l : List Tree) → ((k : Tree) → is_absorbed bases k s ≡ false → list_any (λ n. absorbs bases n k) l ≡ false) → Across bases (filter (λ m. not (is_absorbed bases m t)) l) (unabsorbed_members bases t s)
     across_all [] h = tt
     across_all (m ∷ ms) h =
         across_kept m (filter (λ n. not (is_absorbed bases n t)) ms) (is_absorbed bases m t)
         (λ e. across_one m (members t) (λ k f. (or_parts (absorbs bases m k) (list_any (λ n. absorbs bases n k) ms) (h k f)).0) e)
         (across_all ms (λ k f. (or_parts (absorbs bases m k) (list_any (λ n. absorbs bases n k) ms) (h k f)).1))
 
-across : (bases : Bases) (s t : Tree) → Across bases (unabsorbed bases s t) (unabsorbed bases t s)
+across : (bases : Bases) (s t : Tree) → Across bases (unabsorbed_members bases s t) (unabsorbed_members bases t s)
 across bases s t = across_all bases s t (members s) (λ k f. f)
 
 kept_make : (bases : Bases) (m : Tree) (x : Test) (ms : List Tree) → Makes bases m → AllMake bases ms → AllMake bases (if x then m ∷ ms else ms)
@@ -159,11 +159,11 @@ filter_make bases p [] g = tt
 filter_make bases p (m ∷ ms) g = kept_make bases m (p m) (filter p ms) g.0 (filter_make bases p ms g.1)
 
 -- the join, where each tuple of the first joins well
-together_reduced : (bases : Bases) (s t : Tree) (l : List Tree) → AreSmaller bases → IsListed s → IsListed t → IsReduced bases s → IsReduced bases t → AllMake bases (members s) → put_all bases t s (unabsorbed bases t s) ≡ Some l → IsReduced bases (union l)
+together_reduced : (bases : Bases) (s t : Tree) (l : List Tree) → AreSmaller bases → IsOfMembers s → IsOfMembers t → IsReduced bases s → IsReduced bases t → AllMake bases (members s) → put_all bases t s (unabsorbed_members bases t s) ≡ Some l → IsReduced bases (union l)
 together_reduced bases s t l o n k r q g e =
-    let p = all_is bases t s (unabsorbed bases t s) l n e in
+    let p = all_is bases t s (unabsorbed_members bases t s) l n e in
     let a = all_pairwise bases p (filter_make bases (λ m. not (is_absorbed bases m t)) (members s) g) (filter_incomparable bases (λ m. not (is_absorbed bases m t)) (members s) (members_incomparable bases s n r)) (across bases s t) (filter_incomparable bases (λ m. not (is_absorbed bases m s)) (members t) (members_incomparable bases t k q)) in
-    union_reduced bases l o (put_all_order bases t s (unabsorbed bases t s) l n (unabsorbed_order bases t s k) e) a
+    union_reduced bases l o (put_all_order bases t s (unabsorbed_members bases t s) l n (unabsorbed_order bases t s k) e) a
 
 mapped_reduced : (bases : Bases) (o : Option (List Tree)) (u : Tree) → ((l : List Tree) → o ≡ Some l → IsReduced bases (union l)) → option_map union o ≡ Some u → IsReduced bases u
 mapped_reduced bases None u h e = cc
@@ -172,7 +172,7 @@ mapped_reduced bases (Some l) u h e = let q : union l ≡ u = cc in subst (IsRed
 this_reduced : (bases : Bases) (t u : Tree) → IsReduced bases t → Some t ≡ Some u → IsReduced bases u
 this_reduced bases t u r e = let q : t ≡ u = cc in subst (IsReduced bases) q r
 
-rule_reduced : (bases : Bases) (s t u : Tree) (o : Option Tree) → IsNormal s → IsNormal t → IsReduced bases s → IsReduced bases t → (IsListed s → IsListed t → o ≡ Some u → IsReduced bases u) → by_rule s t o ≡ Some u → IsReduced bases u
+rule_reduced : (bases : Bases) (s t u : Tree) (o : Option Tree) → IsNormal s → IsNormal t → IsReduced bases s → IsReduced bases t → (IsOfMembers s → IsOfMembers t → o ≡ Some u → IsReduced bases u) → by_rule s t o ≡ Some u → IsReduced bases u
 rule_reduced bases Never t u o n m r q h e = this_reduced bases t u q e
 rule_reduced bases s Never u o n m r q h e = this_reduced bases s u r e
 rule_reduced bases Any t u o n m r q h e = this_reduced bases Any u tt e
@@ -181,13 +181,13 @@ rule_reduced bases Object t u o n m r q h e = this_reduced bases Object u tt e
 rule_reduced bases s Object u o n m r q h e = this_reduced bases Object u tt e
 rule_reduced bases s t u o n m r q h e = h n m e
 
-settled_reduced : (bases : Bases) (s t u : Tree) (o : Option (List Tree)) (x : Test) → IsNormal s → IsNormal t → IsReduced bases s → IsReduced bases t → (IsListed s → IsListed t → (l : List Tree) → o ≡ Some l → IsReduced bases (union l)) → (if x then Some s else by_rule s t (option_map union o)) ≡ Some u → IsReduced bases u
+settled_reduced : (bases : Bases) (s t u : Tree) (o : Option (List Tree)) (x : Test) → IsNormal s → IsNormal t → IsReduced bases s → IsReduced bases t → (IsOfMembers s → IsOfMembers t → (l : List Tree) → o ≡ Some l → IsReduced bases (union l)) → (if x then Some s else by_rule s t (option_map union o)) ≡ Some u → IsReduced bases u
 settled_reduced bases s t u o true n m r q h e = this_reduced bases s u r e
 settled_reduced bases s t u o false n m r q h e = rule_reduced bases s t u (option_map union o) n m r q (λ a b f. mapped_reduced bases o u (h a b) f) e
 
-with_members : (bases : Bases) (s t u : Tree) → AreSmaller bases → IsNormal s → IsNormal t → IsReduced bases s → IsReduced bases t → (IsListed s → AllMake bases (members s)) → joined bases s t ≡ Some u → IsReduced bases u
+with_members : (bases : Bases) (s t u : Tree) → AreSmaller bases → IsNormal s → IsNormal t → IsReduced bases s → IsReduced bases t → (IsOfMembers s → AllMake bases (members s)) → join_of bases s t ≡ Some u → IsReduced bases u
 with_members bases s t u o n m r q g e =
-    settled_reduced bases s t u (put_all bases t s (unabsorbed bases t s)) (same_tree s t) n m r q (λ a b l f. together_reduced bases s t l o a b r q (g a) f) e
+    settled_reduced bases s t u (put_all bases t s (unabsorbed_members bases t s)) (same_tree s t) n m r q (λ a b l f. together_reduced bases s t l o a b r q (g a) f) e
 
 equal_well : (bases : Bases) (m n f : Tree) → IsNormalReduced bases m → equal_one m n ≡ Some f → IsNormalReduced bases f
 equal_well bases m n f w e = subst (IsNormalReduced bases) (sym (equal_is m n f e)) w
@@ -216,7 +216,7 @@ module _ (bases : Bases) (o : AreSmaller bases) where
     makes (TupleOf ss) n r = tuple_well bases ss (λ ts us a b e. each_well ss ts us n r a b e)
     makes m n r = λ k f w e. equal_well bases m k f (n, r) e
 
-    members_make : (s : Tree) → IsListed s → IsReduced bases s → AllMake bases (members s)
+    members_make : (s : Tree) → IsOfMembers s → IsReduced bases s → AllMake bases (members s)
     members_make Never n r = tt
     members_make Any n r = absurd n
     members_make Object n r = absurd n
@@ -229,17 +229,17 @@ module _ (bases : Bases) (o : AreSmaller bases) where
     each_well end (more t ts) us n r m q e = cc
     each_well (more s ss) end us n r m q e = cc
     each_well (more s ss) (more t ts) us n r m q e =
-        both_well bases (joined bases s t) (join_each bases ss ts) us
+        both_well bases (join_of bases s t) (join_each bases ss ts) us
         (λ u f. (joined_normal bases s t u n.0 m.0 f, with_members bases s t u o n.0 m.0 r.0 q.0 (λ l. members_make s l r.0) f))
         (λ vs f. each_well ss ts vs n.1 r.1 m.1 q.1 f)
         e
 
 -- the join keeps types in normal form free of absorbed members
-pub joined_reduced : (bases : Bases) (s t u : Tree) → AreSmaller bases → IsNormal s → IsNormal t → IsReduced bases s → IsReduced bases t → joined bases s t ≡ Some u → IsReduced bases u
+pub joined_reduced : (bases : Bases) (s t u : Tree) → AreSmaller bases → IsNormal s → IsNormal t → IsReduced bases s → IsReduced bases t → join_of bases s t ≡ Some u → IsReduced bases u
 joined_reduced bases s t u o n m r q e = with_members bases s t u o n m r q (λ l. members_make bases o s l r) e
 
 -- and a join within the limit is a type that may be kept
 pub join_well_formed : JoinsAreWellFormed
 join_well_formed bases s t u o n m r q e =
-    let w = within_nodes (joined bases s t) u e in
+    let w = within_nodes (join_of bases s t) u e in
     (joined_normal bases s t u n m w.1, joined_reduced bases s t u o n m r q w.1, w.0)

@@ -6,8 +6,8 @@ use Rattle.std.specs.Option.{option_map}
 use Rattle.pc_types.specs.Tree.{Tree, Trees, Never, TupleOf, end, more}
 use Rattle.pc_types.specs.Below.{Bases}
 use Rattle.pc_types.specs.Shape.{count, union}
-use Rattle.pc_types.specs.Normal.{IsNormal, AreNormal, IsListed}
-use Rattle.pc_types.specs.Join.{same_tree, same_trees, is_before, both_parts, parts_of, put_all, unabsorbed, by_rule, one_of, join_each, joined}
+use Rattle.pc_types.specs.Normal.{IsNormal, AreNormal, IsOfMembers}
+use Rattle.pc_types.specs.Join.{same_tree, same_trees, is_before, both_parts, parts_of, put_all, unabsorbed_members, by_rule, one_of, join_each, join_of}
 use Rattle.pc_types.specs.Boxed.{tree_of, trees_in}
 use Rattle.pc_types.specs.declared.boxed.BoxType.{BoxType}
 use Rattle.pc_types.specs.declared.boxed.BoxType.TheVariants as ty
@@ -53,24 +53,24 @@ module _ (bases : Bases) where
   each_lengths [] (t ∷ ts) h = refl
   each_lengths (s ∷ ss) [] h = refl
   each_lengths (s ∷ ss) (t ∷ ts) h =
-      no_parts (joined bases (tree_of s) (tree_of t)) ∙ ap (both_parts (joined bases (tree_of s) (tree_of t))) (each_lengths ss ts (λ e. h (ap suc e)))
+      no_parts (join_of bases (tree_of s) (tree_of t)) ∙ ap (both_parts (join_of bases (tree_of s) (tree_of t))) (each_lengths ss ts (λ e. h (ap suc e)))
 
   -- the parts so far are joined
   abbrev pub JoinsTo : List BoxType → List BoxType → ℕ → List BoxType → Type 0
   JoinsTo ss ts i out = each ss ts ≡ prefixed out (each (drop i ss) (drop i ts))
 
-  each_at : (ss ts : List BoxType) (i : ℕ) (s t : BoxType) → i < length ss → i < length ts → s ≡ get_or ss i s → t ≡ get_or ts i t → each (drop i ss) (drop i ts) ≡ both_parts (joined bases (tree_of s) (tree_of t)) (each (drop (i + 1) ss) (drop (i + 1) ts))
+  each_at : (ss ts : List BoxType) (i : ℕ) (s t : BoxType) → i < length ss → i < length ts → s ≡ get_or ss i s → t ≡ get_or ts i t → each (drop i ss) (drop i ts) ≡ both_parts (join_of bases (tree_of s) (tree_of t)) (each (drop (i + 1) ss) (drop (i + 1) ts))
   each_at ss ts i s t h k e f =
       let p : drop i ss ≡ s ∷ drop (i + 1) ss = rw add-one (drop-cons ss i s h ∙ ap (λ x. x ∷ drop (suc i) ss) (sym e)) in
       let q : drop i ts ≡ t ∷ drop (i + 1) ts = rw add-one (drop-cons ts i t k ∙ ap (λ x. x ∷ drop (suc i) ts) (sym f)) in
       λ j. each (p j) (q j)
 
-  pub joins_more : (ss ts out : List BoxType) (i : ℕ) (s t x : BoxType) → JoinsTo ss ts i out → i < length ss → i < length ts → s ≡ get_or ss i s → t ≡ get_or ts i t → Some (tree_of x) ≡ joined bases (tree_of s) (tree_of t) → JoinsTo ss ts (i + 1) (out ++ x ∷ [])
+  pub joins_more : (ss ts out : List BoxType) (i : ℕ) (s t x : BoxType) → JoinsTo ss ts i out → i < length ss → i < length ts → s ≡ get_or ss i s → t ≡ get_or ts i t → Some (tree_of x) ≡ join_of bases (tree_of s) (tree_of t) → JoinsTo ss ts (i + 1) (out ++ x ∷ [])
   joins_more ss ts out i s t x j h k e f g =
       j ∙ ap (prefixed out) (each_at ss ts i s t h k e f ∙ ap (λ o. both_parts o (each (drop (i + 1) ss) (drop (i + 1) ts))) (sym g))
       ∙ sym (prefixed_push out x (each (drop (i + 1) ss) (drop (i + 1) ts)))
 
-  pub joins_none : (ss ts out : List BoxType) (i : ℕ) (s t : BoxType) → JoinsTo ss ts i out → i < length ss → i < length ts → s ≡ get_or ss i s → t ≡ get_or ts i t → None ≡ joined bases (tree_of s) (tree_of t) → None ≡ each ss ts
+  pub joins_none : (ss ts out : List BoxType) (i : ℕ) (s t : BoxType) → JoinsTo ss ts i out → i < length ss → i < length ts → s ≡ get_or ss i s → t ≡ get_or ts i t → None ≡ join_of bases (tree_of s) (tree_of t) → None ≡ each ss ts
   joins_none ss ts out i s t j h k e f g =
       sym (j ∙ ap (prefixed out) (each_at ss ts i s t h k e f ∙ ap (λ o. both_parts o (each (drop (i + 1) ss) (drop (i + 1) ts))) (sym g) ∙ no_first (each (drop (i + 1) ss) (drop (i + 1) ts))) ∙ prefixed_none out)
 
@@ -93,7 +93,7 @@ same_join bases end (more t ts) e = cc
 same_join bases (more s ss) end e = cc
 same_join bases (more s ss) (more t ts) e =
     let r = both_true (same_tree s t) (same_trees ss ts) e in
-    ap (λ b. both_parts (if b then Some s else by_rule s t (option_map union (put_all bases t s (unabsorbed bases t s)))) (join_each bases ss ts)) r.0
+    ap (λ b. both_parts (if b then Some s else by_rule s t (option_map union (put_all bases t s (unabsorbed_members bases t s)))) (join_each bases ss ts)) r.0
     ∙ ap (both_parts (Some s)) (same_join bases ss ts r.1)
 
 same_counts : (ss ts : Trees) → same_trees ss ts ≡ true → count ss ≡ count ts
@@ -105,7 +105,7 @@ same_counts (more s ss) (more t ts) e = ap (λ n. n + 1) (same_counts ss ts (bot
 equal_before : (ss ts : Trees) → count ss ≡ count ts → is_before (TupleOf ss) (TupleOf ts) ≡ false
 equal_before ss ts e = grind (arith, nat_tests)
 
-tuple_case : (bases : Bases) (ss ts : Trees) (x : Test) → same_trees ss ts ≡ x → option_map union (put_all bases (TupleOf ts) (TupleOf ss) (unabsorbed bases (TupleOf ts) (TupleOf ss))) ≡ if x then Some (TupleOf ss) else option_map union (put_all bases (TupleOf ts) (TupleOf ss) (unabsorbed bases (TupleOf ts) (TupleOf ss)))
+tuple_case : (bases : Bases) (ss ts : Trees) (x : Test) → same_trees ss ts ≡ x → option_map union (put_all bases (TupleOf ts) (TupleOf ss) (unabsorbed_members bases (TupleOf ts) (TupleOf ss))) ≡ if x then Some (TupleOf ss) else option_map union (put_all bases (TupleOf ts) (TupleOf ss) (unabsorbed_members bases (TupleOf ts) (TupleOf ss)))
 tuple_case bases ss ts true e =
     let c = same_counts ss ts e in
     ap (option_map union) (put_same bases (TupleOf ss) (TupleOf ts) (TupleOf ss) (TupleOf ts) (λ n. option_map TupleOf (join_each bases ss (parts_of n))) [] (equal_before ss ts c) (equal_before ts ss (sym c)))
@@ -113,7 +113,7 @@ tuple_case bases ss ts true e =
 tuple_case bases ss ts false e = refl
 
 -- what the rules say of a tuple is the join, equal or not
-pub tuple_rule : (bases : Bases) (ss : Trees) (t : Tree) → by_rule (TupleOf ss) t (option_map union (put_all bases t (TupleOf ss) (unabsorbed bases t (TupleOf ss)))) ≡ joined bases (TupleOf ss) t
+pub tuple_rule : (bases : Bases) (ss : Trees) (t : Tree) → by_rule (TupleOf ss) t (option_map union (put_all bases t (TupleOf ss) (unabsorbed_members bases t (TupleOf ss)))) ≡ join_of bases (TupleOf ss) t
 tuple_rule bases ss (TupleOf ts) = tuple_case bases ss ts (same_trees ss ts) refl
 tuple_rule bases ss Never = refl
 tuple_rule bases ss _ = refl
@@ -132,7 +132,7 @@ normal_parts (TupleOf ts) n = n
 normal_parts _ n = tt
 
 -- a type that no rule names has members
-pub listed_of : (t : BoxType) → (t ≡ ty.Any → ⊥) → (t ≡ ty.Object → ⊥) → IsNormal (tree_of t) → IsListed (tree_of t)
+pub listed_of : (t : BoxType) → (t ≡ ty.Any → ⊥) → (t ≡ ty.Object → ⊥) → IsNormal (tree_of t) → IsOfMembers (tree_of t)
 listed_of ty.Any a o n = a refl
 listed_of ty.Object a o n = o refl
 listed_of _ a o n = n
@@ -146,8 +146,8 @@ ordinary_rule s ty.Any o a b c d e f = absurd (e refl)
 ordinary_rule s ty.Object o a b c d e f = absurd (f refl)
 ordinary_rule _ _ o a b c d e f = refl
 
-pub tuple_rule_at : (bases : Bases) (s : Tree) (ss : Trees) (t : Tree) → s ≡ TupleOf ss → by_rule s t (option_map union (put_all bases t s (unabsorbed bases t s))) ≡ joined bases s t
-tuple_rule_at bases s ss t e = subst (λ x. by_rule x t (option_map union (put_all bases t x (unabsorbed bases t x))) ≡ joined bases x t) (sym e) (tuple_rule bases ss t)
+pub tuple_rule_at : (bases : Bases) (s : Tree) (ss : Trees) (t : Tree) → s ≡ TupleOf ss → by_rule s t (option_map union (put_all bases t s (unabsorbed_members bases t s))) ≡ join_of bases s t
+tuple_rule_at bases s ss t e = subst (λ x. by_rule x t (option_map union (put_all bases t x (unabsorbed_members bases t x))) ≡ join_of bases x t) (sym e) (tuple_rule bases ss t)
 
 -- what a vector of parts means
 abbrev pub parts_tree : Vec BoxType Global → Trees

@@ -3,7 +3,7 @@ use Rattle.std.proofs.Common.{◌≡◌, ◌⊎◌, ◌&&◌, ℕ, Bool as Test,
 use Rattle.std.proofs.lemmas.Bool.Decides.{nat_tests}
 use Rattle.pc_types.specs.Tree.{Tree, Any, Object, Never, Class, ListOf, DictOf, TupleOf, Union}
 use Rattle.pc_types.specs.Shape.{count}
-use Rattle.pc_types.specs.Normal.{rank, IsBefore, IsMember, IsAfter, IsNormal}
+use Rattle.pc_types.specs.Normal.{member_rank, IsRankBefore, IsMember, IsAfter, IsNormal}
 
 -- whether two places are one
 abbrev pub same_place : ℕ × ℕ → ℕ × ℕ → Test
@@ -16,15 +16,15 @@ first (Some t) o = Some t
 -- the member at this place
 abbrev pub find : ℕ × ℕ → Tree → Option Tree
 find p (Union a b) = first (find p a) (find p b)
-find p t = cond (same_place p (rank t)) (Some t) None
+find p t = cond (same_place p (member_rank t)) (Some t) None
 
 pub same_itself : (p : ℕ × ℕ) → same_place p p ≡ true
 same_itself p = grind (arith, nat_tests)
 
-pub before_differs : (p q : ℕ × ℕ) → IsBefore p q → same_place q p ≡ false
+pub before_differs : (p q : ℕ × ℕ) → IsRankBefore p q → same_place q p ≡ false
 before_differs p q h = grind (arith, nat_tests)
 
-pub find_itself : (t : Tree) → IsMember t → find (rank t) t ≡ Some t
+pub find_itself : (t : Tree) → IsMember t → find (member_rank t) t ≡ Some t
 find_itself (TupleOf ts) m = ap (λ b. cond b (Some (TupleOf ts)) None) (same_itself (7, count ts))
 find_itself (Class c) m = ap (λ b. cond b (Some (Class c)) None) (same_itself (8, c))
 find_itself (Union a b) m = absurd m
@@ -33,12 +33,12 @@ find_itself Object m = absurd m
 find_itself Never m = absurd m
 find_itself _ m = refl
 
-pub find_other : (p : ℕ × ℕ) (t : Tree) → IsMember t → IsBefore (rank t) p → find p t ≡ None
+pub find_other : (p : ℕ × ℕ) (t : Tree) → IsMember t → IsRankBefore (member_rank t) p → find p t ≡ None
 find_other p (Union a b) m h = absurd m
 find_other p Any m h = absurd m
-find_other p t m h = ap (λ b. cond b (Some t) None) (before_differs (rank t) p h)
+find_other p t m h = ap (λ b. cond b (Some t) None) (before_differs (member_rank t) p h)
 
-pub find_behind : (p : ℕ × ℕ) (a u : Tree) → IsMember a → IsBefore (rank a) p → find p (Union a u) ≡ find p u
+pub find_behind : (p : ℕ × ℕ) (a u : Tree) → IsMember a → IsRankBefore (member_rank a) p → find p (Union a u) ≡ find p u
 find_behind p a u m h = ap (λ o. first o (find p u)) (find_other p a m h)
 
 first_of : {m : Tree} (x y : Option Tree) → first x y ≡ Some m → (x ≡ Some m) ⊎ (y ≡ Some m)
@@ -49,16 +49,16 @@ there : {m : Tree} (t : Tree) (b : Test) → cond b (Some t) None ≡ Some m →
 there t true e = refl
 there t false e = cc
 
-before_place : (p q r : ℕ × ℕ) → same_place p q ≡ true → IsBefore r q → IsBefore r p
+before_place : (p q r : ℕ × ℕ) → same_place p q ≡ true → IsRankBefore r q → IsRankBefore r p
 before_place p q r e h = grind (arith, nat_tests)
 
 -- what is found in a type that stands behind a member has its place behind that member's
-pub found_behind : {m : Tree} (p : ℕ × ℕ) (a t : Tree) → IsAfter a t → find p t ≡ Some m → IsBefore (rank a) p
+pub found_behind : {m : Tree} (p : ℕ × ℕ) (a t : Tree) → IsAfter a t → find p t ≡ Some m → IsRankBefore (member_rank a) p
 found_behind p a (Union c d) h e = ⊎_elim (found_behind p a c h.0) (found_behind p a d h.1) (first_of (find p c) (find p d) e)
 found_behind p a Any h e = absurd h.0
 found_behind p a Object h e = absurd h.0
 found_behind p a Never h e = absurd h.0
-found_behind p a t h e = before_place p (rank t) (rank a) (there t (same_place p (rank t)) e) h.1
+found_behind p a t h e = before_place p (member_rank t) (member_rank a) (there t (same_place p (member_rank t)) e) h.1
 
 -- what the second has at the first's place, or at those of its members, is the first, or that member
 abbrev pub Agrees : Tree → Tree → Type 0

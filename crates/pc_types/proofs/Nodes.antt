@@ -4,7 +4,7 @@ use Rattle.std.proofs.lemmas.List.{take_more}
 use Rattle.std.proofs.lemmas.List.Elements.{All-nil, All-cons, All-head, All-tail}
 use Rattle.std.specs.List.{slice_get}
 use Rattle.pc_types.specs.Tree.{Tree, Trees, ListOf, DictOf, TupleOf, Union, end, more}
-use Rattle.pc_types.specs.Shape.{count, nodes, nodes_of, limit, members, parts, listed, trees}
+use Rattle.pc_types.specs.Shape.{count, nodes, nodes_of, node_limit, members, parts, list_of_trees, trees}
 use Rattle.pc_types.specs.Head.{head_of, part_count}
 use Rattle.pc_types.specs.Normal.{IsNormal, AreNormal}
 use Rattle.pc_types.specs.Boxed.{tree_of, trees_in, IsGiven}
@@ -28,7 +28,7 @@ members_nodes (DictOf k v) = omega arith
 members_nodes (TupleOf ts) = omega arith
 members_nodes _ = omega arith
 
-pub listed_trees : (ts : List Tree) → listed (trees ts) ≡ ts
+pub listed_trees : (ts : List Tree) → list_of_trees (trees ts) ≡ ts
 listed_trees [] = refl
 listed_trees (t ∷ ts) = ap (λ l. t ∷ l) (listed_trees ts)
 
@@ -72,7 +72,7 @@ member_within Rattle.pc_types.specs.Tree.Never zero p n e = cc
 member_within Rattle.pc_types.specs.Tree.Never (suc k) p n e = cc
 member_within t k p n e = only t p k n e
 
-listed_within : (ts : Trees) (k : ℕ) (p : Tree) → AreNormal ts → slice_get (listed ts) k ≡ Some p → (nodes p ≤ nodes_of ts) × IsNormal p
+listed_within : (ts : Trees) (k : ℕ) (p : Tree) → AreNormal ts → slice_get (list_of_trees ts) k ≡ Some p → (nodes p ≤ nodes_of ts) × IsNormal p
 listed_within end zero p n e = cc
 listed_within end (suc k) p n e = cc
 listed_within (more t ts) zero p n e = let q : t ≡ p = cc in subst (λ x. (nodes x ≤ nodes_of (more t ts)) × IsNormal x) q (omega arith, n.0)
@@ -97,7 +97,7 @@ part_given t p k (Ok c) g e h =
     (record { small = omega arith; normal = w.normal }, q)
 part_given t p k (Err x) g e h = tt
 
-listed_count : (ts : Trees) → length (listed ts) ≡ count ts
+listed_count : (ts : Trees) → length (list_of_trees ts) ≡ count ts
 listed_count end = refl
 listed_count (more t ts) = omega (arith, listed_count ts)
 
@@ -135,5 +135,5 @@ parts_given t (Ok v) g e =
 parts_given t (Err x) g e = tt
 
 -- a type in boxes that means a tree in normal form within the limit is one that the store may give
-pub given_as : (u : BoxType) (t : Tree) → tree_of u ≡ t → IsNormal t → nodes t ≤ limit → IsGiven u
-given_as u t e n l = record { small = subst (λ x. nodes x ≤ limit) (sym e) l; normal = subst IsNormal (sym e) n }
+pub given_as : (u : BoxType) (t : Tree) → tree_of u ≡ t → IsNormal t → nodes t ≤ node_limit → IsGiven u
+given_as u t e n l = record { small = subst (λ x. nodes x ≤ node_limit) (sym e) l; normal = subst IsNormal (sym e) n }

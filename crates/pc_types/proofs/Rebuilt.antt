@@ -2,14 +2,14 @@
 use Rattle.std.proofs.Common.{◌≡◌, ℕ, zero, suc, ◌<◌, ◌≤◌, List, [], ◌∷◌, Some, refl, sym, ap, ◌∙◌, arith}
 use Rattle.std.specs.List.{slice_get}
 use Rattle.pc_types.specs.Tree.{Tree, Trees, Any, Object, Never, Int, Bool, Str, NoneType, Class, ListOf, DictOf, TupleOf, Union, end, more}
-use Rattle.pc_types.specs.Shape.{nodes, nodes_of, parts, members, listed, trees, ahead, union}
+use Rattle.pc_types.specs.Shape.{nodes, nodes_of, parts, members, list_of_trees, trees, ahead, union}
 use Rattle.pc_types.specs.Head.{head_of}
-use Rattle.pc_types.specs.Normal.{IsNormal, IsListed, IsAfter}
-use Rattle.pc_types.specs.Rebuilding.{rebuilt}
+use Rattle.pc_types.specs.Normal.{IsNormal, IsOfMembers, IsAfter}
+use Rattle.pc_types.specs.Internal.Rebuilding.{rebuilt}
 use Rattle.pc_types.proofs.Together.{listed_rest}
 use Rattle.pc_types.proofs.Nodes.{some_node}
 
-trees_listed : (ts : Trees) → trees (listed ts) ≡ ts
+trees_listed : (ts : Trees) → trees (list_of_trees ts) ≡ ts
 trees_listed end = refl
 trees_listed (more t ts) = ap (more t) (trees_listed ts)
 
@@ -17,7 +17,7 @@ ahead_after : (a b : Tree) → IsAfter a b → ahead a b ≡ Union a b
 ahead_after a Never h = absurd h.0
 ahead_after a _ h = refl
 
-union_members : (t : Tree) → IsListed t → union (members t) ≡ t
+union_members : (t : Tree) → IsOfMembers t → union (members t) ≡ t
 union_members (Union a b) n = ap (ahead a) (union_members b (listed_rest a b n.2 n.3)) ∙ ahead_after a b n.3
 union_members Any n = absurd n
 union_members Object n = absurd n
@@ -40,7 +40,7 @@ member_fewer Never (suc k) p e = cc
 member_fewer t zero p e = let q : t ≡ p = cc in rw (← q) (omega arith)
 member_fewer t (suc k) p e = cc
 
-listed_fewer : (ts : Trees) (k : ℕ) (p : Tree) → slice_get (listed ts) k ≡ Some p → nodes p ≤ nodes_of ts
+listed_fewer : (ts : Trees) (k : ℕ) (p : Tree) → slice_get (list_of_trees ts) k ≡ Some p → nodes p ≤ nodes_of ts
 listed_fewer end zero p e = cc
 listed_fewer end (suc k) p e = cc
 listed_fewer (more t ts) zero p e = let q : t ≡ p = cc in rw (← q) (omega arith)

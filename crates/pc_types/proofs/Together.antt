@@ -6,50 +6,50 @@ use Rattle.std.specs.Option.{option_map, option_and_then}
 use Rattle.pc_types.specs.Tree.{Tree, Trees, Any, Object, Never, ListOf, DictOf, TupleOf, Union, end, more}
 use Rattle.pc_types.specs.Below.{Bases}
 use Rattle.pc_types.specs.Shape.{count, members, ahead, union}
-use Rattle.pc_types.specs.Normal.{rank, IsBefore, IsMember, IsAfter, IsNormal, IsListed}
-use Rattle.pc_types.specs.Join.{same_tree, is_absorbed, unabsorbed, is_before, put, parts_of, equal_one, both_parts, put_all, join_each, one_of, IsSplit, kept_with, ahead_of, one_with}
+use Rattle.pc_types.specs.Normal.{member_rank, IsRankBefore, IsMember, IsAfter, IsNormal, IsOfMembers}
+use Rattle.pc_types.specs.Join.{same_tree, is_absorbed, unabsorbed_members, is_before, put_among, parts_of, equal_one, both_parts, put_all, join_each, one_of, IsSplit, kept_with, ahead_of, one_with}
 
 -- each member of the second stands behind the first
 abbrev pub Behind : Tree → Tree → Type 0
 Behind b Never = Unit {0}
 Behind b (Union c d) = Behind b c × Behind b d
-Behind b m = IsMember m × IsBefore (rank b) (rank m)
+Behind b m = IsMember m × IsRankBefore (member_rank b) (member_rank m)
 
 abbrev pub AllBehind : Tree → List Tree → Type 0
 AllBehind a [] = Unit {0}
-AllBehind a (n ∷ ns) = IsBefore (rank a) (rank n) × AllBehind a ns
+AllBehind a (n ∷ ns) = IsRankBefore (member_rank a) (member_rank n) × AllBehind a ns
 
 pub after_behind : (a t : Tree) → IsAfter a t → Behind a t
 after_behind a (Union c d) h = (after_behind a c h.0, after_behind a d h.1)
 after_behind a Never h = tt
 after_behind a _ h = h
 
-pub place_before : (p q r : ℕ × ℕ) → IsBefore p q → IsBefore q r → IsBefore p r
+pub place_before : (p q r : ℕ × ℕ) → IsRankBefore p q → IsRankBefore q r → IsRankBefore p r
 place_before p q r h k = grind (arith, nat_tests)
 
-pub behind_through : (a b t : Tree) → IsBefore (rank a) (rank b) → Behind b t → Behind a t
+pub behind_through : (a b t : Tree) → IsRankBefore (member_rank a) (member_rank b) → Behind b t → Behind a t
 behind_through a b (Union c d) h k = (behind_through a b c h k.0, behind_through a b d h k.1)
 behind_through a b Never h k = tt
-behind_through a b (TupleOf ts) h k = (tt, place_before (rank a) (rank b) (7, count ts) h k.1)
-behind_through a b t h k = (k.0, place_before (rank a) (rank b) (rank t) h k.1)
+behind_through a b (TupleOf ts) h k = (tt, place_before (member_rank a) (member_rank b) (7, count ts) h k.1)
+behind_through a b t h k = (k.0, place_before (member_rank a) (member_rank b) (member_rank t) h k.1)
 
-pub before_true : (m n : Tree) → IsBefore (rank m) (rank n) → is_before m n ≡ true
+pub before_true : (m n : Tree) → IsRankBefore (member_rank m) (member_rank n) → is_before m n ≡ true
 before_true m n h = grind (arith, nat_tests)
 
-pub before_false : (m n : Tree) → IsBefore (rank n) (rank m) → is_before m n ≡ false
+pub before_false : (m n : Tree) → IsRankBefore (member_rank n) (member_rank m) → is_before m n ≡ false
 before_false m n h = grind (arith, nat_tests)
 
-pub before_of : (m n : Tree) → is_before m n ≡ true → IsBefore (rank m) (rank n)
+pub before_of : (m n : Tree) → is_before m n ≡ true → IsRankBefore (member_rank m) (member_rank n)
 before_of m n h = grind (arith, nat_tests)
 
-pub same_rank : (m n : Tree) → is_before m n ≡ false → is_before n m ≡ false → rank m ≡ rank n
+pub same_rank : (m n : Tree) → is_before m n ≡ false → is_before n m ≡ false → member_rank m ≡ member_rank n
 same_rank m n h k =
-    let e : (rank m).0 ≡ (rank n).0 = grind (arith, nat_tests) in
-    let f : (rank m).1 ≡ (rank n).1 = grind (arith, nat_tests) in
+    let e : (member_rank m).0 ≡ (member_rank n).0 = grind (arith, nat_tests) in
+    let f : (member_rank m).1 ≡ (member_rank n).1 = grind (arith, nat_tests) in
     λ i. (e i, f i)
 
 -- one member of a type is put after the test whether the other type absorbs it
-pub put_member : (bases : Bases) (other m : Tree) (ms : List Tree) → IsMember m → put_all bases other m ms ≡ if is_absorbed bases m other then Some ms else put m (one_of bases m) ms
+pub put_member : (bases : Bases) (other m : Tree) (ms : List Tree) → IsMember m → put_all bases other m ms ≡ if is_absorbed bases m other then Some ms else put_among m (one_of bases m) ms
 put_member bases other Any ms h = absurd h
 put_member bases other Object ms h = absurd h
 put_member bases other Never ms h = absurd h
@@ -58,7 +58,7 @@ put_member bases other (TupleOf ss) ms h = refl
 put_member bases other _ ms h = refl
 
 -- what stands before a member stays in front of it
-put_behind : (b m : Tree) (one : Tree → Option Tree) (ms : List Tree) → IsBefore (rank b) (rank m) → put m one (b ∷ ms) ≡ option_map (λ l. b ∷ l) (put m one ms)
+put_behind : (b m : Tree) (one : Tree → Option Tree) (ms : List Tree) → IsRankBefore (member_rank b) (member_rank m) → put_among m one (b ∷ ms) ≡ option_map (λ l. b ∷ l) (put_among m one ms)
 put_behind b m one ms h = rw (before_false m b h, before_true b m h) refl
 
 tested_behind : (x : Test) (b : Tree) (ms : List Tree) (p q : Option (List Tree)) → p ≡ option_map (λ l. b ∷ l) q → (if x then Some (b ∷ ms) else p) ≡ option_map (λ l. b ∷ l) (if x then Some ms else q)
@@ -81,7 +81,7 @@ put_past bases other (TupleOf ss) b ms h =
 put_past bases other m b ms h = tested_behind (is_absorbed bases m other) b ms _ _ (put_behind b m (one_of bases m) ms h.1)
 
 -- a member put among others that all stand behind it comes first
-put_first : (a : Tree) (one : Tree → Option Tree) (ms : List Tree) → AllBehind a ms → put a one ms ≡ Some (a ∷ ms)
+put_first : (a : Tree) (one : Tree → Option Tree) (ms : List Tree) → AllBehind a ms → put_among a one ms ≡ Some (a ∷ ms)
 put_first a one [] h = refl
 put_first a one (n ∷ ns) h = rw (before_true a n h.0) refl
 
@@ -108,34 +108,34 @@ pub mapped : (f : Trees → Tree) (o : Option Trees) (u : Tree) → option_map f
 mapped f None u e = cc
 mapped f (Some us) u e = (us, refl, cc)
 
-pub one_rank : (bases : Bases) (m n f : Tree) → one_of bases m n ≡ Some f → rank f ≡ rank m
+pub one_rank : (bases : Bases) (m n f : Tree) → one_of bases m n ≡ Some f → member_rank f ≡ member_rank m
 one_rank bases (TupleOf ss) n f e =
     let r = mapped TupleOf (join_each bases ss (parts_of n)) f e in
-    ap rank r.2 ∙ ap (λ k. (7, k)) (join_count bases ss (parts_of n) r.0 r.1)
-one_rank bases m n f e = ap rank (equal_is m n f e)
+    ap member_rank r.2 ∙ ap (λ k. (7, k)) (join_count bases ss (parts_of n) r.0 r.1)
+one_rank bases m n f e = ap member_rank (equal_is m n f e)
 
 -- what is put behind a member stands behind it
 module _ (a m n : Tree) (one : Tree → Option Tree) (ns l : List Tree) where
   abbrev Keeps : Option (List Tree) → Type 0
   Keeps o = (k : List Tree) → o ≡ Some k → AllBehind a k
 
-  keeps_rest : IsBefore (rank a) (rank n) → (o : Option (List Tree)) → Keeps o → option_map (λ k. n ∷ k) o ≡ Some l → AllBehind a l
+  keeps_rest : IsRankBefore (member_rank a) (member_rank n) → (o : Option (List Tree)) → Keeps o → option_map (λ k. n ∷ k) o ≡ Some l → AllBehind a l
   keeps_rest h None g e = cc
   keeps_rest h (Some k) g e = let q : n ∷ k ≡ l = cc in subst (AllBehind a) q (h, g k refl)
 
-  keeps_made : IsBefore (rank a) (rank m) → AllBehind a ns → (o : Option Tree) → ((f : Tree) → o ≡ Some f → rank f ≡ rank m) → option_map (λ f. f ∷ ns) o ≡ Some l → AllBehind a l
+  keeps_made : IsRankBefore (member_rank a) (member_rank m) → AllBehind a ns → (o : Option Tree) → ((f : Tree) → o ≡ Some f → member_rank f ≡ member_rank m) → option_map (λ f. f ∷ ns) o ≡ Some l → AllBehind a l
   keeps_made h b None g e = cc
-  keeps_made h b (Some f) g e = let q : f ∷ ns ≡ l = cc in subst (AllBehind a) q (subst (IsBefore (rank a)) (sym (g f refl)) h, b)
+  keeps_made h b (Some f) g e = let q : f ∷ ns ≡ l = cc in subst (AllBehind a) q (subst (IsRankBefore (member_rank a)) (sym (g f refl)) h, b)
 
-  keeps_behind : IsBefore (rank a) (rank m) → IsBefore (rank a) (rank n) → AllBehind a ns → ((f : Tree) → one n ≡ Some f → rank f ≡ rank m) → Keeps (put m one ns) → (x : Test) → (if x then option_map (λ k. n ∷ k) (put m one ns) else option_map (λ f. f ∷ ns) (one n)) ≡ Some l → AllBehind a l
-  keeps_behind h c b r g true e = keeps_rest c (put m one ns) g e
+  keeps_behind : IsRankBefore (member_rank a) (member_rank m) → IsRankBefore (member_rank a) (member_rank n) → AllBehind a ns → ((f : Tree) → one n ≡ Some f → member_rank f ≡ member_rank m) → Keeps (put_among m one ns) → (x : Test) → (if x then option_map (λ k. n ∷ k) (put_among m one ns) else option_map (λ f. f ∷ ns) (one n)) ≡ Some l → AllBehind a l
+  keeps_behind h c b r g true e = keeps_rest c (put_among m one ns) g e
   keeps_behind h c b r g false e = keeps_made h b (one n) r e
 
-  keeps_before : IsBefore (rank a) (rank m) → IsBefore (rank a) (rank n) → AllBehind a ns → ((f : Tree) → one n ≡ Some f → rank f ≡ rank m) → Keeps (put m one ns) → (x : Test) → (if x then Some (m ∷ n ∷ ns) else (if is_before n m then option_map (λ k. n ∷ k) (put m one ns) else option_map (λ f. f ∷ ns) (one n))) ≡ Some l → AllBehind a l
+  keeps_before : IsRankBefore (member_rank a) (member_rank m) → IsRankBefore (member_rank a) (member_rank n) → AllBehind a ns → ((f : Tree) → one n ≡ Some f → member_rank f ≡ member_rank m) → Keeps (put_among m one ns) → (x : Test) → (if x then Some (m ∷ n ∷ ns) else (if is_before n m then option_map (λ k. n ∷ k) (put_among m one ns) else option_map (λ f. f ∷ ns) (one n))) ≡ Some l → AllBehind a l
   keeps_before h c b r g true e = let q : m ∷ n ∷ ns ≡ l = cc in subst (AllBehind a) q (h, (c, b))
   keeps_before h c b r g false e = keeps_behind h c b r g (is_before n m) e
 
-pub put_keeps : (a m : Tree) (one : Tree → Option Tree) (ms l : List Tree) → IsBefore (rank a) (rank m) → ((n f : Tree) → one n ≡ Some f → rank f ≡ rank m) → AllBehind a ms → put m one ms ≡ Some l → AllBehind a l
+pub put_keeps : (a m : Tree) (one : Tree → Option Tree) (ms l : List Tree) → IsRankBefore (member_rank a) (member_rank m) → ((n f : Tree) → one n ≡ Some f → member_rank f ≡ member_rank m) → AllBehind a ms → put_among m one ms ≡ Some l → AllBehind a l
 put_keeps a m one [] l h r b e = let q : m ∷ [] ≡ l = cc in subst (AllBehind a) q (h, tt)
 put_keeps a m one (n ∷ ns) l h r b e = keeps_before a m n one ns l h b.0 b.1 (r n) (λ k f. put_keeps a m one ns k h r b.1 f) (is_before m n) e
 
@@ -159,7 +159,7 @@ all_behind bases other m a ms l h b e =
     tested_keeps a (is_absorbed bases m other) ms l _ b (put_keeps a m (one_of bases m) ms l h.1 (one_rank bases m) b) e
 
 -- the members that are left stand where they stood
-tested_behind_all : (a n : Tree) (x : Test) (ns : List Tree) → IsBefore (rank a) (rank n) → AllBehind a ns → AllBehind a (if x then n ∷ ns else ns)
+tested_behind_all : (a n : Tree) (x : Test) (ns : List Tree) → IsRankBefore (member_rank a) (member_rank n) → AllBehind a ns → AllBehind a (if x then n ∷ ns else ns)
 tested_behind_all a n true ns h b = (h, b)
 tested_behind_all a n false ns h b = b
 
@@ -167,18 +167,18 @@ pub filter_behind : (p : Tree → Test) (a : Tree) (ms : List Tree) → AllBehin
 filter_behind p a [] h = tt
 filter_behind p a (n ∷ ns) h = tested_behind_all a n (p n) (filter p ns) h.0 (filter_behind p a ns h.1)
 
-pub member_place : (a m : Tree) → IsMember m → Behind a m → IsBefore (rank a) (rank m)
+pub member_place : (a m : Tree) → IsMember m → Behind a m → IsRankBefore (member_rank a) (member_rank m)
 member_place a (Union c d) k h = absurd k
 member_place a Never k h = absurd k
 member_place a (TupleOf ts) k h = h.1
 member_place a m k h = h.1
 
-pub listed_rest : (a t : Tree) → IsNormal t → IsAfter a t → IsListed t
+pub listed_rest : (a t : Tree) → IsNormal t → IsAfter a t → IsOfMembers t
 listed_rest a Any n h = h.0
 listed_rest a Object n h = h.0
 listed_rest a _ n h = n
 
-pub members_behind : (a t : Tree) → Behind a t → IsListed t → AllBehind a (members t)
+pub members_behind : (a t : Tree) → Behind a t → IsOfMembers t → AllBehind a (members t)
 members_behind a (Union c d) h n = (member_place a c n.0 h.0, members_behind a d h.1 (listed_rest c d n.2 n.3))
 members_behind a Never h n = tt
 members_behind a Any h n = absurd n
@@ -186,21 +186,21 @@ members_behind a Object h n = absurd n
 members_behind a (TupleOf ts) h n = (h.1, tt)
 members_behind a _ h n = (h.1, tt)
 
-unabsorbed_behind : (bases : Bases) (a t other : Tree) → Behind a t → IsListed t → AllBehind a (unabsorbed bases t other)
+unabsorbed_behind : (bases : Bases) (a t other : Tree) → Behind a t → IsOfMembers t → AllBehind a (unabsorbed_members bases t other)
 unabsorbed_behind bases a t other h n = filter_behind (λ m. not (is_absorbed bases m other)) a (members t) (members_behind a t h n)
 
 -- a type's first member and the others
 pub record Split (t a rest : Tree) : Type 0 where
   pub member : IsMember a
   pub normal : IsNormal a
-  pub listed : IsListed rest
+  pub listed : IsOfMembers rest
   pub behind : Behind a rest
 
 split_is : (t a rest : Tree) → IsMember t → IsNormal t → a ≡ t → rest ≡ Never → Split t a rest
 split_is t a rest m n e f =
     subst₂ (Split t) (sym e) (sym f) (record { member = m; normal = n; listed = tt; behind = tt })
 
-pub split_of : (t a rest : Tree) → IsSplit t a rest → IsListed t → Split t a rest
+pub split_of : (t a rest : Tree) → IsSplit t a rest → IsOfMembers t → Split t a rest
 split_of (Union c d) a rest e n =
     subst₂ (Split (Union c d)) (sym e.0) (sym e.1) (record { member = n.0; normal = n.1; listed = listed_rest c d n.2 n.3; behind = after_behind c d n.3 })
 split_of Never a rest e n = absurd e
@@ -211,7 +211,7 @@ split_of (DictOf k v) a rest e n = split_is (DictOf k v) a rest tt n e.0 e.1
 split_of (TupleOf ts) a rest e n = split_is (TupleOf ts) a rest tt n e.0 e.1
 split_of t a rest e n = split_is t a rest tt tt e.0 e.1
 
-pub member_behind : (m t : Tree) → IsMember t → IsBefore (rank m) (rank t) → Behind m t
+pub member_behind : (m t : Tree) → IsMember t → IsRankBefore (member_rank m) (member_rank t) → Behind m t
 member_behind m Any k h = absurd k
 member_behind m Object k h = absurd k
 member_behind m Never k h = absurd k
@@ -220,7 +220,7 @@ member_behind m (TupleOf ts) k h = (tt, h)
 member_behind m t k h = (tt, h)
 
 -- a member that stands before the first of a type stands before all of it
-pub split_behind : (t m a rest : Tree) → IsSplit t a rest → IsListed t → IsBefore (rank m) (rank a) → Behind m t
+pub split_behind : (t m a rest : Tree) → IsSplit t a rest → IsOfMembers t → IsRankBefore (member_rank m) (member_rank a) → Behind m t
 split_behind (Union c d) m a rest e n h =
     let s = split_of (Union c d) a rest e n in
     let p = member_behind m a s.member h in
@@ -229,21 +229,21 @@ split_behind (Union c d) m a rest e n h =
 split_behind Never m a rest e n h = absurd e
 split_behind Any m a rest e n h = absurd n
 split_behind Object m a rest e n h = absurd n
-split_behind (TupleOf ts) m a rest e n h = member_behind m (TupleOf ts) tt (subst (λ x. IsBefore (rank m) (rank x)) e.0 h)
-split_behind t m a rest e n h = member_behind m t tt (subst (λ x. IsBefore (rank m) (rank x)) e.0 h)
+split_behind (TupleOf ts) m a rest e n h = member_behind m (TupleOf ts) tt (subst (λ x. IsRankBefore (member_rank m) (member_rank x)) e.0 h)
+split_behind t m a rest e n h = member_behind m t tt (subst (λ x. IsRankBefore (member_rank m) (member_rank x)) e.0 h)
 
-behind_place : (a b t : Tree) → rank a ≡ rank b → Behind a t → Behind b t
+behind_place : (a b t : Tree) → member_rank a ≡ member_rank b → Behind a t → Behind b t
 behind_place a b (Union c d) e h = (behind_place a b c e h.0, behind_place a b d e h.1)
 behind_place a b Never e h = tt
-behind_place a b (TupleOf ts) e h = (tt, subst (λ r. IsBefore r (7, count ts)) e h.1)
-behind_place a b t e h = (h.0, subst (λ r. IsBefore r (rank t)) e h.1)
+behind_place a b (TupleOf ts) e h = (tt, subst (λ r. IsRankBefore r (7, count ts)) e h.1)
+behind_place a b t e h = (h.0, subst (λ r. IsRankBefore r (member_rank t)) e h.1)
 
 module _ (bases : Bases) (left right : Tree) where
   -- the members of the one type that are left, put among those of the other that are left
   abbrev pub together : Tree → Tree → Option (List Tree)
-  together s t = put_all bases right s (unabsorbed bases t left)
+  together s t = put_all bases right s (unabsorbed_members bases t left)
 
-  put_split : (s a rest : Tree) (ms : List Tree) → IsSplit s a rest → IsListed s → put_all bases right s ms ≡ option_and_then (λ l. put_all bases right a l) (put_all bases right rest ms)
+  put_split : (s a rest : Tree) (ms : List Tree) → IsSplit s a rest → IsOfMembers s → put_all bases right s ms ≡ option_and_then (λ l. put_all bases right a l) (put_all bases right rest ms)
   put_split (Union c d) a rest ms e n =
       subst₂ (λ x y. put_all bases right (Union c d) ms ≡ option_and_then (λ l. put_all bases right x l) (put_all bases right y ms)) (sym e.0) (sym e.1) refl
   put_split Never a rest ms e n = absurd e
@@ -261,16 +261,16 @@ module _ (bases : Bases) (left right : Tree) where
   filter_first true b ms = refl
   filter_first false b ms = refl
 
-  unabsorbed_split : (t b rest : Tree) → IsSplit t b rest → IsListed t → unabsorbed bases t left ≡ left_of b (unabsorbed bases rest left)
+  unabsorbed_split : (t b rest : Tree) → IsSplit t b rest → IsOfMembers t → unabsorbed_members bases t left ≡ left_of b (unabsorbed_members bases rest left)
   unabsorbed_split (Union c d) b rest e n =
-      subst₂ (λ x y. unabsorbed bases (Union c d) left ≡ left_of x (unabsorbed bases y left)) (sym e.0) (sym e.1) (filter_first (is_absorbed bases c left) c (unabsorbed bases d left))
+      subst₂ (λ x y. unabsorbed_members bases (Union c d) left ≡ left_of x (unabsorbed_members bases y left)) (sym e.0) (sym e.1) (filter_first (is_absorbed bases c left) c (unabsorbed_members bases d left))
   unabsorbed_split Never b rest e n = absurd e
   unabsorbed_split Any b rest e n = absurd n
   unabsorbed_split Object b rest e n = absurd n
   unabsorbed_split (TupleOf ts) b rest e n =
-      subst₂ (λ x y. unabsorbed bases (TupleOf ts) left ≡ left_of x (unabsorbed bases y left)) (sym e.0) (sym e.1) (filter_first (is_absorbed bases (TupleOf ts) left) (TupleOf ts) [])
+      subst₂ (λ x y. unabsorbed_members bases (TupleOf ts) left ≡ left_of x (unabsorbed_members bases y left)) (sym e.0) (sym e.1) (filter_first (is_absorbed bases (TupleOf ts) left) (TupleOf ts) [])
   unabsorbed_split t b rest e n =
-      subst₂ (λ x y. unabsorbed bases t left ≡ left_of x (unabsorbed bases y left)) (sym e.0) (sym e.1) (filter_first (is_absorbed bases t left) t [])
+      subst₂ (λ x y. unabsorbed_members bases t left ≡ left_of x (unabsorbed_members bases y left)) (sym e.0) (sym e.1) (filter_first (is_absorbed bases t left) t [])
 
   either_way : (o : Option Tree) (x : Test) → o ≡ if x then o else o
   either_way o true = refl
@@ -288,25 +288,25 @@ module _ (bases : Bases) (left right : Tree) where
       go false = refl
 
   -- the first type's first member stands before all of the second
-  pub first_left : (s t a rest : Tree) → IsSplit s a rest → IsListed s → IsListed t → Behind a t → option_map union (together s t) ≡ kept_with bases a right (option_map union (together rest t))
+  pub first_left : (s t a rest : Tree) → IsSplit s a rest → IsOfMembers s → IsOfMembers t → Behind a t → option_map union (together s t) ≡ kept_with bases a right (option_map union (together rest t))
   first_left s t a rest e n m h =
       let p = split_of s a rest e n in
-      ap (option_map union) (put_split s a rest (unabsorbed bases t left) e n)
-      ∙ bind_first a (together rest t) p.member (λ l f. all_behind bases right rest a (unabsorbed bases t left) l p.behind (unabsorbed_behind bases a t left h m) f)
+      ap (option_map union) (put_split s a rest (unabsorbed_members bases t left) e n)
+      ∙ bind_first a (together rest t) p.member (λ l f. all_behind bases right rest a (unabsorbed_members bases t left) l p.behind (unabsorbed_behind bases a t left h m) f)
 
   union_ahead : (b : Tree) (o : Option (List Tree)) → option_map union (option_map (λ l. b ∷ l) o) ≡ option_map (ahead b) (option_map union o)
   union_ahead b None = refl
   union_ahead b (Some l) = refl
 
   -- the second type's first member stands before all of the first
-  pub first_right : (s t b rest : Tree) → IsSplit t b rest → IsListed t → Behind b s → option_map union (together s t) ≡ kept_with bases b left (option_map union (together s rest))
+  pub first_right : (s t b rest : Tree) → IsSplit t b rest → IsOfMembers t → Behind b s → option_map union (together s t) ≡ kept_with bases b left (option_map union (together s rest))
   first_right s t b rest e m h = ap (λ ms. option_map union (put_all bases right s ms)) (unabsorbed_split t b rest e m) ∙ go (is_absorbed bases b left)
     where
-      go : (x : Test) → option_map union (put_all bases right s (if x then unabsorbed bases rest left else b ∷ unabsorbed bases rest left)) ≡ if x then option_map union (together s rest) else option_map (ahead b) (option_map union (together s rest))
+      go : (x : Test) → option_map union (put_all bases right s (if x then unabsorbed_members bases rest left else b ∷ unabsorbed_members bases rest left)) ≡ if x then option_map union (together s rest) else option_map (ahead b) (option_map union (together s rest))
       go true = refl
-      go false = ap (option_map union) (put_past bases right s b (unabsorbed bases rest left) h) ∙ union_ahead b (together s rest)
+      go false = ap (option_map union) (put_past bases right s b (unabsorbed_members bases rest left) h) ∙ union_ahead b (together s rest)
 
-  pub put_same : (a b : Tree) (one : Tree → Option Tree) (ms : List Tree) → is_before a b ≡ false → is_before b a ≡ false → put a one (b ∷ ms) ≡ option_map (λ f. f ∷ ms) (one b)
+  pub put_same : (a b : Tree) (one : Tree → Option Tree) (ms : List Tree) → is_before a b ≡ false → is_before b a ≡ false → put_among a one (b ∷ ms) ≡ option_map (λ f. f ∷ ms) (one b)
   put_same a b one ms h k = rw (h, k) refl
 
   made_ahead : (o : Option Tree) (l : List Tree) → option_map union (option_map (λ f. f ∷ l) o) ≡ ahead_of o (Some (union l))
@@ -332,21 +332,21 @@ module _ (bases : Bases) (left right : Tree) where
       go false = made_ahead (one_of bases a b) l
 
   -- the first members of the two types have one head
-  pub first_both : (s t a as' b bs : Tree) → IsSplit s a as' → IsListed s → IsSplit t b bs → IsListed t → is_before a b ≡ false → is_before b a ≡ false → option_map union (together s t) ≡ one_with bases left right a b (option_map union (together as' bs))
+  pub first_both : (s t a as' b bs : Tree) → IsSplit s a as' → IsOfMembers s → IsSplit t b bs → IsOfMembers t → is_before a b ≡ false → is_before b a ≡ false → option_map union (together s t) ≡ one_with bases left right a b (option_map union (together as' bs))
   first_both s t a as' b bs e n f m h k =
       let p = split_of s a as' e n in
       let q = split_of t b bs f m in
       let r = same_rank a b h k in
       let past : Behind b as' = behind_place a b as' r p.behind in
       let far : Behind a bs = behind_place b a bs (sym r) q.behind in
-      ap (option_map union) (put_split s a as' (unabsorbed bases t left) e n)
+      ap (option_map union) (put_split s a as' (unabsorbed_members bases t left) e n)
       ∙ ap (λ ms. option_map union (option_and_then (λ l. put_all bases right a l) (put_all bases right as' ms))) (unabsorbed_split t b bs f m)
-      ∙ go (is_absorbed bases b left) p.member past (λ l g. all_behind bases right as' a (unabsorbed bases bs left) l p.behind (unabsorbed_behind bases a bs left far q.listed) g)
+      ∙ go (is_absorbed bases b left) p.member past (λ l g. all_behind bases right as' a (unabsorbed_members bases bs left) l p.behind (unabsorbed_behind bases a bs left far q.listed) g)
     where
-      go : (x : Test) → IsMember a → Behind b as' → ((l : List Tree) → together as' bs ≡ Some l → AllBehind a l) → option_map union (option_and_then (λ l. put_all bases right a l) (put_all bases right as' (if x then unabsorbed bases bs left else b ∷ unabsorbed bases bs left))) ≡ if x then kept_with bases a right (option_map union (together as' bs)) else (if is_absorbed bases a right then option_map (ahead b) (option_map union (together as' bs)) else ahead_of (one_of bases a b) (option_map union (together as' bs)))
+      go : (x : Test) → IsMember a → Behind b as' → ((l : List Tree) → together as' bs ≡ Some l → AllBehind a l) → option_map union (option_and_then (λ l. put_all bases right a l) (put_all bases right as' (if x then unabsorbed_members bases bs left else b ∷ unabsorbed_members bases bs left))) ≡ if x then kept_with bases a right (option_map union (together as' bs)) else (if is_absorbed bases a right then option_map (ahead b) (option_map union (together as' bs)) else ahead_of (one_of bases a b) (option_map union (together as' bs)))
       go true m p g = bind_first a (together as' bs) m g
       go false m p g =
-          ap (λ o. option_map union (option_and_then (λ l. put_all bases right a l) o)) (put_past bases right as' b (unabsorbed bases bs left) p)
+          ap (λ o. option_map union (option_and_then (λ l. put_all bases right a l) o)) (put_past bases right as' b (unabsorbed_members bases bs left) p)
           ∙ bind_same a b (together as' bs) m h k
 
 -- nothing stands in Never

@@ -5,7 +5,7 @@ use mathlib.Core.Former.{Count}
 use Rattle.pc_types.specs.Tree.{Tree, Trees, TupleOf, more}
 use Rattle.pc_types.specs.Below.{Bases}
 use Rattle.pc_types.specs.Shape.{count, trees}
-use Rattle.pc_types.specs.Flow.{FlowsBack, EachFlow, w_end, w_more, seen, seen_each}
+use Rattle.pc_types.specs.Internal.HeadFlow.{FlowsBack, EachFlow, w_end, w_more, seen, seen_each}
 use Rattle.pc_types.specs.Join.{same_tree, same_trees}
 use Rattle.pc_types.specs.Boxed.{tree_of, trees_of, trees_in}
 use Rattle.pc_types.specs.declared.boxed.BoxType.{BoxType, Row_of-BoxType, end_of-BoxType, more_of-BoxType, items-the_row-BoxType, items_hidden-the_row-BoxType-0}

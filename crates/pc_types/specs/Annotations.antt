@@ -15,8 +15,8 @@ use Rattle.pc_scope.specs.declared.resolution.Res.TheVariants as res
 use Rattle.pc_scope.specs.Resolution.{resolve_in_module}
 use Rattle.pc_types.specs.Tree.{Tree, Any, Object, Never, Int, Bool, Str, NoneType, Class, ListOf, DictOf, TupleOf, Union, end}
 use Rattle.pc_types.specs.Below.{Bases}
-use Rattle.pc_types.specs.Shape.{nodes, limit, trees, union}
-use Rattle.pc_types.specs.Normal.{rank}
+use Rattle.pc_types.specs.Shape.{nodes, node_limit, trees, union}
+use Rattle.pc_types.specs.Normal.{member_rank}
 use Rattle.pc_types.specs.Join.{absorbs, is_before}
 
 -- `int`, `bool`, `str`, `object`, and `Any` where its header is there
@@ -67,7 +67,7 @@ is_member _ = true
 
 -- two members have the same head, and so one place among the members of a union
 abbrev pub has_same_head : Tree → Tree → Test
-has_same_head m n = ((rank m).0 == (rank n).0) && ((rank m).1 == (rank n).1)
+has_same_head m n = ((member_rank m).0 == (member_rank n).0) && ((member_rank m).1 == (member_rank n).1)
 
 -- two parts may stand in one union: their heads differ, and neither absorbs the other
 abbrev pub are_apart : Bases → Tree → Tree → Test
@@ -79,18 +79,18 @@ is_union bases [] = true
 is_union bases (m ∷ ms) = is_member m && (list_all (are_apart bases m) ms && is_union bases ms)
 
 -- a member at its place among others
-abbrev pub placed : Tree → List Tree → List Tree
-placed m [] = m ∷ []
-placed m (n ∷ ns) = if is_before m n then m ∷ n ∷ ns else n ∷ placed m ns
+abbrev pub insert_member : Tree → List Tree → List Tree
+insert_member m [] = m ∷ []
+insert_member m (n ∷ ns) = if is_before m n then m ∷ n ∷ ns else n ∷ insert_member m ns
 
 -- members in the order of a union
-abbrev pub in_order : List Tree → List Tree
-in_order [] = []
-in_order (m ∷ ms) = placed m (in_order ms)
+abbrev pub in_union_order : List Tree → List Tree
+in_union_order [] = []
+in_union_order (m ∷ ms) = insert_member m (in_union_order ms)
 
 -- the union of some parts, if it is one
 abbrev pub union_type : Bases → List Tree → Option Tree
-union_type bases parts = if is_union bases parts then Some (union (in_order parts)) else None
+union_type bases parts = if is_union bases parts then Some (union (in_union_order parts)) else None
 
 module _ (m : Module) (bases : Bases) where
   -- what a name in an annotation means in the module
@@ -127,7 +127,7 @@ module _ (m : Module) (bases : Bases) where
 
   -- E26: the whole annotation is too large
   pub record IsTooLarge (a : Ann) (f : Finding) : Type 0 where
-    pub large : limit < nodes (reading a)
+    pub large : node_limit < nodes (reading a)
     pub is : f ≡ finding (place_of_ann a) E26
 
   -- the findings of an annotation
@@ -136,7 +136,7 @@ module _ (m : Module) (bases : Bases) where
 
   -- the type of an annotation: Any where it is too large
   abbrev pub read_ann : Ann → Tree
-  read_ann a = if nat_le (nodes (reading a)) limit then reading a else Any
+  read_ann a = if nat_le (nodes (reading a)) node_limit then reading a else Any
 
   -- the type of an annotation, Any where there is none
   abbrev pub read_option : Option Ann → Tree
@@ -144,6 +144,6 @@ module _ (m : Module) (bases : Bases) where
   read_option (Some a) = read_ann a
 
   -- the findings of an annotation, none where there is none
-  abbrev pub OptionFinds : Option Ann → Finding → Type 0
-  OptionFinds None f = ⊥
-  OptionFinds (Some a) f = AnnFinds a f
+  abbrev pub OptionAnnFinds : Option Ann → Finding → Type 0
+  OptionAnnFinds None f = ⊥
+  OptionAnnFinds (Some a) f = AnnFinds a f

@@ -2,7 +2,7 @@
 use Rattle.std.specs.Prelude.{◌≤◌, List, map}
 use Rattle.pc_types.specs.Tree.{Tree, Trees, end, more, ListOf, DictOf, TupleOf}
 use Rattle.pc_types.specs.Tree as tree
-use Rattle.pc_types.specs.Shape.{trees, nodes, limit}
+use Rattle.pc_types.specs.Shape.{trees, nodes, node_limit}
 use Rattle.pc_types.specs.Normal.{IsNormal}
 use Rattle.pc_types.specs.declared.boxed.BoxType.{BoxType, Row_of-BoxType, end_of-BoxType, more_of-BoxType}
 use Rattle.pc_types.specs.declared.boxed.BoxType.TheVariants.{Any, Object, Never, Int, Bool, Str, NoneType, Class, List', Dict', Tuple', Union'}
@@ -40,5 +40,5 @@ IsNoUnion _ = Unit {0}
 
 -- a type in boxes that the store may give: of at most 256 nodes, in normal form
 pub record IsGiven (t : BoxType) : Type 0 where
-  pub small : nodes (tree_of t) ≤ limit
+  pub small : nodes (tree_of t) ≤ node_limit
   pub normal : IsNormal (tree_of t)

@@ -5,8 +5,8 @@ use Rattle.std.specs.List.{list_any}
 use Rattle.std.specs.Option.{option_map, option_map_or}
 use Rattle.pc_types.specs.Tree.{Tree, Trees, Any, Object, Never, Int, Bool, Str, NoneType, Class, ListOf, DictOf, TupleOf, Union, end, more}
 use Rattle.pc_types.specs.Below.{Bases, base_of}
-use Rattle.pc_types.specs.Shape.{nodes, limit, members, ahead, union}
-use Rattle.pc_types.specs.Normal.{rank}
+use Rattle.pc_types.specs.Shape.{nodes, node_limit, members, ahead, union}
+use Rattle.pc_types.specs.Normal.{member_rank}
 
 -- whether two types are equal
 abbrev mutual
@@ -47,18 +47,18 @@ abbrev pub is_absorbed : Bases → Tree → Tree → Test
 is_absorbed bases m t = list_any (λ n. absorbs bases n m) (members t)
 
 -- the members of the first that no member of the second absorbs
-abbrev pub unabsorbed : Bases → Tree → Tree → List Tree
-unabsorbed bases t other = filter (λ m. not (is_absorbed bases m other)) (members t)
+abbrev pub unabsorbed_members : Bases → Tree → Tree → List Tree
+unabsorbed_members bases t other = filter (λ m. not (is_absorbed bases m other)) (members t)
 
 -- whether the first member has its place before the second's
 abbrev pub is_before : Tree → Tree → Test
-is_before m n = nat_lt (rank m).0 (rank n).0 || (((rank m).0 == (rank n).0) && nat_lt (rank m).1 (rank n).1)
+is_before m n = nat_lt (member_rank m).0 (member_rank n).0 || (((member_rank m).0 == (member_rank n).0) && nat_lt (member_rank m).1 (member_rank n).1)
 
 -- a member put at its place among others: made one with one of its head, where that can be done
-abbrev pub put : Tree → (Tree → Option Tree) → List Tree → Option (List Tree)
-put m one [] = Some (m ∷ [])
-put m one (n ∷ ns) =
-    if is_before m n then Some (m ∷ n ∷ ns) else (if is_before n m then option_map (λ l. n ∷ l) (put m one ns) else option_map (λ f. f ∷ ns) (one n))
+abbrev pub put_among : Tree → (Tree → Option Tree) → List Tree → Option (List Tree)
+put_among m one [] = Some (m ∷ [])
+put_among m one (n ∷ ns) =
+    if is_before m n then Some (m ∷ n ∷ ns) else (if is_before n m then option_map (λ l. n ∷ l) (put_among m one ns) else option_map (λ f. f ∷ ns) (one n))
 
 -- the parts of a tuple, none of another type
 abbrev pub parts_of : Tree → Trees
@@ -76,17 +76,17 @@ both_parts _ _ = None
 
 -- equal types give themselves; Never gives the other; Any where either is; else object where either is; else the join by members
 abbrev pub by_rule : Tree → Tree → Option Tree → Option Tree
-by_rule Never t joined = Some t
-by_rule s Never joined = Some s
-by_rule Any t joined = Some Any
-by_rule s Any joined = Some Any
-by_rule Object t joined = Some Object
-by_rule s Object joined = Some Object
-by_rule s t joined = joined
+by_rule Never t join_of = Some t
+by_rule s Never join_of = Some s
+by_rule Any t join_of = Some Any
+by_rule s Any join_of = Some Any
+by_rule Object t join_of = Some Object
+by_rule s Object join_of = Some Object
+by_rule s t join_of = join_of
 
 -- the join of two types, given their members put together: equal types give themselves, others go by the rule
-abbrev pub settled : Tree → Tree → Option (List Tree) → Option Tree
-settled s t together = if same_tree s t then Some s else by_rule s t (option_map union together)
+abbrev pub join_by_members : Tree → Tree → Option (List Tree) → Option Tree
+join_by_members s t together = if same_tree s t then Some s else by_rule s t (option_map union together)
 
 -- the members of two types put together, and the parts of two tuples joined
 abbrev mutual
@@ -96,14 +96,14 @@ abbrev mutual
   put_all bases other Never ms = Some ms
   put_all bases other (Union a b) ms = option_and_then (λ l. put_all bases other a l) (put_all bases other b ms)
   put_all bases other (TupleOf ss) ms =
-      if is_absorbed bases (TupleOf ss) other then Some ms else put (TupleOf ss) (λ n. option_map TupleOf (join_each bases ss (parts_of n))) ms
-  put_all bases other m ms = if is_absorbed bases m other then Some ms else put m (equal_one m) ms
+      if is_absorbed bases (TupleOf ss) other then Some ms else put_among (TupleOf ss) (λ n. option_map TupleOf (join_each bases ss (parts_of n))) ms
+  put_all bases other m ms = if is_absorbed bases m other then Some ms else put_among m (equal_one m) ms
 
   -- the parts of two tuples joined one by one
   pub join_each : Bases → Trees → Trees → Option Trees
   join_each bases end end = Some end
   join_each bases (more s ss) (more t ts) =
-      both_parts (settled s t (put_all bases t s (unabsorbed bases t s))) (join_each bases ss ts)
+      both_parts (join_by_members s t (put_all bases t s (unabsorbed_members bases t s))) (join_each bases ss ts)
   join_each bases _ _ = None
 
 -- two types of one head as one: tuples part by part, others where they are equal
@@ -112,17 +112,17 @@ one_of bases (TupleOf ss) n = option_map TupleOf (join_each bases ss (parts_of n
 one_of bases m n = equal_one m n
 
 -- the join of two types, whatever its size
-abbrev pub joined : Bases → Tree → Tree → Option Tree
-joined bases s t = settled s t (put_all bases t s (unabsorbed bases t s))
+abbrev pub join_of : Bases → Tree → Tree → Option Tree
+join_of bases s t = join_by_members s t (put_all bases t s (unabsorbed_members bases t s))
 
 -- a type within the limit of nodes
 abbrev pub within_limit : Option Tree → Option Tree
 within_limit None = None
-within_limit (Some t) = if nat_le (nodes t) limit then Some t else None
+within_limit (Some t) = if nat_le (nodes t) node_limit then Some t else None
 
 -- the join of two types, or none where a part fails or it has too many nodes
 abbrev pub join : Bases → Tree → Tree → Option Tree
-join bases s t = within_limit (joined bases s t)
+join bases s t = within_limit (join_of bases s t)
 
 -- a type's first member, and a type with the others (private to this crate)
 abbrev pub IsSplit : Tree → Tree → Tree → Type 0

@@ -4,12 +4,11 @@ pub mod Bases
 pub mod Below
 pub mod Boxed
 pub mod Computed
-pub mod Flow
 pub mod Head
 pub mod Join
 pub mod Normal
-pub mod Rebuilding
 pub mod Shape
 pub mod Store
 pub mod Tree
 pub mod WellFormed
+pub mod Internal

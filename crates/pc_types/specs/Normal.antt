@@ -6,20 +6,20 @@ use Rattle.pc_types.specs.Below.{Bases, Below}
 use Rattle.pc_types.specs.Shape.{count}
 
 -- a head's place among the members of a union: tuples by length, classes in the order of the module
-abbrev pub rank : Tree → ℕ × ℕ
-rank Int = (1, 0)
-rank Bool = (2, 0)
-rank Str = (3, 0)
-rank NoneType = (4, 0)
-rank (ListOf t) = (5, 0)
-rank (DictOf k v) = (6, 0)
-rank (TupleOf ts) = (7, count ts)
-rank (Class c) = (8, c)
-rank _ = (0, 0)
+abbrev pub member_rank : Tree → ℕ × ℕ
+member_rank Int = (1, 0)
+member_rank Bool = (2, 0)
+member_rank Str = (3, 0)
+member_rank NoneType = (4, 0)
+member_rank (ListOf t) = (5, 0)
+member_rank (DictOf k v) = (6, 0)
+member_rank (TupleOf ts) = (7, count ts)
+member_rank (Class c) = (8, c)
+member_rank _ = (0, 0)
 
 -- the first place is before the second
-abbrev pub IsBefore : ℕ × ℕ → ℕ × ℕ → Type 0
-IsBefore p q = (p.0 < q.0) ⊎ ((p.0 ≡ q.0) × (p.1 < q.1))
+abbrev pub IsRankBefore : ℕ × ℕ → ℕ × ℕ → Type 0
+IsRankBefore p q = (p.0 < q.0) ⊎ ((p.0 ≡ q.0) × (p.1 < q.1))
 
 -- what a union may have as a member: neither Any, object nor Never, and no union
 abbrev pub IsMember : Tree → Type 0
@@ -32,7 +32,7 @@ IsMember _ = Unit {0}
 -- each member of the second stands behind the first
 abbrev pub IsAfter : Tree → Tree → Type 0
 IsAfter a (Union c d) = IsAfter a c × IsAfter a d
-IsAfter a b = IsMember b × IsBefore (rank a) (rank b)
+IsAfter a b = IsMember b × IsRankBefore (member_rank a) (member_rank b)
 
 -- a type of a dict's keys
 abbrev pub IsKey : Tree → Type 0
@@ -55,10 +55,10 @@ abbrev mutual
   AreNormal (more t ts) = IsNormal t × AreNormal ts
 
 -- a type in normal form that has members: neither Any nor object
-abbrev pub IsListed : Tree → Type 0
-IsListed Any = ⊥
-IsListed Object = ⊥
-IsListed t = IsNormal t
+abbrev pub IsOfMembers : Tree → Type 0
+IsOfMembers Any = ⊥
+IsOfMembers Object = ⊥
+IsOfMembers t = IsNormal t
 
 -- neither of two members absorbs the other: bool beside int, a class beside its ancestor
 abbrev pub IsApart : Bases → Tree → Tree → Type 0

@@ -4,8 +4,8 @@ use Rattle.std.specs.Prelude.{ℕ, ◌+◌, List, [], ◌∷◌}
 use Rattle.pc_types.specs.Tree.{Tree, Trees, Never, ListOf, DictOf, TupleOf, Union, end, more}
 
 -- the greatest number of nodes of a type
-abbrev pub limit : ℕ
-limit = 256
+abbrev pub node_limit : ℕ
+node_limit = 256
 
 -- one for a type without parts, one more than its parts for a list, a dict, a tuple and a union of two
 abbrev mutual
@@ -27,9 +27,9 @@ count end = 0
 count (more t ts) = count ts + 1
 
 -- the parts of a tuple, as a list
-abbrev pub listed : Trees → List Tree
-listed end = []
-listed (more t ts) = t ∷ listed ts
+abbrev pub list_of_trees : Trees → List Tree
+list_of_trees end = []
+list_of_trees (more t ts) = t ∷ list_of_trees ts
 
 -- a list of parts, as those of a tuple
 abbrev pub trees : List Tree → Trees
@@ -56,6 +56,6 @@ union (t ∷ ts) = ahead t (union ts)
 abbrev pub parts : Tree → List Tree
 parts (ListOf t) = t ∷ []
 parts (DictOf k v) = k ∷ v ∷ []
-parts (TupleOf ts) = listed ts
+parts (TupleOf ts) = list_of_trees ts
 parts (Union a b) = a ∷ members b
 parts _ = []

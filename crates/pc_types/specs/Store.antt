@@ -2,12 +2,12 @@
 -- Own rule of the profile.
 use Rattle.std.specs.Prelude.{◌≡◌, ◌<◌, ◌≤◌, Option, Some, None, MatchOption}
 use Rattle.pc_types.specs.Tree.{Tree}
-use Rattle.pc_types.specs.Shape.{nodes, limit}
+use Rattle.pc_types.specs.Shape.{nodes, node_limit}
 
 module _ {Store Ty : Type 0} (has : Store → Ty → Type 0) where
   -- each type that the store gave before is a type of it still
-  abbrev pub Keeps : Store → Store → Type 0
-  Keeps old new = (ty : Ty) → has old ty → has new ty
+  abbrev pub KeepsTypes : Store → Store → Type 0
+  KeepsTypes old new = (ty : Ty) → has old ty → has new ty
 
 module _ {Store Ty : Type 0} (has : Store → Ty → Type 0) (tree : Ty → Tree) where
   -- the store gave the type, and it means this tree
@@ -16,7 +16,7 @@ module _ {Store Ty : Type 0} (has : Store → Ty → Type 0) (tree : Ty → Tree
 
   -- a type of the store with this tree, of at most so many nodes as a type may have, or none where the tree has more
   abbrev pub MeansWithin : Store → Option Ty → Tree → Type 0
-  MeansWithin store answer t = MatchOption answer (limit < nodes t) (λ ty. has store ty × (tree ty ≡ t) × (nodes t ≤ limit))
+  MeansWithin store answer t = MatchOption answer (node_limit < nodes t) (λ ty. has store ty × (tree ty ≡ t) × (nodes t ≤ node_limit))
 
   -- a type of the store with the tree that there is, or none where there is none
   abbrev pub MeansAny : Store → Option Ty → Option Tree → Type 0

@@ -4,14 +4,14 @@ use Rattle.std.specs.Prelude.{◌≡◌, ◌≤◌, Option, Some}
 use Rattle.pc_tree.specs.Tree.{Ann, Module}
 use Rattle.pc_types.specs.Tree.{Tree}
 use Rattle.pc_types.specs.Below.{Bases, AreSmaller}
-use Rattle.pc_types.specs.Shape.{nodes, limit}
+use Rattle.pc_types.specs.Shape.{nodes, node_limit}
 use Rattle.pc_types.specs.Normal.{IsNormal, IsReduced}
 use Rattle.pc_types.specs.Join.{join}
 use Rattle.pc_types.specs.Annotations.{read_ann, read_option}
 
 -- a well-formed type: in normal form, without an absorbed member, of at most 256 nodes
 abbrev pub IsWellFormed : Bases → Tree → Type 0
-IsWellFormed bases t = IsNormal t × IsReduced bases t × (nodes t ≤ limit)
+IsWellFormed bases t = IsNormal t × IsReduced bases t × (nodes t ≤ node_limit)
 
 -- the join of two types in normal form, without absorbed members, is well-formed, if there is one
 abbrev pub JoinsAreWellFormed : Type 0

@@ -1,3 +1,5 @@
+//! Types in boxes, and the store that makes them.
+
 ghost use Rattle.pc_types.specs.Boxed.{tree_of, IsGiven};
 
 use crate::flow::{is_assignable, is_static};

@@ -1,10 +1,10 @@
-// When a type flows into another.
+//! When a type flows into another.
 
 ghost use Rattle.std.specs.Prelude.{◌≡◌, ◌↔◌, length, IsTrue, true};
 ghost use Rattle.pc_types.specs.Below.{Static};
 ghost use Rattle.pc_types.specs.Assignable.{Assignable};
 ghost use Rattle.pc_types.specs.Computed.{static_test, assignable_test};
-ghost use Rattle.pc_types.specs.Flow.{Covers, Flow, FlowsBack, EachFlow, FlowFits, HeadFits, seen, seen_each};
+ghost use Rattle.pc_types.specs.Internal.HeadFlow.{Covers, HeadFlow, FlowsBack, EachFlow, FlowFits, HeadFits, seen, seen_each};
 ghost use Rattle.pc_types.specs.Normal.{IsNormal};
 ghost use Rattle.pc_types.specs.Boxed.{tree_of, trees_in, IsNoUnion};
 
@@ -58,7 +58,7 @@ fn head_fits(parents: &Parents, gradual: bool, s: &BoxType, t: &BoxType) -> bool
 /// Whether the first flows into the second by heads, where Any fits everything, or counts as object.
 #[cycle(flow)]
 fn flows(parents: &Parents, gradual: bool, both: bool, s: &BoxType, t: &BoxType) -> bool
-    ensures { IsTrue result ↔ Flow parents.now both (seen gradual (tree_of s.now)) (seen gradual (tree_of t.now)) }
+    ensures { IsTrue result ↔ HeadFlow parents.now both (seen gradual (tree_of s.now)) (seen gradual (tree_of t.now)) }
 {
     if gradual && matches!(s, BoxType::Any) {
         return true;

@@ -1,3 +1,5 @@
+//! The head of a type.
+
 ghost use Rattle.std.specs.Prelude.{◌≡◌};
 
 /// The head of a type. Own rule of the profile.

@@ -1,11 +1,11 @@
-// The join of two types.
+//! The join of two types.
 
 ghost use Rattle.std.specs.Prelude.{◌≡◌, IfOk, MatchOption, Some, None};
 ghost use Rattle.std.specs.Option.{option_map};
 ghost use Rattle.pc_types.specs.Tree.{Never};
-ghost use Rattle.pc_types.specs.Normal.{rank, IsNormal, AreNormal, IsListed};
+ghost use Rattle.pc_types.specs.Normal.{member_rank, IsNormal, AreNormal, IsOfMembers};
 ghost use Rattle.pc_types.specs.Shape.{ahead, union};
-ghost use Rattle.pc_types.specs.Join.{IsSplit, same_tree, same_trees, absorbs, is_absorbed, unabsorbed, is_before, by_rule, kept_with, one_with, one_of, parts_of, put_all, join_each, joined, join, within_limit};
+ghost use Rattle.pc_types.specs.Join.{IsSplit, same_tree, same_trees, absorbs, is_absorbed, unabsorbed_members, is_before, by_rule, kept_with, one_with, one_of, parts_of, put_all, join_each, join_of, join, within_limit};
 ghost use Rattle.pc_types.specs.Boxed.{tree_of, trees_in, IsGiven};
 
 use crate::shape::{LIMIT, copy, count_nodes, put_ahead};
@@ -103,7 +103,7 @@ fn stands_before(m: &BoxType, n: &BoxType) -> bool
 
 /// The place of a head among the members of a union.
 fn rank(t: &BoxType) -> (usize, usize)
-    ensures { result ≡ rank (tree_of t.now) }
+    ensures { result ≡ member_rank (tree_of t.now) }
 {
     match t {
         BoxType::Int => (1, 0),
@@ -223,7 +223,7 @@ fn joined(
 ) -> Result<Option<BoxType>, OutOfMemory>
     requires left { IsNormal (tree_of s.now) }
     requires right { IsNormal (tree_of t.now) }
-    ensures { IfOk result (λ o. option_map tree_of o ≡ joined parents.now (tree_of s.now) (tree_of t.now)) }
+    ensures { IfOk result (λ o. option_map tree_of o ≡ join_of parents.now (tree_of s.now) (tree_of t.now)) }
 {
     match s {
         BoxType::Tuple(_) => ruled(alloc, parents, s, t),
@@ -247,7 +247,7 @@ fn ruled(
 ) -> Result<Option<BoxType>, OutOfMemory>
     requires left { IsNormal (tree_of s.now) }
     requires right { IsNormal (tree_of t.now) }
-    ensures { IfOk result (λ o. option_map tree_of o ≡ by_rule (tree_of s.now) (tree_of t.now) (option_map union (put_all parents.now (tree_of t.now) (tree_of s.now) (unabsorbed parents.now (tree_of t.now) (tree_of s.now))))) }
+    ensures { IfOk result (λ o. option_map tree_of o ≡ by_rule (tree_of s.now) (tree_of t.now) (option_map union (put_all parents.now (tree_of t.now) (tree_of s.now) (unabsorbed_members parents.now (tree_of t.now) (tree_of s.now))))) }
 {
     match s {
         BoxType::Never => Ok(Some(copy(alloc, t)?)),
@@ -283,9 +283,9 @@ fn merged(
     t: &BoxType,
 ) -> Result<Option<BoxType>, OutOfMemory>
     requires empty { tree_of sides.now.never.now ≡ Never }
-    requires left { IsListed (tree_of s.now) }
-    requires right { IsListed (tree_of t.now) }
-    ensures { IfOk result (λ o. option_map tree_of o ≡ option_map union (put_all parents.now (tree_of sides.now.right.now) (tree_of s.now) (unabsorbed parents.now (tree_of t.now) (tree_of sides.now.left.now)))) }
+    requires left { IsOfMembers (tree_of s.now) }
+    requires right { IsOfMembers (tree_of t.now) }
+    ensures { IfOk result (λ o. option_map tree_of o ≡ option_map union (put_all parents.now (tree_of sides.now.right.now) (tree_of s.now) (unabsorbed_members parents.now (tree_of t.now) (tree_of sides.now.left.now)))) }
 {
     match split(s, sides.never) {
         None => match split(t, sides.never) {

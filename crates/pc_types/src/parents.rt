@@ -1,7 +1,9 @@
+//! The parents of a module's classes.
+
 ghost use Rattle.std.specs.Prelude.{◌≡◌, ◌↔◌, List, Option, ℕ, IfOk, IsTrue, length};
 ghost use Rattle.std.specs.Option.{SomeIff};
 ghost use Rattle.pc_tree.specs.Tree.{Module as Tree, module_of, option_name_of};
-ghost use Rattle.pc_scope.specs.Scoped.{AreScopes};
+ghost use Rattle.pc_scope.specs.ModuleScopes.{AreScopes};
 ghost use Rattle.pc_types.specs.Bases.{base_named, bases_of};
 ghost use Rattle.pc_types.specs.Below.{AreSmaller, Below, base_of};
 ghost use Rattle.pc_types.specs.Tree.{Class};

@@ -1,4 +1,4 @@
-// The form of types in boxes: nodes, heads, parts, copies.
+//! The form of types in boxes: nodes, heads, parts, copies.
 
 ghost use Rattle.std.specs.Prelude.{◌≡◌, ◌<◌, ◌+◌, ◌++◌, min, map, length, slice_get, IfOk, OnOk, Some};
 ghost use Rattle.pc_types.specs.Shape.{nodes, nodes_of, parts, members, ahead, union};

@@ -1,13 +1,15 @@
+//! The trait of stores of types.
+
 ghost use Rattle.std.specs.Prelude.{◌≡◌, ◌↔◌, ◌<◌, ◌≤◌, List, Option, ℕ, length, map, slice_get, All, IsTrue, IfOk, Some};
 ghost use Rattle.pc_types.specs.Tree.{Tree, Any, Object, Never, Int, Bool, Str, NoneType, Class, ListOf, DictOf, TupleOf};
 ghost use Rattle.pc_types.specs.Below.{Static};
 ghost use Rattle.pc_types.specs.Assignable.{Assignable};
 ghost use Rattle.pc_types.specs.Computed.{static_test, assignable_test};
 ghost use Rattle.pc_types.specs.Normal.{IsKey, IsNormal};
-ghost use Rattle.pc_types.specs.Shape.{nodes, limit, members, parts, trees, union};
+ghost use Rattle.pc_types.specs.Shape.{nodes, node_limit, members, parts, trees, union};
 ghost use Rattle.pc_types.specs.Join.{join};
 ghost use Rattle.pc_types.specs.Head.{head_of, part_count};
-ghost use Rattle.pc_types.specs.Store.{Means, Keeps, MeansWithin, MeansAny};
+ghost use Rattle.pc_types.specs.Store.{Means, KeepsTypes, MeansWithin, MeansAny};
 
 use crate::{Head, Parents};
 use pc_source::OutOfMemory;
@@ -28,48 +30,48 @@ pub trait TypeStore {
     /// The type `Any`.
     fn any(&mut self, alloc: Global) -> Result<Self::Ty, OutOfMemory>
         ensures value { IfOk result (λ t. Means has tree self.new t Any) }
-        ensures kept { Keeps has self.old self.new };
+        ensures kept { KeepsTypes has self.old self.new };
 
     /// The type `object`.
     fn object(&mut self, alloc: Global) -> Result<Self::Ty, OutOfMemory>
         ensures value { IfOk result (λ t. Means has tree self.new t Object) }
-        ensures kept { Keeps has self.old self.new };
+        ensures kept { KeepsTypes has self.old self.new };
 
     /// The type `Never`.
     fn never(&mut self, alloc: Global) -> Result<Self::Ty, OutOfMemory>
         ensures value { IfOk result (λ t. Means has tree self.new t Never) }
-        ensures kept { Keeps has self.old self.new };
+        ensures kept { KeepsTypes has self.old self.new };
 
     /// The type `int`.
     fn int(&mut self, alloc: Global) -> Result<Self::Ty, OutOfMemory>
         ensures value { IfOk result (λ t. Means has tree self.new t Int) }
-        ensures kept { Keeps has self.old self.new };
+        ensures kept { KeepsTypes has self.old self.new };
 
     /// The type `bool`.
     fn bool(&mut self, alloc: Global) -> Result<Self::Ty, OutOfMemory>
         ensures value { IfOk result (λ t. Means has tree self.new t Bool) }
-        ensures kept { Keeps has self.old self.new };
+        ensures kept { KeepsTypes has self.old self.new };
 
     /// The type `str`.
     fn str(&mut self, alloc: Global) -> Result<Self::Ty, OutOfMemory>
         ensures value { IfOk result (λ t. Means has tree self.new t Str) }
-        ensures kept { Keeps has self.old self.new };
+        ensures kept { KeepsTypes has self.old self.new };
 
     /// The type `None`.
     fn none(&mut self, alloc: Global) -> Result<Self::Ty, OutOfMemory>
         ensures value { IfOk result (λ t. Means has tree self.new t NoneType) }
-        ensures kept { Keeps has self.old self.new };
+        ensures kept { KeepsTypes has self.old self.new };
 
     /// The class of this number.
     fn class(&mut self, alloc: Global, number: usize) -> Result<Self::Ty, OutOfMemory>
         ensures value { IfOk result (λ t. Means has tree self.new t (Class number)) }
-        ensures kept { Keeps has self.old self.new };
+        ensures kept { KeepsTypes has self.old self.new };
 
     /// `list[item]`, or none where it has over 256 nodes.
     fn list(&mut self, alloc: Global, item: &Self::Ty) -> Result<Option<Self::Ty>, OutOfMemory>
         requires { has self.old item.now }
         ensures value { IfOk result (λ t. MeansWithin has tree self.new t (ListOf (tree item.now))) }
-        ensures kept { Keeps has self.old self.new };
+        ensures kept { KeepsTypes has self.old self.new };
 
     /// `dict[key, value]`, or none where it has over 256 nodes. The key is `int` or `str`.
     fn dict(
@@ -82,13 +84,13 @@ pub trait TypeStore {
         requires value { has self.old value.now }
         requires suits { IsKey (tree key.now) }
         ensures value { IfOk result (λ t. MeansWithin has tree self.new t (DictOf (tree key.now) (tree value.now))) }
-        ensures kept { Keeps has self.old self.new };
+        ensures kept { KeepsTypes has self.old self.new };
 
     /// `tuple[parts]`, or none where it has over 256 nodes.
     fn tuple(&mut self, alloc: Global, parts: &[Self::Ty]) -> Result<Option<Self::Ty>, OutOfMemory>
         requires { All (has self.old) parts.now }
         ensures value { IfOk result (λ t. MeansWithin has tree self.new t (TupleOf (trees (map tree parts.now)))) }
-        ensures kept { Keeps has self.old self.new };
+        ensures kept { KeepsTypes has self.old self.new };
 
     /// The same type again.
     fn copy(&self, alloc: Global, ty: &Self::Ty) -> Result<Self::Ty, OutOfMemory>
@@ -132,7 +134,7 @@ pub trait TypeStore {
         requires types { All (has self.old) types.now }
         requires order { IsNormal (union (map tree types.now)) }
         ensures value { IfOk result (λ t. MeansWithin has tree self.new t (union (map tree types.now))) }
-        ensures kept { Keeps has self.old self.new };
+        ensures kept { KeepsTypes has self.old self.new };
 
     /// The join of two types, or none where a part of them has none or it has over 256 nodes.
     fn join(
@@ -145,7 +147,7 @@ pub trait TypeStore {
         requires left { has self.old s.now }
         requires right { has self.old t.now }
         ensures value { IfOk result (λ u. MeansAny has tree self.new u (join parents.now (tree s.now) (tree t.now))) }
-        ensures kept { Keeps has self.old self.new };
+        ensures kept { KeepsTypes has self.old self.new };
 
     /// Whether the first is static to the second: below it, each `Any` read as `object`.
     fn is_static(&mut self, parents: &Parents, s: &Self::Ty, t: &Self::Ty) -> bool
@@ -153,7 +155,7 @@ pub trait TypeStore {
         requires right { has self.old t.now }
         ensures value { IsTrue result ↔ Static parents.now (tree s.now) (tree t.now) }
         ensures test { result ≡ static_test parents.now (tree s.now) (tree t.now) }
-        ensures kept { Keeps has self.old self.new };
+        ensures kept { KeepsTypes has self.old self.new };
 
     /// Whether the first is assignable to the second: below it for some reading of each `Any`.
     fn is_assignable(&mut self, parents: &Parents, s: &Self::Ty, t: &Self::Ty) -> bool
@@ -161,11 +163,11 @@ pub trait TypeStore {
         requires right { has self.old t.now }
         ensures value { IsTrue result ↔ Assignable parents.now (tree s.now) (tree t.now) }
         ensures test { result ≡ assignable_test parents.now (tree s.now) (tree t.now) }
-        ensures kept { Keeps has self.old self.new };
+        ensures kept { KeepsTypes has self.old self.new };
 
     /// Each type is in normal form.
     ghost normal: { (store : Self) (ty : Self.Ty) → has store ty → IsNormal (tree ty) };
 
     /// Each type has at most 256 nodes.
-    ghost small: { (store : Self) (ty : Self.Ty) → has store ty → nodes (tree ty) ≤ limit };
+    ghost small: { (store : Self) (ty : Self.Ty) → has store ty → nodes (tree ty) ≤ node_limit };
 }

@@ -5,11 +5,11 @@ use Rattle.pc_source.specs.declared.fault.OutOfMemory.{OutOfMemory}
 use Rattle.pc_value.specs.declared.value.Heap.{Heap as RustHeap}
 use Rattle.pc_value.specs.declared.action.Outcome.{Outcome as RustOutcome}
 use Rattle.pc_value.specs.Value.{Value, whole, boolean, string, none, tuple_of, location, Entry, Slot, Cell, list_cell, dict_cell, instance_cell, Heap, Other, Seen, a_number, a_text, a_none, a_tuple, a_list, a_dict, an_instance, a_stray, seen, seen_cell}
-use Rattle.pc_value.specs.Actions.{Acted, stops, keeps}
+use Rattle.pc_value.specs.Actions.{ActionResult, stops, keeps}
 use Rattle.pc_value.specs.Meaning.{heap_of}
 use Rattle.pc_value.specs.Doing.{outcome_of, ComesTo}
 use Rattle.pc_value.specs.Containers.{pop_from, last_of, store_at, store_key}
-use Rattle.pc_value.specs.Changes.{Change, pops, sets_item, sets_key, changed, changed_at, heap_changed, popped, stored_at, stored_key}
+use Rattle.pc_value.specs.Internal.Changes.{Change, pops, sets_item, sets_key, change_result, changed_at, heap_changed, pop_result, stored_at, stored_key}
 use Rattle.pc_value.proofs.Lists.{set_same}
 
 -- what is seen as a list, a dict or an instance lies there
@@ -59,19 +59,19 @@ instance_there heap (tuple_of vs) l class fields e = absurd (cc)
 instance_there heap (location m) l class fields e = instance_lies heap m l class fields (slice_get heap m) refl e
 
 -- a change at a location, where it is known what lies there
-pub changes : (heap : Heap) (l : ℕ) (change : Change) (cell : Cell) → slice_get heap l ≡ Some cell → heap_changed heap l change ≡ record { outcome = (changed change cell).outcome; heap = slice_set heap l (changed change cell).cell }
+pub changes : (heap : Heap) (l : ℕ) (change : Change) (cell : Cell) → slice_get heap l ≡ Some cell → heap_changed heap l change ≡ record { outcome = (change_result change cell).outcome; heap = slice_set heap l (change_result change cell).cell }
 changes heap l change cell h = ap (λ (o : Option Cell). changed_at heap l change o) h
 
 pub pops_there : (heap : Heap) (l : ℕ) (items : List Value) → slice_get heap l ≡ Some (list_cell items) → heap_changed heap l pops ≡ pop_from heap l items (last_of items)
 pops_there heap l items h = changes heap l pops (list_cell items) h ∙ go (last_of items)
   where
-    go : (o : Option Value) → record { outcome = (popped items o).outcome; heap = slice_set heap l (popped items o).cell } ≡ pop_from heap l items o
+    go : (o : Option Value) → record { outcome = (pop_result items o).outcome; heap = slice_set heap l (pop_result items o).cell } ≡ pop_from heap l items o
     go None = ap (λ (hp : Heap). keeps hp (stops Other)) (set_same heap l (list_cell items) h)
     go (Some v) = refl
 
 -- the clauses of a change, as those of an action
-pub changes_to : (r : Result RustOutcome OutOfMemory) (old new : RustHeap) (a b : Acted) → IfOk r (λ o. outcome_of o ≡ a.outcome) → OnOk r (heap_of new ≡ a.heap) → OnErr r (heap_of new ≡ heap_of old) → a ≡ b → ComesTo r old new b
-changes_to (Ok o) old new a b out after un e = (out ∙ ap (λ (x : Acted). x.outcome) e, after ∙ ap (λ (x : Acted). x.heap) e)
+pub changes_to : (r : Result RustOutcome OutOfMemory) (old new : RustHeap) (a b : ActionResult) → IfOk r (λ o. outcome_of o ≡ a.outcome) → OnOk r (heap_of new ≡ a.heap) → OnErr r (heap_of new ≡ heap_of old) → a ≡ b → ComesTo r old new b
+changes_to (Ok o) old new a b out after un e = (out ∙ ap (λ (x : ActionResult). x.outcome) e, after ∙ ap (λ (x : ActionResult). x.heap) e)
 changes_to (Err x) old new a b out after un e = un
 
 -- a store in a list or a dict, where it lies there
@@ -90,5 +90,5 @@ keys_there heap l entries (an_instance m c fs) key v h = refl
 keys_there heap l entries a_stray key v h = refl
 
 -- the same outcome of two actions that are one
-pub comes_as : (r : Result RustOutcome OutOfMemory) (old new : RustHeap) (a b : Acted) → a ≡ b → ComesTo r old new a → ComesTo r old new b
-comes_as r old new a b e h = subst (λ (x : Acted). ComesTo r old new x) e h
+pub comes_as : (r : Result RustOutcome OutOfMemory) (old new : RustHeap) (a b : ActionResult) → a ≡ b → ComesTo r old new a → ComesTo r old new b
+comes_as r old new a b e h = subst (λ (x : ActionResult). ComesTo r old new x) e h

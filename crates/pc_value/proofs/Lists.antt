@@ -7,7 +7,7 @@ use Rattle.pc_value.specs.Value.{Cell, list_cell, Outside}
 use Rattle.pc_value.specs.Actions.{stops}
 use Rattle.pc_value.specs.Meaning.{value_of, cell_of}
 use Rattle.pc_value.specs.Containers.{last_of}
-use Rattle.pc_value.specs.Changes.{Change, changed, changed_at, heap_changed, popped}
+use Rattle.pc_value.specs.Internal.Changes.{Change, change_result, changed_at, heap_changed, pop_result}
 
 pub map_set : {A B : Type 0} (f : A → B) (xs : List A) (i : ℕ) (v : A) → map f (slice_set xs i v) ≡ slice_set (map f xs) i (f v)
 map_set f [] i v = refl
@@ -51,11 +51,11 @@ one_less : {A B : Type 0} (f : A → B) (xs : List A) (v : A) → length (map f 
 one_less f xs v = let e = count_of f xs v in omega arith
 
 -- what a list is after it lost its last item
-pub pop_after : (xs rest : List RustValue) (v : RustValue) → xs ≡ rest ++ v ∷ [] → list_cell (map value_of rest) ≡ (popped (map value_of xs) (last_of (map value_of xs))).cell
+pub pop_after : (xs rest : List RustValue) (v : RustValue) → xs ≡ rest ++ v ∷ [] → list_cell (map value_of rest) ≡ (pop_result (map value_of xs) (last_of (map value_of xs))).cell
 pop_after xs rest v e = rw (e, one_less value_of rest v, last_at value_of rest v, one_less value_of rest v, front_of value_of rest v) refl
 
 -- a change at a location, and none
-pub change_there : (cells : List RustCell) (place : ℕ) (old new : RustCell) (change : Change) → place < length cells → old ≡ get_or cells place old → cell_of new ≡ (changed change (cell_of old)).cell → map cell_of (slice_set cells place new) ≡ (heap_changed (map cell_of cells) place change).heap
+pub change_there : (cells : List RustCell) (place : ℕ) (old new : RustCell) (change : Change) → place < length cells → old ≡ get_or cells place old → cell_of new ≡ (change_result change (cell_of old)).cell → map cell_of (slice_set cells place new) ≡ (heap_changed (map cell_of cells) place change).heap
 change_there cells place old new change lt is e =
     let there : slice_get (map cell_of cells) place ≡ Some (cell_of old) = get_map cell_of cells place old lt ∙ ap (λ (c : RustCell). Some (cell_of c)) (sym is) in
     map_set cell_of cells place new ∙ ap (λ (c : Cell). slice_set (map cell_of cells) place c) e ∙ ap (λ (o : Option Cell). (changed_at (map cell_of cells) place change o).heap) (sym there)

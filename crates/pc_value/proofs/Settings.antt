@@ -9,7 +9,7 @@ use Rattle.pc_value.specs.Meaning.{value_of, entry_of, slot_of}
 use Rattle.pc_value.specs.Containers.{same_key, with_entry}
 use Rattle.pc_value.specs.Attributes.{with_field}
 use Rattle.pc_value.specs.Texts.{same_text}
-use Rattle.pc_value.specs.Changes.{key_place, field_place}
+use Rattle.pc_value.specs.Internal.Changes.{key_place, field_place}
 
 -- the entry of a key that is there
 pub set_there : (key : Value) (v : RustValue) (entries : List RustEntry) (d : RustEntry) → key_place key (map entry_of entries) < length entries → map entry_of (slice_set entries (key_place key (map entry_of entries)) (record { key = (get_or entries (key_place key (map entry_of entries)) d).key; value = v })) ≡ with_entry key (value_of v) (map entry_of entries)

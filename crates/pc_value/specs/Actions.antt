@@ -64,7 +64,7 @@ pub data Outcome : Type 0 where
   stops : (stop : Stop) → Outcome
 
 -- an action's outcome, and the heap after it
-pub record Acted : Type 0 where
+pub record ActionResult : Type 0 where
   pub outcome : Outcome
   pub heap : Heap
 
@@ -74,7 +74,7 @@ pub record Free : Type 0 where
   pub characters : List ℕ
 
 -- the heap stays as it is
-abbrev pub keeps : Heap → Outcome → Acted
+abbrev pub keeps : Heap → Outcome → ActionResult
 keeps heap outcome = record { outcome = outcome; heap = heap }
 
 -- the outcome that ends the run in one of the four exceptions

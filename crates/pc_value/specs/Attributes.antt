@@ -2,9 +2,9 @@
 -- Language Reference 6.3.1 "Attribute references", 7.2 "Assignment statements".
 use Rattle.std.specs.Prelude.{ℕ, Bool, true, false, List, [], ◌∷◌, if◌then◌else◌, Option, Some, None}
 use Rattle.pc_value.specs.Value.{Value, Slot, instance_cell, Heap, AttributeError, Outside, Seen, a_none, an_instance}
-use Rattle.pc_value.specs.Actions.{Outcome, gives, stops, raises, Acted, keeps}
+use Rattle.pc_value.specs.Actions.{Outcome, gives, stops, raises, ActionResult, keeps}
 use Rattle.pc_value.specs.Texts.{same_text}
-use Rattle.pc_value.specs.Containers.{written}
+use Rattle.pc_value.specs.Containers.{with_cell}
 
 -- the value of a field
 abbrev pub field_value : List ℕ → List Slot → Option Value
@@ -29,11 +29,11 @@ attribute_outcome a_none name is_method = raises AttributeError
 attribute_outcome v name is_method = stops Outside
 
 -- the store of a field, if the instance has it; a name that is no field is out of the profile
-abbrev pub store_field : Heap → ℕ → ℕ → List Slot → List ℕ → Value → Option Value → Acted
-store_field heap l class fields name v (Some old) = written heap l (instance_cell class (with_field name v fields))
+abbrev pub store_field : Heap → ℕ → ℕ → List Slot → List ℕ → Value → Option Value → ActionResult
+store_field heap l class fields name v (Some old) = with_cell heap l (instance_cell class (with_field name v fields))
 store_field heap l class fields name v None = keeps heap (stops Outside)
 
 -- `e.f = v`: a field of an instance; another name on an instance is out of the profile, other kinds are AttributeError
-abbrev pub store_attribute_outcome : Heap → Seen → List ℕ → Value → Acted
+abbrev pub store_attribute_outcome : Heap → Seen → List ℕ → Value → ActionResult
 store_attribute_outcome heap (an_instance l class fields) name v = store_field heap l class fields name v (field_value name fields)
 store_attribute_outcome heap o name v = keeps heap (raises AttributeError)

@@ -3,7 +3,7 @@
 -- "Sequence Types" and "Mapping Types".
 use Rattle.std.specs.Prelude.{◌≡◌, ℕ, suc, ◌-◌, Bool, true, false, List, [], ◌∷◌, ◌++◌, length, take, ℤ, pos, negsuc, nat_lt, if◌then◌else◌, Option, Some, None, is_some, slice_get, slice_set, refl}
 use Rattle.pc_value.specs.Value.{Value, whole, boolean, string, none, location, list_of, Entry, Cell, list_cell, dict_cell, Heap, TypeError, Outside, Other, Stop, Raised, Seen, a_number, a_text, a_none, a_tuple, a_list, a_dict, seen, number_of_truth}
-use Rattle.pc_value.specs.Actions.{Outcome, gives, stops, raises, Acted, keeps}
+use Rattle.pc_value.specs.Actions.{Outcome, gives, stops, raises, ActionResult, keeps}
 use Rattle.pc_value.specs.Numbers.{same_number}
 use Rattle.pc_value.specs.Texts.{same_text}
 
@@ -18,8 +18,8 @@ at_index items None = None
 at_index items (Some i) = slice_get items i
 
 -- the item that a whole number names
-abbrev pub item_of : {A : Type 0} → List A → ℤ → Option A
-item_of items i = at_index items (index_among (length items) i)
+abbrev pub item_numbered : {A : Type 0} → List A → ℤ → Option A
+item_numbered items i = at_index items (index_among (length items) i)
 
 -- an item, or another exception where there is none
 abbrev pub gives_item : Option Value → Outcome
@@ -86,38 +86,38 @@ dict_get v entries = raises TypeError
 
 -- `e[i]`: a list, text or tuple with an int, a dict with a key
 abbrev pub item_outcome : Seen → Seen → Outcome
-item_outcome (a_list l items) (a_number i) = gives_item (item_of items i)
-item_outcome (a_text cs) (a_number i) = gives_character (item_of cs i)
-item_outcome (a_tuple items) (a_number i) = gives_item (item_of (list_of items) i)
+item_outcome (a_list l items) (a_number i) = gives_item (item_numbered items i)
+item_outcome (a_text cs) (a_number i) = gives_character (item_numbered cs i)
+item_outcome (a_tuple items) (a_number i) = gives_item (item_numbered (list_of items) i)
 item_outcome (a_dict l entries) key = dict_item key entries
 item_outcome v w = raises TypeError
 
 -- what lies at a location from now on
-abbrev pub written : Heap → ℕ → Cell → Acted
-written heap l cell = record { outcome = gives none; heap = slice_set heap l cell }
+abbrev pub with_cell : Heap → ℕ → Cell → ActionResult
+with_cell heap l cell = record { outcome = gives none; heap = slice_set heap l cell }
 
 -- `e[i] = v` on a list
-abbrev pub store_at : Heap → ℕ → List Value → Option ℕ → Value → Acted
+abbrev pub store_at : Heap → ℕ → List Value → Option ℕ → Value → ActionResult
 store_at heap l items None v = keeps heap (stops Other)
-store_at heap l items (Some i) v = written heap l (list_cell (slice_set items i v))
+store_at heap l items (Some i) v = with_cell heap l (list_cell (slice_set items i v))
 
 -- `e[i] = v` on a dict, by the kind of the key
-abbrev pub store_key : Heap → ℕ → List Entry → Seen → Value → Value → Acted
-store_key heap l entries (a_number n) key v = written heap l (dict_cell (with_entry key v entries))
-store_key heap l entries (a_text cs) key v = written heap l (dict_cell (with_entry key v entries))
+abbrev pub store_key : Heap → ℕ → List Entry → Seen → Value → Value → ActionResult
+store_key heap l entries (a_number n) key v = with_cell heap l (dict_cell (with_entry key v entries))
+store_key heap l entries (a_text cs) key v = with_cell heap l (dict_cell (with_entry key v entries))
 store_key heap l entries a_none key v = keeps heap (stops Outside)
 store_key heap l entries (a_tuple items) key v = keeps heap (stops Outside)
 store_key heap l entries k key v = keeps heap (raises TypeError)
 
 -- `e[i] = v`: a list with an int, a dict with a key
-abbrev pub store_outcome : Heap → Seen → Seen → Value → Value → Acted
+abbrev pub store_outcome : Heap → Seen → Seen → Value → Value → ActionResult
 store_outcome heap (a_list l items) (a_number i) key v = store_at heap l items (index_among (length items) i) v
 store_outcome heap (a_dict l entries) k key v = store_key heap l entries k key v
 store_outcome heap o k key v = keeps heap (raises TypeError)
 
 -- something new in the heap, at the first location that is free
-abbrev pub placed : Heap → Cell → Acted
-placed heap cell = record { outcome = gives (location (length heap)); heap = heap ++ cell ∷ [] }
+abbrev pub with_new_cell : Heap → Cell → ActionResult
+with_new_cell heap cell = record { outcome = gives (location (length heap)); heap = heap ++ cell ∷ [] }
 
 -- how a key ends a dict display: None and a tuple outside the profile, others but int and str in TypeError
 abbrev pub key_fault : Seen → Option Stop
@@ -128,23 +128,23 @@ key_fault (a_tuple items) = Some Outside
 key_fault k = Some (Raised TypeError)
 
 -- the first stop if there is one, else the second
-abbrev pub or_else : Option Stop → Option Stop → Option Stop
-or_else None second = second
-or_else (Some stop) second = Some stop
+abbrev pub first_stop : Option Stop → Option Stop → Option Stop
+first_stop None second = second
+first_stop (Some stop) second = Some stop
 
 -- the fault of the first key that has one
 abbrev pub first_key_fault : Heap → List Entry → Option Stop
 first_key_fault heap [] = None
-first_key_fault heap (e ∷ rest) = or_else (key_fault (seen heap e.key)) (first_key_fault heap rest)
+first_key_fault heap (e ∷ rest) = first_stop (key_fault (seen heap e.key)) (first_key_fault heap rest)
 
 -- a dict display, by how a key ends it: a new dict with its entries where none does, else that stop
-abbrev pub dict_display : Heap → List Entry → Option Stop → Acted
-dict_display heap entries None = placed heap (dict_cell (with_entries [] entries))
+abbrev pub dict_display : Heap → List Entry → Option Stop → ActionResult
+dict_display heap entries None = with_new_cell heap (dict_cell (with_entries [] entries))
 dict_display heap entries (Some stop) = keeps heap (stops stop)
 
 -- `e.append(v)` on a list
-abbrev pub append_outcome : Heap → Seen → Value → Acted
-append_outcome heap (a_list l items) v = written heap l (list_cell (items ++ v ∷ []))
+abbrev pub append_outcome : Heap → Seen → Value → ActionResult
+append_outcome heap (a_list l items) v = with_cell heap l (list_cell (items ++ v ∷ []))
 append_outcome heap o v = keeps heap (stops Outside)
 
 -- the last item of a list, if it has one
@@ -152,12 +152,12 @@ abbrev pub last_of : {A : Type 0} → List A → Option A
 last_of items = slice_get items (length items - 1)
 
 -- the list at a location loses its last item and gives it; another exception where it has none
-abbrev pub pop_from : Heap → ℕ → List Value → Option Value → Acted
+abbrev pub pop_from : Heap → ℕ → List Value → Option Value → ActionResult
 pop_from heap l items None = keeps heap (stops Other)
 pop_from heap l items (Some v) = record { outcome = gives v; heap = slice_set heap l (list_cell (take (length items - 1) items)) }
 
 -- `e.pop()` on a list: its last item; another exception where it is empty
-abbrev pub pop_outcome : Heap → Seen → Acted
+abbrev pub pop_outcome : Heap → Seen → ActionResult
 pop_outcome heap (a_list l items) = pop_from heap l items (last_of items)
 pop_outcome heap o = keeps heap (stops Outside)
 
@@ -176,13 +176,13 @@ length_outcome v = raises TypeError
 
 -- ---- rows
 
-last_by_minus_one : item_of {A = ℕ} (4 ∷ 5 ∷ 6 ∷ []) (negsuc 0) ≡ Some 6
+last_by_minus_one : item_numbered {A = ℕ} (4 ∷ 5 ∷ 6 ∷ []) (negsuc 0) ≡ Some 6
 last_by_minus_one = refl
 
-before_the_first : item_of {A = ℕ} (4 ∷ 5 ∷ 6 ∷ []) (negsuc 3) ≡ None
+before_the_first : item_numbered {A = ℕ} (4 ∷ 5 ∷ 6 ∷ []) (negsuc 3) ≡ None
 before_the_first = refl
 
-behind_the_last : item_of {A = ℕ} (4 ∷ 5 ∷ 6 ∷ []) (pos 3) ≡ None
+behind_the_last : item_numbered {A = ℕ} (4 ∷ 5 ∷ 6 ∷ []) (pos 3) ≡ None
 behind_the_last = refl
 
 -- `{True: None, 1: 7}` has the one key True, with 7

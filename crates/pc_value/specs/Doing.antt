@@ -9,7 +9,7 @@ use Rattle.pc_value.specs.declared.action.Action.TheVariants as rust
 use Rattle.pc_value.specs.declared.action.Outcome.{Outcome as RustOutcome}
 use Rattle.pc_value.specs.declared.action.Outcome.TheVariants as rust_outcome
 use Rattle.pc_value.specs.Value.{Exception, TypeError, AttributeError, NameError, UnboundLocalError, Raised, Other, Outside, Cut, values_of}
-use Rattle.pc_value.specs.Actions.{Action, number, binary, compare, negative, negation, truth_of, new_list, new_dict, new_instance, read_item, store_item, read_attribute, store_attribute, append, pop, get, length_of, text_of, iterate, iterate_range, turn, Iteration, over_list, over_dict, over_text, over_tuple, over_range, Outcome, gives, iterates, finished, stops, Acted}
+use Rattle.pc_value.specs.Actions.{Action, number, binary, compare, negative, negation, truth_of, new_list, new_dict, new_instance, read_item, store_item, read_attribute, store_attribute, append, pop, get, length_of, text_of, iterate, iterate_range, turn, Iteration, over_list, over_dict, over_text, over_tuple, over_range, Outcome, gives, iterates, finished, stops, ActionResult}
 use Rattle.pc_value.specs.Numbers.{number_of_digits, negative_of_digits}
 use Rattle.pc_source.specs.declared.fault.OutOfMemory.{OutOfMemory}
 use Rattle.pc_value.specs.declared.value.Heap.{Heap as RustHeap}
@@ -69,7 +69,7 @@ action_of (rust.Iterate v) = iterate (value_of v)
 action_of (rust.IterateRange v) = iterate_range (value_of v)
 action_of (rust.Turn over i) = turn (iteration_of over) i
 
--- an action came to this, with the heap after it; where memory is wanting, the heap is as it was
-abbrev pub ComesTo : Result RustOutcome OutOfMemory → RustHeap → RustHeap → Acted → Type 0
+-- an action came to this, with the heap after it; where an allocation failed, the heap is as it was
+abbrev pub ComesTo : Result RustOutcome OutOfMemory → RustHeap → RustHeap → ActionResult → Type 0
 ComesTo (Ok o) old new a = (outcome_of o ≡ a.outcome) × (heap_of new ≡ a.heap)
 ComesTo (Err e) old new a = heap_of new ≡ heap_of old

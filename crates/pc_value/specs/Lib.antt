@@ -1,11 +1,8 @@
 pub mod Actions
 pub mod Attributes
-pub mod Changes
 pub mod Containers
 pub mod Doing
-pub mod Faults
 pub mod Iteration
-pub mod Keys
 pub mod Meaning
 pub mod Numbers
 pub mod Operators
@@ -15,3 +12,4 @@ pub mod Seeing
 pub mod Texts
 pub mod Value
 pub mod Wholes
+pub mod Internal

@@ -99,12 +99,12 @@ is_membership_free (a_tuple ws) = true
 is_membership_free w = false
 
 -- `in`: a text in a text, anything in a list or tuple, an int, str or None in a dict
-abbrev pub member_of : Free → Seen → Seen → Outcome
-member_of free (a_text s) (a_text t) = gives (boolean (occurs_in s t))
-member_of free v (a_list l ws) = gives (boolean free.truth)
-member_of free v (a_tuple ws) = gives (boolean free.truth)
-member_of free v (a_dict l entries) = contains_key v entries
-member_of free v w = raises TypeError
+abbrev pub membership_of : Free → Seen → Seen → Outcome
+membership_of free (a_text s) (a_text t) = gives (boolean (occurs_in s t))
+membership_of free v (a_list l ws) = gives (boolean free.truth)
+membership_of free v (a_tuple ws) = gives (boolean free.truth)
+membership_of free v (a_dict l entries) = contains_key v entries
+membership_of free v w = raises TypeError
 
 -- what a comparison makes of its operands by their kinds, where the free answers are given
 abbrev pub compare_outcome : Free → ComparisonOperator → Seen → Seen → Outcome
@@ -114,8 +114,8 @@ compare_outcome free Less v w = below v w
 compare_outcome free LessEqual v w = opposite (below w v)
 compare_outcome free Greater v w = below w v
 compare_outcome free GreaterEqual v w = opposite (below v w)
-compare_outcome free In v w = member_of free v w
-compare_outcome free NotIn v w = opposite (member_of free v w)
+compare_outcome free In v w = membership_of free v w
+compare_outcome free NotIn v w = opposite (membership_of free v w)
 
 -- whether a comparison has a free answer
 abbrev pub is_comparison_free : ComparisonOperator → Seen → Seen → Bool

@@ -2,9 +2,9 @@
 -- Own rule of the profile.
 use Rattle.std.specs.Prelude.{◌≡◌, ℕ, ◌%◌, Bool, true, false, replicate, nat_eq, if◌then◌else◌}
 use Rattle.pc_value.specs.Value.{Value, whole, Heap, Cut}
-use Rattle.pc_value.specs.Actions.{Action, number, binary, negative, length_of, new_list, new_dict, new_instance, store_item, store_attribute, append, pop, Outcome, gives, iterates, finished, stops, Acted, Free}
+use Rattle.pc_value.specs.Actions.{Action, number, binary, negative, length_of, new_list, new_dict, new_instance, store_item, store_attribute, append, pop, Outcome, gives, iterates, finished, stops, ActionResult, Free}
 use Rattle.pc_value.specs.Numbers.{fits}
-use Rattle.pc_value.specs.Outcomes.{acted}
+use Rattle.pc_value.specs.Outcomes.{action_result}
 
 -- the free answers of a byte: true where it is odd, and so many times `x` as it leaves by 4
 abbrev pub free_of : ℕ → Free
@@ -16,11 +16,11 @@ limited_value (whole n) = if fits n then gives (whole n) else stops Cut
 limited_value v = gives v
 
 -- an outcome, but that the run is cut off where it gives a whole number that does not fit
-abbrev pub limited : Outcome → Outcome
-limited (gives v) = limited_value v
-limited (iterates over) = iterates over
-limited finished = finished
-limited (stops stop) = stops stop
+abbrev pub limited_outcome : Outcome → Outcome
+limited_outcome (gives v) = limited_value v
+limited_outcome (iterates over) = iterates over
+limited_outcome finished = finished
+limited_outcome (stops stop) = stops stop
 
 -- the actions that make a whole number: a literal, arithmetic, and `len`
 abbrev pub makes_number : Action → Bool
@@ -32,14 +32,14 @@ makes_number a = false
 
 -- an outcome with that limit where it applies, else as it is
 abbrev pub limited_if : Bool → Outcome → Outcome
-limited_if true o = limited o
+limited_if true o = limited_outcome o
 limited_if false o = o
 
 -- an action in a plain run
-abbrev pub plainly_acted : ℕ → Action → Heap → Acted
+abbrev pub plainly_acted : ℕ → Action → Heap → ActionResult
 plainly_acted byte action heap = record {
-  outcome = limited_if (makes_number action) (acted (free_of byte) action heap).outcome;
-  heap = (acted (free_of byte) action heap).heap;
+  outcome = limited_if (makes_number action) (action_result (free_of byte) action heap).outcome;
+  heap = (action_result (free_of byte) action heap).heap;
 }
 
 -- the outcome of an action that leaves the heap as it is

@@ -109,8 +109,8 @@ class_seen (an_instance l class fields) = Some class
 class_seen a_stray = None
 
 -- the number of the class of a value that is an instance
-abbrev pub class_of : Heap → Value → Option ℕ
-class_of heap v = class_seen (seen heap v)
+abbrev pub class_number_of : Heap → Value → Option ℕ
+class_number_of heap v = class_seen (seen heap v)
 
 -- whether a value is a list
 abbrev pub is_list : Seen → Bool

@@ -12,8 +12,8 @@ whole_of (AtLeastZero n) = pos n
 whole_of (BelowZero n) = negsuc n
 
 -- a whole number where it fits 128 signed bits
-abbrev pub fitting : ℤ → Option ℤ
-fitting n = if fits n then Some n else None
+abbrev pub if_it_fits : ℤ → Option ℤ
+if_it_fits n = if fits n then Some n else None
 
 -- a number that was made, or that the run is cut off
 abbrev pub made_outcome : Option ℤ → Outcome

@@ -1,3 +1,5 @@
+//! The actions on values, and what they come to.
+
 use crate::value::{Entry, Slot, Value};
 use pc_tree::{BinaryOperator, ComparisonOperator};
 

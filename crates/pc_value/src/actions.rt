@@ -1,15 +1,17 @@
+//! Actions on a heap.
+
 ghost use Rattle.std.specs.Prelude.{◌≡◌, [], IfOk, OnOk, OnErr, map};
 ghost use Rattle.pc_value.specs.Meaning.{value_of, entry_of, slot_of, cell_of, heap_of};
 ghost use Rattle.pc_value.specs.Value.{whole, list_cell, instance_cell, seen};
 ghost use Rattle.pc_value.specs.Actions.{gives};
 ghost use Rattle.pc_value.specs.Seeing.{seen_of};
-ghost use Rattle.pc_value.specs.Faults.{fault_of};
+ghost use Rattle.pc_value.specs.Internal.DisplayFaults.{fault_of};
 ghost use Rattle.pc_value.specs.Doing.{outcome_of, action_of, written_number, ComesTo};
 ghost use Rattle.pc_value.specs.Attributes.{store_attribute_outcome};
-ghost use Rattle.pc_value.specs.Changes.{stored_at, stored_key, heap_changed, sets_key};
-ghost use Rattle.pc_value.specs.Containers.{placed, append_outcome, pop_outcome, store_outcome, key_fault, first_key_fault, with_entries, dict_display};
+ghost use Rattle.pc_value.specs.Internal.Changes.{stored_at, stored_key, heap_changed, sets_key};
+ghost use Rattle.pc_value.specs.Containers.{with_new_cell, append_outcome, pop_outcome, store_outcome, key_fault, first_key_fault, with_entries, dict_display};
 ghost use Rattle.pc_value.specs.Outcomes.{takes_choice};
-ghost use Rattle.pc_value.specs.Plain.{limited, plainly_acted, IsAnswer};
+ghost use Rattle.pc_value.specs.Plain.{limited_outcome, plainly_acted, IsAnswer};
 
 use crate::action::{Action, Exception, Outcome};
 use crate::attributes::{attribute, field_value};
@@ -27,7 +29,7 @@ use std::alloc::Global;
 
 /// Something new in the heap, at the first location that is free.
 fn placed(heap: &mut Heap, cell: Cell) -> Result<Outcome, OutOfMemory>
-    ensures { ComesTo result heap.old heap.new (placed (heap_of heap.old) (cell_of cell)) }
+    ensures { ComesTo result heap.old heap.new (with_new_cell (heap_of heap.old) (cell_of cell)) }
 {
     let place = heap.cells.len();
     heap.cells.push(cell)?;
@@ -224,7 +226,7 @@ fn new_dict(alloc: Global, heap: &mut Heap, entries: &[Entry]) -> Result<Outcome
 
 /// `[v, ..]`. Language Reference 6.2.5 "List displays".
 fn new_list(alloc: Global, heap: &mut Heap, items: &[Value]) -> Result<Outcome, OutOfMemory>
-    ensures { ComesTo result heap.old heap.new (placed (heap_of heap.old) (list_cell (map value_of items.now))) }
+    ensures { ComesTo result heap.old heap.new (with_new_cell (heap_of heap.old) (list_cell (map value_of items.now))) }
 {
     let items = copy_values(alloc, items)?;
     placed(heap, Cell::List(items))
@@ -237,7 +239,7 @@ fn new_instance(
     class: usize,
     fields: &[Slot],
 ) -> Result<Outcome, OutOfMemory>
-    ensures { ComesTo result heap.old heap.new (placed (heap_of heap.old) (instance_cell class (map slot_of fields.now))) }
+    ensures { ComesTo result heap.old heap.new (with_new_cell (heap_of heap.old) (instance_cell class (map slot_of fields.now))) }
 {
     let fields = copy_slots(alloc, fields)?;
     placed(heap, Cell::Instance(class, fields))
@@ -245,7 +247,7 @@ fn new_instance(
 
 /// A whole number as it is written.
 fn number(below_zero: bool, digits: &str) -> Outcome
-    ensures { outcome_of result ≡ limited (gives (whole (written_number below_zero digits.now))) }
+    ensures { outcome_of result ≡ limited_outcome (gives (whole (written_number below_zero digits.now))) }
 {
     made(read_number(below_zero, digits.as_bytes()))
 }

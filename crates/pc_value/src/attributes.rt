@@ -1,9 +1,11 @@
+//! The fields of instances.
+
 ghost use Rattle.std.specs.Prelude.{◌≡◌, IfOk, map};
 ghost use Rattle.pc_value.specs.Meaning.{slot_of};
 ghost use Rattle.pc_value.specs.Seeing.{seen_of};
 ghost use Rattle.pc_value.specs.Doing.{outcome_of};
 ghost use Rattle.pc_value.specs.Attributes.{field_value, field_outcome, attribute_outcome};
-ghost use Rattle.pc_value.specs.Keys.{option_value};
+ghost use Rattle.pc_value.specs.Internal.Keys.{option_value};
 
 use crate::action::{Exception, Outcome};
 use crate::seen::Seen;

@@ -1,3 +1,5 @@
+//! How what lies at one location changes.
+
 ghost use Rattle.std.specs.Prelude.{◌≡◌, ◌++◌, ◌∷◌, [], ◌≤◌, IfOk, OnOk, OnErr, length, map, slice_set};
 ghost use Rattle.pc_value.specs.Meaning.{value_of, entry_of, slot_of, cell_of, heap_of};
 ghost use Rattle.pc_value.specs.Value.{none, list_cell};
@@ -5,7 +7,7 @@ ghost use Rattle.pc_value.specs.Actions.{gives};
 ghost use Rattle.pc_value.specs.Doing.{outcome_of};
 ghost use Rattle.pc_value.specs.Containers.{same_key, with_entry, last_of};
 ghost use Rattle.pc_value.specs.Attributes.{with_field};
-ghost use Rattle.pc_value.specs.Changes.{change_of, changed, popped, heap_changed, key_place, field_place};
+ghost use Rattle.pc_value.specs.Internal.Changes.{change_of, change_result, pop_result, heap_changed, key_place, field_place};
 
 use crate::action::Outcome;
 use crate::text::{same_characters, same_name};
@@ -99,8 +101,8 @@ fn push_item(items: &mut Vec<Value>, value: Value) -> Result<Outcome, OutOfMemor
 
 /// A list loses its last item.
 fn pop_item(items: &mut Vec<Value>) -> Outcome
-    ensures outcome { outcome_of result ≡ (popped (map value_of items.old.items) (last_of (map value_of items.old.items))).outcome }
-    ensures after { list_cell (map value_of items.new.items) ≡ (popped (map value_of items.old.items) (last_of (map value_of items.old.items))).cell }
+    ensures outcome { outcome_of result ≡ (pop_result (map value_of items.old.items) (last_of (map value_of items.old.items))).outcome }
+    ensures after { list_cell (map value_of items.new.items) ≡ (pop_result (map value_of items.old.items) (last_of (map value_of items.old.items))).cell }
 {
     match items.pop() {
         None => Outcome::Other,
@@ -119,8 +121,8 @@ fn set_item(items: &mut Vec<Value>, index: usize, value: Value)
 
 /// A change of what lies at a location.
 fn change_cell(cell: &mut Cell, change: Change) -> Result<Outcome, OutOfMemory>
-    ensures outcome { IfOk result (λ o. outcome_of o ≡ (changed (change_of change) (cell_of cell.old)).outcome) }
-    ensures after { OnOk result (cell_of cell.new ≡ (changed (change_of change) (cell_of cell.old)).cell) }
+    ensures outcome { IfOk result (λ o. outcome_of o ≡ (change_result (change_of change) (cell_of cell.old)).outcome) }
+    ensures after { OnOk result (cell_of cell.new ≡ (change_result (change_of change) (cell_of cell.old)).cell) }
     ensures unchanged { OnErr result (cell_of cell.new ≡ cell_of cell.old) }
 {
     match (cell, change) {

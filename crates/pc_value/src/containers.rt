@@ -1,12 +1,14 @@
+//! Lists, dicts, tuples and texts.
+
 ghost use Rattle.std.specs.Prelude.{◌≡◌, IfOk, map, pos, ◌∷◌, []};
 ghost use Rattle.pc_value.specs.Meaning.{value_of, entry_of};
 ghost use Rattle.pc_value.specs.Seeing.{seen_of};
 ghost use Rattle.pc_value.specs.Doing.{outcome_of};
-ghost use Rattle.pc_value.specs.Containers.{same_key, value_at, contains_key, gives_item, value_or_none, dict_item, dict_get, get_outcome, index_among, item_of, gives_character, item_outcome, length_outcome};
+ghost use Rattle.pc_value.specs.Containers.{same_key, value_at, contains_key, gives_item, value_or_none, dict_item, dict_get, get_outcome, index_among, item_numbered, gives_character, item_outcome, length_outcome};
 ghost use Rattle.pc_value.specs.Actions.{gives};
-ghost use Rattle.pc_value.specs.Plain.{limited};
+ghost use Rattle.pc_value.specs.Plain.{limited_outcome};
 ghost use Rattle.pc_value.specs.Value.{whole, string};
-ghost use Rattle.pc_value.specs.Keys.{key_of, option_value};
+ghost use Rattle.pc_value.specs.Internal.Keys.{key_of, option_value};
 
 use crate::action::{Exception, Outcome};
 use crate::operators::truth;
@@ -142,7 +144,7 @@ pub fn index_among(count: usize, index: i128) -> Option<usize>
 
 /// The item that a whole number names, or another exception where there is none.
 fn value_item(alloc: Global, items: &[Value], index: i128) -> Result<Outcome, OutOfMemory>
-    ensures { IfOk result (λ o. outcome_of o ≡ gives_item (item_of (map value_of items.now) index)) }
+    ensures { IfOk result (λ o. outcome_of o ≡ gives_item (item_numbered (map value_of items.now) index)) }
 {
     match index_among(items.len(), index) {
         None => Ok(Outcome::Other),
@@ -161,7 +163,7 @@ pub fn one_character(alloc: Global, character: char) -> Result<Value, OutOfMemor
 
 /// The character that a whole number names, or another exception where there is none.
 fn character_item(alloc: Global, characters: &[char], index: i128) -> Result<Outcome, OutOfMemory>
-    ensures { IfOk result (λ o. outcome_of o ≡ gives_character (item_of characters.now index)) }
+    ensures { IfOk result (λ o. outcome_of o ≡ gives_character (item_numbered characters.now index)) }
 {
     match index_among(characters.len(), index) {
         None => Ok(Outcome::Other),
@@ -187,14 +189,14 @@ pub fn item(alloc: Global, object: Seen<'_>, key: Seen<'_>) -> Result<Outcome, O
 
 /// A count as an outcome.
 fn count(number: usize) -> Outcome
-    ensures { outcome_of result ≡ limited (gives (whole (pos number))) }
+    ensures { outcome_of result ≡ limited_outcome (gives (whole (pos number))) }
 {
     Outcome::Gives(Value::Int(number as i128))
 }
 
 /// `len(e)`. Library Reference, "Built-in Functions".
 pub fn length_of(operand: Seen<'_>) -> Outcome
-    ensures { outcome_of result ≡ limited (length_outcome (seen_of operand.entry)) }
+    ensures { outcome_of result ≡ limited_outcome (length_outcome (seen_of operand.entry)) }
 {
     match operand {
         Seen::Text(characters) => count(characters.len()),

@@ -1,6 +1,8 @@
+//! The heap.
+
 ghost use Rattle.std.specs.Prelude.{◌≡◌, []};
 ghost use Rattle.pc_value.specs.Meaning.{value_of, heap_of};
-ghost use Rattle.pc_value.specs.Value.{seen, class_of, is_true, is_list};
+ghost use Rattle.pc_value.specs.Value.{seen, class_number_of, is_true, is_list};
 
 use crate::seen::{Seen, see};
 use crate::value::{Heap, Value};
@@ -18,7 +20,7 @@ impl Heap {
 
     /// The number of the class of an instance.
     pub fn class_of(&self, value: &Value) -> Option<usize>
-        ensures { result ≡ class_of (heap_of self.now) (value_of value.now) }
+        ensures { result ≡ class_number_of (heap_of self.now) (value_of value.now) }
     {
         match see(self, value) {
             Seen::Instance(_, class, _) => Some(class),

@@ -1,9 +1,11 @@
+//! What a `for` goes over, turn by turn.
+
 ghost use Rattle.std.specs.Prelude.{◌≡◌, IfOk, map, slice_get};
 ghost use Rattle.pc_value.specs.Meaning.{value_of, entry_of, heap_of};
 ghost use Rattle.pc_value.specs.Seeing.{seen_of};
 ghost use Rattle.pc_value.specs.Doing.{outcome_of, iteration_of};
 ghost use Rattle.pc_value.specs.Iteration.{iterate_outcome, range_outcome, turn_item, turn_character, list_turn, dict_turn, turn_outcome};
-ghost use Rattle.pc_value.specs.Keys.{option_value};
+ghost use Rattle.pc_value.specs.Internal.Keys.{option_value};
 
 use crate::action::{Exception, Iteration, Outcome};
 use crate::containers::one_character;

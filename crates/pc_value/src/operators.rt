@@ -1,3 +1,5 @@
+//! Operators and comparisons.
+
 ghost use Rattle.std.specs.Prelude.{◌≡◌, ◌%◌, IfOk};
 ghost use Rattle.pc_value.specs.Meaning.{value_of};
 ghost use Rattle.pc_value.specs.Wholes.{made_outcome};
@@ -5,8 +7,8 @@ ghost use Rattle.pc_value.specs.Value.{boolean, a_number};
 ghost use Rattle.pc_value.specs.Actions.{gives};
 ghost use Rattle.pc_value.specs.Seeing.{seen_of};
 ghost use Rattle.pc_value.specs.Doing.{outcome_of};
-ghost use Rattle.pc_value.specs.Plain.{limited, free_of};
-ghost use Rattle.pc_value.specs.Operators.{sum_of, difference_of, product_of, quotient_of, remainder_of, binary_outcome, negative_of, is_equality_free, is_same, is_equal, below, is_membership_free, member_of, opposite, compare_outcome, is_comparison_free, is_text_free, text_outcome};
+ghost use Rattle.pc_value.specs.Plain.{limited_outcome, free_of};
+ghost use Rattle.pc_value.specs.Operators.{sum_of, difference_of, product_of, quotient_of, remainder_of, binary_outcome, negative_of, is_equality_free, is_same, is_equal, below, is_membership_free, membership_of, opposite, compare_outcome, is_comparison_free, is_text_free, text_outcome};
 
 use crate::action::{Exception, Outcome};
 use crate::containers::contains_key;
@@ -30,7 +32,7 @@ pub fn made(number: Option<i128>) -> Outcome
 
 /// `+`. Language Reference 6.7 "Binary arithmetic operations".
 fn sum_of(alloc: Global, left: Seen<'_>, right: Seen<'_>) -> Result<Outcome, OutOfMemory>
-    ensures { IfOk result (λ o. outcome_of o ≡ limited (sum_of (seen_of left.entry) (seen_of right.entry))) }
+    ensures { IfOk result (λ o. outcome_of o ≡ limited_outcome (sum_of (seen_of left.entry) (seen_of right.entry))) }
 {
     match (left, right) {
         (Seen::Number(x), Seen::Number(y)) => Ok(made(sum(x, y))),
@@ -43,7 +45,7 @@ fn sum_of(alloc: Global, left: Seen<'_>, right: Seen<'_>) -> Result<Outcome, Out
 
 /// `-`. Language Reference 6.7 "Binary arithmetic operations".
 fn difference_of(left: Seen<'_>, right: Seen<'_>) -> Outcome
-    ensures { outcome_of result ≡ limited (difference_of (seen_of left.entry) (seen_of right.entry)) }
+    ensures { outcome_of result ≡ limited_outcome (difference_of (seen_of left.entry) (seen_of right.entry)) }
 {
     match (left, right) {
         (Seen::Number(x), Seen::Number(y)) => made(difference(x, y)),
@@ -53,7 +55,7 @@ fn difference_of(left: Seen<'_>, right: Seen<'_>) -> Outcome
 
 /// `*`. Language Reference 6.7 "Binary arithmetic operations".
 fn product_of(left: Seen<'_>, right: Seen<'_>) -> Outcome
-    ensures { outcome_of result ≡ limited (product_of (seen_of left.entry) (seen_of right.entry)) }
+    ensures { outcome_of result ≡ limited_outcome (product_of (seen_of left.entry) (seen_of right.entry)) }
 {
     match (left, right) {
         (Seen::Number(x), Seen::Number(y)) => made(product(x, y)),
@@ -69,7 +71,7 @@ fn product_of(left: Seen<'_>, right: Seen<'_>) -> Outcome
 
 /// `//`. Language Reference 6.7 "Binary arithmetic operations".
 fn quotient_of(left: Seen<'_>, right: Seen<'_>) -> Outcome
-    ensures { outcome_of result ≡ limited (quotient_of (seen_of left.entry) (seen_of right.entry)) }
+    ensures { outcome_of result ≡ limited_outcome (quotient_of (seen_of left.entry) (seen_of right.entry)) }
 {
     match (left, right) {
         (Seen::Number(x), Seen::Number(y)) => quotient(x, y),
@@ -79,7 +81,7 @@ fn quotient_of(left: Seen<'_>, right: Seen<'_>) -> Outcome
 
 /// The quotient of two numbers; by zero another exception.
 fn quotient(x: i128, y: i128) -> Outcome
-    ensures { outcome_of result ≡ limited (quotient_of (a_number x) (a_number y)) }
+    ensures { outcome_of result ≡ limited_outcome (quotient_of (a_number x) (a_number y)) }
 {
     if y == 0 {
         Outcome::Other
@@ -90,7 +92,7 @@ fn quotient(x: i128, y: i128) -> Outcome
 
 /// `%`. Language Reference 6.7 "Binary arithmetic operations".
 fn remainder_of(left: Seen<'_>, right: Seen<'_>) -> Outcome
-    ensures { outcome_of result ≡ limited (remainder_of (seen_of left.entry) (seen_of right.entry)) }
+    ensures { outcome_of result ≡ limited_outcome (remainder_of (seen_of left.entry) (seen_of right.entry)) }
 {
     match (left, right) {
         (Seen::Number(x), Seen::Number(y)) => remainder(x, y),
@@ -101,7 +103,7 @@ fn remainder_of(left: Seen<'_>, right: Seen<'_>) -> Outcome
 
 /// What division of two numbers leaves; by zero another exception.
 fn remainder(x: i128, y: i128) -> Outcome
-    ensures { outcome_of result ≡ limited (remainder_of (a_number x) (a_number y)) }
+    ensures { outcome_of result ≡ limited_outcome (remainder_of (a_number x) (a_number y)) }
 {
     if y == 0 {
         Outcome::Other
@@ -117,7 +119,7 @@ pub fn binary(
     left: Seen<'_>,
     right: Seen<'_>,
 ) -> Result<Outcome, OutOfMemory>
-    ensures { IfOk result (λ o. outcome_of o ≡ limited (binary_outcome operator (seen_of left.entry) (seen_of right.entry))) }
+    ensures { IfOk result (λ o. outcome_of o ≡ limited_outcome (binary_outcome operator (seen_of left.entry) (seen_of right.entry))) }
 {
     match operator {
         BinaryOperator::Add => sum_of(alloc, left, right),
@@ -130,7 +132,7 @@ pub fn binary(
 
 /// Unary `-`. Language Reference 6.6 "Unary arithmetic and bitwise operations".
 pub fn negative(operand: Seen<'_>) -> Outcome
-    ensures { outcome_of result ≡ limited (negative_of (seen_of operand.entry)) }
+    ensures { outcome_of result ≡ limited_outcome (negative_of (seen_of operand.entry)) }
 {
     match operand {
         Seen::Number(x) => made(negated(x)),
@@ -224,7 +226,7 @@ fn is_membership_free(right: Seen<'_>) -> bool
 
 /// `in`. Language Reference 6.10.2 "Membership test operations".
 fn member_of(choice: u8, left: Seen<'_>, right: Seen<'_>) -> Outcome
-    ensures { outcome_of result ≡ member_of (free_of choice) (seen_of left.entry) (seen_of right.entry) }
+    ensures { outcome_of result ≡ membership_of (free_of choice) (seen_of left.entry) (seen_of right.entry) }
 {
     match (left, right) {
         (Seen::Text(s), Seen::Text(t)) => truth(occurs_in(s, t)),

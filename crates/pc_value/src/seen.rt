@@ -1,3 +1,5 @@
+//! A value by its kind.
+
 ghost use Rattle.std.specs.Prelude.{◌≡◌, slice_get};
 ghost use Rattle.pc_value.specs.Meaning.{value_of, heap_of};
 ghost use Rattle.pc_value.specs.Seeing.{seen_of};

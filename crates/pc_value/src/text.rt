@@ -1,3 +1,5 @@
+//! Texts of values, and the order of texts.
+
 ghost use Rattle.std.specs.Prelude.{◌≡◌, ◌++◌, IfOk, length};
 ghost use Rattle.pc_value.specs.Texts.{same_text, text_below, occurs_in, text_of_number};
 

@@ -1,3 +1,5 @@
+//! Values, cells and heaps.
+
 ghost use Rattle.std.specs.Prelude.{◌≡◌, IfOk, map};
 ghost use Rattle.pc_value.specs.Meaning.{value_of, slot_of};
 

@@ -1,6 +1,8 @@
+//! Whole numbers of 128 signed bits.
+
 ghost use Rattle.std.specs.Prelude.{◌≡◌, ◌≢◌, ◌≤◌, ◌^◌, ◌<◌, pos, neg_ℤ, ◌+ℤ◌, ◌-ℤ◌, ◌*ℤ◌, MatchOption};
 ghost use Rattle.pc_value.specs.Numbers.{floor_div, floor_mod, floor_div_by, floor_mod_by, number_behind};
-ghost use Rattle.pc_value.specs.Wholes.{whole_of, fitting};
+ghost use Rattle.pc_value.specs.Wholes.{whole_of, if_it_fits};
 ghost use Rattle.pc_value.specs.Doing.{written_number};
 
 /// A whole number by its sign: `n`, or `-1 - n`.
@@ -24,7 +26,7 @@ impl Whole {
 
     /// The number in 128 signed bits, if it fits.
     fn fit(self) -> Option<i128>
-        ensures { result ≡ fitting (whole_of self) }
+        ensures { result ≡ if_it_fits (whole_of self) }
     {
         match self {
             Whole::AtLeastZero(n) => { if n < 1 << 127 { Some(n as i128) } else { None } }
@@ -59,7 +61,7 @@ fn read_digits(digits: &[u8]) -> Option<u128>
 
 /// The whole number that digits stand for, with or without a `-`, if it fits 128 signed bits.
 pub fn read_number(below_zero: bool, digits: &[u8]) -> Option<i128>
-    ensures { result ≡ fitting (written_number below_zero digits.now) }
+    ensures { result ≡ if_it_fits (written_number below_zero digits.now) }
 {
     let number = read_digits(digits)?;
     if below_zero && number > 0 {
@@ -106,7 +108,7 @@ fn opposite(number: i128) -> Whole
 /// Language Reference 6.7 "Binary arithmetic operations".
 pub fn floor_div(number: i128, divisor: i128) -> Option<i128>
     requires { divisor ≢ pos 0 }
-    ensures { result ≡ fitting (floor_div number divisor) }
+    ensures { result ≡ if_it_fits (floor_div number divisor) }
 {
     if divisor > 0 {
         div_by(Whole::of(number), divisor.unsigned_abs()).fit()
@@ -119,7 +121,7 @@ pub fn floor_div(number: i128, divisor: i128) -> Option<i128>
 /// Language Reference 6.7 "Binary arithmetic operations".
 pub fn floor_mod(number: i128, divisor: i128) -> Option<i128>
     requires { divisor ≢ pos 0 }
-    ensures { result ≡ fitting (floor_mod number divisor) }
+    ensures { result ≡ if_it_fits (floor_mod number divisor) }
 {
     if divisor > 0 {
         Whole::AtLeastZero(mod_by(Whole::of(number), divisor.unsigned_abs())).fit()
@@ -135,26 +137,26 @@ pub fn floor_mod(number: i128, divisor: i128) -> Option<i128>
 
 /// The opposite number, if it fits 128 signed bits.
 pub fn negated(number: i128) -> Option<i128>
-    ensures { result ≡ fitting (neg_ℤ number) }
+    ensures { result ≡ if_it_fits (neg_ℤ number) }
 {
     opposite(number).fit()
 }
 
 /// Sums, differences and products, if they fit 128 signed bits.
 pub fn sum(left: i128, right: i128) -> Option<i128>
-    ensures { result ≡ fitting (left +ℤ right) }
+    ensures { result ≡ if_it_fits (left +ℤ right) }
 {
     left.checked_add(right)
 }
 
 pub fn difference(left: i128, right: i128) -> Option<i128>
-    ensures { result ≡ fitting (left -ℤ right) }
+    ensures { result ≡ if_it_fits (left -ℤ right) }
 {
     left.checked_sub(right)
 }
 
 pub fn product(left: i128, right: i128) -> Option<i128>
-    ensures { result ≡ fitting (left *ℤ right) }
+    ensures { result ≡ if_it_fits (left *ℤ right) }
 {
     left.checked_mul(right)
 }

@@ -7,9 +7,9 @@ use Rattle.pc_types.specs.Boxed.{IsGiven}
 use Rattle.pc_types.specs.declared.boxed.BoxType.{BoxType}
 use Rattle.pc_class.specs.declared.table.Parameter.{Parameter}
 use Rattle.pc_class.specs.declared.table.Method.{Method}
-use Rattle.pc_class.specs.Tables.{Entry, HasParameter, HasMethod, HasEntry, HasEntries, IsField, IsMethod, IsLent}
+use Rattle.pc_class.specs.Tables.{ClassEntry, HasParameter, HasMethod, HasEntry, HasEntries, IsField, IsMethod, IsLent}
 
-module _ {cs : List (Entry BoxType)} (h : HasEntries IsGiven cs) where
+module _ {cs : List (ClassEntry BoxType)} (h : HasEntries IsGiven cs) where
   -- a field of the table
   pub field_held : (p : Parameter BoxType) → IsField cs p → HasParameter IsGiven p
   field_held p f = All-contains (HasParameter IsGiven) f.class.fields p (All-contains (HasEntry IsGiven) cs f.class h f.listed).fields f.among

@@ -1,7 +1,7 @@
 //! Class tables of modules, and what is found of their classes, by `pc_class`.
 ghost use Rattle.std.specs.Prelude.{◌≡◌, All};
 ghost use Rattle.pc_tree.specs.Tree.{module_of};
-ghost use Rattle.pc_scope.specs.Scoped.{AreScopes};
+ghost use Rattle.pc_scope.specs.ModuleScopes.{AreScopes};
 ghost use Rattle.pc_types.specs.Bases.{bases_of};
 ghost use Rattle.pc_types.specs.Boxed.{IsGiven};
 ghost use Rattle.pc_class.specs.Tables.{HasParameter, HasMethod, HasEntries};

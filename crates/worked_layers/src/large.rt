@@ -1,7 +1,7 @@
 //! Large modules that are made, not written, and what the layers below the typing of expressions answer to them.
 ghost use Rattle.std.specs.Prelude.{◌≡◌};
 ghost use Rattle.pc_tree.specs.Tree.{module_of};
-ghost use Rattle.pc_scope.specs.Scoped.{AreScopes};
+ghost use Rattle.pc_scope.specs.ModuleScopes.{AreScopes};
 ghost use Rattle.pc_types.specs.Bases.{bases_of};
 
 use crate::annotations::annotation_of;
@@ -72,9 +72,7 @@ fn condition(alloc: Global, depth: usize) -> Result<String, AllocError> {
 /// A function with such a condition.
 fn conditional(alloc: Global, depth: usize) -> Result<String, AllocError> {
     let condition = condition(alloc, depth)?;
-    format!(in alloc;
-        "{HEADERS}def f(x: int | None):\n    if {condition}:\n        pass\n{TAIL}"
-    )
+    format!(in alloc; "{HEADERS}def f(x: int | None):\n    if {condition}:\n        pass\n{TAIL}")
 }
 
 /// So many classes, and a constant whose annotation is their union.

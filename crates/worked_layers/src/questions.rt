@@ -1,8 +1,8 @@
 //! What is asked of types, over any store: how two compare, their join, and what one is made of.
 ghost use Rattle.std.specs.Prelude.{◌≡◌, All, IfOk};
 ghost use Rattle.pc_tree.specs.Tree.{module_of};
-ghost use Rattle.pc_scope.specs.Scoped.{AreScopes};
-ghost use Rattle.pc_types.specs.Store.{Keeps};
+ghost use Rattle.pc_scope.specs.ModuleScopes.{AreScopes};
+ghost use Rattle.pc_types.specs.Store.{KeepsTypes};
 
 use pc_ann::{read_ann, type_text};
 use pc_scope::Scopes;
@@ -60,7 +60,7 @@ fn type_of<S: TypeStore>(
 ) -> Result<S::Ty, OutOfMemory>
     requires { AreScopes (module_of setting.now.tree.now) setting.now.scopes.now }
     ensures held { IfOk result (S.has store.new) }
-    ensures kept { Keeps S.has store.old store.new }
+    ensures kept { KeepsTypes S.has store.old store.new }
 {
     let Setting {
         tree,

@@ -1,3 +1,5 @@
+//! The cases of a table of runs.
+
 use pc_tables::TableFault;
 use std::alloc::Global;
 

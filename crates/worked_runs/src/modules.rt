@@ -1,3 +1,5 @@
+//! Modules that are made of a case's lines.
+
 use crate::cases::Case;
 use pc_front::read_module;
 use pc_names::fixed_keys;

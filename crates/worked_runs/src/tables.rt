@@ -1,3 +1,5 @@
+//! Tables of runs, of actions, and of modules made of words.
+
 use crate::actions::count_actions;
 use crate::cases::{Case, cases};
 use crate::modules::{module_of_lines, module_of_statements, trace_of};

@@ -1,3 +1,5 @@
+//! Tables of texts and of what they spell.
+
 use crate::expressions::count_expressions;
 use crate::layouts::{count_faults, count_layouts};
 use crate::lines::count_lines;

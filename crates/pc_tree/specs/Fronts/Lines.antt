@@ -14,7 +14,7 @@ use Rattle.pc_tree.specs.Grammar.Expressions.{Expression, SpellsTarget}
 use Rattle.pc_tree.specs.Grammar.Annotations.{Annotation, SpellsAnn}
 use Rattle.pc_tree.specs.Grammar.Statements.{Suite, SpellsStmt, SpellsStmts, SpellsBranches}
 use Rattle.pc_tree.specs.Grammar.Modules.{SpellsParam, Parameters, SpellsMembers, SpellsItems, Header, OptionalHeader}
-use Rattle.pc_tree.specs.Machine.States.{Stage, after_future, after_dataclasses, after_headers, Top, ClassStart, Owner, of_module, of_class, DefStart, DefHead, Nest, while_body, for_body, branch_body, else_body, Block, def_body, nested, Begun, assigned, annotated_value, returned, asserted, asserted_with, looping, iterating, branching, Context, in_line, in_statement, in_constant, AnnContext, of_constant, of_field, of_param, of_return, of_local, LiteralContext, default_of_param, default_of_field, AnnStack, ann_whole, ann_inside}
+use Rattle.pc_tree.specs.Machine.States.{Stage, after_future, after_dataclasses, after_headers, Top, ClassStart, Owner, of_module, of_class, DefStart, DefHead, Nest, while_body, for_body, branch_body, else_body, Block, def_body, nested, Begun, assigned, annotated_value, returned, asserted, asserted_with, looping, iterating, branching, ExpressionPosition, in_line, in_statement, in_constant, AnnotationPosition, of_constant, of_field, of_param, of_return, of_local, LiteralContext, default_of_param, default_of_field, AnnStack, ann_whole, ann_inside}
 
 -- ---- tokens
 
@@ -174,7 +174,7 @@ BeforeBegun first (iterating target) = (WordAt word.For first ⟫ IsName target)
 BeforeBegun first (branching bs) = BranchWord first bs
 
 -- what comes before a whole expression
-abbrev pub BeforeContext : Context → Spelling
+abbrev pub BeforeContext : ExpressionPosition → Spelling
 BeforeContext (in_line done b) = BeforeStmts done b
 BeforeContext (in_statement begun site) = BeforeStmts site.done site.block ⟫ BeforeBegun site.first begun
 BeforeContext (in_constant n a top) = BeforeItems top ⟫ (BeforeParam n a ⟫ Sign sign.Equal)
@@ -182,7 +182,7 @@ BeforeContext (in_constant n a top) = BeforeItems top ⟫ (BeforeParam n a ⟫ S
 -- ---- annotations
 
 -- what comes before a whole annotation, up to its `:` or `->`
-abbrev pub BeforeAnnContext : AnnContext → Spelling
+abbrev pub BeforeAnnContext : AnnotationPosition → Spelling
 BeforeAnnContext (of_constant n top) = BeforeItems top ⟫ (IsName n ⟫ Sign sign.Colon)
 BeforeAnnContext (of_field c ms n) = BeforeMembers c ms ⟫ (IsName n ⟫ Sign sign.Colon)
 BeforeAnnContext (of_param d ps n) = BeforeParams d ps ⟫ (IsName n ⟫ Sign sign.Colon)

@@ -7,7 +7,7 @@ use Rattle.pc_token.specs.declared.token.Operator.TheVariants as sign
 use Rattle.pc_tree.specs.Tree.{Name, Expr, name, attribute, index, Exprs, no_exprs, more_exprs, Entries, no_entries, more_entries, Keywords, no_keywords, more_keywords, Ann, Anns, no_anns, more_anns, Target, to_name, to_attribute, to_index, Literal, Stmt, returns, asserts, annotated, assigns, evaluates, while_loop, for_loop, conditional, Stmts, no_stmts, more_stmts, Branches, no_branches, more_branches, Param, FuncDef, Member, field_member, method_member, ClassDef, Item, constant_item, class_item, def_item}
 use Rattle.pc_tree.specs.Grammar.{first_place}
 use Rattle.pc_tree.specs.Machine.Kinds.{a_kind, same_kind, Ending, a_comma, a_colon, an_equal, a_line_end}
-use Rattle.pc_tree.specs.Machine.States.{after_headers, Top, ClassStart, Owner, of_module, of_class, DefStart, DefHead, Nest, while_body, for_body, branch_body, else_body, Block, def_body, nested, Site, Begun, assigned, annotated_value, returned, asserted, asserted_with, looping, iterating, branching, Context, in_line, in_statement, in_constant, AnnContext, of_constant, of_field, of_param, of_return, of_local, LiteralContext, default_of_param, default_of_field, Part, whole, ann_whole, State, fixed, items, members, param_due, params_read, literal_due, stmts, after_branch, part_due, operand, Turn, stuck, go, on}
+use Rattle.pc_tree.specs.Machine.States.{after_headers, Top, ClassStart, Owner, of_module, of_class, DefStart, DefHead, Nest, while_body, for_body, branch_body, else_body, Block, def_body, nested, Site, Begun, assigned, annotated_value, returned, asserted, asserted_with, looping, iterating, branching, ExpressionPosition, in_line, in_statement, in_constant, AnnotationPosition, of_constant, of_field, of_param, of_return, of_local, LiteralContext, default_of_param, default_of_field, Part, whole, ann_whole, State, fixed, items, members, param_due, params_read, literal_due, stmts, after_branch, part_due, operand, Turn, stuck, go, on}
 
 -- ---- lists that grow at their end
 
@@ -156,7 +156,7 @@ finish_stmt (iterating target) p site e = at_colon (suite_of (nested_in site (fo
 finish_stmt (branching branches) p site e = at_colon (suite_of (nested_in site (branch_body branches p.tree))) e
 
 -- what comes behind a whole expression
-abbrev pub finish : Context → Part → Ending → Turn
+abbrev pub finish : ExpressionPosition → Part → Ending → Turn
 finish (in_line done block) p e = finish_line p (line_site done block p) e
 finish (in_statement begun site) p e = finish_stmt begun p site e
 finish (in_constant n annotation top) p e =
@@ -183,7 +183,7 @@ abbrev pub field : Name → Ann → Option Literal → Member
 field n annotation default = field_member (record { name = n; annotation = annotation; default = default })
 
 -- what comes behind a whole annotation
-abbrev pub finish_ann : AnnContext → Ann → TokenKind → Turn
+abbrev pub finish_ann : AnnotationPosition → Ann → TokenKind → Turn
 finish_ann (of_constant n top) a k = on (same_kind k (kind.Operator sign.Equal)) (operand (whole (in_constant n (Some a) top))) stuck
 finish_ann (of_field c ms n) a k = on (same_kind k (kind.Operator sign.Equal)) (literal_due (default_of_field c ms n a))
     (on (same_kind k kind.Newline) (members c (ms ++ (field n a None ∷ []))) stuck)

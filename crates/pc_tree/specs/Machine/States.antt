@@ -78,19 +78,19 @@ pub data Begun : Type 0 where
   branching : (branches : Branches) → Begun
 
 -- where a whole expression stands: first in a line, behind what begins a statement, or as the value of a constant
-pub data Context : Type 0 where
+pub data ExpressionPosition : Type 0 where
   -- the first of a line, of which it is not known yet what it is
-  in_line : (done : Stmts) (block : Block) → Context
-  in_statement : (begun : Begun) (site : Site) → Context
-  in_constant : (n : Name) (annotation : Option Ann) (top : Top) → Context
+  in_line : (done : Stmts) (block : Block) → ExpressionPosition
+  in_statement : (begun : Begun) (site : Site) → ExpressionPosition
+  in_constant : (n : Name) (annotation : Option Ann) (top : Top) → ExpressionPosition
 
 -- what a whole annotation belongs to: a constant, a field, a parameter, what a function returns, or a local name
-pub data AnnContext : Type 0 where
-  of_constant : (n : Name) (top : Top) → AnnContext
-  of_field : (c : ClassStart) (members : List Member) (n : Name) → AnnContext
-  of_param : (d : DefStart) (params : List Param) (n : Name) → AnnContext
-  of_return : (d : DefStart) (params : List Param) → AnnContext
-  of_local : (n : Name) (site : Site) → AnnContext
+pub data AnnotationPosition : Type 0 where
+  of_constant : (n : Name) (top : Top) → AnnotationPosition
+  of_field : (c : ClassStart) (members : List Member) (n : Name) → AnnotationPosition
+  of_param : (d : DefStart) (params : List Param) (n : Name) → AnnotationPosition
+  of_return : (d : DefStart) (params : List Param) → AnnotationPosition
+  of_local : (n : Name) (site : Site) → AnnotationPosition
 
 -- what a literal is the default of: a parameter or a field
 pub data LiteralContext : Type 0 where
@@ -119,7 +119,7 @@ pub data Head : Type 0 where
 -- What is open around an operand. The lists of tokens are those from where the open node begins.
 pub data Stack : Type 0 where
   -- the expression is a whole one
-  whole : (c : Context) → Stack
+  whole : (c : ExpressionPosition) → Stack
   -- the right side of an operator, after its left side and the operator's own tokens
   joining : (operator : Infix) (left : Part) (tokens : List Lexeme) (s : Stack) → Stack
   -- the operand of a sign or of `not`
@@ -141,7 +141,7 @@ pub data Stack : Type 0 where
 
 -- What is open around an annotation.
 pub data AnnStack : Type 0 where
-  ann_whole : (c : AnnContext) → AnnStack
+  ann_whole : (c : AnnotationPosition) → AnnStack
   -- an argument after others, in a part after others of a union
   ann_inside : (head : Name) (done : Anns) (tokens : List Lexeme) (parts : Anns) (before : List Lexeme) (s : AnnStack) → AnnStack
 

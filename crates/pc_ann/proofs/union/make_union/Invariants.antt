@@ -1,5 +1,5 @@
 use Rattle.std.proofs.Common.{◌≡◌, drop}
-use Rattle.pc_ann.specs.Read.{heads_make_union}
+use Rattle.pc_ann.specs.Internal.TypesRead.{heads_make_union}
 use Rattle.pc_ann.proofs.union.make_union.Given as goal
 
 abbrev pub invariant-loop-i : goal.invariant-loop-i

@@ -1,12 +1,12 @@
 use Rattle.std.proofs.Common.{◌≡◌, ◌<◌, All, map, length, sym, ap, ◌∙◌, subst, arith}
 use Rattle.std.proofs.lemmas.List.{length-map}
 use Rattle.pc_tree.specs.Tree.{module_of}
-use Rattle.pc_types.specs.Shape.{nodes_of, limit, trees, union}
+use Rattle.pc_types.specs.Shape.{nodes_of, node_limit, trees, union}
 use Rattle.pc_types.specs.Normal.{IsNormal}
 use Rattle.pc_types.specs.Store.{MeansWithin}
-use Rattle.pc_types.specs.Annotations.{in_order, readings}
+use Rattle.pc_types.specs.Annotations.{in_union_order, readings}
 use Rattle.pc_ann.specs.Listed.{anns_of_list}
-use Rattle.pc_ann.specs.Read.{united_head}
+use Rattle.pc_ann.specs.Internal.TypesRead.{united_head}
 use Rattle.pc_ann.proofs.Uniting.{no_union, one_union, is_one, union_large, union_of_many, union_is_normal}
 use Rattle.pc_ann.proofs.union.unite.Goals as goal
 
@@ -20,7 +20,7 @@ returns-in_default-clause-value g c =
     let bases = c.args.setting.now.parents.now in
     let ts = readings (module_of c.args.setting.now.tree.now) bases (anns_of_list c.args.parts.now) in
     let many = c.requires.types_are in
-    let large : limit < nodes_of (trees ts) = rw c.in_default.is at many in
+    let large : node_limit < nodes_of (trees ts) = rw c.in_default.is at many in
     one_union g.S.TypeStore.has g.S.TypeStore.tree c.args.store.now bases ts c.deref.result.now c.united_head-head.result _ (c.deref.ensures.value ∙ c.requires.heads_are) (sym c.if-not-make_union.false ∙ c.make_union.ensures) (c.united_head-head.ensures ∙ ap united_head (c.deref-2.ensures.value ∙ sym c.deref.ensures.value))
     (λ u. union_large bases ts u large)
 
@@ -43,7 +43,7 @@ union-requires-clause-order g c =
     let ts = readings m bases (anns_of_list c.args.parts.now) in
     let those = c.requires.types_are in
     let q : All (g.S.TypeStore.has c.args.store.now) c.in-Some.types.items × (map tree c.in-Some.types.items ≡ ts) = rw c.in-Some.is at those in
-    let e : map tree c.deref-3.result.now ≡ in_order ts = ap (map tree) c.deref-3.ensures.value ∙ c.in_ok-members.ensures.value ∙ ap in_order q.1 in
+    let e : map tree c.deref-3.result.now ≡ in_union_order ts = ap (map tree) c.deref-3.ensures.value ∙ c.in_ok-members.ensures.value ∙ ap in_union_order q.1 in
     let u = is_one bases ts c.deref.result.now (c.deref.ensures.value ∙ c.requires.heads_are) (sym c.if-not-make_union.false ∙ c.make_union.ensures) in
     subst (λ l. IsNormal (union l)) (sym e) (union_is_normal m bases (anns_of_list c.args.parts.now) c.ordered.ensures u)
 
@@ -55,6 +55,6 @@ returns-clause-value g c =
     let ts = readings m bases (anns_of_list c.args.parts.now) in
     let those = c.requires.types_are in
     let q : All (g.S.TypeStore.has c.args.store.now) c.in-Some.types.items × (map tree c.in-Some.types.items ≡ ts) = rw c.in-Some.is at those in
-    let e : map tree c.deref-3.result.now ≡ in_order ts = ap (map tree) c.deref-3.ensures.value ∙ c.in_ok-members.ensures.value ∙ ap in_order q.1 in
+    let e : map tree c.deref-3.result.now ≡ in_union_order ts = ap (map tree) c.deref-3.ensures.value ∙ c.in_ok-members.ensures.value ∙ ap in_union_order q.1 in
     one_union g.S.TypeStore.has tree c.union.new.self bases ts c.deref.result.now c.united_head-head.result c.in_ok-ty.ty (c.deref.ensures.value ∙ c.requires.heads_are) (sym c.if-not-make_union.false ∙ c.make_union.ensures) (c.united_head-head.ensures ∙ ap united_head (c.deref-2.ensures.value ∙ sym c.deref.ensures.value))
     (λ u. subst (λ l. MeansWithin g.S.TypeStore.has tree c.union.new.self c.in_ok-ty.ty (union l)) e c.in_ok-ty.ensures.value)

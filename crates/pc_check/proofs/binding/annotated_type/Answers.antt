@@ -5,9 +5,9 @@ use Rattle.pc_tree.specs.Tree.{name_of, ann_of, module_of}
 use Rattle.pc_types.specs.WellFormed.{IsWellFormed}
 use Rattle.pc_types.proofs.Readings.{read_ann_well_formed}
 use Rattle.pc_flow.specs.Stored.{env_of}
-use Rattle.pc_notes.specs.Notes.{Note, notes_of, plain}
+use Rattle.pc_notes.specs.Notes.{Note, notes_of, plain_note}
 use Rattle.pc_check.specs.ComputedStatements.{bound_name}
-use Rattle.pc_check.specs.Walking.{frame_with}
+use Rattle.pc_check.specs.Internal.StatementWalk.{frame_with}
 use Rattle.pc_check.proofs.Bound.{bound_unless, bound_finds, first_unless, first_finds}
 use Rattle.pc_check.proofs.binding.annotated_type.Goals as goal
 
@@ -36,5 +36,5 @@ returns-clause-pushed g c =
     let frame = frame_with g.S.TypeStore.tree g.R.Resolver.meaning c.args.frame.now in
     let inside = ann_findings (module_of c.args.frame.now.tree.now) c.args.frame.now.parents.now (ann_of c.args.annotation.now) in
     let listed : c.deref.result.now ≡ inside = c.deref.ensures.value ∙ c.in_ok-ty.ensures.pushed ∙ ap (λ (l : List Finding). l ++ inside) c.new-in_it.ensures.items in
-    c.in_ok-put_all.ensures ∙ ap (λ (fs : List Finding). notes_of c.args.found.now ++ map plain fs) listed
+    c.in_ok-put_all.ensures ∙ ap (λ (fs : List Finding). notes_of c.args.found.now ++ map plain_note fs) listed
     ∙ ap (λ (ns : List Note). notes_of c.args.found.now ++ ns) (sym (first_finds frame (bound_name frame (env_of g.S.TypeStore.tree c.args.declared.now) c.args.meaning) (name_of c.args.name.now) (ann_of c.args.annotation.now) (sym (c.is_bound.ensures frame g.S.TypeStore.tree) ∙ c.if-is_bound.false)))

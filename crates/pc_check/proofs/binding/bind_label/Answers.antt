@@ -2,7 +2,7 @@ use Rattle.std.proofs.Common.{sym, subst, refl}
 use Rattle.std.specs.Option.{option_map}
 use Rattle.pc_types.specs.WellFormed.{IsWellFormed}
 use Rattle.pc_notes.specs.Notes.{notes_of}
-use Rattle.pc_check.specs.Walking.{frame_with}
+use Rattle.pc_check.specs.Internal.StatementWalk.{frame_with}
 use Rattle.pc_check.proofs.Bound.{label_bound, or_well_formed}
 use Rattle.pc_check.proofs.Held.{types_kept, want_well_formed}
 use Rattle.pc_check.proofs.binding.bind_label.Goals as goal

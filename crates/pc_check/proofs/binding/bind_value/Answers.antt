@@ -3,8 +3,8 @@ use Rattle.std.specs.Option.{option_map}
 use Rattle.pc_tree.specs.Tree.{expr_of}
 use Rattle.pc_flow.specs.Stored.{env_of}
 use Rattle.pc_notes.specs.Notes.{Note, notes_of}
-use Rattle.pc_check.specs.ComputedStatements.{Bound}
-use Rattle.pc_check.specs.Walking.{frame_with}
+use Rattle.pc_check.specs.ComputedStatements.{BindingResult}
+use Rattle.pc_check.specs.Internal.StatementWalk.{frame_with}
 use Rattle.pc_check.proofs.Bound.{known_holds, value_elsewhere}
 use Rattle.pc_check.proofs.Held.{types_kept, type_kept_if_any, want_well_formed}
 use Rattle.pc_check.proofs.binding.bind_value.Goals as goal
@@ -31,7 +31,7 @@ returns-in_ok-type_in-in_default g c =
     let tree = g.S.TypeStore.tree in
     let bases = c.args.frame.now.parents.now in
     let k = c.type_in-in_default.ensures.kept in
-    let made : List Note → Bound = λ fs. record { table = env_of tree c.args.declared.now; env = env_of tree c.args.env; found = fs } in
+    let made : List Note → BindingResult = λ fs. record { table = env_of tree c.args.declared.now; env = env_of tree c.args.env; found = fs } in
     record {
       bound = rw (value_elsewhere (frame_with tree g.R.Resolver.meaning c.args.frame.now) (env_of tree c.args.declared.now) (env_of tree c.args.env) c.args.meaning (option_map tree c.args.annotation) (expr_of c.args.e.now) (notes_of c.args.found.now) (λ x i. c.in_default.not-Local x i)) (record {
         declared_holds = types_kept g.S.TypeStore.has tree bases _ _ k c.args.declared.now c.requires.declared;

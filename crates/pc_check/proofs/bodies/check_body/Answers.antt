@@ -14,8 +14,8 @@ use Rattle.pc_expr.specs.SignaturesFound.{constants_of}
 use Rattle.pc_expr.specs.Standing.{HasSignature, signature_with}
 use Rattle.pc_expr.specs.WellFormed.{ContextWellFormed}
 use Rattle.pc_expr.proofs.Contexts.{bodies_well_formed}
-use Rattle.pc_check.specs.Checking.{module_in}
-use Rattle.pc_check.specs.ComputedStatements.{Frame, function_finds}
+use Rattle.pc_check.specs.Internal.ModuleWalk.{module_in}
+use Rattle.pc_check.specs.ComputedStatements.{BodyFrame, function_finds}
 use Rattle.pc_check.proofs.ModuleSettings.{frame_is, names_mean}
 use Rattle.pc_check.proofs.WalkedModule.{constants_well_formed}
 use Rattle.pc_check.proofs.bodies.check_body.Goals as goal
@@ -48,7 +48,7 @@ check_function-requires-clause-frame g c =
         well_formed = subst (λ (bs : Bases). IsWellFormed bs (tree c.args.signature.now.ret)) (sym h.parents)
             (subst (λ (t : Tree). IsWellFormed (bases_of m) t) (sym (ap (λ (s : Signature). s.returns) c.requires.signature)) (returned_well_formed m f));
       };
-      context = subst (λ (k : Frame). ContextWellFormed k.context) (sym (check_function-requires-clause-body g c)) (bodies_well_formed m constants (locals c.args.owner f) well_formed);
+      context = subst (λ (k : BodyFrame). ContextWellFormed k.context) (sym (check_function-requires-clause-body g c)) (bodies_well_formed m constants (locals c.args.owner f) well_formed);
       scopes = h.scopes;
     }
 

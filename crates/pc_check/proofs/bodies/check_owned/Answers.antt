@@ -1,7 +1,7 @@
 use Rattle.std.proofs.Common.{sym, ap, ◌∙◌}
 use Rattle.std.specs.Option.{option_copied}
 use Rattle.pc_tree.specs.Tree.{func_of}
-use Rattle.pc_check.specs.Checking.{module_in}
+use Rattle.pc_check.specs.Internal.ModuleWalk.{module_in}
 use Rattle.pc_check.proofs.ModuleSettings.{signature_is, signature_there}
 use Rattle.pc_check.proofs.bodies.check_owned.Goals as goal
 

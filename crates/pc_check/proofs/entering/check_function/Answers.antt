@@ -9,9 +9,9 @@ use Rattle.pc_class.proofs.WellFormed.{params_well_formed}
 use Rattle.pc_flow.specs.Environment.{Env}
 use Rattle.pc_flow.specs.Stored.{env_of}
 use Rattle.pc_notes.specs.Notes.{notes_of}
-use Rattle.pc_check.specs.ComputedStatements.{Frame, Table, Walk, enter, walk_suite}
+use Rattle.pc_check.specs.ComputedStatements.{BodyFrame, Table, Walk, enter_parameters, walk_suite}
 use Rattle.pc_check.specs.Modules.{receiver_parameter}
-use Rattle.pc_check.specs.Walking.{frame_with, walk_with}
+use Rattle.pc_check.specs.Internal.StatementWalk.{frame_with, walk_with}
 use Rattle.pc_check.proofs.Held.{frame_kept}
 use Rattle.pc_check.proofs.Entered.{none_holds, none_is, parameters_hold, function_found}
 use Rattle.pc_check.proofs.entering.check_function.Goals as goal
@@ -29,7 +29,7 @@ enter-requires-clause-params g c =
     let f = c.args.frame.now in
     let m = module_of f.tree.now in
     let given = All-weaker (HasParameter (has c.args.store.now)) (HasParameter (has c.enter_receiver.new.store)) (λ p h. c.enter_receiver.ensures.kept p.ty h) c.args.params.now c.requires.given in
-    let bases : bases_of m ≡ f.parents.now = sym (ap (λ (x : Frame). x.context.bases) c.requires.body) in
+    let bases : bases_of m ≡ f.parents.now = sym (ap (λ (x : BodyFrame). x.context.bases) c.requires.body) in
     let well_formed = subst (λ bases. ParametersWellFormed bases (parameters_with tree c.args.params.now)) bases (subst (ParametersWellFormed (bases_of m)) (sym c.requires.params) (params_well_formed m (func_of c.args.def.now).params)) in
     parameters_hold (has c.enter_receiver.new.store) tree f.parents.now c.args.params.now given well_formed
 
@@ -51,7 +51,7 @@ returns-clause-pushed g c =
     let body : Walk = walk_with tree c.check_suite.new.declared c.in_ok-out.out c.check_suite.new.broken (notes_of c.check_suite.new.found) in
     let found = function_found m (map tree f.constants.now) c.args.owner def frame (notes_of c.args.found.now) c.args.count middle start body
     c.requires.body c.requires.count
-    (c.in_ok-enter_receiver.ensures.entered.is ∙ (λ i. enter resolve (declared i) (env i) (receiver_parameter c.args.owner)))
-    (c.in_ok-enter.ensures.is ∙ ap (enter resolve (env_of tree c.enter_receiver.new.declared) (env_of tree c.enter_receiver.new.env)) c.requires.params)
+    (c.in_ok-enter_receiver.ensures.entered.is ∙ (λ i. enter_parameters resolve (declared i) (env i) (receiver_parameter c.args.owner)))
+    (c.in_ok-enter.ensures.is ∙ ap (enter_parameters resolve (env_of tree c.enter_receiver.new.declared) (env_of tree c.enter_receiver.new.env)) c.requires.params)
     (c.in_ok-out.ensures.walked.is ∙ ap (λ b. walk_suite frame (walk_with tree c.enter.new.declared (Some c.enter.new.env) None (notes_of c.args.found.now)) (stmts_of_list b)) c.deref.ensures.value) in
     subst (λ fs. OnOk c.find_end.result ((notes_of c.find_end.new.found) ≡ fs)) found c.find_end.ensures.pushed

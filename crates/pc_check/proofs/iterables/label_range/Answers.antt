@@ -9,11 +9,11 @@ use Rattle.pc_types.specs.WellFormed.{IsWellFormed}
 use Rattle.pc_flow.specs.Stored.{env_of}
 use Rattle.pc_notes.specs.Notes.{Note, notes_of}
 use Rattle.pc_expr.specs.Operations.{Mark}
-use Rattle.pc_expr.specs.Calls.{given, range_item, range_offers, positional_seat, named_seat, call_mark}
+use Rattle.pc_expr.specs.Calls.{arguments_given, range_item, range_offers, positional_seat, named_seat, call_mark}
 use Rattle.pc_expr.specs.Found.{codes_at}
 use Rattle.pc_expr.specs.Standing.{Standing, IsMark, arguments_find, keywords_find}
-use Rattle.pc_check.specs.ComputedStatements.{at, item_of}
-use Rattle.pc_check.specs.Walking.{frame_with, context_in, GivesLabel}
+use Rattle.pc_check.specs.ComputedStatements.{at, item_mark_of}
+use Rattle.pc_check.specs.Internal.StatementWalk.{frame_with, context_in, GivesLabel}
 use Rattle.pc_check.proofs.Held.{declared_is, declared_well_formed}
 use Rattle.pc_check.proofs.Iterating.{range_items, range_found, range_well_formed}
 use Rattle.pc_check.proofs.iterables.label_range.Goals as goal
@@ -40,10 +40,10 @@ returns-clause-labelled g c =
     let r = c.args.iterable.now in
     let arguments = exprs_of_list r.arguments.now in
     let keywords = keywords_of_list r.by_name.now in
-    IfOk-weaker c.type_range.result (λ l. IsMark has tree store l (range_item (given arguments keywords))) (λ l. GivesLabel has tree bases store l (item_of frame k (call r.place (expr_of r.callee.now) arguments keywords)))
+    IfOk-weaker c.type_range.result (λ l. IsMark has tree store l (range_item (arguments_given arguments keywords))) (λ l. GivesLabel has tree bases store l (item_mark_of frame k (call r.place (expr_of r.callee.now) arguments keywords)))
     (λ l m. record {
       mark = subst (λ (x : Mark). IsMark has tree store l x) (sym (range_items frame k r.place (expr_of r.callee.now) arguments keywords c.requires.range)) m;
-      well_formed = subst (IsWellFormed bases) (sym (ap (λ (x : Mark). x.type) m.is)) (range_well_formed bases (given arguments keywords));
+      well_formed = subst (IsWellFormed bases) (sym (ap (λ (x : Mark). x.type) m.is)) (range_well_formed bases (arguments_given arguments keywords));
     })
     c.type_range.ensures.label
 
@@ -57,7 +57,7 @@ returns-clause-pushed g c =
     let arguments = exprs_of_list r.arguments.now in
     let keywords = keywords_of_list r.by_name.now in
     let old = (notes_of c.args.found.now) in
-    let offers = range_offers (given arguments keywords) in
+    let offers = range_offers (arguments_given arguments keywords) in
     subst (λ (fs : List Note). OnOk c.type_range.result ((notes_of c.type_range.new.found) ≡ old ++ fs)) (sym (range_found frame k r.place (expr_of r.callee.now) arguments keywords c.requires.range))
     (subst (λ (ds : List Tree). let s : Standing = record { context = context_in tree g.R.Resolver.meaning c.args.frame.now; declared = ds; env = env_of tree c.args.env.now } in
     OnOk c.type_range.result ((notes_of c.type_range.new.found) ≡ old ++ (arguments_find s (is_instance_test (expr_of r.callee.now) arguments keywords) (positional_seat offers) arguments ++ (keywords_find s (named_seat offers) [] keywords ++ codes_at r.place (call_mark bases offers).codes))))

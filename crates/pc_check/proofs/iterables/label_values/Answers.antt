@@ -9,7 +9,7 @@ use Rattle.pc_expr.specs.Operations.{Mark, offers_mark, iterate_member}
 use Rattle.pc_expr.specs.Standing.{IsMark}
 use Rattle.pc_expr.proofs.Offering.{entries_kept}
 use Rattle.pc_check.specs.ComputedStatements.{at, values_item}
-use Rattle.pc_check.specs.Walking.{frame_with, GivesLabel}
+use Rattle.pc_check.specs.Internal.StatementWalk.{frame_with, GivesLabel}
 use Rattle.pc_check.proofs.StoredTypes.{turns_well_formed}
 use Rattle.pc_check.proofs.iterables.label_values.Goals as goal
 

@@ -3,7 +3,7 @@ use Rattle.std.specs.Prelude.{true}
 use Rattle.pc_tree.specs.Tree.{expr_of, call}
 use Rattle.pc_tree.specs.Lists.{exprs_of_list, keywords_of_list}
 use Rattle.pc_tree.proofs.Trees.{call_tree}
-use Rattle.pc_check.specs.Ranging.{over_range}
+use Rattle.pc_check.specs.Internal.Ranges.{over_range}
 use Rattle.pc_check.proofs.iterables.range_call.Goals as goal
 
 pub returns : goal.returns

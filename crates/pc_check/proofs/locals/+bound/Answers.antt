@@ -5,7 +5,7 @@ use Rattle.pc_tree.specs.declared.tree.Branch.{out-Branch}
 use Rattle.pc_tree.specs.Lists.{branches_of_list}
 use Rattle.pc_tree.specs.Stopping.{bound_by, bound_by_stmt, bound_by_branches}
 use Rattle.pc_tree.proofs.Trees.{while_tree, for_tree, if_tree, branches_next}
-use Rattle.pc_scope.specs.Walking.{name_seen}
+use Rattle.pc_scope.specs.Internal.WalkViews.{name_seen}
 use Rattle.pc_check.proofs.locals.+bound.Goals as goal
 
 pub add_bound_by-returns-in-While : goal.add_bound_by-returns-in-While

@@ -2,7 +2,7 @@ use Rattle.std.proofs.Common.{◌≡◌, map, drop, ◌++◌}
 use Rattle.pc_tree.specs.Tree.{stmts_of_list}
 use Rattle.pc_tree.specs.Lists.{branches_of_list}
 use Rattle.pc_tree.specs.Stopping.{bound_by, bound_by_branches}
-use Rattle.pc_scope.specs.Walking.{name_seen}
+use Rattle.pc_scope.specs.Internal.WalkViews.{name_seen}
 use Rattle.pc_check.proofs.locals.+bound.Given as goal
 
 abbrev pub invariant-add_bound-loop-statement : goal.invariant-add_bound-loop-statement

@@ -1,7 +1,7 @@
 use Rattle.std.proofs.Common.{◌≡◌, drop, ◌++◌}
 use Rattle.std.specs.Prelude.{map}
-use Rattle.pc_scope.specs.Walking.{name_seen}
-use Rattle.pc_check.specs.Walking.{numbers_of}
+use Rattle.pc_scope.specs.Internal.WalkViews.{name_seen}
+use Rattle.pc_check.specs.Internal.StatementWalk.{numbers_of}
 use Rattle.pc_check.proofs.locals.locals_of.Given as goal
 
 abbrev pub invariant-loop-name : goal.invariant-loop-name

@@ -5,7 +5,7 @@ use Rattle.pc_flow.specs.Environment.{loop_head}
 use Rattle.pc_flow.specs.Stored.{env_of}
 use Rattle.pc_check.specs.Statements.{binds_number}
 use Rattle.pc_check.specs.ComputedStatements.{type_table}
-use Rattle.pc_check.specs.Walking.{GivesTypes}
+use Rattle.pc_check.specs.Internal.StatementWalk.{GivesTypes}
 use Rattle.pc_check.proofs.Numbers.{numbers_bind}
 use Rattle.pc_check.proofs.loops.loop_start.Goals as goal
 

@@ -1,10 +1,10 @@
 use Rattle.std.proofs.Common.{◌≡◌, ◌≤◌, map, drop}
 use Rattle.pc_tree.specs.Tree.{item_of}
 use Rattle.pc_scope.specs.Bindings.{classes_in, functions_in}
-use Rattle.pc_types.specs.Store.{Keeps}
+use Rattle.pc_types.specs.Store.{KeepsTypes}
 use Rattle.pc_notes.specs.Notes.{notes_of}
 use Rattle.pc_expr.specs.SignaturesFound.{constants_of}
-use Rattle.pc_check.specs.Checking.{module_in, IsModuleSetting}
+use Rattle.pc_check.specs.Internal.ModuleWalk.{module_in, IsModuleSetting}
 use Rattle.pc_check.specs.ComputedModules.{bodies_find}
 use Rattle.pc_check.proofs.CheckedModules.{StandsFrom}
 use Rattle.pc_check.proofs.modules.check_bodies.Given as goal
@@ -17,5 +17,5 @@ invariant-loop-item g l = record {
   classes_stand : StandsFrom (classes_in (module_in l.setting).items) l.classes (classes_in (map item_of (drop l.item-index l.items)));
   functions_stand : StandsFrom (functions_in (module_in l.setting).items) l.functions (functions_in (map item_of (drop l.item-index l.items)));
   found : bodies_find (module_in l.setting) (constants_of (module_in l.setting)) l.classes l.functions (map item_of (drop l.item-index l.items)) (notes_of l.found) ≡ bodies_find (module_in l.setting) (constants_of (module_in l.setting)) 0 0 (map item_of l.items) (notes_of l.fn.found);
-  kept : Keeps g.S.TypeStore.has l.fn.store l.store;
+  kept : KeepsTypes g.S.TypeStore.has l.fn.store l.store;
 }

@@ -4,7 +4,7 @@ use Rattle.pc_scope.specs.Bindings.{methods_in}
 use Rattle.pc_scope.specs.Resolution.{method_at}
 use Rattle.pc_notes.specs.Notes.{notes_of}
 use Rattle.pc_expr.specs.SignaturesFound.{constants_of}
-use Rattle.pc_check.specs.Checking.{module_in, IsModuleSetting}
+use Rattle.pc_check.specs.Internal.ModuleWalk.{module_in, IsModuleSetting}
 use Rattle.pc_check.specs.ComputedModules.{methods_find}
 use Rattle.pc_check.proofs.CheckedModules.{MembersAt, members_next, method_here, field_passed, method_passed}
 use Rattle.pc_check.proofs.ModuleSettings.{setting_kept}

@@ -1,10 +1,10 @@
 use Rattle.std.proofs.Common.{◌≡◌, ◌≤◌, map, drop}
 use Rattle.pc_tree.specs.Tree.{class_of, member_of}
 use Rattle.pc_scope.specs.Bindings.{methods_in}
-use Rattle.pc_types.specs.Store.{Keeps}
+use Rattle.pc_types.specs.Store.{KeepsTypes}
 use Rattle.pc_notes.specs.Notes.{notes_of}
 use Rattle.pc_expr.specs.SignaturesFound.{constants_of}
-use Rattle.pc_check.specs.Checking.{module_in, IsModuleSetting}
+use Rattle.pc_check.specs.Internal.ModuleWalk.{module_in, IsModuleSetting}
 use Rattle.pc_check.specs.ComputedModules.{methods_find}
 use Rattle.pc_check.proofs.CheckedModules.{StandsFrom}
 use Rattle.pc_check.proofs.modules.check_methods.Given as goal
@@ -15,5 +15,5 @@ invariant-loop-member g l = record {
   counted : l.methods ≤ l.member-index;
   stand : StandsFrom (methods_in (class_of l.def).members) l.methods (methods_in (map member_of (drop l.member-index l.members)));
   found : methods_find (module_in l.setting) (constants_of (module_in l.setting)) l.class l.methods (map member_of (drop l.member-index l.members)) (notes_of l.found) ≡ methods_find (module_in l.setting) (constants_of (module_in l.setting)) l.class 0 (map member_of l.members) (notes_of l.fn.found);
-  kept : Keeps g.S.TypeStore.has l.fn.store l.store;
+  kept : KeepsTypes g.S.TypeStore.has l.fn.store l.store;
 }

@@ -1,16 +1,16 @@
 use Rattle.std.proofs.Common.{◌≡◌, drop}
 use Rattle.pc_tree.specs.Tree.{stmts_of_list}
 use Rattle.pc_tree.specs.Lists.{branches_of_list}
-use Rattle.pc_types.specs.Store.{Keeps}
+use Rattle.pc_types.specs.Store.{KeepsTypes}
 use Rattle.pc_notes.specs.Notes.{notes_of}
 use Rattle.pc_check.specs.ComputedStatements.{walk_suite, walk_branches}
 use Rattle.std.specs.Prelude.{None}
-use Rattle.pc_check.specs.Walking.{frame_with, walk_with, forked_with, HoldsTypes, HoldsTypesIfAny}
+use Rattle.pc_check.specs.Internal.StatementWalk.{frame_with, walk_with, forked_with, HoldsTypes, HoldsTypesIfAny}
 use Rattle.pc_check.proofs.statements.+statements.Given as goal
 
 abbrev pub invariant-check_suite-loop-statement : goal.invariant-check_suite-loop-statement
 invariant-check_suite-loop-statement g l =
-    Keeps g.S.TypeStore.has l.fn.store l.store
+    KeepsTypes g.S.TypeStore.has l.fn.store l.store
     × HoldsTypes (g.S.TypeStore.has l.store) g.S.TypeStore.tree l.frame.parents.now l.declared
     × HoldsTypesIfAny (g.S.TypeStore.has l.store) g.S.TypeStore.tree l.frame.parents.now l.env
     × HoldsTypesIfAny (g.S.TypeStore.has l.store) g.S.TypeStore.tree l.frame.parents.now l.broken
@@ -18,7 +18,7 @@ invariant-check_suite-loop-statement g l =
 
 abbrev pub invariant-check_branches-loop-branch : goal.invariant-check_branches-loop-branch
 invariant-check_branches-loop-branch g l =
-    Keeps g.S.TypeStore.has l.fn.store l.store
+    KeepsTypes g.S.TypeStore.has l.fn.store l.store
     × HoldsTypes (g.S.TypeStore.has l.store) g.S.TypeStore.tree l.frame.parents.now l.declared
     × HoldsTypes (g.S.TypeStore.has l.store) g.S.TypeStore.tree l.frame.parents.now l.fork.last
     × HoldsTypesIfAny (g.S.TypeStore.has l.store) g.S.TypeStore.tree l.frame.parents.now l.fork.ways

@@ -11,7 +11,7 @@ use Rattle.pc_expr.specs.Standing.{mark_in, finds_in}
 use Rattle.pc_expr.specs.Storing.{HasStoreOffer, store_offer_with}
 use Rattle.pc_expr.proofs.Offering.{entries_kept}
 use Rattle.pc_check.specs.ComputedStatements.{at, stored_finds, attribute_stores}
-use Rattle.pc_check.specs.Walking.{frame_with}
+use Rattle.pc_check.specs.Internal.StatementWalk.{frame_with}
 use Rattle.pc_check.proofs.Held.{types_kept, frame_kept}
 use Rattle.pc_check.proofs.StoredTypes.{fields_stored}
 use Rattle.pc_check.proofs.stores.find_attribute_store.Goals as goal

@@ -14,7 +14,7 @@ use Rattle.pc_expr.specs.Storing.{HasStoreOffer, store_offer_with}
 use Rattle.pc_expr.proofs.Offering.{entries_kept}
 use Rattle.pc_expr.proofs.Storing.{all_stores_kept}
 use Rattle.pc_check.specs.ComputedStatements.{at, stored_finds, index_stores}
-use Rattle.pc_check.specs.Walking.{frame_with}
+use Rattle.pc_check.specs.Internal.StatementWalk.{frame_with}
 use Rattle.pc_check.proofs.Held.{types_kept, frame_kept}
 use Rattle.pc_check.proofs.StoredTypes.{items_stored}
 use Rattle.pc_check.proofs.FoundStores.{pushed_along}

@@ -5,7 +5,7 @@ use Rattle.pc_types.specs.Tree.{Tree}
 use Rattle.pc_flow.specs.Environment.{loop_head}
 use Rattle.pc_flow.specs.Stored.{env_of, declared_of}
 use Rattle.pc_flow.proofs.Conditions.{heads_well_formed}
-use Rattle.pc_check.specs.Walking.{GivesTypes}
+use Rattle.pc_check.specs.Internal.StatementWalk.{GivesTypes}
 use Rattle.pc_check.proofs.Held.{declared_is, declared_well_formed, gives_types}
 use Rattle.pc_check.proofs.typing.head_in.Goals as goal
 

@@ -3,16 +3,16 @@ use Rattle.pc_tree.specs.Tree.{class_of, member_of}
 use Rattle.pc_tree.specs.declared.tree.Member.{Member as RustMember}
 use Rattle.pc_tree.specs.declared.code.Code.TheVariants.{E06, E08}
 use Rattle.pc_tree.specs.declared.code.Finding.{Finding}
-use Rattle.pc_scope.specs.Found.{at_code}
+use Rattle.pc_scope.specs.Internal.FindingLists.{at_code}
 use Rattle.pc_types.specs.Below.{Bases, base_of}
 use Rattle.pc_types.specs.Bases.{base_named, bases_of}
 use Rattle.pc_class.specs.declared.entries.Entry.{Entry as RustEntry}
 use Rattle.pc_class.specs.declared.parts.ClassNode.{ClassNode}
 use Rattle.pc_class.specs.declared.parts.TableParts.{TableParts}
-use Rattle.pc_class.specs.Entries.{Entry, HasMaps, inherited_in, inherited_by, entries_of, entry_seen, class_entries, clash_places, late_places, defaulted_in}
-use Rattle.pc_class.specs.Outlines.{IsHeld, field_name, method_name as class_method_name, own_field, own_method, all_own, AreNew}
+use Rattle.pc_class.specs.Entries.{MemberEntry, HasMaps, inherited_in, inherited_by, entries_of, entry_seen, class_entries, clash_places, late_places, defaulted_in}
+use Rattle.pc_class.specs.Outlines.{IsMapOf, field_name, method_name as class_method_name, own_field, own_method, all_own, AreNew}
 use Rattle.pc_class.specs.Tables.{inherited_entry, HasParameter, HasMethod, parameter_with, method_with}
-use Rattle.pc_class.specs.Parts.{parameter_name, method_name, inherited_node, entries_in}
+use Rattle.pc_class.specs.Parts.{parameter_name, stored_method_name, inherited_node, entries_in}
 use Rattle.pc_class.specs.Built.{module_in, Added}
 use Rattle.pc_class.proofs.ClassesBuilt.{base_here}
 use Rattle.pc_class.proofs.ClassAdded.{table_new, classes_new, given_new, held, base_class, entries_are, fields_new, methods_new, base_defaulted, held_on, node_same}
@@ -109,12 +109,12 @@ returns-clause-table g c =
     let entries6 : map entry_seen c.deref-6.result.now ≡ xs = ap (λ (ys : List RustEntry). map entry_seen ys) c.deref-6.ensures.value ∙ found_entries in
     let has = g.S.TypeStore.has c.add_fields.new.store in
     let has2 = g.S.TypeStore.has c.add_methods.new.store in
-    let f = subst (λ (ys : List Entry). Added parameter_name (HasParameter has) (parameter_with tree) c.add_fields.new.named F c.add_fields.new.fields.items c.in_ok-fields.fields I.fields [] (all_own (own_field m) ys)) entries5
-    (c.in_ok-fields.ensures.added I.fields [] (subst (IsHeld parameter_name d F o.held.fields) (sym (append-nil I.fields)) (subst (λ (n : ClassNode). IsHeld parameter_name d F n.held.fields I.fields) (sym o_is) H.fields))
+    let f = subst (λ (ys : List MemberEntry). Added parameter_name (HasParameter has) (parameter_with tree) c.add_fields.new.named F c.add_fields.new.fields.items c.in_ok-fields.fields I.fields [] (all_own (own_field m) ys)) entries5
+    (c.in_ok-fields.ensures.added I.fields [] (subst (IsMapOf parameter_name d F o.held.fields) (sym (append-nil I.fields)) (subst (λ (n : ClassNode). IsMapOf parameter_name d F n.held.fields I.fields) (sym o_is) H.fields))
     (subst (AreNew field_name (own_field m) (map (parameter_with tree) I.fields)) (sym entries5) (fields_new tree m d F M ns es c.requires.table class c.requires.class base based))) in
-    let k = subst (λ j. Added method_name (HasMethod has2) (method_with tree) c.add_methods.new.named M c.add_methods.new.methods.items c.in_ok-methods.methods [] I.methods (all_own (own_method m j) xs)) number
-    (subst (λ (ys : List Entry). Added method_name (HasMethod has2) (method_with tree) c.add_methods.new.named M c.add_methods.new.methods.items c.in_ok-methods.methods [] I.methods (all_own (own_method m c.len-class.result) ys)) entries6
-    (c.in_ok-methods.ensures.added [] I.methods (held_on method_name d c.add_fields.new.named M o.held.methods I.methods (subst (λ (n : ClassNode). IsHeld method_name d M n.held.methods I.methods) (sym o_is) H.methods) c.in_ok-fields.ensures.kept)
+    let k = subst (λ j. Added stored_method_name (HasMethod has2) (method_with tree) c.add_methods.new.named M c.add_methods.new.methods.items c.in_ok-methods.methods [] I.methods (all_own (own_method m j) xs)) number
+    (subst (λ (ys : List MemberEntry). Added stored_method_name (HasMethod has2) (method_with tree) c.add_methods.new.named M c.add_methods.new.methods.items c.in_ok-methods.methods [] I.methods (all_own (own_method m c.len-class.result) ys)) entries6
+    (c.in_ok-methods.ensures.added [] I.methods (held_on stored_method_name d c.add_fields.new.named M o.held.methods I.methods (subst (λ (n : ClassNode). IsMapOf stored_method_name d M n.held.methods I.methods) (sym o_is) H.methods) c.in_ok-fields.ensures.kept)
     (subst (AreNew class_method_name (own_method m c.len-class.result) []) (sym entries6) (methods_new tree m d F M ns es c.requires.table class c.requires.class base based c.len-class.result)))) in
     let b_is = c.in_ok-defaulted.ensures.defaulted ∙ ap (defaulted_in o.defaulted) entries4 ∙ ap (λ (n : ClassNode). defaulted_in n.defaulted xs) o_is in
     let fs : c.len-fields_start.result ≡ length F = search rules in
@@ -154,12 +154,12 @@ returns-clause-given g c =
     let entries6 : map entry_seen c.deref-6.result.now ≡ xs = ap (λ (ys : List RustEntry). map entry_seen ys) c.deref-6.ensures.value ∙ found_entries in
     let has = g.S.TypeStore.has c.add_fields.new.store in
     let has2 = g.S.TypeStore.has c.add_methods.new.store in
-    let f = subst (λ (ys : List Entry). Added parameter_name (HasParameter has) (parameter_with tree) c.add_fields.new.named F c.add_fields.new.fields.items c.in_ok-fields.fields I.fields [] (all_own (own_field m) ys)) entries5
-    (c.in_ok-fields.ensures.added I.fields [] (subst (IsHeld parameter_name d F o.held.fields) (sym (append-nil I.fields)) (subst (λ (n : ClassNode). IsHeld parameter_name d F n.held.fields I.fields) (sym o_is) H.fields))
+    let f = subst (λ (ys : List MemberEntry). Added parameter_name (HasParameter has) (parameter_with tree) c.add_fields.new.named F c.add_fields.new.fields.items c.in_ok-fields.fields I.fields [] (all_own (own_field m) ys)) entries5
+    (c.in_ok-fields.ensures.added I.fields [] (subst (IsMapOf parameter_name d F o.held.fields) (sym (append-nil I.fields)) (subst (λ (n : ClassNode). IsMapOf parameter_name d F n.held.fields I.fields) (sym o_is) H.fields))
     (subst (AreNew field_name (own_field m) (map (parameter_with tree) I.fields)) (sym entries5) (fields_new tree m d F M ns es c.requires.table class c.requires.class base based))) in
-    let k = subst (λ j. Added method_name (HasMethod has2) (method_with tree) c.add_methods.new.named M c.add_methods.new.methods.items c.in_ok-methods.methods [] I.methods (all_own (own_method m j) xs)) number
-    (subst (λ (ys : List Entry). Added method_name (HasMethod has2) (method_with tree) c.add_methods.new.named M c.add_methods.new.methods.items c.in_ok-methods.methods [] I.methods (all_own (own_method m c.len-class.result) ys)) entries6
-    (c.in_ok-methods.ensures.added [] I.methods (held_on method_name d c.add_fields.new.named M o.held.methods I.methods (subst (λ (n : ClassNode). IsHeld method_name d M n.held.methods I.methods) (sym o_is) H.methods) c.in_ok-fields.ensures.kept)
+    let k = subst (λ j. Added stored_method_name (HasMethod has2) (method_with tree) c.add_methods.new.named M c.add_methods.new.methods.items c.in_ok-methods.methods [] I.methods (all_own (own_method m j) xs)) number
+    (subst (λ (ys : List MemberEntry). Added stored_method_name (HasMethod has2) (method_with tree) c.add_methods.new.named M c.add_methods.new.methods.items c.in_ok-methods.methods [] I.methods (all_own (own_method m c.len-class.result) ys)) entries6
+    (c.in_ok-methods.ensures.added [] I.methods (held_on stored_method_name d c.add_fields.new.named M o.held.methods I.methods (subst (λ (n : ClassNode). IsMapOf stored_method_name d M n.held.methods I.methods) (sym o_is) H.methods) c.in_ok-fields.ensures.kept)
     (subst (AreNew class_method_name (own_method m c.len-class.result) []) (sym entries6) (methods_new tree m d F M ns es c.requires.table class c.requires.class base based c.len-class.result)))) in
     let b_is = c.in_ok-defaulted.ensures.defaulted ∙ ap (defaulted_in o.defaulted) entries4 ∙ ap (λ (n : ClassNode). defaulted_in n.defaulted xs) o_is in
     let fs : c.len-fields_start.result ≡ length F = search rules in
@@ -199,12 +199,12 @@ returns-clause-classes g c =
     let entries6 : map entry_seen c.deref-6.result.now ≡ xs = ap (λ (ys : List RustEntry). map entry_seen ys) c.deref-6.ensures.value ∙ found_entries in
     let has = g.S.TypeStore.has c.add_fields.new.store in
     let has2 = g.S.TypeStore.has c.add_methods.new.store in
-    let f = subst (λ (ys : List Entry). Added parameter_name (HasParameter has) (parameter_with tree) c.add_fields.new.named F c.add_fields.new.fields.items c.in_ok-fields.fields I.fields [] (all_own (own_field m) ys)) entries5
-    (c.in_ok-fields.ensures.added I.fields [] (subst (IsHeld parameter_name d F o.held.fields) (sym (append-nil I.fields)) (subst (λ (n : ClassNode). IsHeld parameter_name d F n.held.fields I.fields) (sym o_is) H.fields))
+    let f = subst (λ (ys : List MemberEntry). Added parameter_name (HasParameter has) (parameter_with tree) c.add_fields.new.named F c.add_fields.new.fields.items c.in_ok-fields.fields I.fields [] (all_own (own_field m) ys)) entries5
+    (c.in_ok-fields.ensures.added I.fields [] (subst (IsMapOf parameter_name d F o.held.fields) (sym (append-nil I.fields)) (subst (λ (n : ClassNode). IsMapOf parameter_name d F n.held.fields I.fields) (sym o_is) H.fields))
     (subst (AreNew field_name (own_field m) (map (parameter_with tree) I.fields)) (sym entries5) (fields_new tree m d F M ns es c.requires.table class c.requires.class base based))) in
-    let k = subst (λ j. Added method_name (HasMethod has2) (method_with tree) c.add_methods.new.named M c.add_methods.new.methods.items c.in_ok-methods.methods [] I.methods (all_own (own_method m j) xs)) number
-    (subst (λ (ys : List Entry). Added method_name (HasMethod has2) (method_with tree) c.add_methods.new.named M c.add_methods.new.methods.items c.in_ok-methods.methods [] I.methods (all_own (own_method m c.len-class.result) ys)) entries6
-    (c.in_ok-methods.ensures.added [] I.methods (held_on method_name d c.add_fields.new.named M o.held.methods I.methods (subst (λ (n : ClassNode). IsHeld method_name d M n.held.methods I.methods) (sym o_is) H.methods) c.in_ok-fields.ensures.kept)
+    let k = subst (λ j. Added stored_method_name (HasMethod has2) (method_with tree) c.add_methods.new.named M c.add_methods.new.methods.items c.in_ok-methods.methods [] I.methods (all_own (own_method m j) xs)) number
+    (subst (λ (ys : List MemberEntry). Added stored_method_name (HasMethod has2) (method_with tree) c.add_methods.new.named M c.add_methods.new.methods.items c.in_ok-methods.methods [] I.methods (all_own (own_method m c.len-class.result) ys)) entries6
+    (c.in_ok-methods.ensures.added [] I.methods (held_on stored_method_name d c.add_fields.new.named M o.held.methods I.methods (subst (λ (n : ClassNode). IsMapOf stored_method_name d M n.held.methods I.methods) (sym o_is) H.methods) c.in_ok-fields.ensures.kept)
     (subst (AreNew class_method_name (own_method m c.len-class.result) []) (sym entries6) (methods_new tree m d F M ns es c.requires.table class c.requires.class base based c.len-class.result)))) in
     let b_is = c.in_ok-defaulted.ensures.defaulted ∙ ap (defaulted_in o.defaulted) entries4 ∙ ap (λ (n : ClassNode). defaulted_in n.defaulted xs) o_is in
     let fs : c.len-fields_start.result ≡ length F = search rules in
@@ -244,7 +244,7 @@ returns-clause-found g c =
     c.in_ok-defaulted.ensures.found
     ∙ ap (λ (fs : List Finding). fs ++ at_code E08 (late_places o.defaulted (map entry_seen c.deref-4.result.now))) c.in_ok-find_clashes.ensures
     ∙ append_assoc c.args.found.now.items (at_code E06 (clash_places (map entry_seen c.deref-3.result.now))) (at_code E08 (late_places o.defaulted (map entry_seen c.deref-4.result.now)))
-    ∙ ap (λ (ys : List Entry). c.args.found.now.items ++ (at_code E06 (clash_places ys) ++ at_code E08 (late_places o.defaulted (map entry_seen c.deref-4.result.now)))) entries3
-    ∙ ap (λ (ys : List Entry). c.args.found.now.items ++ (at_code E06 (clash_places xs) ++ at_code E08 (late_places o.defaulted ys))) entries4
+    ∙ ap (λ (ys : List MemberEntry). c.args.found.now.items ++ (at_code E06 (clash_places ys) ++ at_code E08 (late_places o.defaulted (map entry_seen c.deref-4.result.now)))) entries3
+    ∙ ap (λ (ys : List MemberEntry). c.args.found.now.items ++ (at_code E06 (clash_places xs) ++ at_code E08 (late_places o.defaulted ys))) entries4
     ∙ ap (λ (n : ClassNode). c.args.found.now.items ++ (at_code E06 (clash_places xs) ++ at_code E08 (late_places n.defaulted xs))) o_is
     ∙ ap (λ b. c.args.found.now.items ++ (at_code E06 (clash_places xs) ++ at_code E08 (late_places b xs))) (base_defaulted tree m d F M ns es c.requires.table class c.requires.class base based)

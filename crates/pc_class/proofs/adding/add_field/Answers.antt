@@ -1,7 +1,7 @@
 use Rattle.std.proofs.Common.{◌≡◌, ◌∙◌, ◌++◌, ◌∷◌, [], List, ℕ, length, sym, ap, subst, rules}
 use Rattle.std.specs.Prelude.{Some, if◌then◌else◌, bytes_eq}
-use Rattle.pc_class.specs.Named.{named_at}
-use Rattle.pc_class.specs.Outlines.{IsHeld}
+use Rattle.pc_class.specs.NameMaps.{named_at}
+use Rattle.pc_class.specs.Outlines.{IsMapOf}
 use Rattle.pc_class.specs.Parts.{parameter_name}
 use Rattle.pc_class.proofs.Holding.{held_more, named_ahead}
 use Rattle.pc_class.proofs.adding.add_field.Goals as goal
@@ -10,7 +10,7 @@ pub returns-clause-held : goal.returns-clause-held
 returns-clause-held g c front back h none =
     let x = c.args.field in
     let long : c.len-number.result ≡ length c.args.fields.now.items = search rules in
-    subst (λ (ys : List _). IsHeld parameter_name c.put.new.self ys c.in_ok-new.new ((front ++ x ∷ []) ++ back)) (sym c.in_ok-push.ensures.items)
+    subst (λ (ys : List _). IsMapOf parameter_name c.put.new.self ys c.in_ok-new.new ((front ++ x ∷ []) ++ back)) (sym c.in_ok-push.ensures.items)
     (held_more parameter_name c.args.named.now c.put.new.self c.args.fields.now.items c.args.at c.in_ok-new.new (front ++ back) ((front ++ x ∷ []) ++ back) x h c.in_ok-new.ensures.within
     (λ n. c.in_ok-new.ensures.value n
     ∙ ap (λ (t : List ℕ). if bytes_eq n t then Some c.len-number.result else named_at c.args.named.now c.args.at n) c.as_str.ensures.value

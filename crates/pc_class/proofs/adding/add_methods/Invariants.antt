@@ -1,10 +1,10 @@
 use Rattle.std.proofs.Common.{◌++◌, List, map, drop}
-use Rattle.pc_types.specs.Store.{Keeps}
-use Rattle.pc_class.specs.Named.{IsMap, KeepsNamed}
+use Rattle.pc_types.specs.Store.{KeepsTypes}
+use Rattle.pc_class.specs.NameMaps.{IsMap, KeepsNamed}
 use Rattle.pc_class.specs.Entries.{entry_seen}
-use Rattle.pc_class.specs.Outlines.{IsHeld, method_name as class_method_name, own_method, AreNew}
+use Rattle.pc_class.specs.Outlines.{IsMapOf, method_name as class_method_name, own_method, AreNew}
 use Rattle.pc_class.specs.Tables.{HasMethod, method_with}
-use Rattle.pc_class.specs.Parts.{method_name}
+use Rattle.pc_class.specs.Parts.{stored_method_name}
 use Rattle.pc_class.specs.Built.{module_in}
 use Rattle.pc_class.proofs.Walking.{Walk}
 use Rattle.pc_class.proofs.adding.add_methods.Given as goal
@@ -13,7 +13,7 @@ abbrev pub invariant-loop-entry : goal.invariant-loop-entry
 invariant-loop-entry g l = record {
   within : IsMap l.named l.at;
   kept : KeepsNamed l.fn.named l.named;
-  store : Keeps g.S.TypeStore.has l.fn.store l.store;
-  added : (front back : List _) → IsHeld method_name l.fn.named l.fn.methods.items l.inherited (front ++ back) → AreNew class_method_name (own_method (module_in l.setting) l.class) (map (method_with g.S.TypeStore.tree) front) (map entry_seen l.entries)
-      → Walk method_name class_method_name (method_with g.S.TypeStore.tree) (own_method (module_in l.setting) l.class) (HasMethod (g.S.TypeStore.has l.store)) l.named l.fn.methods.items l.methods.items l.at front back (map entry_seen l.entries) (map entry_seen (drop l.entry-index l.entries));
+  store : KeepsTypes g.S.TypeStore.has l.fn.store l.store;
+  added : (front back : List _) → IsMapOf stored_method_name l.fn.named l.fn.methods.items l.inherited (front ++ back) → AreNew class_method_name (own_method (module_in l.setting) l.class) (map (method_with g.S.TypeStore.tree) front) (map entry_seen l.entries)
+      → Walk stored_method_name class_method_name (method_with g.S.TypeStore.tree) (own_method (module_in l.setting) l.class) (HasMethod (g.S.TypeStore.has l.store)) l.named l.fn.methods.items l.methods.items l.at front back (map entry_seen l.entries) (map entry_seen (drop l.entry-index l.entries));
 }

@@ -5,7 +5,7 @@ use Rattle.std.proofs.lemmas.List.Elements.{All-nil, All-same}
 use Rattle.pc_tree.specs.declared.tree.Item.{Item as RustItem}
 use Rattle.pc_tree.specs.Tree.{item_of}
 use Rattle.pc_scope.specs.Bindings.{classes_in}
-use Rattle.pc_class.specs.Facts.{Class, classes_behind}
+use Rattle.pc_class.specs.Facts.{ClassFacts, classes_behind}
 use Rattle.pc_class.specs.Tables.{HasParameter, HasMethod, classes_with}
 use Rattle.pc_class.specs.Parts.{entries_in, entries_behind}
 use Rattle.pc_class.specs.Built.{module_in, found_behind}
@@ -31,8 +31,8 @@ loop-item-init g c =
         methods = All-same (HasMethod has) p.methods.items [] c.in_ok-parts.ensures.methods (All-nil (HasMethod has));
       };
       ahead = λ j. ap (λ n. slice_get all (n + j)) long ∙ ap (slice_get all) (zero-add j);
-      classes = ap (λ (e : List Class). classes_behind m e (length p.classes.items) all) same ∙ ap (λ n. classes_behind m [] n all) long;
-      found = ap (λ (e : List Class). c.args.found.now.items ++ found_behind m e (length p.classes.items) all) same ∙ ap (λ n. c.args.found.now.items ++ found_behind m [] n all) long;
+      classes = ap (λ (e : List ClassFacts). classes_behind m e (length p.classes.items) all) same ∙ ap (λ n. classes_behind m [] n all) long;
+      found = ap (λ (e : List ClassFacts). c.args.found.now.items ++ found_behind m e (length p.classes.items) all) same ∙ ap (λ n. c.args.found.now.items ++ found_behind m [] n all) long;
     }
 
 pub add_item-requires-clause-class : goal.add_item-requires-clause-class

@@ -1,18 +1,18 @@
 use Rattle.std.proofs.Common.{◌≡◌, ◌++◌, [], map, drop, length}
 use Rattle.pc_tree.specs.Tree.{item_of}
 use Rattle.pc_scope.specs.Bindings.{classes_in}
-use Rattle.pc_types.specs.Store.{Keeps}
+use Rattle.pc_types.specs.Store.{KeepsTypes}
 use Rattle.pc_class.specs.Facts.{classes_behind}
 use Rattle.pc_class.specs.Tables.{classes_with}
-use Rattle.pc_class.specs.Parts.{entries_in, IsTable, HasParts}
+use Rattle.pc_class.specs.Parts.{entries_in, IsClassTable, HasParts}
 use Rattle.pc_class.specs.Built.{module_in, found_behind}
 use Rattle.pc_class.proofs.ItemsBuilt.{AreAhead}
 use Rattle.pc_class.proofs.building.all_classes.Given as goal
 
 abbrev pub invariant-loop-item : goal.invariant-loop-item
 invariant-loop-item g l = record {
-  store : Keeps g.S.TypeStore.has l.fn.store l.store;
-  table : IsTable l.parts;
+  store : KeepsTypes g.S.TypeStore.has l.fn.store l.store;
+  table : IsClassTable l.parts;
   given : HasParts (g.S.TypeStore.has l.store) l.parts;
   ahead : AreAhead (classes_in (map item_of l.items)) (length l.parts.classes.items) (classes_in (map item_of (drop l.item-index l.items)));
   classes : classes_behind (module_in l.setting) (classes_with g.S.TypeStore.tree (entries_in l.parts)) (length l.parts.classes.items) (classes_in (map item_of (drop l.item-index l.items))) ≡ classes_behind (module_in l.setting) [] 0 (classes_in (map item_of l.items));

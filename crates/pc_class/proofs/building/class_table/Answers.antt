@@ -4,12 +4,12 @@ use Rattle.pc_tree.specs.declared.code.Finding.{Finding}
 use Rattle.pc_tree.specs.declared.tree.Item.{Item as RustItem}
 use Rattle.pc_tree.specs.Tree.{module_of, item_of}
 use Rattle.pc_scope.specs.Bindings.{classes_in}
-use Rattle.pc_scope.specs.Found.{at_code}
+use Rattle.pc_scope.specs.Internal.FindingLists.{at_code}
 use Rattle.pc_types.specs.Below.{Bases}
 use Rattle.pc_types.specs.Bases.{bases_of}
 use Rattle.pc_class.specs.Entries.{missing_bases}
 use Rattle.pc_class.specs.Built.{found_behind, class_findings}
-use Rattle.pc_class.specs.Facts.{Class}
+use Rattle.pc_class.specs.Facts.{ClassFacts}
 use Rattle.pc_class.specs.Parts.{entries_in}
 use Rattle.pc_class.specs.Tables.{HasEntries}
 use Rattle.pc_class.proofs.EntriesGiven.{table_given}
@@ -34,5 +34,5 @@ returns-clause-given g c = subst (HasEntries (g.S.TypeStore.has c.all_classes.ne
 
 pub of-requires-2-clause-parents : goal.of-requires-2-clause-parents
 of-requires-2-clause-parents g c =
-    c.in_ok-own_parents.ensures ∙ sym (bases_are (module_of c.args.tree.now)) ∙ ap (map (λ (x : Class). x.base)) (sym c.in_ok-parts.ensures.classes)
+    c.in_ok-own_parents.ensures ∙ sym (bases_are (module_of c.args.tree.now)) ∙ ap (map (λ (x : ClassFacts). x.base)) (sym c.in_ok-parts.ensures.classes)
     ∙ bases_there g.S.TypeStore.tree (entries_in c.in_ok-parts.parts)

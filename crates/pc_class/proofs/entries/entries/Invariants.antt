@@ -1,6 +1,6 @@
 use Rattle.std.proofs.Common.{◌≡◌, ◌≤◌, ◌++◌, [], map, drop}
 use Rattle.pc_tree.specs.Tree.{member_of}
-use Rattle.pc_scope.specs.Walking.{texts_in}
+use Rattle.pc_scope.specs.Internal.WalkViews.{texts_in}
 use Rattle.pc_class.specs.Entries.{inherited_in, entries_of, entry_seen}
 use Rattle.pc_class.proofs.entries.entries.Given as goal
 

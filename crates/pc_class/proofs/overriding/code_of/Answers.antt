@@ -3,7 +3,7 @@ use Rattle.std.specs.Prelude.{Some, None, string_bytes}
 use Rattle.std.specs.List.{list_all}
 use Rattle.pc_tree.specs.Tree.{module_of}
 use Rattle.pc_types.specs.Below.{base_of}
-use Rattle.pc_class.specs.Overriding.{is_good_to, is_static_to, code_where}
+use Rattle.pc_class.specs.OverrideFindings.{is_good_to, is_static_to, code_where}
 use Rattle.pc_class.specs.Tables.{method_with, IsMethodIfAny}
 use Rattle.pc_class.proofs.Overridden.{one_tested}
 use Rattle.pc_class.proofs.OverrideWalk.{method_given, method_keeps, above, all_next, all_done, base_fewer, found_there}

@@ -1,17 +1,17 @@
 use Rattle.std.proofs.Common.{◌≡◌, ◌&&◌}
 use Rattle.std.specs.Prelude.{string_bytes}
 use Rattle.std.specs.List.{list_all}
-use Rattle.pc_types.specs.Store.{Keeps}
+use Rattle.pc_types.specs.Store.{KeepsTypes}
 use Rattle.pc_class.specs.Overrides.{overridden}
-use Rattle.pc_class.specs.Overriding.{is_static_to, is_good_to}
-use Rattle.pc_class.specs.Judging.{methods_above}
+use Rattle.pc_class.specs.OverrideFindings.{is_static_to, is_good_to}
+use Rattle.pc_class.specs.Internal.OverrideTests.{methods_above}
 use Rattle.pc_class.specs.Tables.{method_with}
 use Rattle.pc_class.proofs.TableFields.{steps_left}
 use Rattle.pc_class.proofs.overriding.code_of.Given as goal
 
 abbrev pub invariant-loop-at : goal.invariant-loop-at
 invariant-loop-at g l = record {
-  store : Keeps g.S.TypeStore.has l.fn.store l.store;
+  store : KeepsTypes g.S.TypeStore.has l.fn.store l.store;
   good : list_all (is_good_to l.judging.parents.now (method_with g.S.TypeStore.tree l.method)) (overridden (methods_above l.judging l.fn.base) (string_bytes l.method.name)) ≡ list_all (is_good_to l.judging.parents.now (method_with g.S.TypeStore.tree l.method)) (overridden (methods_above l.judging l.at) (string_bytes l.method.name));
   static : list_all (is_static_to l.judging.parents.now (method_with g.S.TypeStore.tree l.method)) (overridden (methods_above l.judging l.fn.base) (string_bytes l.method.name)) ≡ (list_all (is_static_to l.judging.parents.now (method_with g.S.TypeStore.tree l.method)) (overridden (methods_above l.judging l.at) (string_bytes l.method.name)) && l.is_static);
 }

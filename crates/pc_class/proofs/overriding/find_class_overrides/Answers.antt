@@ -5,9 +5,9 @@ use Rattle.pc_tree.specs.Tree.{module_of}
 use Rattle.pc_types.specs.Below.{base_of}
 use Rattle.pc_types.specs.Bases.{base_named}
 use Rattle.pc_class.specs.declared.table.Method.{Method as RustMethod}
-use Rattle.pc_class.specs.Facts.{Method, inherited, own_methods, classes_of}
-use Rattle.pc_class.specs.Judging.{methods_above}
-use Rattle.pc_class.specs.Overriding.{found_at_methods}
+use Rattle.pc_class.specs.Facts.{Method, base_facts, own_methods, classes_of}
+use Rattle.pc_class.specs.Internal.OverrideTests.{methods_above}
+use Rattle.pc_class.specs.OverrideFindings.{found_at_methods}
 use Rattle.pc_class.specs.Tables.{empty_entry, inherited_entry, method_with}
 use Rattle.pc_class.proofs.ClassesBuilt.{base_here}
 use Rattle.pc_class.proofs.OverrideWalk.{method_keeps}
@@ -51,5 +51,5 @@ returns-clause-found g c definition is =
     ∙ ap (λ (xs : List (RustMethod _)). c.loop-method.found.items ++ found_at_methods j.parents.now above (map (method_with tree) xs)) (sym (drop_of_length-le own c.loop-method-test.false))
     ∙ c.loop-method.invariant.found
     ∙ ap (λ (xs : List Method). old ++ found_at_methods j.parents.now above xs) (own_there tree j.classes.now m c.args.class definition is c.requires.judging.classes own c.own_methods-methods.ensures.over)
-    ∙ ap (λ o. old ++ found_at_methods j.parents.now (methods_above j o) (own_methods m (inherited (classes_of m) base) c.args.class 0 [] definition.members)) same_base
-    ∙ ap (λ bs. old ++ found_at_methods bs (methods_above j base) (own_methods m (inherited (classes_of m) base) c.args.class 0 [] definition.members)) c.requires.judging.parents
+    ∙ ap (λ o. old ++ found_at_methods j.parents.now (methods_above j o) (own_methods m (base_facts (classes_of m) base) c.args.class 0 [] definition.members)) same_base
+    ∙ ap (λ bs. old ++ found_at_methods bs (methods_above j base) (own_methods m (base_facts (classes_of m) base) c.args.class 0 [] definition.members)) c.requires.judging.parents

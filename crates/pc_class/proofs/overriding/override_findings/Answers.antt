@@ -3,7 +3,7 @@ use Rattle.std.proofs.Math.ListN.{drop_of_length-le}
 use Rattle.pc_tree.specs.declared.code.Finding.{Finding}
 use Rattle.pc_tree.specs.Tree.{ClassDef, module_of}
 use Rattle.pc_scope.specs.Bindings.{classes_in}
-use Rattle.pc_class.specs.Overriding.{overrides_from}
+use Rattle.pc_class.specs.OverrideFindings.{overrides_from}
 use Rattle.pc_class.proofs.ClassOverrides.{entries_keep, as_many, one_more, classes_next, findings_are}
 use Rattle.pc_class.proofs.overriding.override_findings.Goals as goal
 

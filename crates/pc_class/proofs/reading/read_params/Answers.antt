@@ -5,7 +5,7 @@ use Rattle.std.proofs.lemmas.List.Elements.{All-nil, All-push, All-weaker}
 use Rattle.pc_tree.specs.declared.tree.Param.{Param as RustParam}
 use Rattle.pc_tree.specs.Tree.{param_of}
 use Rattle.pc_tree.proofs.Stops.{cons_at}
-use Rattle.pc_class.specs.Facts.{Parameter, parameters_of}
+use Rattle.pc_class.specs.Facts.{TypedParameter, parameters_of}
 use Rattle.pc_class.specs.Built.{module_in}
 use Rattle.pc_class.specs.Tables.{HasParameter, parameter_with, parameters_with}
 use Rattle.pc_class.proofs.reading.read_params.Goals as goal
@@ -37,7 +37,7 @@ loop-param-preserved g c =
       given = rw c.in_ok-push.ensures.items (All-push has2 all p (All-weaker has has2 (λ x h. k _ h) all c.loop-param.invariant.given) c.in_ok-parameter.ensures.given);
       means =
           ap (λ xs. parameters_with tree xs ++ rest) c.in_ok-push.ensures.items
-          ∙ ap (λ (ys : List Parameter). ys ++ rest) (map-append (parameter_with tree) all (p ∷ []))
+          ∙ ap (λ (ys : List TypedParameter). ys ++ rest) (map-append (parameter_with tree) all (p ∷ []))
           ∙ append_assoc (parameters_with tree all) (parameter_with tree p ∷ []) rest
           ∙ ap (λ y. parameters_with tree all ++ y ∷ rest) c.in_ok-parameter.ensures.means
           ∙ ap (λ (ps : List RustParam). parameters_with tree all ++ parameters_of m (map param_of ps)) (sym (cons_at params i c.param-item.result c.loop-param-test.true c.param-item.is))

@@ -2,7 +2,7 @@ use Rattle.std.proofs.Common.{◌≡◌, ◌∙◌, ◌++◌, ◌≤◌, ℕ, su
 use Rattle.std.specs.Prelude.{Option, None}
 use Rattle.indexmap.proofs.ReorderLemmas.{map-reverse}
 use Rattle.std.proofs.lemmas.Option.{slice_get_read}
-use Rattle.pc_class.specs.Parts.{part, lent, entries_in, IsSpan}
+use Rattle.pc_class.specs.Parts.{part, lent_parameter, entries_in, IsSpan}
 use Rattle.pc_class.specs.Tables.{inherited_entry}
 use Rattle.pc_class.proofs.TableFields.{steps_left, fewer, fields_over, up_next}
 use Rattle.pc_class.proofs.table.fields_of.Goals as goal
@@ -38,15 +38,15 @@ loop-at-preserved g c =
     let node = c.requires.table.each number n is in
     record {
       below = λ b e. let l = node.before b e in omega arith;
-      so_far = up_next _ (inherited_entry (entries_in p) n.base).fields (part p.fields.items n.fields) (map lent c.loop-at.all.items) (map lent c.push_backwards.new.all.items)
-          (c.loop-at.invariant.so_far ∙ ap (λ (o : Option ℕ). (inherited_entry (entries_in p) o).fields ++ reverse (map lent c.loop-at.all.items)) c.in-Some.is
-          ∙ ap (λ (xs : List _). xs ++ reverse (map lent c.loop-at.all.items)) (fields_over p.named p.fields.items p.methods.items p.classes.items (entries_in p) c.requires.table number n is))
-          (c.in_ok-push_backwards.ensures ∙ ap (λ (xs : List _). map lent c.loop-at.all.items ++ reverse (part xs n.fields)) c.deref.ensures.value);
+      so_far = up_next _ (inherited_entry (entries_in p) n.base).fields (part p.fields.items n.fields) (map lent_parameter c.loop-at.all.items) (map lent_parameter c.push_backwards.new.all.items)
+          (c.loop-at.invariant.so_far ∙ ap (λ (o : Option ℕ). (inherited_entry (entries_in p) o).fields ++ reverse (map lent_parameter c.loop-at.all.items)) c.in-Some.is
+          ∙ ap (λ (xs : List _). xs ++ reverse (map lent_parameter c.loop-at.all.items)) (fields_over p.named p.fields.items p.methods.items p.classes.items (entries_in p) c.requires.table number n is))
+          (c.in_ok-push_backwards.ensures ∙ ap (λ (xs : List _). map lent_parameter c.loop-at.all.items ++ reverse (part xs n.fields)) c.deref.ensures.value);
     }
 
 pub returns : goal.returns
 returns g c =
     let p = c.args.parts.now in
     let none : c.loop-at.at ≡ None = search rules in
-    ap (map lent) c.reverse.ensures.items ∙ map-reverse lent c.loop-at.all.items
-    ∙ sym (c.loop-at.invariant.so_far ∙ ap (λ (o : Option ℕ). (inherited_entry (entries_in p) o).fields ++ reverse (map lent c.loop-at.all.items)) none)
+    ap (map lent_parameter) c.reverse.ensures.items ∙ map-reverse lent_parameter c.loop-at.all.items
+    ∙ sym (c.loop-at.invariant.so_far ∙ ap (λ (o : Option ℕ). (inherited_entry (entries_in p) o).fields ++ reverse (map lent_parameter c.loop-at.all.items)) none)

@@ -1,5 +1,5 @@
 use Rattle.std.proofs.Common.{◌∙◌, ◌++◌, List, map, reverse, sym, ap, arith, append-nil}
-use Rattle.pc_class.specs.Parts.{lent}
+use Rattle.pc_class.specs.Parts.{lent_parameter}
 use Rattle.pc_class.proofs.TableFields.{back_next, part_none}
 use Rattle.pc_class.proofs.table.push_backwards.Goals as goal
 
@@ -19,4 +19,4 @@ pub returns : goal.returns
 returns g c =
     let low = c.loop-end.invariant.low in
     let test = c.loop-end-test.false in
-    sym (append-nil (map lent c.loop-end.all.items)) ∙ ap (λ (xs : List _). map lent c.loop-end.all.items ++ reverse xs) (sym (part_none c.args.fields.now c.args.span.start c.loop-end.end (omega arith))) ∙ c.loop-end.invariant.so_far
+    sym (append-nil (map lent_parameter c.loop-end.all.items)) ∙ ap (λ (xs : List _). map lent_parameter c.loop-end.all.items ++ reverse xs) (sym (part_none c.args.fields.now c.args.span.start c.loop-end.end (omega arith))) ∙ c.loop-end.invariant.so_far

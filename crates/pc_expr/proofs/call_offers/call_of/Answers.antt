@@ -1,7 +1,7 @@
 use Rattle.std.proofs.Common.{◌∙◌, sym, ap, subst}
 use Rattle.std.specs.Prelude.{All, IfOk}
-use Rattle.pc_expr.specs.Calls.{CallOffer, called}
-use Rattle.pc_expr.specs.Calling.{given_with, params_called, HasParam, IsCallOffer}
+use Rattle.pc_expr.specs.Calls.{CallOffer, signature_offer}
+use Rattle.pc_expr.specs.Internal.JudgedCalls.{given_with, params_called, HasParam, IsCallOffer}
 use Rattle.pc_expr.proofs.HeldClasses.{called_suited, called_unsuited}
 use Rattle.pc_expr.proofs.call_offers.call_of.Goals as goal
 
@@ -12,7 +12,7 @@ returns-then-not-is_suited-clause-offer g c =
     let gave = given_with c.args.given.now in
     subst (λ (m : CallOffer). IfOk c.fails_at_call.result (λ o. IsCallOffer g.S.TypeStore.has tree c.fails_at_call.new.store o m))
     (called_unsuited gave (params_called tree returns c.in_ok-params.params.all.items) (sym (c.is_suited.ensures tree returns) ∙ c.if-not-is_suited.true)
-    ∙ ap (λ v. called gave (params_called tree returns v.items)) c.in_ok-params.ensures.all)
+    ∙ ap (λ v. signature_offer gave (params_called tree returns v.items)) c.in_ok-params.ensures.all)
     c.fails_at_call.ensures.offer
 
 pub returns-clause-offer : goal.returns-clause-offer
@@ -29,5 +29,5 @@ returns-clause-offer g c =
         };
       };
       is = called_suited gave (params_called tree returns c.in_ok-params.params.all.items) (sym (c.is_suited.ensures tree returns) ∙ c.if-not-is_suited.false)
-          ∙ ap (λ v. called gave (params_called tree returns v.items)) c.in_ok-params.ensures.all;
+          ∙ ap (λ v. signature_offer gave (params_called tree returns v.items)) c.in_ok-params.ensures.all;
     }

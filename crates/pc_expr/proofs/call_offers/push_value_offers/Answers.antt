@@ -1,7 +1,7 @@
 use Rattle.std.proofs.Common.{◌∙◌, ◌++◌, sym, ap, map, arith}
 use Rattle.pc_flow.proofs.Rest.{mapped_rest, mapped_end}
 use Rattle.pc_expr.specs.Calls.{value_offer}
-use Rattle.pc_expr.specs.Calling.{offer_called}
+use Rattle.pc_expr.specs.Internal.JudgedCalls.{offer_called}
 use Rattle.pc_expr.proofs.CallsKept.{item_held, values_more, values_all}
 use Rattle.pc_expr.proofs.call_offers.push_value_offers.Goals as goal
 

@@ -1,6 +1,6 @@
 use Rattle.std.proofs.Common.{◌++◌, map, drop}
 use Rattle.pc_expr.specs.Calls.{value_offer}
-use Rattle.pc_expr.specs.Calling.{offer_called}
+use Rattle.pc_expr.specs.Internal.JudgedCalls.{offer_called}
 use Rattle.pc_expr.proofs.CallsKept.{IsAdded}
 use Rattle.pc_expr.proofs.call_offers.push_value_offers.Given as goal
 

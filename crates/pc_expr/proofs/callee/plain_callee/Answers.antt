@@ -2,7 +2,7 @@ use Rattle.std.proofs.Common.{◌∷◌, [], ◌∙◌, sym, ap, subst}
 use Rattle.std.specs.Prelude.{if◌then◌else◌}
 use Rattle.pc_tree.specs.declared.code.Code.TheVariants.{E14}
 use Rattle.pc_expr.specs.Calls.{CallOffer, good_callee, plain_call, fails_at_call}
-use Rattle.pc_expr.specs.Calling.{IsCallee}
+use Rattle.pc_expr.specs.Internal.JudgedCalls.{IsCallee}
 use Rattle.pc_expr.proofs.callee.plain_callee.Goals as goal
 
 pub returns-then-suits-clause-callee : goal.returns-then-suits-clause-callee

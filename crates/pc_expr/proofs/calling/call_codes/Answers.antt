@@ -2,7 +2,7 @@ use Rattle.std.proofs.Common.{◌∙◌, [], ap, sym}
 use Rattle.std.specs.Prelude.{if◌then◌else◌}
 use Rattle.pc_tree.specs.Stopping.{has_none}
 use Rattle.pc_expr.specs.Found.{once}
-use Rattle.pc_expr.specs.Calling.{found_at_callee, found_at_call}
+use Rattle.pc_expr.specs.Internal.JudgedCalls.{found_at_callee, found_at_call}
 use Rattle.pc_expr.proofs.CallLabels.{codes_meant}
 use Rattle.pc_expr.proofs.ErrorsOfCalls.{none_once}
 use Rattle.pc_expr.proofs.calling.call_codes.Goals as goal

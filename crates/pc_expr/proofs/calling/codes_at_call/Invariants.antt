@@ -1,6 +1,6 @@
 use Rattle.std.proofs.Common.{◌≡◌, drop}
 use Rattle.pc_expr.specs.Found.{once, once_onto}
-use Rattle.pc_expr.specs.Calling.{found_at_call}
+use Rattle.pc_expr.specs.Internal.JudgedCalls.{found_at_call}
 use Rattle.pc_expr.proofs.calling.codes_at_call.Given as goal
 
 abbrev pub invariant-loop-offer : goal.invariant-loop-offer

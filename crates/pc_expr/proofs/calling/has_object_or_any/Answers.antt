@@ -1,5 +1,5 @@
 use Rattle.std.proofs.Common.{◌∙◌, sym, ap, arith}
-use Rattle.pc_expr.specs.Calling.{is_head_of_any}
+use Rattle.pc_expr.specs.Internal.JudgedCalls.{is_head_of_any}
 use Rattle.pc_expr.proofs.CallLabels.{any_found, any_not, any_none}
 use Rattle.pc_expr.proofs.calling.has_object_or_any.Goals as goal
 

@@ -1,6 +1,6 @@
 use Rattle.std.proofs.Common.{◌∙◌, map}
 use Rattle.pc_notes.specs.Notes.{notes_of}
-use Rattle.pc_expr.specs.SignaturesRead.{module_in, methods_with, reached_with}
+use Rattle.pc_expr.specs.Internal.SignaturesRead.{module_in, methods_with, reached_with}
 use Rattle.pc_expr.proofs.HeldSignatures.{globals_kept}
 use Rattle.pc_expr.proofs.SignatureWalks.{stepped, classes_apart, reached_next, items_found}
 use Rattle.pc_expr.proofs.constants.read_items.Goals as goal

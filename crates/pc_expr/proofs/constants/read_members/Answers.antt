@@ -1,9 +1,9 @@
 use Rattle.std.proofs.Common.{◌∙◌, ap, arith}
 use Rattle.pc_tree.specs.Tree.{Name}
-use Rattle.pc_class.specs.Facts.{inherited, classes_of}
+use Rattle.pc_class.specs.Facts.{base_facts, classes_of}
 use Rattle.pc_notes.specs.Notes.{notes_of}
 use Rattle.pc_expr.specs.SignaturesFound.{bound_in, with_name}
-use Rattle.pc_expr.specs.SignaturesRead.{module_in, signatures_with}
+use Rattle.pc_expr.specs.Internal.SignaturesRead.{module_in, signatures_with}
 use Rattle.pc_expr.proofs.HeldSignatures.{globals_kept}
 use Rattle.pc_expr.proofs.SignatureWalks.{stepped, walked, methods_apart, no_methods, members_found}
 use Rattle.pc_expr.proofs.constants.read_members.Goals as goal
@@ -13,7 +13,7 @@ loop-member-preserved g c =
     let has = g.S.TypeStore.has in
     let tree = g.S.TypeStore.tree in
     let m = module_in c.args.globals.now.frame.now in
-    let base = inherited (classes_of m) c.args.base in
+    let base = base_facts (classes_of m) c.args.base in
     let ms = c.args.members.now in
     let i = c.loop-member.member-index in
     let x = c.member-item.result in

@@ -1,5 +1,5 @@
 use Rattle.std.proofs.Common.{arith, sym, ap, subst, ◌∙◌, ◌<◌, length}
-use Rattle.pc_expr.specs.Displays.{IsDictParts}
+use Rattle.pc_expr.specs.Internal.Displays.{IsDictParts}
 use Rattle.pc_expr.specs.Lawful.{dict_parts}
 use Rattle.pc_expr.proofs.Displayed.{dict_head, dict_fits, entry_here, entry_later, given_at}
 use Rattle.pc_expr.proofs.display.dict_parts.Goals as goal

@@ -1,5 +1,5 @@
 use Rattle.std.proofs.Common.{arith, sym, ap, subst, ◌∙◌, ◌<◌, length}
-use Rattle.pc_expr.specs.Displays.{IsListItem}
+use Rattle.pc_expr.specs.Internal.Displays.{IsListItem}
 use Rattle.pc_expr.specs.Lawful.{list_item}
 use Rattle.pc_expr.proofs.Displayed.{list_head, item_here, item_later, item_small, given_at}
 use Rattle.pc_expr.proofs.display.list_item.Goals as goal

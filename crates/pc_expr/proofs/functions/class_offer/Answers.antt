@@ -1,7 +1,7 @@
 use Rattle.std.proofs.Common.{sym, subst}
 use Rattle.std.specs.Prelude.{All}
 use Rattle.std.proofs.lemmas.List.Elements.{All-weaker}
-use Rattle.pc_expr.specs.Calling.{HasLent, HasParam}
+use Rattle.pc_expr.specs.Internal.JudgedCalls.{HasLent, HasParam}
 use Rattle.pc_expr.proofs.HeldClasses.{fields_held}
 use Rattle.pc_expr.proofs.functions.class_offer.Goals as goal
 

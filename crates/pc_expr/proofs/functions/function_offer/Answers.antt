@@ -1,6 +1,6 @@
 use Rattle.std.proofs.Common.{◌∙◌, sym, ap, subst}
 use Rattle.pc_expr.specs.Calls.{CallOffer, function_offer}
-use Rattle.pc_expr.specs.Calling.{given_with, IsCallOffer}
+use Rattle.pc_expr.specs.Internal.JudgedCalls.{given_with, IsCallOffer}
 use Rattle.pc_expr.specs.Standing.{signature_with}
 use Rattle.pc_class.specs.Tables.{parameters_with}
 use Rattle.pc_expr.proofs.HeldClasses.{called_meant, mapped_get}

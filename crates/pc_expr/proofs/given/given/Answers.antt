@@ -1,5 +1,5 @@
 use Rattle.std.proofs.Common.{◌∙◌, map, sym, ap}
-use Rattle.pc_expr.specs.Calling.{names_in}
+use Rattle.pc_expr.specs.Internal.JudgedCalls.{names_in}
 use Rattle.pc_expr.proofs.NamesGiven.{expr_count, with_name, name_inserted, keyword_more, keywords_done, given_both}
 use Rattle.pc_expr.proofs.given.given.Goals as goal
 

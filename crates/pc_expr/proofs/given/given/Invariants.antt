@@ -2,7 +2,7 @@ use Rattle.std.proofs.Common.{◌≡◌, ◌++◌, [], drop}
 use Rattle.pc_tree.specs.Lists.{keywords_of_list}
 use Rattle.pc_scope.specs.Expressions.{keyword_names}
 use Rattle.pc_expr.specs.Calls.{once_each}
-use Rattle.pc_expr.specs.Calling.{names_in}
+use Rattle.pc_expr.specs.Internal.JudgedCalls.{names_in}
 use Rattle.pc_expr.proofs.given.given.Given as goal
 
 abbrev pub invariant-loop-argument : goal.invariant-loop-argument

@@ -2,7 +2,7 @@ use Rattle.std.proofs.Common.{◌∙◌, ℕ, List, arith, ap, refl, subst}
 use Rattle.pc_expr.specs.declared.call_offers.CallRule.TheVariants as rule
 use Rattle.pc_expr.specs.Found.{once}
 use Rattle.pc_expr.specs.Calls.{method_offers, method_callee}
-use Rattle.pc_expr.specs.Calling.{given_with, found_at_callee, IsCallee}
+use Rattle.pc_expr.specs.Internal.JudgedCalls.{given_with, found_at_callee, IsCallee}
 use Rattle.pc_expr.specs.Standing.{context_with}
 use Rattle.pc_expr.proofs.CallsKept.{item_held, members_more}
 use Rattle.pc_expr.proofs.CalleesMeant.{method_meant}

@@ -1,6 +1,6 @@
 use Rattle.std.proofs.Common.{map, drop, flat_map}
 use Rattle.pc_expr.specs.Calls.{method_offers}
-use Rattle.pc_expr.specs.Calling.{given_with}
+use Rattle.pc_expr.specs.Internal.JudgedCalls.{given_with}
 use Rattle.pc_expr.specs.Standing.{context_with}
 use Rattle.pc_expr.proofs.CallsKept.{IsAdded}
 use Rattle.pc_expr.proofs.methods.callee_of_method.Given as goal

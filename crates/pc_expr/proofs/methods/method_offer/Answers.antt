@@ -1,7 +1,7 @@
 use Rattle.std.proofs.Common.{◌∙◌, ap, subst}
 use Rattle.pc_class.specs.Tables.{parameters_with}
 use Rattle.pc_expr.specs.Calls.{CallOffer}
-use Rattle.pc_expr.specs.Calling.{given_with, IsCallOffer}
+use Rattle.pc_expr.specs.Internal.JudgedCalls.{given_with, IsCallOffer}
 use Rattle.pc_expr.proofs.HeldClasses.{called_meant}
 use Rattle.pc_expr.proofs.methods.method_offer.Goals as goal
 

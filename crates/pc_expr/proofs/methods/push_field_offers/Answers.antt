@@ -1,6 +1,6 @@
 use Rattle.std.proofs.Common.{◌++◌, ◌∷◌, [], map, ap, subst, List, None}
 use Rattle.pc_expr.specs.Calls.{CallOffer, class_offers}
-use Rattle.pc_expr.specs.Calling.{offer_called, AreCallOffers}
+use Rattle.pc_expr.specs.Internal.JudgedCalls.{offer_called, AreCallOffers}
 use Rattle.pc_expr.proofs.CallsKept.{pushed_one}
 use Rattle.pc_expr.proofs.HeldClasses.{field_held}
 use Rattle.pc_expr.proofs.methods.push_field_offers.Goals as goal

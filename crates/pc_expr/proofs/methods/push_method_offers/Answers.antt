@@ -1,7 +1,7 @@
 use Rattle.std.proofs.Common.{◌++◌, ◌∷◌, [], ◌∙◌, map, ap, subst, List}
 use Rattle.pc_expr.specs.Calls.{CallOffer}
 use Rattle.pc_expr.specs.Standing.{context_with}
-use Rattle.pc_expr.specs.Calling.{given_with, class_in_head, offer_called, AreCallOffers}
+use Rattle.pc_expr.specs.Internal.JudgedCalls.{given_with, class_in_head, offer_called, AreCallOffers}
 use Rattle.pc_expr.proofs.CallsKept.{pushed_only}
 use Rattle.pc_expr.proofs.MethodOffers.{class_meant, other_meant}
 use Rattle.pc_expr.proofs.methods.push_method_offers.Goals as goal

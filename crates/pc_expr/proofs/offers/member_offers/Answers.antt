@@ -2,7 +2,7 @@ use Rattle.std.proofs.Common.{arith, sym, ap, ◌∙◌}
 use Rattle.std.specs.Prelude.{map}
 use Rattle.pc_class.specs.Tables.{classes_with}
 use Rattle.pc_flow.proofs.Given.{keeps_both, all_kept}
-use Rattle.pc_expr.specs.Operating.{offer_on}
+use Rattle.pc_expr.specs.Internal.JudgedOperations.{offer_on}
 use Rattle.pc_expr.proofs.Offering.{entries_kept, offered_none, offered_more, offered_all}
 use Rattle.pc_expr.proofs.offers.member_offers.Goals as goal
 

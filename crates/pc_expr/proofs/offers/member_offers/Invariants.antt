@@ -1,6 +1,6 @@
 use Rattle.std.proofs.Common.{All}
 use Rattle.pc_class.specs.Tables.{HasEntries, classes_with}
-use Rattle.pc_expr.specs.Operating.{offer_on}
+use Rattle.pc_expr.specs.Internal.JudgedOperations.{offer_on}
 use Rattle.pc_expr.proofs.Offering.{IsOffered}
 use Rattle.pc_expr.proofs.offers.member_offers.Given as goal
 

@@ -1,6 +1,6 @@
 use Rattle.std.proofs.Common.{ap, ◌∙◌}
 use Rattle.std.specs.Option.{option_map}
-use Rattle.pc_expr.specs.Pairing.{kind_with, meet}
+use Rattle.pc_expr.specs.Internal.OperandPairs.{kind_with, meet}
 use Rattle.pc_expr.proofs.Operators.{common_more}
 use Rattle.pc_expr.proofs.pairs.common_kind.Goals as goal
 

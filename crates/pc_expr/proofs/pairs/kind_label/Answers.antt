@@ -1,5 +1,5 @@
 use Rattle.std.proofs.Common.{sym, ◌∙◌}
-use Rattle.pc_expr.specs.Pairing.{kind_with, gives_of}
+use Rattle.pc_expr.specs.Internal.OperandPairs.{kind_with, gives_of}
 use Rattle.pc_expr.proofs.Once.{clean_is, mark_as}
 use Rattle.pc_expr.proofs.Operators.{taken_mark}
 use Rattle.pc_expr.proofs.pairs.kind_label.Goals as goal

@@ -1,7 +1,7 @@
 use Rattle.std.proofs.Common.{arith, sym}
 use Rattle.std.specs.Prelude.{◌||◌}
 use Rattle.pc_expr.specs.Operations.{is_any, has_side}
-use Rattle.pc_expr.specs.Pairing.{takes_of}
+use Rattle.pc_expr.specs.Internal.OperandPairs.{takes_of}
 use Rattle.pc_expr.proofs.Displayed.{all_later, not_all, all_so}
 use Rattle.pc_expr.proofs.pairs.may_suit_all.Goals as goal
 

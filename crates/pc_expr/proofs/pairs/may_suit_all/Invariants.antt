@@ -2,7 +2,7 @@ use Rattle.std.proofs.Common.{◌≡◌, drop, map}
 use Rattle.std.specs.Prelude.{◌||◌}
 use Rattle.std.specs.List.{list_all}
 use Rattle.pc_expr.specs.Operations.{is_any, has_side}
-use Rattle.pc_expr.specs.Pairing.{takes_of}
+use Rattle.pc_expr.specs.Internal.OperandPairs.{takes_of}
 use Rattle.pc_expr.proofs.pairs.may_suit_all.Given as goal
 
 abbrev pub invariant-loop-ty : goal.invariant-loop-ty

@@ -3,7 +3,7 @@ use Rattle.std.specs.Prelude.{List, Option, map, IfOk}
 use Rattle.std.specs.Option.{option_map}
 use Rattle.pc_types.specs.Shape.{members}
 use Rattle.pc_expr.specs.Operations.{Kind}
-use Rattle.pc_expr.specs.Pairing.{kind_with, meet, common, takes_of, gives_of, kind_mark}
+use Rattle.pc_expr.specs.Internal.OperandPairs.{kind_with, meet, common, takes_of, gives_of, kind_mark}
 use Rattle.pc_expr.specs.Standing.{IsMark}
 use Rattle.pc_expr.proofs.Operators.{pairs_are, brief_as}
 use Rattle.pc_expr.proofs.pairs.pairs_label.Goals as goal

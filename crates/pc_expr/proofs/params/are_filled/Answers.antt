@@ -1,5 +1,5 @@
 use Rattle.std.proofs.Common.{◌∙◌, ◌<◌, sym, arith, length}
-use Rattle.pc_expr.specs.Calling.{names_in}
+use Rattle.pc_expr.specs.Internal.JudgedCalls.{names_in}
 use Rattle.pc_expr.proofs.Filling.{filled_no, filled_default, filled_name}
 use Rattle.pc_expr.proofs.params.are_filled.Goals.{else-not-param-via-then-not-param+else-not-takes_name, else-not-param-via-else-not-param}
 use Rattle.pc_expr.proofs.params.are_filled.Goals as goal

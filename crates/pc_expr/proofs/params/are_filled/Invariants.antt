@@ -1,5 +1,5 @@
 use Rattle.std.proofs.Common.{◌≡◌, take, drop}
-use Rattle.pc_expr.specs.Calling.{names_in, names_called, filled_called}
+use Rattle.pc_expr.specs.Internal.JudgedCalls.{names_in, names_called, filled_called}
 use Rattle.pc_expr.proofs.params.are_filled.Given as goal
 
 abbrev pub invariant-loop-i : goal.invariant-loop-i

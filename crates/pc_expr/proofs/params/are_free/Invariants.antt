@@ -2,7 +2,7 @@ use Rattle.std.proofs.Common.{◌≡◌, map, drop}
 use Rattle.std.specs.List.{list_all}
 use Rattle.pc_scope.specs.Resolution.{index_of}
 use Rattle.pc_expr.specs.Calls.{is_free}
-use Rattle.pc_expr.specs.Calling.{names_called}
+use Rattle.pc_expr.specs.Internal.JudgedCalls.{names_called}
 use Rattle.pc_expr.proofs.params.are_free.Given as goal
 
 abbrev pub invariant-loop-i : goal.invariant-loop-i

@@ -1,5 +1,5 @@
 use Rattle.pc_class.specs.Tables.{parameter_lent}
-use Rattle.pc_expr.specs.Calling.{HasLent}
+use Rattle.pc_expr.specs.Internal.JudgedCalls.{HasLent}
 use Rattle.pc_expr.proofs.Copied.{item_there, copied_more, copied_all}
 use Rattle.pc_expr.proofs.params.copies_of_lent.Goals as goal
 

@@ -1,5 +1,5 @@
 use Rattle.std.proofs.Common.{◌∙◌, sym, ap, arith}
-use Rattle.pc_expr.specs.Calling.{given_with}
+use Rattle.pc_expr.specs.Internal.JudgedCalls.{given_with}
 use Rattle.pc_expr.proofs.Filling.{suited_lent, suited_then, suited_else}
 use Rattle.pc_expr.proofs.params.is_suited.Goals as goal
 

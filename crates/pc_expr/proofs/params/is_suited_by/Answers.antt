@@ -1,6 +1,6 @@
 use Rattle.std.proofs.Common.{◌∙◌, ◌≡◌, ◌≢◌, sym, ap, arith, length}
 use Rattle.std.specs.Prelude.{nat_eq, false}
-use Rattle.pc_expr.specs.Calling.{given_with}
+use Rattle.pc_expr.specs.Internal.JudgedCalls.{given_with}
 use Rattle.pc_expr.proofs.Filling.{unsuited}
 use Rattle.pc_expr.proofs.params.is_suited_by.Goals as goal
 

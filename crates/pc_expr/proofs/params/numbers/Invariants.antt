@@ -1,6 +1,6 @@
 use Rattle.std.proofs.Common.{◌≡◌, ℕ, List, take}
 use Rattle.pc_scope.specs.Resolution.{index_of}
-use Rattle.pc_expr.specs.Calling.{names_called, number_in}
+use Rattle.pc_expr.specs.Internal.JudgedCalls.{names_called, number_in}
 use Rattle.pc_expr.proofs.params.numbers.Given as goal
 
 abbrev pub invariant-loop-i : goal.invariant-loop-i

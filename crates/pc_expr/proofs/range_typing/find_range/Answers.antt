@@ -2,8 +2,8 @@ use Rattle.std.proofs.Common.{◌≡◌, ◌++◌, ◌∙◌, map, length, sym, 
 use Rattle.pc_tree.specs.Tree.{expr_of}
 use Rattle.pc_tree.specs.Lists.{exprs_of_list, keywords_of_list}
 use Rattle.pc_notes.specs.Notes.{notes_of}
-use Rattle.pc_expr.specs.Standing.{standing}
-use Rattle.pc_expr.specs.Calling.{given_with, offer_called}
+use Rattle.pc_expr.specs.Standing.{standing_of}
+use Rattle.pc_expr.specs.Internal.JudgedCalls.{given_with, offer_called}
 use Rattle.pc_expr.proofs.Kept.{stands_kept}
 use Rattle.pc_expr.proofs.CallsKept.{offers_kept}
 use Rattle.pc_expr.proofs.CallForms.{two_tested}
@@ -33,7 +33,7 @@ pub returns-clause-pushed : goal.returns-clause-pushed
 returns-clause-pushed g c =
     let tree = g.S.TypeStore.tree in
     if_ok c.find_codes.result
-    (λ i. range_found (standing tree g.R.Resolver.meaning c.args.setting.now c.args.env.now) c.args.place (expr_of c.args.callee.now) (exprs_of_list c.args.arguments.now) (keywords_of_list c.args.by_name.now)
+    (λ i. range_found (standing_of tree g.R.Resolver.meaning c.args.setting.now c.args.env.now) c.args.place (expr_of c.args.callee.now) (exprs_of_list c.args.arguments.now) (keywords_of_list c.args.by_name.now)
     (given_with c.in_ok-given.given) c.in_ok-given.ensures (map (offer_called tree) c.in_ok-offers.offers.items) c.in_ok-offers.ensures.offers.is
     (notes_of c.args.found.now) (notes_of c.type_arguments.new.found) (notes_of c.type_keywords.new.found) (notes_of c.find_codes.new.found) c.in_ok-codes.codes.items c.is_instance_test-is_test.result
     (rw c.deref-3.ensures.value at (c.in_ok-codes.ensures tree)) c.is_instance_test-is_test.ensures

@@ -1,5 +1,5 @@
 use Rattle.std.proofs.Common.{◌∙◌, map, sym}
-use Rattle.pc_expr.specs.Calling.{offer_called}
+use Rattle.pc_expr.specs.Internal.JudgedCalls.{offer_called}
 use Rattle.pc_expr.proofs.SeatTypes.{seat_into}
 use Rattle.pc_expr.proofs.seats.flow_types.Goals as goal
 

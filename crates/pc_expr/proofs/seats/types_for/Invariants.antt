@@ -1,7 +1,7 @@
 use Rattle.std.proofs.Common.{◌≡◌, ◌++◌, map, drop, flat_map}
 use Rattle.std.specs.Prelude.{All}
 use Rattle.pc_expr.specs.Calls.{CallOffer}
-use Rattle.pc_expr.specs.Calling.{offer_called, types_at}
+use Rattle.pc_expr.specs.Internal.JudgedCalls.{offer_called, types_at}
 use Rattle.pc_expr.proofs.seats.types_for.Given as goal
 
 abbrev pub invariant-loop-i : goal.invariant-loop-i

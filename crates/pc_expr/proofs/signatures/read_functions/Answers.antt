@@ -1,5 +1,5 @@
 use Rattle.pc_notes.specs.Notes.{notes_of}
-use Rattle.pc_expr.specs.SignaturesRead.{module_in, signatures_with}
+use Rattle.pc_expr.specs.Internal.SignaturesRead.{module_in, signatures_with}
 use Rattle.pc_expr.proofs.SignatureWalks.{stepped, functions_apart, functions_found}
 use Rattle.pc_expr.proofs.signatures.read_functions.Goals as goal
 

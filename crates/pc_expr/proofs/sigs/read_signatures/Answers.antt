@@ -1,6 +1,6 @@
 use Rattle.std.proofs.Common.{ap, sym, subst, ◌∙◌}
 use Rattle.std.proofs.lemmas.List.Elements.{All-map}
-use Rattle.pc_expr.specs.SignaturesRead.{HasSignatures, signatures_with}
+use Rattle.pc_expr.specs.Internal.SignaturesRead.{HasSignatures, signatures_with}
 use Rattle.pc_expr.proofs.HeldSignatures.{entries_kept, signatures_kept, all_seen}
 use Rattle.pc_expr.proofs.sigs.read_signatures.Goals as goal
 

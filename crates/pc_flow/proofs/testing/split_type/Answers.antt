@@ -1,6 +1,6 @@
 use Rattle.std.proofs.Common.{arith, sym, subst}
 use Rattle.std.specs.Prelude.{◌≤◌}
-use Rattle.pc_types.specs.Shape.{nodes, limit}
+use Rattle.pc_types.specs.Shape.{nodes, node_limit}
 use Rattle.pc_types.specs.Normal.{IsNormal}
 use Rattle.pc_types.specs.Tree.{Tree}
 use Rattle.pc_flow.specs.Tests.{tested_of}
@@ -25,7 +25,7 @@ union_left-requires-clause-order g c =
 pub union_left-requires-clause-small : goal.union_left-requires-clause-small
 union_left-requires-clause-small g c =
     let e = parted_passing g.S.TypeStore.has g.S.TypeStore.tree c.args.parents.now c.args.test (g.S.TypeStore.tree c.args.ty.now) _ _ _ _ _ _ (omega arith) c.in_ok-members.ensures.value c.loop-i.invariant in
-    rw c.deref.ensures.value (subst (λ (t : Tree). nodes t ≤ limit) (sym e) (passing_well_formed c.args.parents.now (tested_of c.args.test) _ c.ordered.ensures (is_testable c.args.test) c.requires.well_formed).2)
+    rw c.deref.ensures.value (subst (λ (t : Tree). nodes t ≤ node_limit) (sym e) (passing_well_formed c.args.parents.now (tested_of c.args.test) _ c.ordered.ensures (is_testable c.args.test) c.requires.well_formed).2)
 
 pub union_left-requires-2-clause-order : goal.union_left-requires-2-clause-order
 union_left-requires-2-clause-order g c =
@@ -35,4 +35,4 @@ union_left-requires-2-clause-order g c =
 pub union_left-requires-2-clause-small : goal.union_left-requires-2-clause-small
 union_left-requires-2-clause-small g c =
     let e = parted_failing g.S.TypeStore.has g.S.TypeStore.tree c.args.parents.now c.args.test (g.S.TypeStore.tree c.args.ty.now) _ _ _ _ _ _ (omega arith) c.in_ok-members.ensures.value c.loop-i.invariant in
-    rw c.deref-2.ensures.value (subst (λ (t : Tree). nodes t ≤ limit) (sym e) (failing_well_formed c.args.parents.now (tested_of c.args.test) _ c.ordered.ensures c.requires.well_formed).2)
+    rw c.deref-2.ensures.value (subst (λ (t : Tree). nodes t ≤ node_limit) (sym e) (failing_well_formed c.args.parents.now (tested_of c.args.test) _ c.ordered.ensures c.requires.well_formed).2)

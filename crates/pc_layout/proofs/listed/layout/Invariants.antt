@@ -1,8 +1,8 @@
 use Rattle.std.proofs.Common.{List, Result, map}
 use Rattle.pc_source.specs.declared.fault.Fault.{Fault}
 use Rattle.pc_token.specs.Lexeme.{Lexeme, lexeme_of, line_of}
-use Rattle.pc_layout.specs.Giving.{Left}
-use Rattle.pc_layout.specs.Copying.{gives_line}
+use Rattle.pc_layout.specs.TokenIterator.Items.{Left}
+use Rattle.pc_layout.specs.Internal.ListedLines.{gives_line}
 use Rattle.pc_layout.proofs.Gathering.{Gathers}
 use Rattle.pc_layout.proofs.listed.layout.Given as goal
 

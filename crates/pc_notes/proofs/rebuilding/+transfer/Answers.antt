@@ -1,7 +1,7 @@
 use Rattle.std.proofs.Common.{rules, ◌≡◌, ◌<◌, map, ap, sym, ◌∙◌, subst, arith}
-use Rattle.pc_types.specs.Shape.{parts, nodes, limit}
+use Rattle.pc_types.specs.Shape.{parts, nodes, node_limit}
 use Rattle.pc_types.specs.Normal.{IsNormal}
-use Rattle.pc_types.specs.Rebuilding.{rebuilt}
+use Rattle.pc_types.specs.Internal.Rebuilding.{rebuilt}
 use Rattle.pc_notes.proofs.Taken.{part_at, held_at, one_more, next_taken, same_again}
 use Rattle.pc_notes.proofs.rebuilding.+transfer.Goals as goal
 
@@ -40,8 +40,8 @@ unreachable-requires g t c =
     let is = same_again g.S.TypeStore.tree g.T.TypeStore.tree ty c.head.result c.deref-part-items.result.now c.in_ok-parts.parts.items c.loop-part.taken.items c.deref.result.now c.loop-part.part-index n c.head.ensures.head c.deref-part-items.ensures.value c.in_ok-parts.ensures.value c.loop-part.invariant.same c.loop-part-test.false c.deref.ensures.value in
     let small = g.met.S.TypeStore.small c.args.from.now c.args.ty.now c.requires in
     let v = c.in_ok-made.ensures.value in
-    let large : limit < nodes (rebuilt c.head.result (map g.T.TypeStore.tree c.deref.result.now)) = rw c.in_default.is at v in
-    let l : limit < nodes ty = subst (λ x. limit < nodes x) is large in
+    let large : node_limit < nodes (rebuilt c.head.result (map g.T.TypeStore.tree c.deref.result.now)) = rw c.in_default.is at v in
+    let l : node_limit < nodes ty = subst (λ x. node_limit < nodes x) is large in
     omega (arith, l, small)
 
 pub returns-clause-value : goal.returns-clause-value

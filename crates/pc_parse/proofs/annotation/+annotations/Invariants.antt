@@ -1,8 +1,8 @@
 use Rattle.std.proofs.Common.{◌+◌, ◌*◌, ◌≤◌, ◌<◌, List}
 use Rattle.pc_token.specs.Lexeme.{Lexeme}
-use Rattle.pc_reader.specs.Operands.{Starts}
+use Rattle.pc_reader.specs.Internal.Operands.{Starts}
 use Rattle.pc_reader.specs.Reading.{IsReady, left_in}
-use Rattle.pc_parse.specs.Annotating.{PartsSoFar, ArgumentsSoFar}
+use Rattle.pc_parse.specs.Internal.Annotations.{PartsSoFar, ArgumentsSoFar}
 use Rattle.pc_parse.proofs.annotation.+annotations.Given as goal
 
 abbrev pub decreases-arguments : goal.decreases-arguments

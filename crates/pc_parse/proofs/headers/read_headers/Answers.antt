@@ -8,7 +8,7 @@ use Rattle.std.specs.Prelude.{codes}
 use Rattle.pc_tree.specs.Machine.{at}
 use Rattle.pc_tree.specs.Machine.Lines.{start, no_top}
 use Rattle.pc_tree.specs.Machine.States.{after_future, after_dataclasses, items}
-use Rattle.pc_parse.specs.Modules.{import_words}
+use Rattle.pc_parse.specs.Internal.Modules.{import_words}
 use Rattle.pc_reader.proofs.Words.{kind_due}
 use Rattle.pc_parse.proofs.Imports.{dataclassed, headed, begun, future_fails, typing_fails, typed, dataclasses_fail, classed, then_typing_fails, then_typed}
 use Rattle.pc_parse.proofs.headers.read_headers.Goals as goal

@@ -6,7 +6,7 @@ use Rattle.pc_tree.specs.Machine.Kinds.{start_of}
 use Rattle.pc_tree.specs.Machine.Expressions.{operand_turn, name_part, part}
 use Rattle.pc_reader.specs.Reading.{lexeme}
 use Rattle.pc_reader.proofs.Building.{starts_one, ends_one, built}
-use Rattle.pc_reader.specs.Operands.{a_name}
+use Rattle.pc_reader.specs.Internal.Operands.{a_name}
 use Rattle.pc_reader.proofs.expression.value.Goals as goal
 use Rattle.pc_reader.proofs.expression.value.Goals.{in_default-via-in-Keyword+in_default, in_default-via-in_default}
 

@@ -1,6 +1,6 @@
 use Rattle.std.proofs.Common.{◌≡◌, [], ◌∷◌, ◌++◌, refl, ap, sym, ◌∙◌, subst, rules}
-use Rattle.pc_reader.specs.Operands.{prefix_of, applied_all, Keeps}
-use Rattle.pc_reader.specs.Descent.{wrapped_level}
+use Rattle.pc_reader.specs.Internal.Operands.{prefix_of, applied_all, KeepsPart}
+use Rattle.pc_reader.specs.Internal.Expressions.{wrapped_level}
 use Rattle.pc_reader.proofs.Building.{ends_more}
 use Rattle.std.proofs.Common.{append_assoc}
 use Rattle.pc_reader.proofs.Signs.{last_sign, no_signs}
@@ -23,4 +23,4 @@ loop-start-preserved c = record {
 pub returns : goal.returns
 returns c = λ ts p e k. let v = c.loop-start.invariant.wrapped ts p e k in let n : c.loop-start.signs.items ≡ [] = search rules in
     let f = no_signs v.front (v.starts ∙ n) in let a : ts ≡ v.back = v.all ∙ ap (λ z. z ++ v.back) f in
-    (subst (λ z. Keeps c.loop-start.operand (applied_all (prefix_of c.args.prefix) z p)) (sym a) v.keeps, v.level_is ∙ ap (λ z. wrapped_level (prefix_of c.args.prefix) z c.args.operand.level) (sym a))
+    (subst (λ z. KeepsPart c.loop-start.operand (applied_all (prefix_of c.args.prefix) z p)) (sym a) v.keeps, v.level_is ∙ ap (λ z. wrapped_level (prefix_of c.args.prefix) z c.args.operand.level) (sym a))

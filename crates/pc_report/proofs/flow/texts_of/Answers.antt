@@ -3,19 +3,19 @@ use Rattle.std.specs.Prelude.{MatchOption, Option}
 use Rattle.std.specs.Borrow.{Bor}
 use Rattle.std.specs.BTreeMap.{get}
 use Rattle.pc_tree.specs.declared.code.Code.TheVariants.{A1}
-use Rattle.pc_report.specs.Flows.{Flow, IsListed, place_cmp}
+use Rattle.pc_report.specs.Flows.{FlowEntry, IsListed, place_cmp}
 use Rattle.pc_report.proofs.flow.texts_of.Goals as goal
 
 pub returns-in-None : goal.returns-in-None
 returns-in-None c = λ listed has a l.
     let p = c.args.finding.place in
-    (subst (λ (o : Option (Bor Flow)). MatchOption o (¬ (IsListed listed p)) (λ f. Contains listed f.now × (f.now.0 ≡ p))) (sym c.in-None.ensures.value) (has p)) l
+    (subst (λ (o : Option (Bor FlowEntry)). MatchOption o (¬ (IsListed listed p)) (λ f. Contains listed f.now × (f.now.0 ≡ p))) (sym c.in-None.ensures.value) (has p)) l
 
 pub returns-in_ok-clone-in-Some-2 : goal.returns-in_ok-clone-in-Some-2
 returns-in_ok-clone-in-Some-2 c = λ listed has.
     let p = c.args.finding.place in
-    let f : Bor Flow = c.in-Some.field-0.now in
+    let f : Bor FlowEntry = c.in-Some.field-0.now in
     let v : Some f ≡ get place_cmp c.args.flows.now p = c.in-Some.ensures.value in
-    let found : Contains listed f.now × (f.now.0 ≡ p) = subst (λ (o : Option (Bor Flow)). MatchOption o (¬ (IsListed listed p)) (λ f. Contains listed f.now × (f.now.0 ≡ p))) (sym v) (has p) in
+    let found : Contains listed f.now × (f.now.0 ≡ p) = subst (λ (o : Option (Bor FlowEntry)). MatchOption o (¬ (IsListed listed p)) (λ f. Contains listed f.now × (f.now.0 ≡ p))) (sym v) (has p) in
     let code : c.args.finding.code ≡ A1 = search rules in
     (code, (f.now, found.0, found.1, c.in_ok-clone-in-Some.ensures.cases, c.in_ok-clone-in-Some-2.ensures.cases))

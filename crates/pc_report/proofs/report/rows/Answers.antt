@@ -4,7 +4,7 @@ use Rattle.pc_source.specs.Lines.{line_of, column_of}
 use Rattle.pc_tree.specs.declared.code.Finding.{Finding}
 use Rattle.pc_report.specs.declared.report.Row.{Row}
 use Rattle.pc_report.specs.Flows.{IsExplained}
-use Rattle.pc_report.specs.Report.{findings_of, IsPlaced}
+use Rattle.pc_report.specs.Report.{row_findings, IsPlaced}
 use Rattle.pc_report.proofs.Listed.{all_more, findings_more}
 use Rattle.pc_report.proofs.Order.{sorted_in_order}
 use Rattle.pc_report.proofs.report.rows.Goals as goal
@@ -21,7 +21,7 @@ loop-finding-preserved c =
     let line = subst (λ (t : List ℕ). position.line ≡ line_of t finding.place.start) c.loop-finding.invariant.text c.position_of-position.ensures.line in
     let column = subst (λ (t : List ℕ). position.column ≡ column_of t finding.place.start) c.loop-finding.invariant.text c.position_of-position.ensures.column in
     record {
-      findings = ap (λ (l : List Row). findings_of l ++ rest) after ∙ (findings_more before row rest ∙ (ap (λ (l : List Finding). findings_of before ++ l) (sym left) ∙ c.loop-finding.invariant.findings));
+      findings = ap (λ (l : List Row). row_findings l ++ rest) after ∙ (findings_more before row rest ∙ (ap (λ (l : List Finding). row_findings before ++ l) (sym left) ∙ c.loop-finding.invariant.findings));
       placed = subst (λ (l : List Row). AllByRecursion (IsPlaced c.args.source.now) l) (sym after) (all_more (IsPlaced c.args.source.now) before row c.loop-finding.invariant.placed (line, column));
       explained = λ listed has. subst (λ (l : List Row). AllByRecursion (λ r. IsExplained listed r.finding r.flow) l) (sym after) (all_more (λ r. IsExplained listed r.finding r.flow) before row (c.loop-finding.invariant.explained listed has) (c.in_ok-texts_of.ensures listed has));
       text = search rules;
@@ -31,5 +31,5 @@ loop-finding-preserved c =
 
 pub returns-clause-sorted : goal.returns-clause-sorted
 returns-clause-sorted c =
-    let e : findings_of c.loop-finding.rows.items ≡ c.args.set.now.keys = search rules in
+    let e : row_findings c.loop-finding.rows.items ≡ c.args.set.now.keys = search rules in
     rw e (sorted_in_order c.args.set.now.keys c.iter-finding-items.ensures.ordered)

@@ -7,18 +7,18 @@ use Rattle.pc_value.proofs.Views.{tuple_value}
 use Rattle.pc_value.specs.Meaning.{heap_of}
 use Rattle.pc_value.specs.Value.{is_true}
 use Rattle.pc_machine.specs.Steps.{next, breaking, continuing, leaves}
-use Rattle.pc_machine.specs.Plain.{Came, and_then, act, changed}
+use Rattle.pc_machine.specs.Plain.{Came, and_then, act, after_change}
 use Rattle.pc_machine.specs.Evaluation.{binds_local}
 use Rattle.pc_machine.specs.Runs.{plain_parts}
-use Rattle.pc_run.specs.Traced.{node, exec_one, branches_in}
+use Rattle.pc_run.specs.Internal.Nodes.{node, exec_one, branches_in}
 use Rattle.pc_machine.specs.Performed.{empty_charged}
-use Rattle.pc_machine.specs.Machine.{progress_of, unit, flow_of, item_of}
-use Rattle.pc_run.specs.Traced.{values_of_vec}
+use Rattle.pc_machine.specs.Machine.{progress_of, unit, flow_of, value_if_any}
+use Rattle.pc_run.specs.Internal.Nodes.{values_of_vec}
 use Rattle.pc_tree.specs.Lists.{branches_of_list, exprs_of_list, keywords_of_list}
-use Rattle.pc_run.specs.Forms.{form_seen}
+use Rattle.pc_run.specs.Internal.CallForms.{form_seen}
 use Rattle.pc_machine.specs.Steps.{item_out}
 use Rattle.pc_machine.specs.Evaluation as text
-use Rattle.pc_machine.specs.Plain.{Step, plain, emitted}
+use Rattle.pc_machine.specs.Plain.{Step, plain, after_event}
 use Rattle.pc_run.proofs.Bounds.{turn_index}
 use Rattle.pc_run.proofs.Steps.{spent_turn, tells_as, went, turned_err, turned_break, turned_leave, suite_to, suite_err, while_more, for_more, stmts_next, stmts_end, other_flow, ends, charged_eval, begun, uncharged, nothing_left, branch_taken, branch_passed, while_err, while_over, while_turn, for_err, for_over, for_turn, suite_uncharged}
 use Rattle.pc_value.specs.declared.action.Action.TheVariants as rust_action
@@ -72,7 +72,7 @@ eval_call-returns-in-Some-clause-plain t c n lt =
 
 pub eval_tuple-returns-clause-plain : goal.eval_tuple-returns-clause-plain
 eval_tuple-returns-clause-plain t c n lt =
-    went value_of c.give.result c.give.new.self _ _ (values_of_vec c.in_ok-values.values) (progress_of c.eval_all.new.machine) (c.in_ok-values.ensures.plain n lt) (tells_as value_of c.give.result c.give.new.self _ _ (ap (λ v. Came v (emitted c.args.place (progress_of c.eval_all.new.machine))) (sym (tuple_value c.in_ok-values.values))) c.give.ensures.plain)
+    went value_of c.give.result c.give.new.self _ _ (values_of_vec c.in_ok-values.values) (progress_of c.eval_all.new.machine) (c.in_ok-values.ensures.plain n lt) (tells_as value_of c.give.result c.give.new.self _ _ (ap (λ v. Came v (after_event c.args.place (progress_of c.eval_all.new.machine))) (sym (tuple_value c.in_ok-values.values))) c.give.ensures.plain)
 
 pub exec-returns-in_err-charge-clause-plain : goal.exec-returns-in_err-charge-clause-plain
 exec-returns-in_err-charge-clause-plain t c n lt =
@@ -199,38 +199,38 @@ pub run_for-returns-in_err-act_item-clause-plain : goal.run_for-returns-in_err-a
 run_for-returns-in_err-act_item-clause-plain t c n lt =
     let is : c.from_residual.result ≡ Err c.in_err-act_item.field-0.0 = search rules in
     let a = c.loop-turn.invariant.run n lt in
-    rw is (tells_as flow_of (Err c.in_err-act_item.field-0.0) c.act_item.new.self _ _ a.is (for_err a.bound (iteration_of c.args.over) (turn_index c.loop-turn.turn) c.args.name.now (stmts_of_list c.args.body.now) (progress_of c.loop-turn.machine) c.in_err-act_item.field-0.0 c.act_item.new.self a.room (tells_as item_of (Err c.in_err-act_item.field-0.0) c.act_item.new.self _ _ (ap (λ a. act item_out a (progress_of c.loop-turn.machine)) (sym (ap action_of c.loop-turn.invariant.turn))) c.in_err-act_item.ensures.plain)))
+    rw is (tells_as flow_of (Err c.in_err-act_item.field-0.0) c.act_item.new.self _ _ a.is (for_err a.bound (iteration_of c.args.over) (turn_index c.loop-turn.turn) c.args.name.now (stmts_of_list c.args.body.now) (progress_of c.loop-turn.machine) c.in_err-act_item.field-0.0 c.act_item.new.self a.room (tells_as value_if_any (Err c.in_err-act_item.field-0.0) c.act_item.new.self _ _ (ap (λ a. act item_out a (progress_of c.loop-turn.machine)) (sym (ap action_of c.loop-turn.invariant.turn))) c.in_err-act_item.ensures.plain)))
 
 pub run_for-returns-in-None-clause-plain : goal.run_for-returns-in-None-clause-plain
 run_for-returns-in-None-clause-plain t c n lt =
     let a = c.loop-turn.invariant.run n lt in
-    a.is ∙ for_over a.bound (iteration_of c.args.over) (turn_index c.loop-turn.turn) c.args.name.now (stmts_of_list c.args.body.now) (progress_of c.loop-turn.machine) (progress_of c.act_item.new.self) a.room (ap (λ a. act item_out a (progress_of c.loop-turn.machine)) (sym (ap action_of c.loop-turn.invariant.turn)) ∙ c.in_ok-act_item.ensures.plain ∙ ap (λ o. Came (item_of o) (progress_of c.act_item.new.self)) c.in-None.is)
+    a.is ∙ for_over a.bound (iteration_of c.args.over) (turn_index c.loop-turn.turn) c.args.name.now (stmts_of_list c.args.body.now) (progress_of c.loop-turn.machine) (progress_of c.act_item.new.self) a.room (ap (λ a. act item_out a (progress_of c.loop-turn.machine)) (sym (ap action_of c.loop-turn.invariant.turn)) ∙ c.in_ok-act_item.ensures.plain ∙ ap (λ o. Came (value_if_any o) (progress_of c.act_item.new.self)) c.in-None.is)
 
 pub run_for-returns-in_err-charge_empty-clause-plain : goal.run_for-returns-in_err-charge_empty-clause-plain
 run_for-returns-in_err-charge_empty-clause-plain t c n lt =
     let is : c.from_residual-in_err-charge_empty.result ≡ Err c.in_err-charge_empty.field-0.0 = search rules in
     let a = c.loop-turn.invariant.run n lt in
-    let w = for_turn a.bound (iteration_of c.args.over) (turn_index c.loop-turn.turn) c.args.name.now (stmts_of_list c.args.body.now) (progress_of c.loop-turn.machine) (progress_of c.act_item.new.self) (value_of c.in-Some.v) a.room (ap (λ a. act item_out a (progress_of c.loop-turn.machine)) (sym (ap action_of c.loop-turn.invariant.turn)) ∙ c.in_ok-act_item.ensures.plain ∙ ap (λ o. Came (item_of o) (progress_of c.act_item.new.self)) c.in-Some.is) in
-    rw is (tells_as flow_of (Err c.in_err-charge_empty.field-0.0) c.charge_empty.new.self _ _ a.is (turned_err a.bound (stmts_of_list c.args.body.now) (changed (binds_local c.args.name.now (value_of c.in-Some.v)) (progress_of c.act_item.new.self)) (λ k. (plain_parts k).turns (iteration_of c.args.over) (suc (turn_index c.loop-turn.turn)) c.args.name.now (stmts_of_list c.args.body.now)) ((plain_parts a.bound).turns (iteration_of c.args.over) (turn_index c.loop-turn.turn) c.args.name.now (stmts_of_list c.args.body.now) (progress_of c.loop-turn.machine)) c.in_err-charge_empty.field-0.0 c.charge_empty.new.self w (suite_uncharged a.bound (stmts_of_list c.args.body.now) (changed (binds_local c.args.name.now (value_of c.in-Some.v)) (progress_of c.act_item.new.self)) c.in_err-charge_empty.field-0.0 c.charge_empty.new.self (tells_as unit (Err c.in_err-charge_empty.field-0.0) c.charge_empty.new.self _ _ (ap (empty_charged (stmts_of_list c.args.body.now)) (sym c.bind_local.ensures.plain)) c.in_err-charge_empty.ensures.plain))))
+    let w = for_turn a.bound (iteration_of c.args.over) (turn_index c.loop-turn.turn) c.args.name.now (stmts_of_list c.args.body.now) (progress_of c.loop-turn.machine) (progress_of c.act_item.new.self) (value_of c.in-Some.v) a.room (ap (λ a. act item_out a (progress_of c.loop-turn.machine)) (sym (ap action_of c.loop-turn.invariant.turn)) ∙ c.in_ok-act_item.ensures.plain ∙ ap (λ o. Came (value_if_any o) (progress_of c.act_item.new.self)) c.in-Some.is) in
+    rw is (tells_as flow_of (Err c.in_err-charge_empty.field-0.0) c.charge_empty.new.self _ _ a.is (turned_err a.bound (stmts_of_list c.args.body.now) (after_change (binds_local c.args.name.now (value_of c.in-Some.v)) (progress_of c.act_item.new.self)) (λ k. (plain_parts k).turns (iteration_of c.args.over) (suc (turn_index c.loop-turn.turn)) c.args.name.now (stmts_of_list c.args.body.now)) ((plain_parts a.bound).turns (iteration_of c.args.over) (turn_index c.loop-turn.turn) c.args.name.now (stmts_of_list c.args.body.now) (progress_of c.loop-turn.machine)) c.in_err-charge_empty.field-0.0 c.charge_empty.new.self w (suite_uncharged a.bound (stmts_of_list c.args.body.now) (after_change (binds_local c.args.name.now (value_of c.in-Some.v)) (progress_of c.act_item.new.self)) c.in_err-charge_empty.field-0.0 c.charge_empty.new.self (tells_as unit (Err c.in_err-charge_empty.field-0.0) c.charge_empty.new.self _ _ (ap (empty_charged (stmts_of_list c.args.body.now)) (sym c.bind_local.ensures.plain)) c.in_err-charge_empty.ensures.plain))))
 
 pub run_for-returns-in_err-exec-clause-plain : goal.run_for-returns-in_err-exec-clause-plain
 run_for-returns-in_err-exec-clause-plain t c n lt =
     let is : c.from_residual-in_err-exec.result ≡ Err c.in_err-exec.field-0.0 = search rules in
     let a = c.loop-turn.invariant.run n lt in
-    let w = for_turn a.bound (iteration_of c.args.over) (turn_index c.loop-turn.turn) c.args.name.now (stmts_of_list c.args.body.now) (progress_of c.loop-turn.machine) (progress_of c.act_item.new.self) (value_of c.in-Some.v) a.room (ap (λ a. act item_out a (progress_of c.loop-turn.machine)) (sym (ap action_of c.loop-turn.invariant.turn)) ∙ c.in_ok-act_item.ensures.plain ∙ ap (λ o. Came (item_of o) (progress_of c.act_item.new.self)) c.in-Some.is) in
-    rw is (tells_as flow_of (Err c.in_err-exec.field-0.0) c.exec.new.machine _ _ a.is (turned_err a.bound (stmts_of_list c.args.body.now) (changed (binds_local c.args.name.now (value_of c.in-Some.v)) (progress_of c.act_item.new.self)) (λ k. (plain_parts k).turns (iteration_of c.args.over) (suc (turn_index c.loop-turn.turn)) c.args.name.now (stmts_of_list c.args.body.now)) ((plain_parts a.bound).turns (iteration_of c.args.over) (turn_index c.loop-turn.turn) c.args.name.now (stmts_of_list c.args.body.now) (progress_of c.loop-turn.machine)) c.in_err-exec.field-0.0 c.exec.new.machine w (suite_err a.bound (stmts_of_list c.args.body.now) (changed (binds_local c.args.name.now (value_of c.in-Some.v)) (progress_of c.act_item.new.self)) (progress_of c.charge_empty.new.self) c.in_err-exec.field-0.0 c.exec.new.machine (ap (empty_charged (stmts_of_list c.args.body.now)) (sym c.bind_local.ensures.plain) ∙ c.in_ok-charge_empty.ensures.plain) (c.in_err-exec.ensures.plain a.bound (omega (arith, a.room, c.in_ok-act_item.ensures.fuel, c.bind_local.ensures.fuel, c.in_ok-charge_empty.ensures.fuel))))))
+    let w = for_turn a.bound (iteration_of c.args.over) (turn_index c.loop-turn.turn) c.args.name.now (stmts_of_list c.args.body.now) (progress_of c.loop-turn.machine) (progress_of c.act_item.new.self) (value_of c.in-Some.v) a.room (ap (λ a. act item_out a (progress_of c.loop-turn.machine)) (sym (ap action_of c.loop-turn.invariant.turn)) ∙ c.in_ok-act_item.ensures.plain ∙ ap (λ o. Came (value_if_any o) (progress_of c.act_item.new.self)) c.in-Some.is) in
+    rw is (tells_as flow_of (Err c.in_err-exec.field-0.0) c.exec.new.machine _ _ a.is (turned_err a.bound (stmts_of_list c.args.body.now) (after_change (binds_local c.args.name.now (value_of c.in-Some.v)) (progress_of c.act_item.new.self)) (λ k. (plain_parts k).turns (iteration_of c.args.over) (suc (turn_index c.loop-turn.turn)) c.args.name.now (stmts_of_list c.args.body.now)) ((plain_parts a.bound).turns (iteration_of c.args.over) (turn_index c.loop-turn.turn) c.args.name.now (stmts_of_list c.args.body.now) (progress_of c.loop-turn.machine)) c.in_err-exec.field-0.0 c.exec.new.machine w (suite_err a.bound (stmts_of_list c.args.body.now) (after_change (binds_local c.args.name.now (value_of c.in-Some.v)) (progress_of c.act_item.new.self)) (progress_of c.charge_empty.new.self) c.in_err-exec.field-0.0 c.exec.new.machine (ap (empty_charged (stmts_of_list c.args.body.now)) (sym c.bind_local.ensures.plain) ∙ c.in_ok-charge_empty.ensures.plain) (c.in_err-exec.ensures.plain a.bound (omega (arith, a.room, c.in_ok-act_item.ensures.fuel, c.bind_local.ensures.fuel, c.in_ok-charge_empty.ensures.fuel))))))
 
 pub run_for-returns-in-Breaking-clause-plain : goal.run_for-returns-in-Breaking-clause-plain
 run_for-returns-in-Breaking-clause-plain t c n lt =
     let a = c.loop-turn.invariant.run n lt in
-    let w = for_turn a.bound (iteration_of c.args.over) (turn_index c.loop-turn.turn) c.args.name.now (stmts_of_list c.args.body.now) (progress_of c.loop-turn.machine) (progress_of c.act_item.new.self) (value_of c.in-Some.v) a.room (ap (λ a. act item_out a (progress_of c.loop-turn.machine)) (sym (ap action_of c.loop-turn.invariant.turn)) ∙ c.in_ok-act_item.ensures.plain ∙ ap (λ o. Came (item_of o) (progress_of c.act_item.new.self)) c.in-Some.is) in
-    a.is ∙ turned_break a.bound (stmts_of_list c.args.body.now) (changed (binds_local c.args.name.now (value_of c.in-Some.v)) (progress_of c.act_item.new.self)) (progress_of c.exec.new.machine) (λ k. (plain_parts k).turns (iteration_of c.args.over) (suc (turn_index c.loop-turn.turn)) c.args.name.now (stmts_of_list c.args.body.now)) ((plain_parts a.bound).turns (iteration_of c.args.over) (turn_index c.loop-turn.turn) c.args.name.now (stmts_of_list c.args.body.now) (progress_of c.loop-turn.machine)) w (suite_to a.bound (stmts_of_list c.args.body.now) (changed (binds_local c.args.name.now (value_of c.in-Some.v)) (progress_of c.act_item.new.self)) (progress_of c.charge_empty.new.self) (progress_of c.exec.new.machine) breaking (ap (empty_charged (stmts_of_list c.args.body.now)) (sym c.bind_local.ensures.plain) ∙ c.in_ok-charge_empty.ensures.plain) (c.in_ok-exec.ensures.plain a.bound (omega (arith, a.room, c.in_ok-act_item.ensures.fuel, c.bind_local.ensures.fuel, c.in_ok-charge_empty.ensures.fuel)) ∙ ap (λ g. Came (flow_of g) (progress_of c.exec.new.machine)) c.in-Breaking.is))
+    let w = for_turn a.bound (iteration_of c.args.over) (turn_index c.loop-turn.turn) c.args.name.now (stmts_of_list c.args.body.now) (progress_of c.loop-turn.machine) (progress_of c.act_item.new.self) (value_of c.in-Some.v) a.room (ap (λ a. act item_out a (progress_of c.loop-turn.machine)) (sym (ap action_of c.loop-turn.invariant.turn)) ∙ c.in_ok-act_item.ensures.plain ∙ ap (λ o. Came (value_if_any o) (progress_of c.act_item.new.self)) c.in-Some.is) in
+    a.is ∙ turned_break a.bound (stmts_of_list c.args.body.now) (after_change (binds_local c.args.name.now (value_of c.in-Some.v)) (progress_of c.act_item.new.self)) (progress_of c.exec.new.machine) (λ k. (plain_parts k).turns (iteration_of c.args.over) (suc (turn_index c.loop-turn.turn)) c.args.name.now (stmts_of_list c.args.body.now)) ((plain_parts a.bound).turns (iteration_of c.args.over) (turn_index c.loop-turn.turn) c.args.name.now (stmts_of_list c.args.body.now) (progress_of c.loop-turn.machine)) w (suite_to a.bound (stmts_of_list c.args.body.now) (after_change (binds_local c.args.name.now (value_of c.in-Some.v)) (progress_of c.act_item.new.self)) (progress_of c.charge_empty.new.self) (progress_of c.exec.new.machine) breaking (ap (empty_charged (stmts_of_list c.args.body.now)) (sym c.bind_local.ensures.plain) ∙ c.in_ok-charge_empty.ensures.plain) (c.in_ok-exec.ensures.plain a.bound (omega (arith, a.room, c.in_ok-act_item.ensures.fuel, c.bind_local.ensures.fuel, c.in_ok-charge_empty.ensures.fuel)) ∙ ap (λ g. Came (flow_of g) (progress_of c.exec.new.machine)) c.in-Breaking.is))
 
 pub run_for-returns-in-Leaves-clause-plain : goal.run_for-returns-in-Leaves-clause-plain
 run_for-returns-in-Leaves-clause-plain t c n lt =
     let a = c.loop-turn.invariant.run n lt in
-    let w = for_turn a.bound (iteration_of c.args.over) (turn_index c.loop-turn.turn) c.args.name.now (stmts_of_list c.args.body.now) (progress_of c.loop-turn.machine) (progress_of c.act_item.new.self) (value_of c.in-Some.v) a.room (ap (λ a. act item_out a (progress_of c.loop-turn.machine)) (sym (ap action_of c.loop-turn.invariant.turn)) ∙ c.in_ok-act_item.ensures.plain ∙ ap (λ o. Came (item_of o) (progress_of c.act_item.new.self)) c.in-Some.is) in
-    a.is ∙ turned_leave a.bound (stmts_of_list c.args.body.now) (changed (binds_local c.args.name.now (value_of c.in-Some.v)) (progress_of c.act_item.new.self)) (progress_of c.exec.new.machine) (value_of c.in-Leaves.v) (λ k. (plain_parts k).turns (iteration_of c.args.over) (suc (turn_index c.loop-turn.turn)) c.args.name.now (stmts_of_list c.args.body.now)) ((plain_parts a.bound).turns (iteration_of c.args.over) (turn_index c.loop-turn.turn) c.args.name.now (stmts_of_list c.args.body.now) (progress_of c.loop-turn.machine)) w (suite_to a.bound (stmts_of_list c.args.body.now) (changed (binds_local c.args.name.now (value_of c.in-Some.v)) (progress_of c.act_item.new.self)) (progress_of c.charge_empty.new.self) (progress_of c.exec.new.machine) (leaves (value_of c.in-Leaves.v)) (ap (empty_charged (stmts_of_list c.args.body.now)) (sym c.bind_local.ensures.plain) ∙ c.in_ok-charge_empty.ensures.plain) (c.in_ok-exec.ensures.plain a.bound (omega (arith, a.room, c.in_ok-act_item.ensures.fuel, c.bind_local.ensures.fuel, c.in_ok-charge_empty.ensures.fuel)) ∙ ap (λ g. Came (flow_of g) (progress_of c.exec.new.machine)) c.in-Leaves.is))
+    let w = for_turn a.bound (iteration_of c.args.over) (turn_index c.loop-turn.turn) c.args.name.now (stmts_of_list c.args.body.now) (progress_of c.loop-turn.machine) (progress_of c.act_item.new.self) (value_of c.in-Some.v) a.room (ap (λ a. act item_out a (progress_of c.loop-turn.machine)) (sym (ap action_of c.loop-turn.invariant.turn)) ∙ c.in_ok-act_item.ensures.plain ∙ ap (λ o. Came (value_if_any o) (progress_of c.act_item.new.self)) c.in-Some.is) in
+    a.is ∙ turned_leave a.bound (stmts_of_list c.args.body.now) (after_change (binds_local c.args.name.now (value_of c.in-Some.v)) (progress_of c.act_item.new.self)) (progress_of c.exec.new.machine) (value_of c.in-Leaves.v) (λ k. (plain_parts k).turns (iteration_of c.args.over) (suc (turn_index c.loop-turn.turn)) c.args.name.now (stmts_of_list c.args.body.now)) ((plain_parts a.bound).turns (iteration_of c.args.over) (turn_index c.loop-turn.turn) c.args.name.now (stmts_of_list c.args.body.now) (progress_of c.loop-turn.machine)) w (suite_to a.bound (stmts_of_list c.args.body.now) (after_change (binds_local c.args.name.now (value_of c.in-Some.v)) (progress_of c.act_item.new.self)) (progress_of c.charge_empty.new.self) (progress_of c.exec.new.machine) (leaves (value_of c.in-Leaves.v)) (ap (empty_charged (stmts_of_list c.args.body.now)) (sym c.bind_local.ensures.plain) ∙ c.in_ok-charge_empty.ensures.plain) (c.in_ok-exec.ensures.plain a.bound (omega (arith, a.room, c.in_ok-act_item.ensures.fuel, c.bind_local.ensures.fuel, c.in_ok-charge_empty.ensures.fuel)) ∙ ap (λ g. Came (flow_of g) (progress_of c.exec.new.machine)) c.in-Leaves.is))
 
 pub run_for-advance-requires : goal.run_for-advance-requires
 run_for-advance-requires t c =
@@ -248,7 +248,7 @@ run_for-loop-turn-preserved t c =
       run = λ n lt.
           let a = c.loop-turn.invariant.run n lt in
           let go : (flow_of c.in_ok-exec.field-0 ≡ next) ⊎ (flow_of c.in_ok-exec.field-0 ≡ continuing) = elim c.match-branch-5.branch [ run_for-in-Next w ↦ inl (ap flow_of w.in-Next.is) | run_for-in-Continuing w ↦ inr (ap flow_of w.in-Continuing.is) ] in
-          for_more a.bound (iteration_of c.args.over) (turn_index c.loop-turn.turn) (turn_index c.advance.new.turn) c.args.name.now (stmts_of_list c.args.body.now) (progress_of c.loop-turn.machine) (progress_of c.act_item.new.self) (progress_of c.bind_local.new.self) (progress_of c.charge_empty.new.self) (progress_of c.exec.new.machine) (value_of c.in-Some.v) (flow_of c.in_ok-exec.field-0) _ a.room (omega (arith, less, c.in_ok-act_item.ensures.fuel, c.bind_local.ensures.fuel)) idx a.is (ap (λ a. act item_out a (progress_of c.loop-turn.machine)) (sym (ap action_of c.loop-turn.invariant.turn)) ∙ c.in_ok-act_item.ensures.plain ∙ ap (λ o. Came (item_of o) (progress_of c.act_item.new.self)) c.in-Some.is) c.bind_local.ensures.plain c.in_ok-charge_empty.ensures.plain (c.in_ok-exec.ensures.plain a.bound (omega (arith, a.room, c.in_ok-act_item.ensures.fuel, c.bind_local.ensures.fuel, c.in_ok-charge_empty.ensures.fuel))) go;
+          for_more a.bound (iteration_of c.args.over) (turn_index c.loop-turn.turn) (turn_index c.advance.new.turn) c.args.name.now (stmts_of_list c.args.body.now) (progress_of c.loop-turn.machine) (progress_of c.act_item.new.self) (progress_of c.bind_local.new.self) (progress_of c.charge_empty.new.self) (progress_of c.exec.new.machine) (value_of c.in-Some.v) (flow_of c.in_ok-exec.field-0) _ a.room (omega (arith, less, c.in_ok-act_item.ensures.fuel, c.bind_local.ensures.fuel)) idx a.is (ap (λ a. act item_out a (progress_of c.loop-turn.machine)) (sym (ap action_of c.loop-turn.invariant.turn)) ∙ c.in_ok-act_item.ensures.plain ∙ ap (λ o. Came (value_if_any o) (progress_of c.act_item.new.self)) c.in-Some.is) c.bind_local.ensures.plain c.in_ok-charge_empty.ensures.plain (c.in_ok-exec.ensures.plain a.bound (omega (arith, a.room, c.in_ok-act_item.ensures.fuel, c.bind_local.ensures.fuel, c.in_ok-charge_empty.ensures.fuel))) go;
     }
 
 pub exec_branches-returns-in_err-v-clause-plain : goal.exec_branches-returns-in_err-v-clause-plain

@@ -7,7 +7,7 @@ use Rattle.pc_machine.specs.Plain.{Came, and_then}
 use Rattle.pc_machine.specs.Runs.{plain_parts}
 use Rattle.pc_machine.specs.Machine.{progress_of, named_of}
 use Rattle.pc_tree.specs.Lists.{branches_of_list, exprs_of_list, entries_of_list, keywords_of_list}
-use Rattle.pc_run.specs.Traced.{all_of, entries_in, keywords_in, branches_in}
+use Rattle.pc_run.specs.Internal.Nodes.{all_of, entries_in, keywords_in, branches_in}
 use Rattle.pc_run.proofs.Bounds.{Above, Turns, turn_index}
 use Rattle.pc_run.proofs.evaluate.+evaluate.Given as goal
 

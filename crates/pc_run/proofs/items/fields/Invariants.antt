@@ -1,6 +1,6 @@
 use Rattle.std.proofs.Common.{◌≡◌, ◌++◌, ◌∷◌, drop, map}
 use Rattle.pc_machine.specs.Machine.{parameter_of}
-use Rattle.pc_run.specs.Items.{members_made}
+use Rattle.pc_run.specs.Internal.Items.{members_made}
 use Rattle.pc_tree.specs.Tree.{member_of}
 use Rattle.pc_run.proofs.items.fields.Given as goal
 

@@ -1,5 +1,5 @@
 use Rattle.std.proofs.Common.{◌≡◌, ◌++◌, ◌∷◌, drop, map}
-use Rattle.pc_run.specs.Items.{have_values}
+use Rattle.pc_run.specs.Internal.Items.{have_values}
 use Rattle.pc_tree.specs.Tree.{param_of}
 use Rattle.pc_run.proofs.items.have_values.Given as goal
 

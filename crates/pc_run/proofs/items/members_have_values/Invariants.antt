@@ -1,5 +1,5 @@
 use Rattle.std.proofs.Common.{◌≡◌, ◌++◌, ◌∷◌, drop, map}
-use Rattle.pc_run.specs.Items.{members_have_values}
+use Rattle.pc_run.specs.Internal.Items.{members_have_values}
 use Rattle.pc_tree.specs.Tree.{member_of}
 use Rattle.pc_run.proofs.items.members_have_values.Given as goal
 

@@ -1,6 +1,6 @@
 use Rattle.std.proofs.Common.{◌≡◌, ◌++◌, ◌∷◌, drop, map}
 use Rattle.pc_machine.specs.Machine.{method_of_def}
-use Rattle.pc_run.specs.Items.{members_made}
+use Rattle.pc_run.specs.Internal.Items.{members_made}
 use Rattle.pc_tree.specs.Tree.{member_of}
 use Rattle.pc_run.proofs.items.own_methods.Given as goal
 

@@ -1,6 +1,6 @@
 use Rattle.std.proofs.Common.{◌≡◌, ◌∙◌, sym, ap}
 use Rattle.pc_tree.specs.Tree.{func_of, item_of_kind}
-use Rattle.pc_run.specs.Items.{item_in}
+use Rattle.pc_run.specs.Internal.Items.{item_in}
 use Rattle.pc_machine.specs.Plain.{Progress, Came}
 use Rattle.pc_machine.specs.Machine.{progress_of}
 use Rattle.pc_run.proofs.Defaults.{def_unvalued, def_done}

@@ -1,7 +1,7 @@
 use Rattle.std.proofs.Common.{◌≡◌, ◌∙◌, ap, sym, drop, map, arith, ◌+◌, rules}
 use Rattle.std.specs.Prelude.{Err}
 use Rattle.pc_tree.specs.Tree.{item_of}
-use Rattle.pc_run.specs.Items.{items_in, item_in}
+use Rattle.pc_run.specs.Internal.Items.{items_in, item_in}
 use Rattle.pc_machine.specs.Machine.{progress_of, unit}
 use Rattle.pc_machine.specs.Plain.{and_then}
 use Rattle.pc_run.proofs.Defaults.{items_next, items_end}

@@ -1,6 +1,6 @@
 use Rattle.std.proofs.Common.{◌≡◌, ◌<◌, ◌≤◌, ℕ, drop, map}
 use Rattle.pc_tree.specs.Tree.{item_of}
-use Rattle.pc_run.specs.Items.{items_in}
+use Rattle.pc_run.specs.Internal.Items.{items_in}
 use Rattle.pc_machine.specs.Machine.{progress_of}
 use Rattle.pc_run.proofs.items.run_items.Given as goal
 

@@ -2,10 +2,10 @@ use Rattle.std.proofs.Common.{◌≡◌, ◌≤◌, ◌++◌, map, drop}
 use Rattle.pc_tree.specs.Tree.{item_of}
 use Rattle.pc_tree.specs.declared.code.Code.TheVariants.{E03}
 use Rattle.pc_scope.specs.declared.resolution.Owner.TheVariants as owners
-use Rattle.pc_scope.specs.Tables.{meaning}
+use Rattle.pc_scope.specs.Tables.{meaning_by_tables}
 use Rattle.pc_stop.specs.Found.{at_code}
-use Rattle.pc_scope.specs.Found.{early_in}
+use Rattle.pc_scope.specs.Internal.FindingLists.{early_in}
 use Rattle.pc_scope.proofs.early.find_early_names.Given as goal
 
 abbrev pub invariant-loop-item : goal.invariant-loop-item
-invariant-loop-item l = (l.constants ≤ l.item-index) × (l.classes ≤ l.item-index) × (l.found.items ++ at_code E03 (early_in l.constants l.classes (meaning l.names owners.Module) (map item_of (drop l.item-index l.items))) ≡ l.fn.found.items ++ at_code E03 (early_in 0 0 (meaning l.names owners.Module) (map item_of l.items)))
+invariant-loop-item l = (l.constants ≤ l.item-index) × (l.classes ≤ l.item-index) × (l.found.items ++ at_code E03 (early_in l.constants l.classes (meaning_by_tables l.names owners.Module) (map item_of (drop l.item-index l.items))) ≡ l.fn.found.items ++ at_code E03 (early_in 0 0 (meaning_by_tables l.names owners.Module) (map item_of l.items)))

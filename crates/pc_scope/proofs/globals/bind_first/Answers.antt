@@ -3,7 +3,7 @@ use Rattle.std.specs.Prelude.{string_bytes, bytes_eq}
 use Rattle.std.specs.Map.{lookup}
 use Rattle.pc_names.specs.Names.{first_of, bound_as}
 use Rattle.pc_names.proofs.InMaps.{put_new, none_at}
-use Rattle.pc_scope.specs.Walking.{at_text}
+use Rattle.pc_scope.specs.Internal.WalkViews.{at_text}
 use Rattle.pc_scope.proofs.globals.bind_first.Goals as goal
 
 pub returns : goal.returns

@@ -1,8 +1,8 @@
 use Rattle.std.proofs.Common.{◌≡◌, map, fold, drop, string_bytes}
 use Rattle.pc_scope.specs.Bindings.{texts}
 use Rattle.pc_tree.specs.Lists.{name_seen}
-use Rattle.pc_scope.specs.Walking.{with_local}
+use Rattle.pc_scope.specs.Internal.WalkViews.{with_new_local}
 use Rattle.pc_scope.proofs.locals.bind_all.Given as goal
 
 abbrev pub invariant-loop-name : goal.invariant-loop-name
-invariant-loop-name l = fold with_local (map string_bytes l.locals.keys) (texts (map name_seen (drop l.name-index l.names))) ≡ fold with_local (map string_bytes l.fn.locals.keys) (texts (map name_seen l.names))
+invariant-loop-name l = fold with_new_local (map string_bytes l.locals.keys) (texts (map name_seen (drop l.name-index l.names))) ≡ fold with_new_local (map string_bytes l.fn.locals.keys) (texts (map name_seen l.names))

@@ -2,7 +2,7 @@ use Rattle.std.proofs.Common.{◌≡◌, ◌++◌, map, drop, false}
 use Rattle.pc_tree.specs.Tree.{item_of}
 use Rattle.pc_scope.specs.Bindings.{functions_in}
 use Rattle.pc_scope.specs.Tables.{locals_by}
-use Rattle.pc_scope.specs.Walking.{texts_in}
+use Rattle.pc_scope.specs.Internal.WalkViews.{texts_in}
 use Rattle.pc_scope.proofs.locals.locals_of_functions.Given as goal
 
 abbrev pub invariant-loop-item : goal.invariant-loop-item

@@ -2,7 +2,7 @@ use Rattle.std.proofs.Common.{◌≡◌, ◌++◌, map, drop, true}
 use Rattle.pc_tree.specs.Tree.{member_of}
 use Rattle.pc_scope.specs.Bindings.{methods_in}
 use Rattle.pc_scope.specs.Tables.{locals_by}
-use Rattle.pc_scope.specs.Walking.{texts_in}
+use Rattle.pc_scope.specs.Internal.WalkViews.{texts_in}
 use Rattle.pc_scope.proofs.locals.locals_of_methods.Given as goal
 
 abbrev pub invariant-loop-member : goal.invariant-loop-member

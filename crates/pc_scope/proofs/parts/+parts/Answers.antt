@@ -6,7 +6,7 @@ use Rattle.pc_tree.specs.declared.tree.Expr.{Expr as RustExpr}
 use Rattle.pc_tree.specs.declared.code.Finding.{Finding}
 use Rattle.pc_tree.proofs.Trees.{tuple_tree, list_tree, dict_tree, call_tree}
 use Rattle.pc_scope.specs.Expressions.{parts_in, parts_in_entries, parts_in_keywords, is_instance_test}
-use Rattle.pc_scope.specs.Seeking.{is_judged, sought_among, some_parts, inner_parts}
+use Rattle.pc_scope.specs.Internal.SoughtParts.{is_judged, sought_among, some_parts, inner_parts}
 use Rattle.pc_scope.proofs.Seeking.{then_parts, then_rest, then_two, one_of_all, entry_more, value_more}
 use Rattle.pc_scope.proofs.parts.+parts.Goals as goal
 

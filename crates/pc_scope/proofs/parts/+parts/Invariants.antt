@@ -1,7 +1,7 @@
 use Rattle.std.proofs.Common.{◌≡◌, drop, ◌++◌}
 use Rattle.pc_tree.specs.Lists.{exprs_of_list, entries_of_list, keywords_of_list}
 use Rattle.pc_scope.specs.Expressions.{parts_in_entries, parts_in_keywords}
-use Rattle.pc_scope.specs.Seeking.{is_judged, sought_among, some_parts}
+use Rattle.pc_scope.specs.Internal.SoughtParts.{is_judged, sought_among, some_parts}
 use Rattle.pc_scope.proofs.parts.+parts.Given as goal
 
 abbrev pub invariant-seek_all-loop-item : goal.invariant-seek_all-loop-item

@@ -2,7 +2,7 @@ use Rattle.std.proofs.Common.{◌≡◌, ◌++◌, map, drop}
 use Rattle.pc_tree.specs.Tree.{item_of}
 use Rattle.pc_tree.specs.declared.code.Code.TheVariants.{E02}
 use Rattle.pc_stop.specs.Found.{at_code}
-use Rattle.pc_scope.specs.Found.{decorators_in}
+use Rattle.pc_scope.specs.Internal.FindingLists.{decorators_in}
 use Rattle.pc_scope.proofs.unknown.find_decorators.Given as goal
 
 abbrev pub invariant-loop-item : goal.invariant-loop-item

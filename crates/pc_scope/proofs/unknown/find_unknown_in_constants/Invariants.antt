@@ -2,10 +2,10 @@ use Rattle.std.proofs.Common.{◌≡◌, ◌++◌, map, drop}
 use Rattle.pc_tree.specs.Tree.{item_of}
 use Rattle.pc_tree.specs.declared.code.Code.TheVariants.{E02}
 use Rattle.pc_scope.specs.declared.resolution.Owner.TheVariants as owners
-use Rattle.pc_scope.specs.Tables.{meaning}
+use Rattle.pc_scope.specs.Tables.{meaning_by_tables}
 use Rattle.pc_stop.specs.Found.{at_code}
-use Rattle.pc_scope.specs.Found.{unknown_in_constants}
+use Rattle.pc_scope.specs.Internal.FindingLists.{unknown_in_constants}
 use Rattle.pc_scope.proofs.unknown.find_unknown_in_constants.Given as goal
 
 abbrev pub invariant-loop-item : goal.invariant-loop-item
-invariant-loop-item l = l.found.items ++ at_code E02 (unknown_in_constants (meaning l.names owners.Module) (map item_of (drop l.item-index l.items))) ≡ l.fn.found.items ++ at_code E02 (unknown_in_constants (meaning l.names owners.Module) (map item_of l.items))
+invariant-loop-item l = l.found.items ++ at_code E02 (unknown_in_constants (meaning_by_tables l.names owners.Module) (map item_of (drop l.item-index l.items))) ≡ l.fn.found.items ++ at_code E02 (unknown_in_constants (meaning_by_tables l.names owners.Module) (map item_of l.items))

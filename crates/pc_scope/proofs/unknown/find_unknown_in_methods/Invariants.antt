@@ -2,10 +2,10 @@ use Rattle.std.proofs.Common.{◌≡◌, ◌≤◌, ◌++◌, map, drop}
 use Rattle.pc_tree.specs.Tree.{member_of}
 use Rattle.pc_tree.specs.declared.code.Code.TheVariants.{E02}
 use Rattle.pc_scope.specs.declared.resolution.Owner.TheVariants as owners
-use Rattle.pc_scope.specs.Tables.{meaning}
+use Rattle.pc_scope.specs.Tables.{meaning_by_tables}
 use Rattle.pc_stop.specs.Found.{at_code}
-use Rattle.pc_scope.specs.Found.{unknown_in_methods}
+use Rattle.pc_scope.specs.Internal.FindingLists.{unknown_in_methods}
 use Rattle.pc_scope.proofs.unknown.find_unknown_in_methods.Given as goal
 
 abbrev pub invariant-loop-member : goal.invariant-loop-member
-invariant-loop-member l = (l.methods ≤ l.member-index) × (l.found.items ++ at_code E02 (unknown_in_methods (meaning l.names) l.class l.methods (map member_of (drop l.member-index l.members))) ≡ l.fn.found.items ++ at_code E02 (unknown_in_methods (meaning l.names) l.class 0 (map member_of l.members)))
+invariant-loop-member l = (l.methods ≤ l.member-index) × (l.found.items ++ at_code E02 (unknown_in_methods (meaning_by_tables l.names) l.class l.methods (map member_of (drop l.member-index l.members))) ≡ l.fn.found.items ++ at_code E02 (unknown_in_methods (meaning_by_tables l.names) l.class 0 (map member_of l.members)))

@@ -8,7 +8,7 @@ use Rattle.pc_tree.specs.Tree.{stmts_of_list, stmt_of, Stmt, Stmts, Branches}
 use Rattle.pc_tree.specs.Lists.{branches_of_list}
 use Rattle.pc_tree.proofs.Trees.{while_tree, for_tree, if_tree, branches_next, stmts_next}
 use Rattle.pc_stop.specs.Found.{at_code}
-use Rattle.pc_scope.specs.Reach.{completes, first_places, unreached, unreached_in, unreached_in_branches}
+use Rattle.pc_scope.specs.Reach.{completes, first_places, unreached_places, unreached_in, unreached_in_branches}
 use Rattle.pc_scope.proofs.Joints.{joined}
 use Rattle.pc_scope.proofs.Reached.{behind, first_is}
 use Rattle.pc_scope.proofs.unreached.+unreached.Goals as goal
@@ -22,7 +22,7 @@ find_unreached-loop-statement-preserved t c =
     ap (λ (r : Bool). c.find_unreached_in.new.found.items ++ at_code E30 (behind r rest)) (c.completes-reached.ensures s.first)
     ∙ ap (λ (fs : List Finding). fs ++ at_code E30 (behind (completes (stmt_of s)) rest)) (c.in_ok-find_unreached_in.ensures s.first)
     ∙ joined E30 front (unreached_in (stmt_of s)) (behind (completes (stmt_of s)) rest)
-    ∙ ap (λ (b : Stmts). front ++ at_code E30 (unreached b)) (sym (stmts_next c.args.body.now i s c.loop-statement-test.true c.statement-item.is))
+    ∙ ap (λ (b : Stmts). front ++ at_code E30 (unreached_places b)) (sym (stmts_next c.args.body.now i s c.loop-statement-test.true c.statement-item.is))
     ∙ ap (λ (r : Bool). front ++ at_code E30 (behind r (stmts_of_list (drop i c.args.body.now)))) (sym c.if-not-reached.false)
     ∙ c.loop-statement.invariant
 
@@ -46,14 +46,14 @@ find_unreached_in-returns-in-For t c p = rw c.in-For.is (subst (λ (s : Stmt). O
 pub find_unreached_in-returns-in_ok-find_unreached_among-in-If : goal.find_unreached_in-returns-in_ok-find_unreached_among-in-If
 find_unreached_in-returns-in_ok-find_unreached_among-in-If t c p =
     let first = unreached_in_branches (branches_of_list c.in-If.branches.items) in
-    let second = unreached (stmts_of_list c.in-If.otherwise.items) in
+    let second = unreached_places (stmts_of_list c.in-If.otherwise.items) in
     let e = ap (λ (fs : List Finding). fs ++ at_code E30 second) (rw c.deref-in-If.ensures.value at c.in_ok-find_unreached_among-in-If.ensures) ∙ joined E30 c.args.found.now.items first second in
     rw c.in-If.is (subst (λ (s : Stmt). OnOk c.find_unreached-in-If.result (c.find_unreached-in-If.new.found.items ≡ c.args.found.now.items ++ at_code E30 (unreached_in s))) (sym (if_tree p c.in-If.branches c.in-If.otherwise))
     (subst (λ (fs : List Finding). OnOk c.find_unreached-in-If.result (c.find_unreached-in-If.new.found.items ≡ fs)) e (rw c.deref-in-If-2.ensures.value at c.find_unreached-in-If.ensures)))
 
 pub find_unreached_among-loop-branch-preserved : goal.find_unreached_among-loop-branch-preserved
 find_unreached_among-loop-branch-preserved t c =
-    let body = unreached (stmts_of_list (out-Branch c.branch-item.result).body.items) in
+    let body = unreached_places (stmts_of_list (out-Branch c.branch-item.result).body.items) in
     let rest = unreached_in_branches (branches_of_list (drop (c.loop-branch.branch-index + 1) c.args.branches.now)) in
     let front = c.loop-branch.found.items in
     ap (λ (fs : List Finding). fs ++ at_code E30 rest) (rw c.deref.ensures.value at c.in_ok-find_unreached.ensures) ∙ joined E30 front body rest ∙ ap (λ (b : Branches). front ++ at_code E30 (unreached_in_branches b)) (sym (branches_next c.args.branches.now c.loop-branch.branch-index c.branch-item.result c.loop-branch-test.true c.branch-item.is)) ∙ c.loop-branch.invariant

@@ -3,7 +3,7 @@ use Rattle.pc_tree.specs.declared.code.Code.TheVariants.{E30}
 use Rattle.pc_tree.specs.Tree.{member_of}
 use Rattle.pc_tree.specs.Stopping.{of_members}
 use Rattle.pc_stop.specs.Found.{at_code}
-use Rattle.pc_scope.specs.Found.{unreached_def}
+use Rattle.pc_scope.specs.Internal.FindingLists.{unreached_def}
 use Rattle.pc_scope.proofs.unreached.find_unreached_in_methods.Given as goal
 
 abbrev pub invariant-loop-member : goal.invariant-loop-member

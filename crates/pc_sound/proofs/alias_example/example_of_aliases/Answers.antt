@@ -1,4 +1,4 @@
-use Rattle.pc_sound.proofs.AliasExample.{alias_labelled, alias_found, alias_runs}
+use Rattle.pc_sound.proofs.Examples.AliasExample.{alias_labelled, alias_found, alias_runs}
 use Rattle.pc_sound.proofs.alias_example.example_of_aliases.Goals as goal
 
 pub returns : goal.returns

@@ -1,4 +1,4 @@
-use Rattle.pc_sound.proofs.AssignmentExample.{assignment_labelled, assignment_found, assignment_runs}
+use Rattle.pc_sound.proofs.Examples.AssignmentExample.{assignment_labelled, assignment_found, assignment_runs}
 use Rattle.pc_sound.proofs.assignment_example.example_of_assignment.Goals as goal
 
 pub returns : goal.returns

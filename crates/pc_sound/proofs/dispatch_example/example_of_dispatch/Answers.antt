@@ -1,4 +1,4 @@
-use Rattle.pc_sound.proofs.DispatchExample.{labelled, found, runs}
+use Rattle.pc_sound.proofs.Examples.DispatchExample.{labelled, found, runs}
 use Rattle.pc_sound.proofs.dispatch_example.example_of_dispatch.Goals as goal
 
 pub returns : goal.returns

@@ -1,4 +1,4 @@
-use Rattle.pc_sound.proofs.Heaps.{append_keeps, store_keeps}
+use Rattle.pc_sound.proofs.Heap.Heaps.{append_keeps, store_keeps}
 use Rattle.pc_sound.proofs.laws.aliases_keep_heaps.Goals as goal
 
 pub returns : goal.returns

@@ -1,4 +1,4 @@
-use Rattle.pc_sound.proofs.ReadTypes.{read_ann_without, module_fields_without}
+use Rattle.pc_sound.proofs.Values.ReadTypes.{read_ann_without, module_fields_without}
 use Rattle.pc_sound.proofs.laws.annotations_have_no_never.Goals as goal
 
 pub returns : goal.returns

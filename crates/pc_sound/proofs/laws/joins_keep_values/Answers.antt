@@ -1,4 +1,4 @@
-use Rattle.pc_sound.proofs.Joins.{join_holds}
+use Rattle.pc_sound.proofs.Values.Joins.{join_holds}
 use Rattle.pc_sound.proofs.laws.joins_keep_values.Goals as goal
 
 pub returns : goal.returns

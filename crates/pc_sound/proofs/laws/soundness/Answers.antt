@@ -1,4 +1,4 @@
-use Rattle.pc_sound.proofs.Sounding.{sound}
+use Rattle.pc_sound.proofs.Modules.Soundness.{sound}
 use Rattle.pc_sound.proofs.laws.soundness.Goals as goal
 
 pub returns : goal.returns

@@ -1,4 +1,4 @@
-use Rattle.pc_sound.proofs.ValuesFlow.{of_static}
+use Rattle.pc_sound.proofs.Values.ValuesFlow.{of_static}
 use Rattle.pc_sound.proofs.laws.values_flow_statically.Goals as goal
 
 pub returns : goal.returns

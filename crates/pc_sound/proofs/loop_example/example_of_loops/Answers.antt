@@ -1,4 +1,4 @@
-use Rattle.pc_sound.proofs.LoopExample.{loop_labelled, loop_found, loop_runs}
+use Rattle.pc_sound.proofs.Examples.LoopExample.{loop_labelled, loop_found, loop_runs}
 use Rattle.pc_sound.proofs.loop_example.example_of_loops.Goals as goal
 
 pub returns : goal.returns

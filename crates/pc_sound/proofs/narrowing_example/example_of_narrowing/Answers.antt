@@ -1,4 +1,4 @@
-use Rattle.pc_sound.proofs.NarrowingExample.{labelled, found, runs}
+use Rattle.pc_sound.proofs.Examples.NarrowingExample.{labelled, found, runs}
 use Rattle.pc_sound.proofs.narrowing_example.example_of_narrowing.Goals as goal
 
 pub returns : goal.returns

@@ -2,7 +2,7 @@ use Rattle.std.proofs.Common.{◌≡◌, ◌∙◌, ◌++◌, ◌∷◌, ◌+◌
 use Rattle.pc_source.specs.declared.place.Place.{Place}
 use Rattle.pc_tree.specs.declared.code.Code.TheVariants.{E06}
 use Rattle.pc_tree.specs.Tree.{member_of}
-use Rattle.pc_tree.specs.Stopping.{Held, name_of_member, clashing, own_members}
+use Rattle.pc_tree.specs.Stopping.{HeldMember, name_of_member, clashes_among, own_members}
 use Rattle.pc_names.specs.Names.{text_seen, texts_in}
 use Rattle.pc_stop.specs.Found.{at_code}
 use Rattle.pc_stop.proofs.Finds.{stepped}
@@ -15,7 +15,7 @@ loop-member-init c =
     let ms = map member_of c.args.members.now in
     record {
       keeps = record { ready = c.requires; kept = λ t hs h. h };
-      found = λ hs h. ap (λ (b : List (List ℕ)). c.args.found.now.items ++ at_code E06 (clashing b hs ms)) none;
+      found = λ hs h. ap (λ (b : List (List ℕ)). c.args.found.now.items ++ at_code E06 (clashes_among b hs ms)) none;
       owns = λ hs h. owns_first c.args.holdings.now c.args.inherited hs ms (texts_in c.with_hasher-before.result) none h;
     }
 
@@ -32,7 +32,7 @@ loop-member-preserved c =
       keeps = record { ready = ens.keeps.ready; kept = λ t hs h. ens.keeps.kept t hs (inv.keeps.kept t hs h) };
       found = λ hs h.
           ap (λ (ps : List Place). c.find_member.new.found.items ++ at_code E06 ps) (same_clashing (texts_in c.find_member.new.before) (text ∷ b) ens.passed hs rest)
-          ∙ stepped E06 c.loop-member.found.items c.find_member.new.found.items (clashing b hs (member_of m ∷ [])) (clashing (text ∷ b) hs rest) (clashing b hs (map member_of (drop i c.args.members.now)))
+          ∙ stepped E06 c.loop-member.found.items c.find_member.new.found.items (clashes_among b hs (member_of m ∷ [])) (clashes_among (text ∷ b) hs rest) (clashes_among b hs (map member_of (drop i c.args.members.now)))
           (ens.found hs (inv.keeps.kept c.args.inherited hs h)) (clash_next b hs c.args.members.now i m c.loop-member-test.true c.member-item.is)
           ∙ inv.found hs h;
       owns = λ hs h.
@@ -45,7 +45,7 @@ pub returns-clause-found : goal.returns-clause-found
 returns-clause-found c hs h =
     let b = texts_in c.loop-member.before in
     sym (append-nil c.loop-member.found.items)
-    ∙ ap (λ ms. c.loop-member.found.items ++ at_code E06 (clashing b hs ms)) (sym (none_left member_of c.args.members.now c.loop-member.member-index (omega arith)))
+    ∙ ap (λ ms. c.loop-member.found.items ++ at_code E06 (clashes_among b hs ms)) (sym (none_left member_of c.args.members.now c.loop-member.member-index (omega arith)))
     ∙ c.loop-member.invariant.found hs h
 
 pub returns-clause-has : goal.returns-clause-has

@@ -1,7 +1,7 @@
 use Rattle.std.proofs.Common.{◌≡◌, ◌++◌, [], map, drop, List, ℕ}
 use Rattle.pc_tree.specs.declared.code.Code.TheVariants.{E06}
 use Rattle.pc_tree.specs.Tree.{member_of}
-use Rattle.pc_tree.specs.Stopping.{Held, clashing, own_members}
+use Rattle.pc_tree.specs.Stopping.{HeldMember, clashes_among, own_members}
 use Rattle.pc_names.specs.Names.{texts_in}
 use Rattle.pc_stop.specs.Found.{at_code}
 use Rattle.pc_stop.specs.Holdings.{HasIn, Keeps}
@@ -11,6 +11,6 @@ use Rattle.pc_stop.proofs.members.find_in_class.Given as goal
 abbrev pub invariant-loop-member : goal.invariant-loop-member
 invariant-loop-member l = record {
   keeps : Keeps l.fn.holdings l.holdings;
-  found : (hs : List Held) → HasIn l.fn.holdings l.inherited hs → l.found.items ++ at_code E06 (clashing (texts_in l.before) hs (map member_of (drop l.member-index l.members))) ≡ l.fn.found.items ++ at_code E06 (clashing [] hs (map member_of l.members));
-  owns : (hs : List Held) → HasIn l.fn.holdings l.inherited hs → Owns l.holdings l.table (texts_in l.before) hs (map member_of (drop l.member-index l.members)) (own_members [] hs (map member_of l.members));
+  found : (hs : List HeldMember) → HasIn l.fn.holdings l.inherited hs → l.found.items ++ at_code E06 (clashes_among (texts_in l.before) hs (map member_of (drop l.member-index l.members))) ≡ l.fn.found.items ++ at_code E06 (clashes_among [] hs (map member_of l.members));
+  owns : (hs : List HeldMember) → HasIn l.fn.holdings l.inherited hs → Owns l.holdings l.table (texts_in l.before) hs (map member_of (drop l.member-index l.members)) (own_members [] hs (map member_of l.members));
 }

@@ -3,7 +3,7 @@ use Rattle.pc_source.specs.declared.place.Place.{Place}
 use Rattle.pc_tree.specs.declared.code.Code.TheVariants.{E06}
 use Rattle.pc_tree.specs.declared.tree.ItemKind.{ItemKind}
 use Rattle.pc_tree.specs.Tree.{Item, item_of_kind, class_of, member_of}
-use Rattle.pc_tree.specs.Stopping.{members_of, own_members, option_text, clashing, clashing_in}
+use Rattle.pc_tree.specs.Stopping.{members_of, own_members, option_text, clashes_among, clashing_in}
 use Rattle.pc_stop.specs.Found.{at_code}
 use Rattle.pc_stop.specs.Holdings.{HasIn}
 use Rattle.pc_stop.specs.Members.{IsTableOf}
@@ -16,7 +16,7 @@ returns-then-is_reserved-clause-found c before s =
     let hs = members_of before (option_text k.base) in
     let has = subst (λ (t : ℕ). HasIn c.args.holdings.now t hs) (sym c.base_table-inherited.ensures) (base_has c.args.holdings.now c.args.bound.now before s (option_text k.base)) in
     rw c.deref.ensures.value at (c.in_ok-own-in-Class.ensures.found hs has)
-    ∙ ap (λ (ps : List Place). c.args.found.now.items ++ at_code E06 ps) (sym (append-nil (clashing [] hs k.members)))
+    ∙ ap (λ (ps : List Place). c.args.found.now.items ++ at_code E06 ps) (sym (append-nil (clashes_among [] hs k.members)))
     ∙ ap (λ (x : ItemKind). c.args.found.now.items ++ at_code E06 (clashing_in before (item_of_kind c.args.item.now.first x ∷ []))) (sym c.in-Class.is)
 
 pub returns-then-is_reserved-clause-has : goal.returns-then-is_reserved-clause-has
@@ -33,7 +33,7 @@ returns-else-is_reserved-clause-found c before s =
     let hs = members_of before (option_text k.base) in
     let has = subst (λ (t : ℕ). HasIn c.args.holdings.now t hs) (sym c.base_table-inherited.ensures) (base_has c.args.holdings.now c.args.bound.now before s (option_text k.base)) in
     rw c.deref.ensures.value at (c.in_ok-own-in-Class.ensures.found hs has)
-    ∙ ap (λ (ps : List Place). c.args.found.now.items ++ at_code E06 ps) (sym (append-nil (clashing [] hs k.members)))
+    ∙ ap (λ (ps : List Place). c.args.found.now.items ++ at_code E06 ps) (sym (append-nil (clashes_among [] hs k.members)))
     ∙ ap (λ (x : ItemKind). c.args.found.now.items ++ at_code E06 (clashing_in before (item_of_kind c.args.item.now.first x ∷ []))) (sym c.in-Class.is)
 
 pub returns-else-is_reserved-clause-has : goal.returns-else-is_reserved-clause-has

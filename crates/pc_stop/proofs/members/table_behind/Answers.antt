@@ -1,7 +1,7 @@
 use Rattle.std.proofs.Common.{◌≡◌, ◌∙◌, ◌++◌, ap, sym, subst, refl, true, false, Bool, List}
 use Rattle.std.specs.Prelude.{◌||◌}
 use Rattle.pc_tree.specs.Tree.{member_of}
-use Rattle.pc_tree.specs.Stopping.{Held, held_by, is_reserved_member}
+use Rattle.pc_tree.specs.Stopping.{HeldMember, held_by, is_reserved_member}
 use Rattle.pc_stop.specs.Holdings.{HasIn}
 use Rattle.pc_stop.specs.Members.{held_unless}
 use Rattle.pc_stop.proofs.Clashes.{if_ok}

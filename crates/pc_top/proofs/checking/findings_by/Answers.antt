@@ -2,10 +2,10 @@ use Rattle.std.proofs.Common.{◌≡◌, List, ◌++◌, [], map, ap, ◌∙◌}
 use Rattle.pc_tree.specs.declared.code.Finding.{Finding}
 use Rattle.pc_tree.specs.Tree.{module_of}
 use Rattle.pc_class.specs.Built.{class_findings}
-use Rattle.pc_class.specs.Overriding.{override_findings}
+use Rattle.pc_class.specs.OverrideFindings.{override_findings}
 use Rattle.pc_class.proofs.ClassOverrides.{entries_keep}
 use Rattle.pc_notes.specs.declared.notes.Entry.{Entry}
-use Rattle.pc_notes.specs.Notes.{plain, notes_of}
+use Rattle.pc_notes.specs.Notes.{plain_note, notes_of}
 use Rattle.pc_check.specs.ComputedModules.{module_finds}
 use Rattle.pc_top.proofs.ModuleFindings.{exactly, same_flows}
 use Rattle.pc_top.proofs.checking.findings_by.Goals as goal
@@ -17,9 +17,9 @@ returns g c =
     let noted : notes_of c.check_module.new.found ≡ module_finds m [] = c.in_ok-check_module.ensures.found ∙ ap (λ (l : List Entry). module_finds m (notes_of l)) c.new-found.ensures in
     let classes : c.override_findings.new.found.items ≡ class_findings m ++ override_findings m =
     c.in_ok-override_findings.ensures.found ∙ ap (λ (l : List Finding). l ++ override_findings m) (c.in_ok-classes.ensures.found ∙ ap (λ (l : List Finding). l ++ class_findings m) c.new-of_classes.ensures.items) in
-    let first : notes_of c.put_all.new.self ≡ module_finds m [] ++ map plain of_scopes = c.in_ok-put_all.ensures ∙ (λ i. noted i ++ map plain (c.deref.ensures.value i)) in
+    let first : notes_of c.put_all.new.self ≡ module_finds m [] ++ map plain_note of_scopes = c.in_ok-put_all.ensures ∙ (λ i. noted i ++ map plain_note (c.deref.ensures.value i)) in
     let listed = c.deref-2.ensures.value ∙ classes in
-    let all : notes_of c.put_all-2.new.self ≡ (module_finds m [] ++ map plain of_scopes) ++ map plain (class_findings m ++ override_findings m) = c.in_ok-put_all-2.ensures ∙ (λ i. first i ++ map plain (listed i)) in
+    let all : notes_of c.put_all-2.new.self ≡ (module_finds m [] ++ map plain_note of_scopes) ++ map plain_note (class_findings m ++ override_findings m) = c.in_ok-put_all-2.ensures ∙ (λ i. first i ++ map plain_note (listed i)) in
     record {
       found = exactly m of_scopes (c.findings.ensures.found m c.requires.scopes) (notes_of c.put_all-2.new.self) all;
       flows = λ p. same_flows p (notes_of c.put_all-2.new.self) (module_finds m []) of_scopes (class_findings m ++ override_findings m) all;

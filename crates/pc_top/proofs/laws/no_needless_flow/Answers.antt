@@ -2,8 +2,8 @@ use Rattle.pc_types.specs.Bases.{bases_of}
 use Rattle.pc_types.proofs.Earlier.{smaller}
 use Rattle.pc_class.specs.Facts.{classes_of}
 use Rattle.pc_dynamic.proofs.RightFlows.{flows_dynamic, flows_well_formed}
-use Rattle.pc_sound.proofs.FurnishedHeaps.{is_needed}
-use Rattle.pc_sound.proofs.ReadTypes.{module_fields_without}
+use Rattle.pc_sound.proofs.Heap.FurnishedHeaps.{is_needed}
+use Rattle.pc_sound.proofs.Values.ReadTypes.{module_fields_without}
 use Rattle.pc_top.proofs.laws.no_needless_flow.Goals as goal
 
 pub returns : goal.returns

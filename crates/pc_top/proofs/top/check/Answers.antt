@@ -6,8 +6,8 @@ use Rattle.pc_tree.specs.Tree.{module_of}
 use Rattle.pc_front.specs.Bytes.{IsModuleOf, IsRefusalOf}
 use Rattle.pc_notes.specs.Notes.{notes_of}
 use Rattle.pc_check.specs.Modules.{IsFinding}
-use Rattle.pc_report.specs.Flows.{Flow}
-use Rattle.pc_report.specs.Report.{Lists, Explains}
+use Rattle.pc_report.specs.Flows.{FlowEntry}
+use Rattle.pc_report.specs.Report.{Lists, ExplainsRows}
 use Rattle.pc_top.proofs.ExplainedRows.{rows_explained}
 use Rattle.pc_top.proofs.Main.{headline_from, refused_bytes}
 use Rattle.pc_top.proofs.WithinBytes.{answer_within}
@@ -26,7 +26,7 @@ returns-clause-headline c =
     let rows = c.in_ok-report.report in
     let exactly : (f : Finding) → Contains found f ↔ IsFinding m f = λ f. subst (λ (l : List Finding). Contains l f ↔ IsFinding m f) (sym c.in_ok-found.ensures) (c.in_ok-notes.ensures.found f) in
     let lists : Lists c.args.bytes.now (Contains found) rows = subst (λ (l : List ℕ). Lists l (Contains found) rows) c.in_ok-source.ensures.text (subst (λ (l : List Finding). Lists c.in_ok-source.source (Contains l) rows) c.deref.ensures.value c.in_ok-report.ensures.lists) in
-    let explains : Explains c.in_ok-flows.flows.items rows = subst (λ (l : List Flow). Explains l rows) c.deref-2.ensures.value c.in_ok-report.ensures.explains in
+    let explains : ExplainsRows c.in_ok-flows.flows.items rows = subst (λ (l : List FlowEntry). ExplainsRows l rows) c.deref-2.ensures.value c.in_ok-report.ensures.explains in
     headline_from c.args.bytes.now m (subst (λ (l : List ℕ). IsModuleOf l m) c.in_ok-source.ensures.text c.in_ok-module.ensures.read) found rows exactly lists
     (λ given. rows_explained m notes c.in_ok-flows.flows.items c.in_ok-flows.ensures c.in_ok-notes.ensures.flows rows given explains)
 

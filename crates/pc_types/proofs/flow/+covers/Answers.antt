@@ -1,6 +1,6 @@
 use Rattle.std.proofs.Common.{◌≡◌, IsTrue, arith}
 use Rattle.std.proofs.lemmas.Grind.{common_steps}
-use Rattle.pc_types.specs.Flow.{c_from_any, c_never, c_object, c_both, c_left, c_right}
+use Rattle.pc_types.specs.Internal.HeadFlow.{c_from_any, c_never, c_object, c_both, c_left, c_right}
 use Rattle.pc_types.specs.declared.boxed.BoxType.TheVariants as ty
 use Rattle.pc_types.proofs.Truth.{yes_is, both_second, both_first, either_first, either_second, through_is}
 use Rattle.pc_types.proofs.Heads.{is_left, is_right, covers_is_fits, covers_any, covers_parts, covers_member, is_no_union}

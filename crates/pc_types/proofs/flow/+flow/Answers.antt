@@ -1,7 +1,7 @@
 use Rattle.std.proofs.Common.{◌≡◌, ◌+◌, IsTrue, arith, ◌<◌, length, sym, subst₂}
 use Rattle.std.proofs.lemmas.List.Elements.{AllZip-get_or, length_all_zip}
 use Rattle.std.proofs.lemmas.Grind.{common_steps}
-use Rattle.pc_types.specs.Flow.{w_from_any, w_never, w_object, w_both, w_left, w_right}
+use Rattle.pc_types.specs.Internal.HeadFlow.{w_from_any, w_never, w_object, w_both, w_left, w_right}
 use Rattle.pc_types.specs.declared.boxed.BoxType.TheVariants as ty
 use Rattle.pc_types.proofs.Truth.{yes_is, no_is, is_no, both_second, both_first, either_first, either_second, through_is}
 use Rattle.pc_types.proofs.Heads.{is_left, is_right, flow_is_fits, to_any, flow_parts, flow_member, is_no_union, tuple_flows}

@@ -1,7 +1,7 @@
 use Rattle.std.proofs.Common.{◌≡◌, length, Bool as Test, List, ◌∙◌, arith}
 use Rattle.std.proofs.lemmas.Bool.Decides.{nat_tests}
 use Rattle.pc_types.specs.Shape.{count}
-use Rattle.pc_types.specs.Flow.{seen_each}
+use Rattle.pc_types.specs.Internal.HeadFlow.{seen_each}
 use Rattle.pc_types.specs.Boxed.{trees_in}
 use Rattle.pc_types.specs.declared.boxed.BoxType.{BoxType}
 use Rattle.pc_types.proofs.Truth.{no_is}

@@ -1,8 +1,8 @@
 use Rattle.std.proofs.Common.{◌≡◌, ◌+◌, ◌<◌, ◌≤◌, length, ap, sym, ◌∙◌, subst, arith, Some, None, false}
 use Rattle.std.specs.Option.{option_map}
 use Rattle.pc_types.specs.Tree.{TupleOf}
-use Rattle.pc_types.specs.Normal.{rank, IsBefore, IsNormal}
-use Rattle.pc_types.specs.Join.{is_before, kept_with, one_with, joined}
+use Rattle.pc_types.specs.Normal.{member_rank, IsRankBefore, IsNormal}
+use Rattle.pc_types.specs.Join.{is_before, kept_with, one_with, join_of}
 use Rattle.pc_types.specs.Boxed.{tree_of, trees_in}
 use Rattle.pc_types.proofs.Tuples.{tuple_is, tuple_tree}
 use Rattle.pc_types.proofs.Weight.{tree_weight, trees_weight, split_weight, parts_weight, tree_weight_item}
@@ -27,7 +27,7 @@ joined_parts-joined-requires t c =
 
 pub joined_parts-returns-in-None : goal.joined_parts-returns-in-None
 joined_parts-returns-in-None t c =
-    let g : None ≡ joined c.args.parents.now (tree_of c.index-ss-i.result) (tree_of c.index-ts-i.result) = ap (option_map tree_of) (sym c.in-None.is) ∙ c.in_ok-joined.ensures in
+    let g : None ≡ join_of c.args.parents.now (tree_of c.index-ss-i.result) (tree_of c.index-ts-i.result) = ap (option_map tree_of) (sym c.in-None.is) ∙ c.in_ok-joined.ensures in
     joins_none c.args.parents.now c.args.ss.now c.args.ts.now c.loop-i.parts.items c.loop-i.i c.index-ss-i.result c.index-ts-i.result c.loop-i.invariant.1 c.loop-i-test.true (omega arith) c.index-ss-i.is c.index-ts-i.is g
 
 pub joined_parts-returns : goal.joined_parts-returns
@@ -82,7 +82,7 @@ merged-returns-in_ok-rest-in-None-split-2 t c =
 
 pub merged-returns-in_ok-rest-in-Some-split-2 : goal.merged-returns-in_ok-rest-in-Some-split-2
 merged-returns-in_ok-rest-in-Some-split-2 t c =
-    let h : IsBefore (rank (tree_of c.in-Some.a.now)) (rank (tree_of c.in-Some-split-2.b.now)) = before_of _ _ (sym c.stands_before.ensures ∙ c.if-stands_before.true) in
+    let h : IsRankBefore (member_rank (tree_of c.in-Some.a.now)) (member_rank (tree_of c.in-Some-split-2.b.now)) = before_of _ _ (sym c.stands_before.ensures ∙ c.if-stands_before.true) in
     let b = split_behind (tree_of c.args.t.now) (tree_of c.in-Some.a.now) (tree_of c.in-Some-split-2.b.now) (tree_of c.in-Some-split-2.bs.now) c.in-Some-split-2.ensures c.requires.right h in
     let e = first_left c.args.parents.now (tree_of c.args.sides.now.left.now) (tree_of c.args.sides.now.right.now) (tree_of c.args.s.now) (tree_of c.args.t.now) (tree_of c.in-Some.a.now) (tree_of c.in-Some.others.now) c.in-Some.ensures c.requires.left c.requires.right b in
     let f = ap (kept_with c.args.parents.now (tree_of c.in-Some.a.now) (tree_of c.args.sides.now.right.now)) c.in_ok-rest-in-Some-split-2.ensures in
@@ -90,7 +90,7 @@ merged-returns-in_ok-rest-in-Some-split-2 t c =
 
 pub merged-returns-in_ok-rest-in-Some-split-2-2 : goal.merged-returns-in_ok-rest-in-Some-split-2-2
 merged-returns-in_ok-rest-in-Some-split-2-2 t c =
-    let h : IsBefore (rank (tree_of c.in-Some-split-2.b.now)) (rank (tree_of c.in-Some.a.now)) = before_of _ _ (sym c.stands_before-else-stands_before.ensures ∙ c.if-stands_before-2.true) in
+    let h : IsRankBefore (member_rank (tree_of c.in-Some-split-2.b.now)) (member_rank (tree_of c.in-Some.a.now)) = before_of _ _ (sym c.stands_before-else-stands_before.ensures ∙ c.if-stands_before-2.true) in
     let b = split_behind (tree_of c.args.s.now) (tree_of c.in-Some-split-2.b.now) (tree_of c.in-Some.a.now) (tree_of c.in-Some.others.now) c.in-Some.ensures c.requires.left h in
     let e = first_right c.args.parents.now (tree_of c.args.sides.now.left.now) (tree_of c.args.sides.now.right.now) (tree_of c.args.s.now) (tree_of c.args.t.now) (tree_of c.in-Some-split-2.b.now) (tree_of c.in-Some-split-2.bs.now) c.in-Some-split-2.ensures c.requires.right b in
     let f = ap (kept_with c.args.parents.now (tree_of c.in-Some-split-2.b.now) (tree_of c.args.sides.now.left.now)) c.in_ok-rest-in-Some-split-2-2.ensures in
@@ -136,6 +136,6 @@ ruled-returns-in_default-t-2 t c =
 
 pub joined_parts-loop-i-preserved : goal.joined_parts-loop-i-preserved
 joined_parts-loop-i-preserved t c =
-    let g : Some (tree_of c.in-Some.part) ≡ joined c.args.parents.now (tree_of c.index-ss-i.result) (tree_of c.index-ts-i.result) = ap (option_map tree_of) (sym c.in-Some.is) ∙ c.in_ok-joined.ensures in
+    let g : Some (tree_of c.in-Some.part) ≡ join_of c.args.parents.now (tree_of c.index-ss-i.result) (tree_of c.index-ts-i.result) = ap (option_map tree_of) (sym c.in-Some.is) ∙ c.in_ok-joined.ensures in
     let j = joins_more c.args.parents.now c.args.ss.now c.args.ts.now c.loop-i.parts.items c.loop-i.i c.index-ss-i.result c.index-ts-i.result c.in-Some.part c.loop-i.invariant.1 c.loop-i-test.true (omega arith) c.index-ss-i.is c.index-ts-i.is g in
     (c.loop-i.invariant.0, subst (JoinsTo c.args.parents.now c.args.ss.now c.args.ts.now (c.loop-i.i + 1)) (sym c.in_ok-push-in-Some.ensures.items) j)

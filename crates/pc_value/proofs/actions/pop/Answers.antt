@@ -3,7 +3,7 @@ use Rattle.pc_value.specs.Value.{seen}
 use Rattle.pc_value.specs.Meaning.{value_of, heap_of}
 use Rattle.pc_value.specs.Seeing.{seen_of}
 use Rattle.pc_value.specs.Containers.{pop_outcome}
-use Rattle.pc_value.specs.Changes.{pops, heap_changed}
+use Rattle.pc_value.specs.Internal.Changes.{pops, heap_changed}
 use Rattle.pc_value.proofs.Changing.{list_there, pops_there, changes_to}
 use Rattle.pc_value.proofs.actions.pop.Goals as goal
 

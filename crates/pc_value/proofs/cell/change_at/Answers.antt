@@ -1,5 +1,5 @@
 use Rattle.std.proofs.Common.{◌<◌, ◌≤◌, length, rules}
-use Rattle.pc_value.specs.Changes.{change_of}
+use Rattle.pc_value.specs.Internal.Changes.{change_of}
 use Rattle.pc_value.proofs.Lists.{change_there, same_there, nothing_there, on_ok, on_err}
 use Rattle.pc_value.proofs.cell.change_at.Goals as goal
 

@@ -1,6 +1,6 @@
 use Rattle.std.proofs.Common.{◌≡◌, ◌+◌, map, drop}
 use Rattle.pc_value.specs.Meaning.{value_of, entry_of}
-use Rattle.pc_value.specs.Changes.{key_place}
+use Rattle.pc_value.specs.Internal.Changes.{key_place}
 use Rattle.pc_value.proofs.cell.key_place.Given as goal
 
 abbrev pub invariant-loop-i : goal.invariant-loop-i

@@ -1,6 +1,6 @@
 use Rattle.std.proofs.Common.{◌≡◌, ◌<◌, ◌≤◌, length, map, rules}
 use Rattle.pc_value.specs.Meaning.{value_of, slot_of}
-use Rattle.pc_value.specs.Changes.{field_place}
+use Rattle.pc_value.specs.Internal.Changes.{field_place}
 use Rattle.pc_value.proofs.Settings.{field_at, field_absent}
 use Rattle.pc_value.proofs.cell.set_field.Goals as goal
 

@@ -1,6 +1,6 @@
 use Rattle.std.proofs.Common.{◌≡◌, ◌<◌, ◌≤◌, ◌++◌, ◌∷◌, [], length, map, rules}
 use Rattle.pc_value.specs.Meaning.{value_of, entry_of}
-use Rattle.pc_value.specs.Changes.{key_place}
+use Rattle.pc_value.specs.Internal.Changes.{key_place}
 use Rattle.pc_value.proofs.Settings.{set_at, set_new}
 use Rattle.pc_value.proofs.cell.set_key.Goals as goal
 

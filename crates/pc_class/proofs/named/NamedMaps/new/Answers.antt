@@ -1,4 +1,4 @@
-use Rattle.pc_scope.specs.Walking.{texts_in}
+use Rattle.pc_scope.specs.Internal.WalkViews.{texts_in}
 use Rattle.pc_class.proofs.Naming.{nothing_named}
 use Rattle.pc_class.proofs.named.NamedMaps.new.Goals as goal
 

@@ -1,6 +1,6 @@
 use Rattle.std.proofs.Common.{◌∙◌, ◌++◌, ◌∷◌, [], List, ap, subst}
 use Rattle.pc_class.specs.declared.shared.Node.{Node}
-use Rattle.pc_class.specs.Shared.{IsClosed}
+use Rattle.pc_class.specs.SharedMaps.{IsClosed}
 use Rattle.pc_class.proofs.SharedParts.{more_keeps}
 use Rattle.pc_class.proofs.shared.SharedMaps.add.Goals as goal
 

@@ -1,5 +1,5 @@
 use Rattle.std.proofs.Common.{◌≡◌, ◌<◌, length}
-use Rattle.pc_class.specs.Shared.{held_at}
+use Rattle.pc_class.specs.SharedMaps.{held_at}
 use Rattle.pc_class.proofs.shared.SharedMaps.get.Given as goal
 
 abbrev pub invariant-loop-rest : goal.invariant-loop-rest

@@ -1,6 +1,6 @@
 use Rattle.std.proofs.Common.{◌∙◌, ◌++◌, ◌∷◌, [], List, ap, sym, subst}
 use Rattle.pc_class.specs.declared.shared.Node.{Node}
-use Rattle.pc_class.specs.Shared.{held_at, empty_node, HasBelow}
+use Rattle.pc_class.specs.SharedMaps.{held_at, empty_node, HasBelow}
 use Rattle.pc_class.proofs.SharedParts.{nothing_held, none_below}
 use Rattle.pc_class.proofs.shared.SharedMaps.new.Goals as goal
 

@@ -3,7 +3,7 @@ use Rattle.std.specs.Prelude.{slice_get}
 use Rattle.std.specs.Option.{option_map}
 use Rattle.std.proofs.lemmas.Option.{slice_get_read}
 use Rattle.pc_class.specs.Parts.{parameter_name}
-use Rattle.pc_class.specs.Tables.{Entry, parameter_with, IsField}
+use Rattle.pc_class.specs.Tables.{ClassEntry, parameter_with, IsField}
 use Rattle.pc_class.proofs.TableReads.{number_within, named_none, named_some, field_there, get_contains, find_contains}
 use Rattle.pc_class.proofs.table.ClassTable.field.Goals as goal
 
@@ -36,7 +36,7 @@ returns-in-None-clause-value g c tree =
     let is = slice_get_read p.classes.items (length p.classes.items) c.args.class n refl (omega arith) c.index.ensures in
     let node = c.self.invariant.0.each c.args.class n is in
     sym (
-    field_there tree c.args.self.now c.args.class _ (ap (λ (es : List (Entry _)). slice_get es c.args.class) (sym c.self.view_is) ∙ node.is) c.args.name.now
+    field_there tree c.args.self.now c.args.class _ (ap (λ (es : List (ClassEntry _)). slice_get es c.args.class) (sym c.self.view_is) ∙ node.is) c.args.name.now
     ∙ ap (option_map (parameter_with tree)) (named_none parameter_name p.named p.fields.items n.held.fields _ node.fields_held c.args.name.now (sym c.get.ensures ∙ c.in-None.is))
     )
 
@@ -49,7 +49,7 @@ returns-in-Some-clause-value g c tree =
     let is = slice_get_read p.classes.items (length p.classes.items) c.args.class n refl (omega arith) c.index.ensures in
     let node = c.self.invariant.0.each c.args.class n is in
     sym (
-    field_there tree c.args.self.now c.args.class _ (ap (λ (es : List (Entry _)). slice_get es c.args.class) (sym c.self.view_is) ∙ node.is) c.args.name.now
+    field_there tree c.args.self.now c.args.class _ (ap (λ (es : List (ClassEntry _)). slice_get es c.args.class) (sym c.self.view_is) ∙ node.is) c.args.name.now
     ∙ ap (option_map (parameter_with tree)) (named_some parameter_name p.named p.fields.items n.held.fields _ node.fields_held c.args.name.now c.in-Some.number c.index-in-Some.result.now (sym c.get.ensures ∙ c.in-Some.is) c.index-in-Some.ensures)
     )
 
@@ -61,7 +61,7 @@ returns-in-Some-clause-listed g c =
     let long = c.len.ensures in
     let is = slice_get_read p.classes.items (length p.classes.items) c.args.class n refl (omega arith) c.index.ensures in
     let node = c.self.invariant.0.each c.args.class n is in
-    subst (λ (es : List (Entry _)). IsField es c.index-in-Some.result.now) c.self.view_is (record {
+    subst (λ (es : List (ClassEntry _)). IsField es c.index-in-Some.result.now) c.self.view_is (record {
       class = _;
       listed = get_contains _ c.args.class _ node.is;
       among = find_contains _ _ c.index-in-Some.result.now (named_some parameter_name p.named p.fields.items n.held.fields _ node.fields_held c.args.name.now c.in-Some.number c.index-in-Some.result.now (sym c.get.ensures ∙ c.in-Some.is) c.index-in-Some.ensures);

@@ -1,7 +1,7 @@
 use Rattle.std.proofs.Common.{ap, ◌∙◌, ◌∷◌, Ok, map, reverse}
 use Rattle.pc_token.specs.Lexeme.{line_of, lexeme_of}
-use Rattle.pc_layout.specs.Opened.{placed_by, context_of}
-use Rattle.pc_layout.specs.Pending.{pending_by, end_of_line}
+use Rattle.pc_layout.specs.TokenIterator.Levels.{placed_by, context_of}
+use Rattle.pc_layout.specs.TokenIterator.PendingTokens.{pending_by, end_of_line}
 use Rattle.pc_layout.proofs.Laying.{laid_line, laid_refused, line_given, end_given}
 use Rattle.pc_layout.proofs.hand.Hand.begin.Goals as goal
 

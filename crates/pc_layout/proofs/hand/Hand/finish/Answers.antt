@@ -2,7 +2,7 @@ use Rattle.std.proofs.Common.{ap, sym, ◌∙◌, length, [], ◌∷◌, Ok}
 use Rattle.pc_token.specs.declared.token.TokenKind.TheVariants.{End}
 use Rattle.pc_layout.specs.Flat.{mark}
 use Rattle.pc_layout.specs.Stepping.{give, dedents}
-use Rattle.pc_layout.specs.Pending.{pending_by}
+use Rattle.pc_layout.specs.TokenIterator.PendingTokens.{pending_by}
 use Rattle.pc_layout.proofs.Laying.{laid_end}
 use Rattle.pc_layout.proofs.hand.Hand.finish.Goals as goal
 

@@ -1,6 +1,6 @@
 use Rattle.std.specs.Iterator.{IsFinite, size}
 use Rattle.pc_source.specs.declared.fault.Fault.{Fault}
-use Rattle.pc_layout.specs.Giving.{SettlesTo}
+use Rattle.pc_layout.specs.TokenIterator.Items.{SettlesTo}
 use Rattle.pc_layout.proofs.toks.Toks.settle.Given as goal
 
 abbrev pub invariant-loop-next : goal.invariant-loop-next

@@ -12,8 +12,8 @@ use Rattle.pc_tree.specs.Machine.States.{whole, in_statement, looping, iterating
 use Rattle.pc_tree.specs.Machine.Finishing.{add_stmt, add_branch, after_stmt, after_suite, suite_of, nested_in}
 use Rattle.pc_tree.specs.Machine.Lines.{lead_turn}
 use Rattle.pc_reader.specs.Reading.{lexeme}
-use Rattle.pc_parse.specs.Whole.{ending_of}
-use Rattle.pc_parse.specs.Suites.{lead_view, site_at}
+use Rattle.pc_parse.specs.Internal.WholeTrees.{ending_of}
+use Rattle.pc_parse.specs.Internal.Suites.{lead_view, site_at}
 use Rattle.pc_reader.proofs.Streams.{blame}
 use Rattle.pc_reader.proofs.Steps.{step_to, alike, needs, meets, kind_seen, not_seen}
 use Rattle.pc_parse.proofs.Statements.{colon_turn, suite_ends, suite_stuck, on_unseen, on_go}

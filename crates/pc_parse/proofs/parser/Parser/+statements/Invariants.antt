@@ -1,6 +1,6 @@
 use Rattle.std.proofs.Common.{◌+◌, ◌*◌}
 use Rattle.pc_reader.specs.Reading.{left_in}
-use Rattle.pc_parse.specs.Suites.{StmtsSoFar, BranchesSoFar}
+use Rattle.pc_parse.specs.Internal.Suites.{StmtsSoFar, BranchesSoFar}
 use Rattle.pc_parse.proofs.parser.Parser.+statements.Given as goal
 
 abbrev pub decreases-suite : goal.decreases-suite

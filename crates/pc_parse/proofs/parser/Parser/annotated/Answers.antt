@@ -7,7 +7,7 @@ use Rattle.pc_tree.specs.Machine.{at}
 use Rattle.pc_tree.specs.Machine.Kinds.{same_kind}
 use Rattle.pc_tree.specs.Machine.States.{whole, ann_whole, in_statement, of_local, annotated_value, part_due, operand, have}
 use Rattle.pc_tree.specs.Machine.Finishing.{after_stmt}
-use Rattle.pc_parse.specs.Suites.{site_at}
+use Rattle.pc_parse.specs.Internal.Suites.{site_at}
 use Rattle.pc_reader.proofs.Streams.{blame}
 use Rattle.pc_reader.proofs.Steps.{step_to, not_seen}
 use Rattle.pc_parse.proofs.Statements.{line_end_turn, on_unseen, on_go}

@@ -7,8 +7,8 @@ use Rattle.pc_tree.specs.Machine.{at}
 use Rattle.pc_tree.specs.Machine.States.{whole, in_statement, asserted, asserted_with, stmts, operand, have}
 use Rattle.pc_tree.specs.Machine.Finishing.{after_stmt, finish}
 use Rattle.pc_tree.specs.Machine.Lines.{lead_turn}
-use Rattle.pc_parse.specs.Whole.{ending_of}
-use Rattle.pc_parse.specs.Suites.{site_at}
+use Rattle.pc_parse.specs.Internal.WholeTrees.{ending_of}
+use Rattle.pc_parse.specs.Internal.Suites.{site_at}
 use Rattle.pc_reader.proofs.Streams.{blame}
 use Rattle.pc_reader.proofs.Steps.{step_to, kind_seen, not_seen}
 use Rattle.pc_parse.proofs.Statements.{line_end_turn, condition_turn}

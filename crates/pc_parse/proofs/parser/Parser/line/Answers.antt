@@ -10,8 +10,8 @@ use Rattle.pc_tree.specs.Machine.States.{whole, ann_whole, in_line, in_statement
 use Rattle.pc_tree.specs.Machine.Finishing.{after_stmt, finish, begin_value, begin_annotation, line_site}
 use Rattle.pc_tree.specs.Machine.Lines.{lead_turn}
 use Rattle.pc_reader.specs.Reading.{lexeme, Came}
-use Rattle.pc_parse.specs.Whole.{ending_of, noted}
-use Rattle.pc_parse.specs.Suites.{site_at}
+use Rattle.pc_parse.specs.Internal.WholeTrees.{ending_of, deep_after}
+use Rattle.pc_parse.specs.Internal.Suites.{site_at}
 use Rattle.pc_reader.proofs.Streams.{blame}
 use Rattle.pc_reader.proofs.Steps.{step_to, alike, kind_seen, not_seen}
 use Rattle.pc_parse.proofs.Statements.{line_end_turn, line_turn}
@@ -94,7 +94,7 @@ returns-then-sees-2 g c = let v = c.in_ok-begun.ensures in let u = c.in_ok-take-
     let n = first_place v.part.tokens in let e = first_is c.args.self.now.reader.ahead c.in-Some.first n (sym c.place.ensures ∙ c.in-Some.is) v.begins in
     line_continued g.X.AsStr.text g.I.Iterator.next_gives g.I.Iterator.can_next g.I.Iterator.remaining (λ d b. stmts d b) (λ d b. part_due no_anns [] (ann_whole (of_local m (site_at c.in-Some.first d b)))) _
     c.args.self.now (record c.expression.new.self { reader = c.take-then-sees-2.new.self }) c.annotated.new.self c.annotated.result
-    (v.deep ∙ ap (λ z. noted c.args.self.now.deep (whole_expr z ∷ [])) i.tree ∙ noted_nothing _) (let r = v.later in let s = u.later in omega arith)
+    (v.deep ∙ ap (λ z. deep_after c.args.self.now.deep (whole_expr z ∷ [])) i.tree ∙ noted_nothing _) (let r = v.later in let s = u.later in omega arith)
     (λ d b f o x. alike g.X.AsStr.text g.I.Iterator.next_gives c.args.self.now.reader (stmts d b) (operand (whole (in_line d b))) refl refl
     (λ t h. ap (lead_turn (site_at t.place d b) (lexeme g.X.AsStr.text t) t.kind) (f t h)) o (v.leads (in_line d b) o
     (step_to (have c.in_ok-begun.begun.level v.part (whole (in_line d b))) (part_due no_anns [] (ann_whole (of_local m (line_site d b v.part)))) u

@@ -1,6 +1,6 @@
 use Rattle.std.proofs.Common.{◌≤◌}
 use Rattle.pc_reader.specs.Reading.{IsReady, left_in}
-use Rattle.pc_parse.specs.Classes.{MembersSoFar}
+use Rattle.pc_parse.specs.Internal.Classes.{MembersSoFar}
 use Rattle.pc_parse.proofs.parser.Parser.members.Given as goal
 
 abbrev pub invariant-loop-members : goal.invariant-loop-members

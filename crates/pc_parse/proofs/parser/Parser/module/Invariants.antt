@@ -1,5 +1,5 @@
 use Rattle.pc_reader.specs.Reading.{IsReady, left_in}
-use Rattle.pc_parse.specs.Modules.{ItemsSoFar}
+use Rattle.pc_parse.specs.Internal.Modules.{ItemsSoFar}
 use Rattle.pc_parse.proofs.parser.Parser.module.Given as goal
 
 abbrev pub invariant-loop-items : goal.invariant-loop-items

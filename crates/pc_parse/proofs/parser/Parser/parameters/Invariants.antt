@@ -1,6 +1,6 @@
 use Rattle.std.proofs.Common.{◌≤◌}
 use Rattle.pc_reader.specs.Reading.{IsReady, left_in}
-use Rattle.pc_parse.specs.Signatures.{ParamsSoFar}
+use Rattle.pc_parse.specs.Internal.Signatures.{ParamsSoFar}
 use Rattle.pc_parse.proofs.parser.Parser.parameters.Given as goal
 
 abbrev pub invariant-loop-alloc : goal.invariant-loop-alloc

@@ -9,9 +9,9 @@ use Rattle.pc_tree.specs.Machine.{at, turn}
 use Rattle.pc_tree.specs.Machine.States.{minus, denial, in_tuple, in_list, in_call, joining, applying, grouping, listing, indexing, naming, keying, valuing, operand, have, dotted, group_due, item_due, keyword_due, keyword_named, key_due}
 use Rattle.pc_tree.specs.Machine.Finishing.{add_keyword}
 use Rattle.pc_tree.specs.Machine.Expressions.{part, joined, grouped, call_part}
-use Rattle.pc_reader.specs.Operands.{infix_of, signs_on, applied_all}
+use Rattle.pc_reader.specs.Internal.Operands.{infix_of, signs_on, applied_all}
 use Rattle.pc_reader.specs.Reading.{lexeme, Came}
-use Rattle.pc_reader.specs.Descent.{NextIs, Over, Undotted}
+use Rattle.pc_reader.specs.Internal.Expressions.{NextIs, Over, Undotted}
 use Rattle.pc_reader.proofs.Building.{first_more, starts_more, starts_one, ends_more, ends_one, keeps_grouped, named_alike}
 use Rattle.pc_reader.proofs.Endings.{needs_end, group_unended, index_unended, keyword_unended, key_unended, value_unended, item_unended, argument_unended, closer_is, not_closer}
 use Rattle.pc_reader.proofs.Frames.{own_low}

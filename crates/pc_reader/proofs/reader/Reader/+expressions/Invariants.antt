@@ -3,10 +3,10 @@ use Rattle.pc_token.specs.Lexeme.{Lexeme}
 use Rattle.pc_tree.specs.Tree.{Exprs, no_exprs, Expr, name_of}
 use Rattle.pc_tree.specs.Machine.States.{Head, in_call}
 use Rattle.pc_tree.specs.Machine.Expressions.{rank}
-use Rattle.pc_reader.specs.Bracketed.{KeepsItems}
-use Rattle.pc_reader.specs.Descent.{Gives, NextIs, Undotted, IsPrimary, Closes}
+use Rattle.pc_reader.specs.Internal.Brackets.{KeepsItems}
+use Rattle.pc_reader.specs.Internal.Expressions.{Gives, NextIs, Undotted, IsPrimary, Closes}
 use Rattle.pc_reader.specs.Reading.{IsReady, left_in}
-use Rattle.pc_reader.specs.Looping.{ItemsSoFar, EntriesSoFar, NamesSoFar}
+use Rattle.pc_reader.proofs.BracketLoops.{ElementsSoFar, EntriesSoFar, NamesSoFar}
 use Rattle.pc_reader.proofs.reader.Reader.+expressions.Given as goal
 
 abbrev pub decreases-operators : goal.decreases-operators
@@ -58,7 +58,7 @@ abbrev pub invariant-items-loop-alloc : goal.invariant-items-loop-alloc
 invariant-items-loop-alloc g l = record {
   ready : IsReady g.I.Iterator.can_next g.I.Iterator.remaining l.self;
   later : left_in g.I.Iterator.remaining l.self ≤ left_in g.I.Iterator.remaining l.fn.self;
-  lists : (h : Head) (xs : Exprs) (ts : List Lexeme) → Closes h l.close → ItemsSoFar g.X.AsStr.text g.I.Iterator.next_gives g.I.Iterator.can_next g.I.Iterator.remaining (KeepsItems l.fn.some xs) l.fn.self l.self l.items h xs ts;
+  lists : (h : Head) (xs : Exprs) (ts : List Lexeme) → Closes h l.close → ElementsSoFar g.X.AsStr.text g.I.Iterator.next_gives g.I.Iterator.can_next g.I.Iterator.remaining (KeepsItems l.fn.some xs) l.fn.self l.self l.items h xs ts;
 }
 
 abbrev pub decreases-items-loop-alloc : goal.decreases-items-loop-alloc
@@ -78,7 +78,7 @@ abbrev pub invariant-call-loop-self : goal.invariant-call-loop-self
 invariant-call-loop-self g l = record {
   ready : IsReady g.I.Iterator.can_next g.I.Iterator.remaining l.self;
   later : left_in g.I.Iterator.remaining l.self ≤ left_in g.I.Iterator.remaining l.fn.self;
-  arguments : (e : Expr) (ts : List Lexeme) → ItemsSoFar g.X.AsStr.text g.I.Iterator.next_gives g.I.Iterator.can_next g.I.Iterator.remaining (Unit {0}) l.fn.self l.self l.items (in_call e) no_exprs ts;
+  arguments : (e : Expr) (ts : List Lexeme) → ElementsSoFar g.X.AsStr.text g.I.Iterator.next_gives g.I.Iterator.can_next g.I.Iterator.remaining (Unit {0}) l.fn.self l.self l.items (in_call e) no_exprs ts;
 }
 
 abbrev pub decreases-call-loop-self : goal.decreases-call-loop-self

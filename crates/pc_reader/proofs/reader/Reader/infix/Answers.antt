@@ -5,7 +5,7 @@ use Rattle.pc_token.specs.declared.token.Keyword.TheVariants as word
 use Rattle.pc_tree.specs.declared.tree.ComparisonOperator.TheVariants as cmp
 use Rattle.pc_tree.specs.Machine.Kinds.{comparison, linking, denying, identifying}
 use Rattle.pc_tree.specs.Machine.States.{joining, operand, have, denied, identified}
-use Rattle.pc_reader.specs.Operands.{infix_of}
+use Rattle.pc_reader.specs.Internal.Operands.{infix_of}
 use Rattle.pc_reader.specs.Reading.{lexeme}
 use Rattle.pc_reader.proofs.Streams.{blame}
 use Rattle.pc_reader.proofs.Steps.{step_to, needs, meets, link_turn}

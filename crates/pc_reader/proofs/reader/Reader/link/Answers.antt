@@ -1,5 +1,5 @@
 use Rattle.std.proofs.Common.{arith}
-use Rattle.pc_reader.specs.Links.{link_view}
+use Rattle.pc_reader.specs.Internal.Links.{link_view}
 use Rattle.pc_reader.proofs.Steps.{link_ahead}
 use Rattle.pc_reader.proofs.reader.Reader.link.Goals as goal
 

@@ -2,7 +2,7 @@ use Rattle.std.proofs.Common.{[], ◌∷◌, ◌++◌, refl, arith, ap, sym, ◌
 use Rattle.std.proofs.lemmas.Result.{err_from_is_err_and}
 use Rattle.pc_tree.specs.Machine.{at}
 use Rattle.pc_tree.specs.Machine.States.{applying, operand}
-use Rattle.pc_reader.specs.Operands.{prefix_of, signs_on}
+use Rattle.pc_reader.specs.Internal.Operands.{prefix_of, signs_on}
 use Rattle.pc_reader.specs.Reading.{lexeme, Came}
 use Rattle.pc_reader.proofs.Streams.{blame}
 use Rattle.pc_reader.proofs.Steps.{same_place, step_to, kind_seen}

@@ -1,6 +1,6 @@
-use Rattle.pc_reader.specs.Operands.{prefix_of}
+use Rattle.pc_reader.specs.Internal.Operands.{prefix_of}
 use Rattle.pc_reader.specs.Reading.{left_in}
-use Rattle.pc_reader.specs.Descent.{GivesSigns}
+use Rattle.pc_reader.specs.Internal.Expressions.{GivesSigns}
 use Rattle.pc_reader.proofs.reader.Reader.signs.Given as goal
 
 abbrev pub invariant-loop-kind : goal.invariant-loop-kind

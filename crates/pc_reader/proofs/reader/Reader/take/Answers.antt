@@ -1,11 +1,11 @@
 use Rattle.std.proofs.Common.{◌≡◌, rules, arith, ap, ◌∙◌, sym, Some, None}
 use Rattle.pc_reader.proofs.Streams.{blame_any, more, none, fault_after, at_end, ready_ahead, at_token}
-use Rattle.pc_reader.specs.Reading.{settled}
+use Rattle.pc_reader.specs.Reading.{answer_for}
 use Rattle.pc_reader.proofs.reader.Reader.take.Goals as goal
 
 pub returns-in_default : goal.returns-in_default
 returns-in_default g c = blame_any (λ r h. let e : c.args.self.now.ahead ≡ None = sym c.take.ensures.value ∙ c.in_default.is in
-    at_end g.X.AsStr.text g.I.Iterator.next_gives c.args.self.now r _ e (ap (settled c.args.self.now.end) (h e)))
+    at_end g.X.AsStr.text g.I.Iterator.next_gives c.args.self.now r _ e (ap (answer_for c.args.self.now.end) (h e)))
 
 pub returns-in-Some-Ok : goal.returns-in-Some-Ok
 returns-in-Some-Ok g c = let e : c.args.self.now.ahead ≡ Some c.in-Some.first = sym c.take.ensures.value ∙ c.in-Some.is in

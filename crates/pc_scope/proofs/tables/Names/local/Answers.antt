@@ -1,7 +1,7 @@
 use Rattle.std.proofs.Common.{◌∙◌, ap, sym}
 use Rattle.std.specs.Prelude.{string_bytes}
 use Rattle.pc_scope.specs.Resolution.{index_of}
-use Rattle.pc_scope.specs.Walking.{locals_seen}
+use Rattle.pc_scope.specs.Internal.WalkViews.{locals_seen}
 use Rattle.pc_scope.proofs.TextSets.{placed}
 use Rattle.pc_scope.proofs.tables.Names.local.Goals as goal
 

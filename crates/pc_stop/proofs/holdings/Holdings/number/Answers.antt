@@ -6,7 +6,7 @@ use Rattle.std.proofs.lemmas.List.{map-append}
 use Rattle.std.proofs.lemmas.Slice.Eq.{bytes_eq-Decides}
 use Rattle.pc_names.specs.Names.{text_seen}
 use Rattle.pc_names.proofs.InSets.{has}
-use Rattle.pc_tree.specs.Stopping.{Held}
+use Rattle.pc_tree.specs.Stopping.{HeldMember}
 use Rattle.pc_stop.specs.Holdings.{Has}
 use Rattle.pc_stop.specs.declared.holdings.TheConstants.{DIGITS}
 use Rattle.pc_stop.specs.declared.tables.Node.{Node}
@@ -24,7 +24,7 @@ returns-clause-named c =
     got text_seen c.insert_full.new.self.keys c.in_ok-number.number s.0 s.1 ∙ ap Some (sym ((bytes_eq-Decides c.args.name.now (text_seen s.0)).0 s.2))
 
 -- a table has what it had, whether the name is new or not
-known_or_new : (nodes : List Node) (t : ℕ) (hs : List Held) (ks : List (Bor (List ℕ))) (x : Bor (List ℕ)) (b : Bool) → list_any (λ k. bytes_eq x.now k.now) ks ≡ b → Has DIGITS (map text_seen ks) nodes t hs → Has DIGITS (map text_seen (if b then ks else ks ++ x ∷ [])) nodes t hs
+known_or_new : (nodes : List Node) (t : ℕ) (hs : List HeldMember) (ks : List (Bor (List ℕ))) (x : Bor (List ℕ)) (b : Bool) → list_any (λ k. bytes_eq x.now k.now) ks ≡ b → Has DIGITS (map text_seen ks) nodes t hs → Has DIGITS (map text_seen (if b then ks else ks ++ x ∷ [])) nodes t hs
 known_or_new nodes t hs ks x true e h = h
 known_or_new nodes t hs ks x false e h = subst (λ names. Has DIGITS names nodes t hs) (sym (map-append text_seen ks (x ∷ []))) (more_names DIGITS (map text_seen ks) x.now nodes t hs (sym (has text_seen x.now ks) ∙ e) h)
 

@@ -1,7 +1,7 @@
 use Rattle.std.proofs.Common.{◌+◌, refl, rules}
 use Rattle.pc_source.specs.declared.fault.RefusalCode.TheVariants.{L7}
-use Rattle.pc_token.specs.Reading.{context_of}
-use Rattle.pc_token.proofs.Found.{blanks_read, tab_read, not_fewer, has_last}
+use Rattle.pc_token.specs.Internal.LineReading.{context_of}
+use Rattle.pc_token.proofs.PiecesAtBytes.{blanks_read, tab_read, not_fewer, has_last}
 use Rattle.pc_token.proofs.Refusing.{refused_after}
 use Rattle.pc_token.proofs.reading.Reading.blanks.Goals as goal
 use Rattle.pc_token.proofs.reading.Reading.blanks.Goals.{else-is_none-via-then-is_none+else-is_bad_tab, else-is_none-via-else-is_none}

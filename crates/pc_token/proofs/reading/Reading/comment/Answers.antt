@@ -1,5 +1,5 @@
 use Rattle.std.proofs.Common.{◌∙◌}
-use Rattle.pc_token.specs.Reading.{context_of}
+use Rattle.pc_token.specs.Internal.LineReading.{context_of}
 use Rattle.pc_token.proofs.Pieces.{comment_here}
 use Rattle.pc_token.proofs.Slices.{first_from}
 use Rattle.pc_token.proofs.reading.Reading.comment.Goals as goal

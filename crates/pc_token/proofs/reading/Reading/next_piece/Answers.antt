@@ -1,6 +1,6 @@
 use Rattle.std.proofs.Common.{get_or, drop, sym, ap, ◌∙◌}
 use Rattle.pc_token.specs.Gaps.{starts_line_end}
-use Rattle.pc_token.specs.Reading.{context_of}
+use Rattle.pc_token.specs.Internal.LineReading.{context_of}
 use Rattle.pc_token.proofs.Pieces.{line_feed_here, carriage_return_here, feed_next}
 use Rattle.pc_token.proofs.reading.Reading.next_piece.Goals as goal
 

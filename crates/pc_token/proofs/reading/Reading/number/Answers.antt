@@ -1,6 +1,6 @@
 use Rattle.std.proofs.Common.{rules}
-use Rattle.pc_token.specs.Reading.{context_of}
-use Rattle.pc_token.proofs.Found.{number_read}
+use Rattle.pc_token.specs.Internal.LineReading.{context_of}
+use Rattle.pc_token.proofs.PiecesAtBytes.{number_read}
 use Rattle.pc_token.proofs.reading.Reading.number.Goals as goal
 
 pub returns-clause-next : goal.returns-clause-next

@@ -1,7 +1,7 @@
 use Rattle.std.proofs.Common.{refl, rules}
 use Rattle.pc_token.specs.Operators.{role_of}
-use Rattle.pc_token.specs.Reading.{context_of}
-use Rattle.pc_token.proofs.Found.{operator_read, bracket_read}
+use Rattle.pc_token.specs.Internal.LineReading.{context_of}
+use Rattle.pc_token.proofs.PiecesAtBytes.{operator_read, bracket_read}
 use Rattle.pc_token.proofs.Refusing.{refused_here}
 use Rattle.pc_token.proofs.reading.Reading.operator.Goals as goal
 

@@ -1,7 +1,7 @@
 use Rattle.std.proofs.Common.{length, map, ◌∙◌, [], arith}
 use Rattle.std.proofs.lemmas.Result.{err_from_is_err_and}
 use Rattle.pc_token.specs.Lexeme.{lexeme_of}
-use Rattle.pc_token.specs.Reading.{context_of}
+use Rattle.pc_token.specs.Internal.LineReading.{context_of}
 use Rattle.pc_token.specs.Splitting.{close_line}
 use Rattle.pc_token.proofs.Steps.{whole_on, open_on}
 use Rattle.pc_token.proofs.Turns.{gap_leaves, gap_edge, inner_leaves, outer_leaves, blank_leaves, token_leaves, refused_leaves, no_items, some_items, nil_is}

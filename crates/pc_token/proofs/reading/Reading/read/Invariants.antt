@@ -2,7 +2,7 @@ use Rattle.std.proofs.Common.{◌≡◌, ◌≤◌, ◌-◌, List, Result, lengt
 use Rattle.std.specs.Str.{IsCharBoundary}
 use Rattle.pc_source.specs.declared.fault.Refusal.{Refusal}
 use Rattle.pc_token.specs.Lexeme.{LogicalLine}
-use Rattle.pc_token.specs.Reading.{LeavesFrom}
+use Rattle.pc_token.specs.Internal.LineReading.{LeavesFrom}
 use Rattle.pc_token.proofs.reading.Reading.read.Given as goal
 
 abbrev pub invariant-loop-self : goal.invariant-loop-self

@@ -1,7 +1,7 @@
 use Rattle.std.proofs.Common.{inl, inr, refl, rules}
 use Rattle.pc_source.specs.declared.fault.RefusalCode.TheVariants.{L2}
-use Rattle.pc_token.specs.Reading.{context_of}
-use Rattle.pc_token.proofs.Found.{string_read, bad_string_read}
+use Rattle.pc_token.specs.Internal.LineReading.{context_of}
+use Rattle.pc_token.proofs.PiecesAtBytes.{string_read, bad_string_read}
 use Rattle.pc_token.proofs.Refusing.{refused_here}
 use Rattle.pc_token.proofs.reading.Reading.string.Goals as goal
 use Rattle.pc_token.proofs.reading.Reading.string.Goals.{then-touches_word-via-then-touches_word, then-touches_word-via-else-touches_word+then-is_tripled}

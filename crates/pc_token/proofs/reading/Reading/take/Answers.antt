@@ -1,7 +1,7 @@
 use Rattle.std.proofs.Common.{map, slice_range, arith, rules, refl}
 use Rattle.pc_token.specs.Context.{lexeme_at}
 use Rattle.pc_token.specs.Lexeme.{lexeme_of}
-use Rattle.pc_token.specs.Reading.{context_of}
+use Rattle.pc_token.specs.Internal.LineReading.{context_of}
 use Rattle.pc_token.proofs.Steps.{taken, lexeme_is, lexemes_more}
 use Rattle.pc_token.proofs.reading.Reading.take.Goals as goal
 

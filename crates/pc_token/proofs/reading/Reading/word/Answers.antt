@@ -1,8 +1,8 @@
 use Rattle.std.proofs.Common.{refl, sym, ap, ◌∙◌, rules}
 use Rattle.pc_source.specs.declared.fault.RefusalCode.TheVariants.{L4}
 use Rattle.pc_token.specs.Names.{is_bad_name}
-use Rattle.pc_token.specs.Reading.{context_of}
-use Rattle.pc_token.proofs.Found.{keyword_read, name_read, bad_name_read}
+use Rattle.pc_token.specs.Internal.LineReading.{context_of}
+use Rattle.pc_token.proofs.PiecesAtBytes.{keyword_read, name_read, bad_name_read}
 use Rattle.pc_token.proofs.Refusing.{refused_here}
 use Rattle.pc_token.proofs.reading.Reading.word.Goals as goal
 

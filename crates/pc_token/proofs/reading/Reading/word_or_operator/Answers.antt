@@ -3,8 +3,8 @@ use Rattle.std.specs.Prelude.{find, nat_eq}
 use Rattle.std.specs.List.{starts_with}
 use Rattle.pc_source.specs.declared.fault.RefusalCode.TheVariants.{L1}
 use Rattle.pc_token.specs.Operators.{operator_text, operators}
-use Rattle.pc_token.specs.Reading.{context_of}
-use Rattle.pc_token.proofs.Found.{stray_read}
+use Rattle.pc_token.specs.Internal.LineReading.{context_of}
+use Rattle.pc_token.proofs.PiecesAtBytes.{stray_read}
 use Rattle.pc_token.proofs.LongestOperator.{operator_begins, operator_longest}
 use Rattle.pc_token.proofs.Refusing.{refused_here}
 use Rattle.pc_token.proofs.reading.Reading.word_or_operator.Goals as goal

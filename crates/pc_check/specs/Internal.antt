@@ -1,0 +1,5 @@
+-- What only the contracts of private functions say: the public contracts speak of the files beside this folder.
+pub mod ModuleWalk
+pub mod Entry
+pub mod Ranges
+pub mod StatementWalk

@@ -1,0 +1,58 @@
+-- What is left of the line at hand.
+use Rattle.std.specs.Prelude.{ℕ, ◌+◌, Bool, true, false, if◌then◌else◌, List, [], ◌∷◌, length, map, Result, Ok}
+use Rattle.std.specs.Vec.Iter.{into_iter_items, into_iter_len}
+use Rattle.pc_source.specs.declared.fault.Fault.{Fault}
+use Rattle.pc_token.specs.declared.token.TokenKind.TheVariants.{Newline, End}
+use Rattle.pc_token.specs.Lexeme.{Lexeme, LogicalLine, lexeme_of}
+use Rattle.pc_layout.specs.Flat.{mark}
+use Rattle.pc_layout.specs.Stepping.{give, dedents, indents, layout_lexemes}
+use Rattle.pc_layout.specs.TokenIterator.Levels.{context_of}
+use Rattle.pc_layout.specs.declared.sign.LineEnd.{LineEnd}
+use Rattle.pc_layout.specs.declared.hand.Hand.{Hand}
+use Rattle.pc_layout.specs.declared.hand.Due.{Due}
+use Rattle.pc_layout.specs.declared.hand.Due.TheVariants as due
+
+-- the end of a line as a token
+abbrev pub end_of_line : LineEnd → Lexeme
+end_of_line e = record { kind = Newline; place = e.place; text = e.text.now; form = e.text.now }
+
+-- the tokens that are left of the line at hand
+abbrev pub left_of : Hand → List Lexeme
+left_of h = map lexeme_of (into_iter_items h.tokens)
+
+-- the tokens that are left, the lines that come after the line at hand being these
+abbrev pub pending_by : Due → Hand → List (Result LogicalLine Fault) → List (Result Lexeme Fault)
+pending_by due.Lines h ls = layout_lexemes h.text.now (context_of h.levels) ls
+pending_by due.Line h ls =
+    give (dedents h.dedents h.mark) (give (indents h.indent h.mark) (give (left_of h) (Ok (end_of_line h.end) ∷ layout_lexemes h.text.now (context_of h.levels) ls)))
+pending_by due.End h ls = give (dedents h.dedents h.mark) (Ok (mark End (length h.text.now)) ∷ [])
+pending_by due.Nothing h ls = []
+
+-- the same, by what is due
+abbrev pub pending : Hand → List (Result LogicalLine Fault) → List (Result Lexeme Fault)
+pending h ls = pending_by h.due h ls
+
+-- whether lines may still be asked for
+abbrev pub asks : Due → Bool
+asks due.Lines = true
+asks due.Line = true
+asks due.End = false
+asks due.Nothing = false
+
+-- whether a token is at hand
+abbrev pub has_token : Due → Bool
+has_token due.Lines = false
+has_token due.Line = true
+has_token due.End = true
+has_token due.Nothing = false
+
+-- how many tokens are at hand
+abbrev pub count_at : Due → Hand → ℕ
+count_at due.Lines h = 0
+count_at due.Line h = h.dedents + ((if h.indent then 1 else 0) + (into_iter_len h.tokens + 1))
+count_at due.End h = h.dedents + 1
+count_at due.Nothing h = 0
+
+-- the same, by what is due
+abbrev pub at_hand : Hand → ℕ
+at_hand h = count_at h.due h

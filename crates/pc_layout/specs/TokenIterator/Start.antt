@@ -1,0 +1,14 @@
+-- The iterator of tokens before its first token.
+use Rattle.std.specs.Prelude.{◌≡◌, ℕ, List, Result}
+use Rattle.pc_source.specs.declared.fault.Fault.{Fault}
+use Rattle.pc_token.specs.Lexeme.{LogicalLine}
+use Rattle.pc_layout.specs.Stepping.{layout_lexemes, start}
+use Rattle.pc_layout.specs.TokenIterator.PendingTokens.{pending}
+use Rattle.pc_layout.specs.declared.hand.Due.TheVariants.{Lines}
+use Rattle.pc_layout.specs.declared.toks.Toks.{Toks}
+
+-- nothing came yet: all tokens of the lines that are left in the iterator of lines
+pub record IsAtStart {I : Type 0} (text : List ℕ) (lines : I) (toks : Toks I) : Type 0 where
+  pub over : toks.lines ≡ lines
+  pub due : toks.hand.due ≡ Lines
+  pub tokens : (ls : List (Result LogicalLine Fault)) → pending toks.hand ls ≡ layout_lexemes text start ls

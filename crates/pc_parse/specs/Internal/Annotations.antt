@@ -1,0 +1,109 @@
+-- What the functions promise that read annotations.
+use Rattle.std.specs.Prelude.{ℕ, ◌≡◌, ◌≤◌, ◌<◌, List, [], ◌∷◌, Option, Result, MatchResult, min}
+use Rattle.std.specs.Iterator.{Count}
+use Rattle.pc_source.specs.declared.fault.Fault.{Fault}
+use Rattle.pc_source.specs.declared.place.Place.{Place}
+use Rattle.pc_token.specs.declared.token.Token.{Token}
+use Rattle.pc_token.specs.Lexeme.{Lexeme}
+use Rattle.pc_tree.specs.declared.tree.Ann.{Ann as RustAnn}
+use Rattle.pc_tree.specs.declared.tree.Name.{Name as RustName}
+use Rattle.pc_tree.specs.Tree.{Name, name_of, Ann, Anns, no_anns, more_anns, ann_of}
+use Rattle.pc_tree.specs.Depth.{depth_of_ann, depth_over_anns, place_of_ann}
+use Rattle.pc_tree.specs.Grammar.{span}
+use Rattle.pc_tree.specs.Machine.{at}
+use Rattle.pc_tree.specs.Machine.States.{AnnStack, ann_inside, State, part_due, part_read, argument_due}
+use Rattle.pc_parse.specs.declared.annotation.Annotation.{Annotation}
+use Rattle.pc_parse.specs.declared.annotation.Annotations.{Annotations}
+use Rattle.pc_reader.specs.declared.reader.Reader.{Reader}
+use Rattle.pc_reader.specs.Internal.Operands.{Starts, Ends}
+use Rattle.pc_reader.specs.Reading.{Blames, Came, Onward, IsReady, left_in}
+
+-- all of an annotation that these tokens spell, but for a tree that is too deep, of which that it is too deep
+pub record KeepsAnn (o : Annotation) (a : Ann) (ts : List Lexeme) : Type 0 where
+  pub starts : Starts ts o.place.start
+  pub ends : Ends ts o.place.end
+  pub first : o.place.start ≡ (place_of_ann a).start
+  pub depth : o.depth ≡ min 65 (depth_of_ann a)
+  pub kept : o.depth ≤ 64 → ann_of o.ann ≡ a
+
+-- the trees of a list of annotations
+abbrev pub anns_in : List RustAnn → Anns
+anns_in [] = no_anns
+anns_in (a ∷ rest) = more_anns (ann_of a) (anns_in rest)
+
+-- the annotations, unless one is so deep that the node over them is too deep
+pub record KeepsAnns (o : Annotations) (anns : Anns) : Type 0 where
+  pub depth : o.depth ≡ min 65 (depth_over_anns anns)
+  pub kept : o.depth ≤ 64 → anns_in o.anns.items ≡ anns
+
+-- the annotation that tokens between these bytes spell
+abbrev pub MakesAnn : Annotation → (Place → Ann) → ℕ → ℕ → Type 0
+MakesAnn o make start end = (ts : List Lexeme) → Starts ts start → Ends ts end → KeepsAnn o (make (span ts)) ts
+
+-- a state behind a name and its bracket, with the tokens of the part so far, the parts before and their tokens
+abbrev pub Opened : Type 0
+Opened = (head : Name) (tokens : List Lexeme) (parts : Anns) (before : List Lexeme) (s : AnnStack) → State
+
+module _ {X I : Type 0} (text : X → List ℕ) (steps : I → Option (Result (Token X) Fault) → I → Type 0) (can : I → Type 0) (left : I → Count) where
+  -- an annotation was read
+  pub record GivesUnion (a b : Reader X I) (o : Annotation) : Type 0 where
+    pub tree : Ann
+    pub tokens : List Lexeme
+    pub keeps : KeepsAnn o tree tokens
+    pub ready : IsReady can left b
+    pub later : left_in left b < left_in left a
+    pub leads : (s : AnnStack) → Onward text steps a b (at (part_due no_anns [] s)) (at (part_read tree tokens no_anns [] s))
+
+  -- an annotation was read, or the refusal is that to which the tokens lead
+  abbrev pub ReadsUnion : Reader X I → Reader X I → Result Annotation Fault → Type 0
+  ReadsUnion a b r = MatchResult r (λ o. GivesUnion a b o) (λ e. Blames e (λ x. (s : AnnStack) → Came text steps a (at (part_due no_anns [] s)) x))
+
+  -- a part was read, behind any other parts of its union
+  pub record GivesPart (a b : Reader X I) (o : Annotation) : Type 0 where
+    pub tree : Ann
+    pub tokens : List Lexeme
+    pub keeps : KeepsAnn o tree tokens
+    pub ready : IsReady can left b
+    pub later : left_in left b < left_in left a
+    pub leads : (parts : Anns) (before : List Lexeme) (s : AnnStack) → Onward text steps a b (at (part_due parts before s)) (at (part_read tree tokens parts before s))
+
+  -- a part was read, or the refusal is that to which the tokens lead
+  abbrev pub ReadsPart : Reader X I → Reader X I → Result Annotation Fault → Type 0
+  ReadsPart a b r = MatchResult r (λ o. GivesPart a b o)
+      (λ e. Blames e (λ x. (parts : Anns) (before : List Lexeme) (s : AnnStack) → Came text steps a (at (part_due parts before s)) x))
+
+  -- what stands behind a name and its bracket was read, after these tokens of the part
+  pub record AppliesOn (from : Opened) (a b : Reader X I) (o : Annotation) (head : Name) (ts : List Lexeme) : Type 0 where
+    pub tree : Ann
+    pub tokens : List Lexeme
+    pub keeps : KeepsAnn o tree tokens
+    pub leads : (parts : Anns) (before : List Lexeme) (s : AnnStack) → Onward text steps a b (at (from head ts parts before s)) (at (part_read tree tokens parts before s))
+
+  -- what stands behind a name and its bracket was read, whatever tokens of the part begin with the name
+  pub record GivesApplied (from : Opened) (a b : Reader X I) (head : RustName) (o : Annotation) : Type 0 where
+    pub ready : IsReady can left b
+    pub later : left_in left b < left_in left a
+    pub applies : (ts : List Lexeme) → Starts ts head.place.start → AppliesOn from a b o (name_of head) ts
+
+  -- what stands behind a name and its bracket was read, or the refusal is that to which the tokens lead
+  abbrev pub ReadsApplied : Opened → Reader X I → Reader X I → RustName → Result Annotation Fault → Type 0
+  ReadsApplied from a b head r = MatchResult r (λ o. GivesApplied from a b head o)
+      (λ e. Blames e (λ x. (ts : List Lexeme) → Starts ts head.place.start → (parts : Anns) (before : List Lexeme) (s : AnnStack) → Came text steps a (at (from (name_of head) ts parts before s)) x))
+
+  -- parts with `|` behind each were read
+  pub record PartsSoFar (a b : Reader X I) (now : Annotations) (start : ℕ) : Type 0 where
+    pub first : Ann
+    pub rest : Anns
+    pub tokens : List Lexeme
+    pub keeps : KeepsAnns now (more_anns first rest)
+    pub starts : Starts tokens start
+    pub leads : (s : AnnStack) → Onward text steps a b (at (part_due no_anns [] s)) (at (part_due (more_anns first rest) tokens s))
+
+  -- arguments with a comma behind each were read
+  pub record ArgumentsSoFar (a b : Reader X I) (now : Annotations) (head : RustName) (ts : List Lexeme) : Type 0 where
+    pub arguments : Anns
+    pub tokens : List Lexeme
+    pub keeps : KeepsAnns now arguments
+    pub starts : Starts tokens head.place.start
+    pub leads : (parts : Anns) (before : List Lexeme) (s : AnnStack)
+        → Onward text steps a b (at (argument_due (name_of head) ts parts before s)) (at (part_due no_anns [] (ann_inside (name_of head) arguments tokens parts before s)))

@@ -1,0 +1,79 @@
+-- What the parser promises of whole expressions and annotations, and where the first begins that is too deep.
+use Rattle.std.specs.Prelude.{ℕ, ◌≡◌, ◌<◌, List, [], ◌∷◌, Option, Some, None, Result, MatchResult}
+use Rattle.std.specs.Iterator.{Count}
+use Rattle.pc_source.specs.declared.fault.Fault.{Fault}
+use Rattle.pc_token.specs.declared.token.Token.{Token}
+use Rattle.pc_token.specs.declared.token.TokenKind.{TokenKind}
+use Rattle.pc_tree.specs.declared.tree.Ann.{Ann as RustAnn}
+use Rattle.pc_tree.specs.Tree.{Ann, no_anns, ann_of}
+use Rattle.pc_tree.specs.Depth.{Whole, whole_expr, whole_ann, first_too_deep}
+use Rattle.pc_tree.specs.Grammar.{first_place}
+use Rattle.pc_tree.specs.Machine.{at, turn, stop_at, short}
+use Rattle.pc_tree.specs.Machine.Kinds.{Follow, ends, follow_of, Ending, no_ending}
+use Rattle.pc_tree.specs.Machine.States.{Part, ExpressionPosition, AnnotationPosition, whole, ann_whole, State, part_due, operand, have}
+use Rattle.pc_tree.specs.Machine.Finishing.{finish, finish_ann}
+use Rattle.pc_reader.specs.declared.operand.Operand.{Operand}
+use Rattle.pc_parse.specs.declared.parser.Parser.{Parser}
+use Rattle.pc_reader.specs.Internal.Operands.{KeepsPart}
+use Rattle.pc_reader.specs.Reading.{Blames, Came, Onward, IsReady, lexeme, left_in}
+
+-- ---- the first that is too deep
+
+-- the first of two bytes that is there
+abbrev pub sooner : Option ℕ → Option ℕ → Option ℕ
+sooner (Some byte) later = Some byte
+sooner None later = later
+
+-- after these whole expressions and annotations were read
+abbrev pub deep_after : Option ℕ → List Whole → Option ℕ
+deep_after deep ws = sooner deep (first_too_deep ws)
+
+-- What a value of the program keeps of a tree, with the first byte of what is too deep before and after it was read:
+-- the tree itself, unless something was too deep by then.
+pub record KeepsTree {V T : Type 0} (of : V → T) (wholes : T → List Whole) (before after : Option ℕ) (value : V) (tree : T) : Type 0 where
+  pub deep : after ≡ deep_after before (wholes tree)
+  pub kept : after ≡ None → of value ≡ tree
+
+-- ---- whole expressions and annotations
+
+-- what of a token may end a whole expression
+abbrev pub ending_in : Follow → Ending
+ending_in (ends e) = e
+ending_in _ = no_ending
+
+-- what of a token of this kind may end a whole expression
+abbrev pub ending_of : TokenKind → Ending
+ending_of k = ending_in (follow_of k)
+
+module _ {X I : Type 0} (text : X → List ℕ) (steps : I → Option (Result (Token X) Fault) → I → Type 0) (can : I → Type 0) (left : I → Count) where
+  -- a whole expression was read, and noted
+  pub record GivesWhole (a b : Parser X I) (o : Operand) : Type 0 where
+    pub part : Part
+    pub keeps : KeepsPart o part
+    pub begins : (t : Token X) → a.reader.ahead ≡ Some t → first_place part.tokens ≡ t.place
+    pub deep : b.deep ≡ deep_after a.deep (whole_expr part.tree ∷ [])
+    pub ready : IsReady can left b.reader
+    pub later : left_in left b.reader < left_in left a.reader
+    pub leads : (c : ExpressionPosition) → Onward text steps a.reader b.reader (at (operand (whole c))) (at (have o.level part (whole c)))
+    -- what comes behind it
+    pub goes : (c : ExpressionPosition) (t : Token X) → b.reader.ahead ≡ Some t → turn (have o.level part (whole c)) (lexeme text t) t.kind ≡ finish c part (ending_of t.kind)
+
+  -- a whole expression was read, or the refusal is that to which the tokens lead
+  abbrev pub ReadsWhole : Parser X I → Parser X I → Result Operand Fault → Type 0
+  ReadsWhole a b r = MatchResult r (λ o. GivesWhole a b o) (λ e. Blames e (λ o. (c : ExpressionPosition) → Came text steps a.reader (at (operand (whole c))) o))
+
+  -- a whole annotation was read, and noted
+  pub record GivesAnn (a b : Parser X I) (n : RustAnn) : Type 0 where
+    pub annotation : Ann
+    pub keeps : KeepsTree ann_of (λ x. whole_ann x ∷ []) a.deep b.deep n annotation
+    pub ready : IsReady can left b.reader
+    pub later : left_in left b.reader < left_in left a.reader
+    -- the state behind its last token
+    pub behind : AnnotationPosition → State
+    pub unfinished : (c : AnnotationPosition) → stop_at (behind c) ≡ short
+    pub leads : (c : AnnotationPosition) → Onward text steps a.reader b.reader (at (part_due no_anns [] (ann_whole c))) (at (behind c))
+    pub goes : (c : AnnotationPosition) (t : Token X) → b.reader.ahead ≡ Some t → turn (behind c) (lexeme text t) t.kind ≡ finish_ann c annotation t.kind
+
+  -- a whole annotation was read, or the refusal is that to which the tokens lead
+  abbrev pub ReadsAnn : Parser X I → Parser X I → Result RustAnn Fault → Type 0
+  ReadsAnn a b r = MatchResult r (λ n. GivesAnn a b n) (λ e. Blames e (λ o. (c : AnnotationPosition) → Came text steps a.reader (at (part_due no_anns [] (ann_whole c))) o))

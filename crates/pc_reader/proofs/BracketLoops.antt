@@ -1,0 +1,43 @@
+-- What loops over the parts of a bracket have read so far.
+use Rattle.std.specs.Prelude.{ℕ, ◌≡◌, true, List, ◌++◌, Option, Some, Result}
+use Rattle.std.specs.Iterator.{Count}
+use Rattle.pc_source.specs.declared.fault.Fault.{Fault}
+use Rattle.pc_token.specs.declared.token.Token.{Token}
+use Rattle.pc_token.specs.declared.token.TokenKind.TheVariants as kind
+use Rattle.pc_token.specs.declared.token.Operator.TheVariants as sign
+use Rattle.pc_token.specs.Lexeme.{Lexeme}
+use Rattle.pc_tree.specs.Tree.{Name, Expr, Exprs, Entries as EntryTrees, Keywords as KeywordTrees, no_keywords}
+use Rattle.pc_tree.specs.Grammar.{first_place}
+use Rattle.pc_tree.specs.Machine.{at}
+use Rattle.pc_tree.specs.Machine.States.{Head, Stack, operand, item_due, key_due, naming}
+use Rattle.pc_reader.specs.declared.reader.Reader.{Reader}
+use Rattle.pc_reader.specs.declared.items.Items.{Items}
+use Rattle.pc_reader.specs.declared.items.Entries.{Entries}
+use Rattle.pc_reader.specs.declared.items.Keywords.{Keywords}
+use Rattle.pc_reader.specs.Internal.Operands.{Starts}
+use Rattle.pc_reader.specs.Internal.Brackets.{KeepsItems, KeepsEntries, KeepsKeywords}
+use Rattle.pc_reader.specs.Reading.{IsAhead, Onward}
+
+module _ {X I : Type 0} (text : X → List ℕ) (steps : I → Option (Result (Token X) Fault) → I → Type 0) (can : I → Type 0) (left : I → Count) where
+  -- items after those that stood before the loop, if those were kept
+  pub record ElementsSoFar (kept : Type 0) (a b : Reader X I) (now : Items) (h : Head) (xs : Exprs) (ts : List Lexeme) : Type 0 where
+    pub items : Exprs
+    pub more : List Lexeme
+    pub keeps : kept → KeepsItems now items
+    pub leads : (s : Stack) → Onward text steps a b (at (item_due h xs ts s)) (at (item_due h items (ts ++ more) s))
+
+  -- entries, from the opening brace on
+  pub record EntriesSoFar (a b : Reader X I) (start : ℕ) (now : Entries) : Type 0 where
+    pub entries : EntryTrees
+    pub tokens : List Lexeme
+    pub starts : Starts tokens start
+    pub begins : (t : Token X) → a.ahead ≡ Some t → first_place tokens ≡ t.place
+    pub keeps : KeepsEntries now entries
+    pub leads : (s : Stack) → IsAhead (kind.Operator sign.LeftBrace) a.ahead ≡ true → Onward text steps a b (at (operand s)) (at (key_due entries tokens s))
+
+  -- arguments by name, and the name of the next one
+  pub record NamesSoFar (a b : Reader X I) (first : Name) (now : Keywords) (next : Name) (e : Expr) (xs : Exprs) (ts : List Lexeme) : Type 0 where
+    pub arguments : KeywordTrees
+    pub more : List Lexeme
+    pub keeps : KeepsKeywords now arguments
+    pub leads : (s : Stack) → Onward text steps a b (at (operand (naming e xs no_keywords first ts s))) (at (operand (naming e xs arguments next (ts ++ more) s)))

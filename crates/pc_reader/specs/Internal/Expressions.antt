@@ -1,0 +1,231 @@
+-- What the functions promise that read expressions.
+use Rattle.std.specs.Prelude.{ℕ, ◌≡◌, ◌≤◌, ◌<◌, ◌⊎◌, Bool, true, false, List, [], ◌∷◌, ◌++◌, Option, Some, None, Result, MatchOption, MatchResult, Vec}
+use Rattle.std.specs.declared.alloc.Global.{Global}
+use Rattle.std.specs.Iterator.{Count}
+use Rattle.pc_source.specs.declared.fault.Fault.{Fault}
+use Rattle.pc_token.specs.declared.token.Token.{Token}
+use Rattle.pc_token.specs.declared.token.TokenKind.TheVariants as kind
+use Rattle.pc_token.specs.declared.token.Keyword.TheVariants as word
+use Rattle.pc_token.specs.declared.token.Operator.TheVariants as sign
+use Rattle.pc_token.specs.Lexeme.{Lexeme}
+use Rattle.pc_token.specs.declared.token.Operator.{Operator as Bracket}
+use Rattle.pc_tree.specs.declared.tree.Name.{Name as RustName}
+use Rattle.pc_tree.specs.Tree.{Name, Expr, Exprs, Keywords, no_keywords, name_of}
+use Rattle.pc_tree.specs.Grammar.{name_at, first_place}
+use Rattle.pc_tree.specs.Machine.{at}
+use Rattle.pc_tree.specs.Machine.Kinds.{Infix as Operator, Link as Joint, Follow, link, a_dot, calls, indexes, follow_of, Start, a_name, a_number, a_string, a_truth, a_none, start_of}
+use Rattle.pc_tree.specs.Machine.States.{Part, Prefix as Sign, minus, denial, Head, in_tuple, in_list, in_call, Stack, joining, naming, State, item_due, operand, have, identified, go}
+use Rattle.pc_tree.specs.Machine.Expressions.{rank, own_of, own_of_link, left_of_link, prefix_level, head_tree, call_part, operand_turn}
+use Rattle.pc_reader.specs.declared.reader.Reader.{Reader}
+use Rattle.pc_reader.specs.declared.operand.Operand.{Operand}
+use Rattle.pc_reader.specs.declared.operand.Infix.{Infix}
+use Rattle.pc_reader.specs.declared.items.Items.{Items}
+use Rattle.pc_reader.specs.declared.items.Listed.{Listed}
+use Rattle.pc_reader.specs.declared.items.Arguments.{Arguments}
+use Rattle.pc_reader.specs.Internal.Brackets.{KeepsItems, KeepsKeywords}
+use Rattle.pc_reader.specs.Internal.Operands.{KeepsPart, Ends, infix_of, signs_on, starts_of, applied_all}
+use Rattle.pc_reader.specs.Reading.{Blames, Came, Onward, IsReady, IsAhead, NeedsKind, Takes, lexeme, left_in}
+
+-- a link that does not go on with an operand of a level, where one that binds as `need` is due
+abbrev pub Over : ℕ → ℕ → Follow → Type 0
+Over need level (link l) = (own_of_link l < need) ⊎ (level < left_of_link l)
+Over need level _ = Unit {0}
+
+-- no dot or bracket that goes on with an operand of a level
+abbrev pub Undotted : ℕ → Follow → Type 0
+Undotted level a_dot = level < 7
+Undotted level calls = level < 7
+Undotted level indexes = level < 7
+Undotted level _ = Unit {0}
+
+-- if a token is ahead, this holds of what it is after an operand
+abbrev pub NextIs : {X : Type 0} → (Follow → Type 0) → Option (Token X) → Type 0
+NextIs P None = Unit {0}
+NextIs P (Some t) = P (follow_of t.kind)
+
+-- the level behind signs
+abbrev pub wrapped_level : Sign → List Lexeme → ℕ → ℕ
+wrapped_level x [] level = level
+wrapped_level x (t ∷ ts) level = prefix_level x
+
+-- the link ahead goes on with an operand of a level, where one that binds as `need` is due
+pub record HasLink {X : Type 0} (need level : ℕ) (l : Joint) (a : Option (Token X)) : Type 0 where
+  pub token : Token X
+  pub here : a ≡ Some token
+  pub is : follow_of token.kind ≡ link l
+  pub binds : need ≤ own_of_link l
+  pub goes : left_of_link l ≤ level
+
+-- what signs ask of what stands around them
+abbrev pub TakesSign : Sign → Stack → Type 0
+TakesSign minus s = Unit {0}
+TakesSign denial s = rank s ≤ 2
+
+-- where an operand without a sign is due
+pub record IsPrimary {X I : Type 0} (a : Reader X I) (s : Stack) : Type 0 where
+  pub plain : IsAhead (kind.Operator sign.Minus) a.ahead ≡ false
+  pub undenied : (2 < rank s) ⊎ (IsAhead (kind.Keyword word.Not) a.ahead ≡ false)
+
+-- where a single token is due
+pub record IsSingle {X I : Type 0} (a : Reader X I) (s : Stack) : Type 0 where
+  pub primary : IsPrimary a s
+  pub parenthesis : IsAhead (kind.Operator sign.LeftParenthesis) a.ahead ≡ false
+  pub bracket : IsAhead (kind.Operator sign.LeftBracket) a.ahead ≡ false
+  pub brace : IsAhead (kind.Operator sign.LeftBrace) a.ahead ≡ false
+
+-- the token is an operand by itself: a name, a number, a string, a truth value or `None`
+abbrev pub is_value_start : Start → Bool
+is_value_start a_name = true
+is_value_start a_number = true
+is_value_start a_string = true
+is_value_start (a_truth b) = true
+is_value_start a_none = true
+is_value_start _ = false
+
+-- the token ahead is an operand by itself
+abbrev pub value_ahead : {X : Type 0} → Option (Token X) → Bool
+value_ahead None = false
+value_ahead (Some t) = is_value_start (start_of t.kind)
+
+-- the value that a token is
+pub record IsValue (t : Lexeme) (o : Operand) : Type 0 where
+  pub part : Part
+  pub keeps : KeepsPart o part
+  pub begins : first_place part.tokens ≡ t.place
+  pub leads : (s : Stack) → operand_turn s t (start_of t.kind) ≡ go (have 7 part s)
+
+-- the bracket that closes items that are no arguments
+abbrev pub Closes : Head → Bracket → Type 0
+Closes in_tuple o = o ≡ sign.RightParenthesis
+Closes in_list o = o ≡ sign.RightBracket
+Closes (in_call e) o = ⊥
+
+-- some of the signs before an operand were put to it, the last ones, and the others are left
+pub record HasAppliedSigns (x : Sign) (ts : List Lexeme) (p : Part) (o : Operand) (rest : List ℕ) (o' : Operand) : Type 0 where
+  pub front : List Lexeme
+  pub back : List Lexeme
+  pub all : ts ≡ front ++ back
+  pub starts : starts_of front ≡ rest
+  pub keeps : KeepsPart o' (applied_all x back p)
+  pub level_is : o'.level ≡ wrapped_level x back o.level
+
+module _ {X I : Type 0} (text : X → List ℕ) (steps : I → Option (Result (Token X) Fault) → I → Type 0) (can : I → Type 0) (left : I → Count) where
+  -- an operand was read, on any stack of which this holds
+  pub record Gives (fits : Stack → Type 0) (level : ℕ) (a b : Reader X I) (o : Operand) : Type 0 where
+    pub part : Part
+    pub keeps : KeepsPart o part
+    pub low : level ≤ o.level
+    pub ready : IsReady can left b
+    pub later : left_in left b < left_in left a
+    pub begins : (t : Token X) → a.ahead ≡ Some t → first_place part.tokens ≡ t.place
+    pub leads : (s : Stack) → fits s → Onward text steps a b (at (operand s)) (at (have o.level part s))
+
+  -- an operand that binds at least as tightly as the level was read, or the refusal is that to which the tokens lead
+  abbrev pub ReadsOperand : (Stack → Type 0) → ℕ → Reader X I → Reader X I → Result Operand Fault → Type 0
+  ReadsOperand fits level a b r = MatchResult r (λ o. Gives fits level a b o) (λ e. Blames e (λ o. (s : Stack) → fits s → Came text steps a (at (operand s)) o))
+
+  -- a link ahead of this form
+  abbrev pub IsLink : Joint → Reader X I → Type 0
+  IsLink l a = (t : Token X) → a.ahead ≡ Some t → follow_of t.kind ≡ link l
+
+  -- an operator between two operands was read
+  pub record GivesInfix (l : Joint) (a b : Reader X I) (op : Operator) : Type 0 where
+    pub tokens : List Lexeme
+    pub own : own_of op ≡ own_of_link l
+    pub ready : IsReady can left b
+    pub later : left_in left b < left_in left a
+    pub leads : IsLink l a → (level : ℕ) (p : Part) (s : Stack) → left_of_link l ≤ level → rank s ≤ own_of_link l → Onward text steps a b (at (have level p s)) (at (operand (joining op p tokens s)))
+
+  -- `is` was read
+  pub record GivesIs (l : Joint) (a b : Reader X I) : Type 0 where
+    pub token : Lexeme
+    pub own : own_of_link l ≡ 3
+    pub ready : IsReady can left b
+    pub later : left_in left b < left_in left a
+    pub leads : IsLink l a → (level : ℕ) (p : Part) (s : Stack) → left_of_link l ≤ level → rank s ≤ own_of_link l → Onward text steps a b (at (have level p s)) (at (identified p (token ∷ []) s))
+
+  -- an operator between two operands, or `is`, was read, or the refusal is that to which the tokens lead
+  abbrev pub ReadsInfix : Joint → Reader X I → Reader X I → Result (Option Infix) Fault → Type 0
+  ReadsInfix l a b r = MatchResult r (λ i. MatchOption i (GivesIs l a b) (λ op. GivesInfix l a b (infix_of op)))
+      (λ e. Blames e (λ o. IsLink l a → (level : ℕ) (p : Part) (s : Stack) → left_of_link l ≤ level → rank s ≤ own_of_link l → Came text steps a (at (have level p s)) o))
+
+  -- an operand goes on, from states that follow it
+  pub record OperandGoesOn {K : Type 0} (st : K → Part → Stack → State) (level : ℕ) (a b : Reader X I) (o o' : Operand) (k : K) (p : Part) : Type 0 where
+    pub part : Part
+    pub keeps : KeepsPart o' part
+    pub begins : first_place part.tokens ≡ first_place p.tokens
+    pub leads : (s : Stack) → Onward text steps a b (at (st k p s)) (at (have level part s))
+
+  -- what goes on with an operand was read, and makes it one of this level
+  pub record GivesOn {K : Type 0} (st : K → Part → Stack → State) (level : ℕ) (a b : Reader X I) (o o' : Operand) : Type 0 where
+    pub level_is : o'.level ≡ level
+    pub ready : IsReady can left b
+    pub later : left_in left b < left_in left a
+    pub goes : (k : K) (p : Part) → KeepsPart o p → OperandGoesOn st level a b o o' k p
+
+  -- what goes on with an operand was read, or the refusal is that to which the tokens lead
+  abbrev pub ReadsOn : {K : Type 0} (st : K → Part → Stack → State) → ℕ → Reader X I → Reader X I → Operand → Result Operand Fault → Type 0
+  ReadsOn {K} st level a b o r = MatchResult r (λ o'. GivesOn st level a b o o') (λ e. Blames e (λ x. (k : K) (p : Part) (s : Stack) → KeepsPart o p → Came text steps a (at (st k p s)) x))
+
+  -- signs were read
+  pub record GivesSigns (x : Sign) (a b : Reader X I) (signs : List ℕ) : Type 0 where
+    pub tokens : List Lexeme
+    pub starts : starts_of tokens ≡ signs
+    pub ready : IsReady can left b
+    pub later : left_in left b ≤ left_in left a
+    pub same : signs ≡ [] → b.ahead ≡ a.ahead
+    pub begins : (us : List Lexeme) → ((t : Token X) → b.ahead ≡ Some t → first_place us ≡ t.place) → (t : Token X) → a.ahead ≡ Some t → first_place (tokens ++ us) ≡ t.place
+    pub leads : (s : Stack) → TakesSign x s → Onward text steps a b (at (operand s)) (at (operand (signs_on x tokens s)))
+
+  -- signs were read, or the refusal is that to which the tokens lead
+  abbrev pub ReadsSigns : Sign → Reader X I → Reader X I → Result (Vec ℕ Global) Fault → Type 0
+  ReadsSigns x a b r = MatchResult r (λ v. GivesSigns x a b v.items) (λ e. Blames e (λ o. (s : Stack) → TakesSign x s → Came text steps a (at (operand s)) o))
+
+  -- a name was read
+  pub record GivesName (a b : Reader X I) (n : RustName) : Type 0 where
+    pub token : Token X
+    pub takes : Takes text steps can left a b token
+    pub is : token.kind ≡ kind.Name
+    pub name : name_of n ≡ name_at (lexeme text token)
+
+  -- a name was read, or the refusal is that to which the tokens lead from where one is due
+  abbrev pub ReadsName : Reader X I → Reader X I → Result RustName Fault → Type 0
+  ReadsName a b r = MatchResult r (λ n. GivesName a b n) (λ e. Blames e (λ o. (st : State) → NeedsKind text kind.Name st a → Came text steps a (at st) o))
+
+  -- items were read after others, up to the bracket that closes them
+  pub record ListsOn (a b : Reader X I) (l : Listed) (h : Head) (xs : Exprs) (ts : List Lexeme) : Type 0 where
+    pub items : Exprs
+    pub more : List Lexeme
+    pub keeps : KeepsItems l.items items
+    pub ends : Ends more l.end
+    pub leads : (s : Stack) → Onward text steps a b (at (item_due h xs ts s)) (at (have 7 (Rattle.pc_tree.specs.Machine.Expressions.part (head_tree h items) (ts ++ more)) s))
+
+  -- items were read after those already kept, up to this bracket
+  pub record GivesItems (close : Bracket) (a b : Reader X I) (some : Items) (l : Listed) : Type 0 where
+    pub ready : IsReady can left b
+    pub later : left_in left b < left_in left a
+    pub lists : (h : Head) (xs : Exprs) (ts : List Lexeme) → Closes h close → KeepsItems some xs → ListsOn a b l h xs ts
+
+  -- items were read up to this bracket, or the refusal is that to which the tokens lead
+  abbrev pub ReadsItems : Bracket → Reader X I → Reader X I → Items → Result Listed Fault → Type 0
+  ReadsItems close a b some r = MatchResult r (λ l. GivesItems close a b some l)
+      (λ e. Blames e (λ o. (h : Head) (xs : Exprs) (ts : List Lexeme) (s : Stack) → Closes h close → Came text steps a (at (item_due h xs ts s)) o))
+
+  -- arguments by name were read, up to the closing parenthesis
+  pub record NamesOn (a b : Reader X I) (l : Arguments) (e : Expr) (xs : Exprs) (ks : Keywords) (n : Name) (ts : List Lexeme) : Type 0 where
+    pub arguments : Keywords
+    pub more : List Lexeme
+    pub keeps : KeepsKeywords l.keywords arguments
+    pub ends : Ends more l.end
+    pub leads : (s : Stack) → Onward text steps a b (at (operand (naming e xs ks n ts s))) (at (have 7 (call_part e xs arguments (ts ++ more)) s))
+
+  -- arguments by name were read from behind the `=` of the first
+  pub record GivesKeywords (a b : Reader X I) (first : RustName) (l : Arguments) : Type 0 where
+    pub ready : IsReady can left b
+    pub later : left_in left b < left_in left a
+    pub names : (e : Expr) (xs : Exprs) (ts : List Lexeme) → NamesOn a b l e xs no_keywords (name_of first) ts
+
+  -- arguments by name were read up to the closing parenthesis, or the refusal is that to which the tokens lead
+  abbrev pub ReadsKeywords : Reader X I → Reader X I → RustName → Result Arguments Fault → Type 0
+  ReadsKeywords a b first r = MatchResult r (λ l. GivesKeywords a b first l)
+      (λ e. Blames e (λ o. (f : Expr) (xs : Exprs) (ts : List Lexeme) (s : Stack) → Came text steps a (at (operand (naming f xs no_keywords (name_of first) ts s))) o))

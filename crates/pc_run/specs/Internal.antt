@@ -1,0 +1,5 @@
+-- What only the contracts of private functions say: the public contracts speak of the files beside this folder.
+pub mod LastLine
+pub mod CallForms
+pub mod Items
+pub mod Nodes

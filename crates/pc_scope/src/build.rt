@@ -1,0 +1,21 @@
+//! The scopes of a module, made from its tree.
+
+ghost use Rattle.std.specs.Prelude.{IfOk};
+ghost use Rattle.pc_tree.specs.Tree.{module_of};
+ghost use Rattle.pc_scope.specs.ModuleScopes.{AreScopes};
+
+use crate::module_findings::find_all;
+use crate::module_names::names_of;
+use crate::module_scopes::Scopes;
+use pc_source::OutOfMemory;
+use pc_tree::Module;
+use std::alloc::Global as Allocator;
+
+/// The scopes of a module. Language Reference 4.2 "Naming and binding".
+pub fn scopes(alloc: Allocator, module: &Module) -> Result<Scopes, OutOfMemory>
+    ensures scopes { IfOk result (λ s. AreScopes (module_of module.now) s) }
+{
+    let names = names_of(alloc, module)?;
+    let found = find_all(alloc, &names, module)?;
+    Ok(Scopes { names, found })
+}

@@ -1,0 +1,54 @@
+//! The scopes of a module.
+
+ghost use Rattle.std.specs.Prelude.{◌≡◌, ◌↔◌, length, Contains};
+ghost use Rattle.pc_tree.specs.Tree.{Module as Tree};
+ghost use Rattle.pc_tree.specs.declared.code.Finding.{Finding as FindingOf};
+ghost use Rattle.pc_scope.specs.Resolution.{resolve, locals_of};
+ghost use Rattle.pc_scope.specs.Findings.{ScopeFinds};
+ghost use Rattle.pc_scope.specs.Tables.{meaning_by_tables};
+ghost use Rattle.pc_scope.specs.ModuleScopes.{ModuleScopes, AreScopes};
+
+use crate::resolution::{Owner, Res};
+use crate::tables::Names;
+use pc_tree::Findings;
+use std::marker::Model;
+
+/// The scopes of a module: what each name of it means, and what is found of its names and of the places of its statements.
+#[derive(Drop)]
+pub struct Scopes {
+    pub(crate) names: Names,
+    pub(crate) found: Findings,
+}
+
+impl Model for Scopes {
+    ghost Value = { ModuleScopes };
+
+    ghost view = { λ s. record { tables = s.names; findings = s.found.items } };
+}
+
+impl Scopes {
+    /// What a name means to its owner, the module or a function or method of it; the name is in the normal form NFKC.
+    /// Language Reference 4.2.2 "Resolution of names".
+    pub fn resolve(&self, owner: Owner, name: &str) -> Res
+        ensures by_tables { result ≡ meaning_by_tables self.now.tables owner name.now }
+        ensures resolved { (m : Tree) → AreScopes m self.now → result ≡ resolve m owner name.now }
+    {
+        self.names.mean(owner, name)
+    }
+
+    /// How many locals an owner has, the module or a function or method of it: they are numbered from 0.
+    /// Language Reference 4.2.1 "Binding of names".
+    pub fn count_locals(&self, owner: Owner) -> usize
+        ensures { (m : Tree) → AreScopes m self.now → result ≡ length (locals_of m owner) }
+    {
+        self.names.count_locals(owner)
+    }
+
+    /// What is found of the module's names and of the places of its statements, in any order: E01, E02, E03, E05, E28,
+    /// E29, E30, E31. Own rules of the profile.
+    pub fn findings(&self) -> &Findings
+        ensures found { (m : Tree) → AreScopes m self.now → (f : FindingOf) → Contains result.now.items f ↔ ScopeFinds m f }
+    {
+        &self.found
+    }
+}

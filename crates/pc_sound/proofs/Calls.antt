@@ -1,0 +1,21 @@
+-- Calls: callees, arguments, frames, methods and built-ins.
+pub mod Arguments
+pub mod LabelledArguments
+pub mod FilledParameters
+pub mod EntryFrames
+pub mod EnteredFunctions
+pub mod SuitedCalls
+pub mod OrdinaryCalls
+pub mod BuiltIns
+pub mod BuiltInMethods
+pub mod InstanceCalls
+pub mod KnownTests
+pub mod OverridesFit
+pub mod RunTimeMethods
+pub mod CallOffers
+pub mod CallRules
+pub mod CallNodes
+pub mod MethodNodes
+pub mod ValueCalls
+pub mod BodyCalls
+pub mod InitializerCalls

@@ -1,0 +1,318 @@
+-- What is found, as a list: of each rule that says what is found the findings that are so, and no others.
+use Rattle.std.proofs.Common.{◌≡◌, ℕ, zero, suc, ◌<◌, List, [], ◌∷◌, ◌++◌, refl, sym, subst, inl, inr, arith, Contains, ap, ◌∙◌}
+use Rattle.std.specs.Prelude.{◌⊎◌, Bool as Test, true, false, nat_le, Option, Some, None, MatchOption, slice_index_or}
+use Rattle.std.proofs.lemmas.List.Elements.{Contains-append_left, Contains-append_right, Contains-append_cases}
+use Rattle.std.proofs.lemmas.Bool.Decides.{nat_tests}
+use Rattle.std.proofs.lemmas.Option.{same_Some}
+use Rattle.pc_source.specs.declared.place.Place.{Place}
+use Rattle.pc_tree.specs.declared.code.Code.{Code}
+use Rattle.pc_tree.specs.declared.code.Code.TheVariants.{E09, E10, E24, E26}
+use Rattle.pc_tree.specs.declared.code.Finding.{Finding}
+use Rattle.pc_tree.specs.Code.{finding}
+use Rattle.pc_tree.specs.Tree as tree
+use Rattle.pc_tree.specs.Tree.{Name, Expr, Exprs, Entries, Keywords, name, number, text, truth, nothing, tuple, list, dict, negative, negation, binary, compare, is_none, is_not_none, conjunction, disjunction, attribute, index, call, no_exprs, more_exprs, no_entries, more_entries, no_keywords, more_keywords, Ann, Anns, named, none_type, applied, applied_empty, no_anns, more_anns, Literal, Target, to_name, to_attribute, to_index, Stmt, Stmts, Branches, pass, breaks, continues, returns, asserts, annotated, assigns, evaluates, while_loop, for_loop, conditional, no_stmts, more_stmts, no_branches, more_branches, Param, FuncDef, Member, field_member, method_member, Item, constant_item, class_item, def_item, Module}
+use Rattle.pc_tree.specs.Stopping.{bound_by_stmt, bound_by, bound_by_branches}
+use Rattle.pc_tree.specs.Depth.{place_of_ann, place_of}
+use Rattle.pc_scope.specs.declared.resolution.Owner.{Owner}
+use Rattle.pc_scope.specs.declared.resolution.Owner.TheVariants as owners
+use Rattle.pc_scope.specs.declared.resolution.Res.{Res}
+use Rattle.pc_scope.specs.declared.resolution.Res.TheVariants as res
+use Rattle.pc_scope.specs.Bindings.{texts}
+use Rattle.pc_scope.specs.Resolution.{locals, resolve_in_module}
+use Rattle.pc_scope.specs.Reach.{completes}
+use Rattle.pc_scope.specs.Expressions.{is_instance_test}
+use Rattle.pc_types.specs.Tree.{Tree}
+use Rattle.pc_types.specs.Below.{Bases}
+use Rattle.pc_types.specs.Shape.{nodes, node_limit}
+use Rattle.pc_types.specs.Annotations as ann
+use Rattle.pc_types.specs.Annotations.{named_type, applied_type, empty_type, union_type, reading, readings, PartFinds, PartsFind, IsTooLarge, AnnFinds}
+use Rattle.pc_class.specs.Bases.{bases_of}
+use Rattle.pc_expr.specs.Operations.{FlowMark}
+use Rattle.pc_expr.specs.Context.{Context}
+use Rattle.pc_expr.specs.Labels.{FlowMarks, Marks, ItemsMarks, EntriesMarks, KeywordsMarks, IsFoundAt, IsFlowAt, IsCodeAt, second_place, Finds, ItemsFind, ArgumentsFind, EntriesFind, KeywordsFind}
+use Rattle.pc_expr.specs.Signatures.{body_context, literal_place, DefaultFinds, ParamsMarks, ParamsFind}
+use Rattle.pc_check.specs.StatementLabels.{OptionMarks, TargetMarks, Behind, BehindRule, StmtMarks, SuiteMarks, BranchesMarks}
+use Rattle.pc_check.specs.Statements.{NamesBound, is_first, option_place, OptionFinds, TargetFinds, AnnotationFinds, StmtFinds, SuiteFinds, BranchesFind}
+use Rattle.pc_check.specs.Modules as modules
+use Rattle.pc_check.specs.Modules.{FunctionMarks, FunctionFinds, names_entered, entry_parameters, MembersMarks, MembersFind, ItemMarks, BeforeItem, before_next, ItemFinds}
+use Rattle.pc_sound.proofs.Lists.{among_first, first_among, later_among, none_among}
+
+-- what is found by a rule, as a list
+pub record Listing (P : Finding → Type 0) : Type 0 where
+  pub all : List Finding
+  pub into : (f : Finding) → P f → Contains all f
+  pub from : (f : Finding) → Contains all f → P f
+
+-- ---- lists
+
+pub alone : {A : Type 0} (x y : A) → Contains (x ∷ []) y → x ≡ y
+alone {A} x y c = go c.0 c.1 c.2
+  where
+    go : (k : ℕ) → k < 1 → slice_index_or (x ∷ []) k y ≡ y → x ≡ y
+    go zero less is = is
+    go (suc k) less is = absurd (omega (arith, less))
+
+-- ---- what is found nowhere, at one place, by two rules
+
+abbrev pub none_listed : {P : Finding → Type 0} → ((f : Finding) → P f → ⊥) → Listing P
+none_listed never = record { all = []; into = λ f h. absurd (never f h); from = λ f c. absurd (none_among f c) }
+
+abbrev pub nothing_listed : Listing (λ f. ⊥)
+nothing_listed = none_listed (λ f h. h)
+
+pub equal_into : (g f : Finding) → f ≡ g → Contains (g ∷ []) f
+equal_into g f e = subst (λ x. Contains (g ∷ []) x) (sym e) (first_among g [])
+
+abbrev pub equal_listed : (g : Finding) → Listing (λ f. f ≡ g)
+equal_listed g = record { all = g ∷ []; into = equal_into g; from = λ f c. sym (alone g f c) }
+
+pub both_into : {P Q : Finding → Type 0} (p : Listing P) (q : Listing Q) (f : Finding) → P f ⊎ Q f → Contains (p.all ++ q.all) f
+both_into p q f (inl h) = Contains-append_left p.all q.all f (p.into f h)
+both_into p q f (inr h) = Contains-append_right p.all q.all f (q.into f h)
+
+pub both_from : {P Q : Finding → Type 0} (p : Listing P) (q : Listing Q) (f : Finding) → Contains (p.all ++ q.all) f → P f ⊎ Q f
+both_from p q f c = elim (Contains-append_cases p.all q.all f c) [ inl a ↦ inl (p.from f a) | inr b ↦ inr (q.from f b) ]
+
+abbrev pub both_listed : {P Q : Finding → Type 0} → Listing P → Listing Q → Listing (λ f. P f ⊎ Q f)
+both_listed p q = record { all = p.all ++ q.all; into = both_into p q; from = both_from p q }
+
+-- the same by another rule
+abbrev pub like : {P Q : Finding → Type 0} → Listing P → ((f : Finding) → P f → Q f) → ((f : Finding) → Q f → P f) → Listing Q
+like p to back = record { all = p.all; into = λ f h. p.into f (back f h); from = λ f c. to f (p.from f c) }
+
+-- ---- what stands at a place
+
+abbrev pub at_codes : Place → List Code → List Finding
+at_codes p [] = []
+at_codes p (c ∷ cs) = finding p c ∷ at_codes p cs
+
+code_into : (p : Place) (cs : List Code) (code : Code) → Contains cs code → Contains (at_codes p cs) (finding p code)
+code_into p [] code c = absurd (none_among code c)
+code_into p (d ∷ cs) code c = elim (among_first d cs code c) [
+  | inl a ↦ subst (λ x. Contains (finding p d ∷ at_codes p cs) (finding p x)) a (first_among (finding p d) (at_codes p cs))
+  | inr b ↦ later_among (finding p d) (at_codes p cs) (finding p code) (code_into p cs code b)
+]
+
+pub found_into : (p : Place) (cs : List Code) (f : Finding) → IsFoundAt p cs f → Contains (at_codes p cs) f
+found_into p cs f h = subst (λ x. Contains (at_codes p cs) x) (sym h.is) (code_into p cs h.code h.among)
+
+pub found_from : (p : Place) (cs : List Code) (f : Finding) → Contains (at_codes p cs) f → IsFoundAt p cs f
+found_from p [] f c = absurd (none_among f c)
+found_from p (d ∷ cs) f c = elim (among_first (finding p d) (at_codes p cs) f c) [
+  | inl a ↦ record { code = d; among = first_among d cs; is = sym a }
+  | inr b ↦ let r = found_from p cs f b in record { code = r.code; among = later_among d cs r.code r.among; is = r.is }
+]
+
+abbrev pub found_listed : (p : Place) (cs : List Code) → Listing (IsFoundAt p cs)
+found_listed p cs = record { all = at_codes p cs; into = found_into p cs; from = found_from p cs }
+
+-- what is found of a flow with this code, before others
+abbrev at_flow : Place → Option Code → List Finding → List Finding
+at_flow p None rest = rest
+at_flow p (Some c) rest = finding p c ∷ rest
+
+abbrev pub at_flows : Place → FlowMarks → List Finding
+at_flows p [] = []
+at_flows p (x ∷ xs) = at_flow p x.code (at_flows p xs)
+
+first_flow : (p : Place) (o : Option Code) (code : Code) (rest : List Finding) → o ≡ Some code → Contains (at_flow p o rest) (finding p code)
+first_flow p None code rest e = absurd (grind (arith, e))
+first_flow p (Some c) code rest e = subst (λ x. Contains (finding p c ∷ rest) (finding p x)) (same_Some c code e) (first_among (finding p c) rest)
+
+later_flow : (p : Place) (o : Option Code) (f : Finding) (rest : List Finding) → Contains rest f → Contains (at_flow p o rest) f
+later_flow p None f rest c = c
+later_flow p (Some d) f rest c = later_among (finding p d) rest f c
+
+flow_code_into : (p : Place) (xs : FlowMarks) (x : FlowMark) (code : Code) → Contains xs x → x.code ≡ Some code → Contains (at_flows p xs) (finding p code)
+flow_code_into p [] x code c e = absurd (none_among x c)
+flow_code_into p (y ∷ ys) x code c e = elim (among_first y ys x c) [
+  | inl a ↦ first_flow p y.code code (at_flows p ys) (ap (λ z. z.code) a ∙ e)
+  | inr b ↦ later_flow p y.code (finding p code) (at_flows p ys) (flow_code_into p ys x code b e)
+]
+
+pub flow_into : (p : Place) (xs : FlowMarks) (f : Finding) → IsFlowAt p xs f → Contains (at_flows p xs) f
+flow_into p xs f h = subst (λ x. Contains (at_flows p xs) x) (sym h.is) (flow_code_into p xs h.flow h.code h.among h.found)
+
+pub flow_from : (p : Place) (xs : FlowMarks) (f : Finding) → Contains (at_flows p xs) f → IsFlowAt p xs f
+flow_from p [] f c = absurd (none_among f c)
+flow_from p (x ∷ xs) f c = go x.code refl c (flow_from p xs f)
+  where
+    behind : IsFlowAt p xs f → IsFlowAt p (x ∷ xs) f
+    behind r = record { flow = r.flow; among = later_among x xs r.flow r.among; code = r.code; found = r.found; is = r.is }
+
+    go : (o : Option Code) → x.code ≡ o → Contains (at_flow p o (at_flows p xs)) f → (Contains (at_flows p xs) f → IsFlowAt p xs f) → IsFlowAt p (x ∷ xs) f
+    go None is c rest = behind (rest c)
+    go (Some d) is c rest = elim (among_first (finding p d) (at_flows p xs) f c) [
+      | inl a ↦ record { flow = x; among = first_among x xs; code = d; found = is; is = sym a }
+      | inr b ↦ behind (rest b)
+    ]
+
+abbrev pub flow_listed : (p : Place) (cs : FlowMarks) → Listing (IsFlowAt p cs)
+flow_listed p cs = record { all = at_flows p cs; into = flow_into p cs; from = flow_from p cs }
+
+abbrev pub code_listed : (p : Place) (c : Option Code) → Listing (IsCodeAt p c)
+code_listed p None = nothing_listed
+code_listed p (Some code) = equal_listed (finding p code)
+
+-- ---- expressions
+
+abbrev mutual
+  pub expr_listed : (e : Expr) (m : Marks e) → Listing (Finds e m)
+  expr_listed (name n) m = found_listed n.place m.codes
+  expr_listed (number p digits) m = found_listed p m.codes
+  expr_listed (text p characters) m = found_listed p m.codes
+  expr_listed (truth p value) m = found_listed p m.codes
+  expr_listed (nothing p) m = found_listed p m.codes
+  expr_listed (tuple p items) m = both_listed (found_listed p m.here.codes) (items_listed items m.items)
+  expr_listed (list p items) m = both_listed (found_listed p m.here.codes) (items_listed items m.items)
+  expr_listed (dict p entries) m = both_listed (found_listed p m.here.codes) (entries_listed entries m.entries)
+  expr_listed (negative p e) m = both_listed (found_listed p m.here.codes) (expr_listed e m.operand)
+  expr_listed (negation p e) m = both_listed (found_listed p m.here.codes) (expr_listed e m.operand)
+  expr_listed (binary p operator l r) m = both_listed (found_listed p m.here.codes) (both_listed (expr_listed l m.left) (expr_listed r m.right))
+  expr_listed (compare p operator l r) m = both_listed (found_listed p m.here.codes) (both_listed (flow_listed (place_of l) m.flows) (both_listed (expr_listed l m.left) (expr_listed r m.right)))
+  expr_listed (is_none p e) m = both_listed (found_listed p m.here.codes) (expr_listed e m.operand)
+  expr_listed (is_not_none p e) m = both_listed (found_listed p m.here.codes) (expr_listed e m.operand)
+  expr_listed (conjunction p l r) m = both_listed (found_listed p m.here.codes) (both_listed (expr_listed l m.left) (expr_listed r m.right))
+  expr_listed (disjunction p l r) m = both_listed (found_listed p m.here.codes) (both_listed (expr_listed l m.left) (expr_listed r m.right))
+  expr_listed (attribute p e field) m = both_listed (found_listed p m.here.codes) (expr_listed e m.object)
+  expr_listed (index p e i) m = both_listed (found_listed p m.here.codes) (both_listed (flow_listed (place_of i) m.flows) (both_listed (expr_listed e m.object) (expr_listed i m.key)))
+  expr_listed (call p callee arguments keywords) m =
+      both_listed (found_listed p m.here.codes) (both_listed (expr_listed callee m.callee) (both_listed (code_listed (second_place arguments p) m.second)
+      (both_listed (arguments_listed (is_instance_test callee arguments keywords) arguments m.arguments) (keywords_listed keywords m.keywords))))
+
+  pub items_listed : (es : Exprs) (m : ItemsMarks es) → Listing (ItemsFind es m)
+  items_listed no_exprs m = nothing_listed
+  items_listed (more_exprs e rest) m = both_listed (flow_listed (place_of e) m.flows) (both_listed (expr_listed e m.first) (items_listed rest m.rest))
+
+  pub arguments_listed : (is_test : Test) (es : Exprs) (m : ItemsMarks es) → Listing (ArgumentsFind is_test es m)
+  arguments_listed is_test no_exprs m = nothing_listed
+  arguments_listed true (more_exprs e rest) m = expr_listed e m.first
+  arguments_listed false (more_exprs e rest) m = both_listed (flow_listed (place_of e) m.flows) (both_listed (expr_listed e m.first) (arguments_listed false rest m.rest))
+
+  pub entries_listed : (es : Entries) (m : EntriesMarks es) → Listing (EntriesFind es m)
+  entries_listed no_entries m = nothing_listed
+  entries_listed (more_entries key value rest) m =
+      both_listed (both_listed (flow_listed (place_of key) m.key_flows) (expr_listed key m.key)) (both_listed (both_listed (flow_listed (place_of value) m.value_flows) (expr_listed value m.value)) (entries_listed rest m.rest))
+
+  pub keywords_listed : (es : Keywords) (m : KeywordsMarks es) → Listing (KeywordsFind es m)
+  keywords_listed no_keywords m = nothing_listed
+  keywords_listed (more_keywords parameter value rest) m = both_listed (flow_listed (place_of value) m.flows) (both_listed (expr_listed value m.first) (keywords_listed rest m.rest))
+
+-- ---- annotations
+
+fits_not : (n most : ℕ) → nat_le n most ≡ true → most < n → ⊥
+fits_not n most e less = grind (arith, nat_tests)
+
+exceeds : (n most : ℕ) → nat_le n most ≡ false → most < n
+exceeds n most e = grind (arith, nat_tests)
+
+abbrev pub by_option : {A : Type 0} {P Q : Finding → Type 0} (o : Option A) → Listing P → Listing Q → Listing (λ f. MatchOption o (P f) (λ t. Q f))
+by_option None p q = p
+by_option (Some t) p q = q
+
+module _ (m : Module) (bases : Bases) where
+  abbrev mutual
+    pub part_listed : (a : Ann) → Listing (PartFinds m bases a)
+    part_listed (named n) = by_option (named_type m.imports_any (resolve_in_module m n.text)) (equal_listed (finding n.place E09)) nothing_listed
+    part_listed (none_type p) = nothing_listed
+    part_listed (applied p head arguments) = by_option (applied_type (resolve_in_module m head.text) (readings m bases arguments)) (equal_listed (finding p E09)) (parts_listed arguments)
+    part_listed (applied_empty p head) = by_option (empty_type (resolve_in_module m head.text)) (equal_listed (finding p E09)) nothing_listed
+    part_listed (tree.union p parts) = both_listed (by_option (union_type bases (readings m bases parts)) (equal_listed (finding p E10)) nothing_listed) (parts_listed parts)
+
+    pub parts_listed : (parts : Anns) → Listing (PartsFind m bases parts)
+    parts_listed no_anns = nothing_listed
+    parts_listed (more_anns a rest) = both_listed (part_listed a) (parts_listed rest)
+
+  pub too_large : (a : Ann) → nat_le (nodes (reading m bases a)) node_limit ≡ true → (f : Finding) → IsTooLarge m bases a f → ⊥
+  too_large a e f h = fits_not (nodes (reading m bases a)) node_limit e h.large
+
+  pub is_large : (a : Ann) → nat_le (nodes (reading m bases a)) node_limit ≡ false → node_limit < nodes (reading m bases a)
+  is_large a e = exceeds (nodes (reading m bases a)) node_limit e
+
+  abbrev pub size_listed_by : (a : Ann) (fits : Test) → nat_le (nodes (reading m bases a)) node_limit ≡ fits → Listing (IsTooLarge m bases a)
+  size_listed_by a true e = none_listed (λ f h. too_large a e f h)
+  size_listed_by a false e = like (equal_listed (finding (place_of_ann a) E26)) (λ f h. record { large = is_large a e; is = h }) (λ f h. h.is)
+
+  abbrev pub ann_listed : (a : Ann) → Listing (AnnFinds m bases a)
+  ann_listed a = both_listed (part_listed a) (size_listed_by a (nat_le (nodes (reading m bases a)) node_limit) refl)
+
+  abbrev pub option_ann_listed : (a : Option Ann) → Listing (ann.OptionAnnFinds m bases a)
+  option_ann_listed None = nothing_listed
+  option_ann_listed (Some a) = ann_listed a
+
+-- ---- statements
+
+abbrev pub behind_listed : {A : Type 0} (completes : Test) (r : Behind completes A) (P : A → Finding → Type 0) → ((a : A) → Listing (P a)) → Listing (λ f. BehindRule completes r (λ a. P a f) ⊥)
+behind_listed true r P each = each r
+behind_listed false r P each = nothing_listed
+
+module _ (m : Module) (ctx : Context) where
+  abbrev pub option_listed : (e : Option Expr) (marks : OptionMarks e) → Listing (OptionFinds m ctx e marks)
+  option_listed None marks = nothing_listed
+  option_listed (Some e) marks = expr_listed e marks
+
+  abbrev pub target_listed : (t : Target) (marks : TargetMarks t) → Listing (TargetFinds m ctx t marks)
+  target_listed (to_name n) marks = nothing_listed
+  target_listed (to_attribute p o field) marks = both_listed (found_listed p marks.codes) (expr_listed o marks.object)
+  target_listed (to_index p o i) marks = both_listed (found_listed p marks.codes) (both_listed (flow_listed (place_of i) marks.key_flows) (both_listed (expr_listed o marks.object) (expr_listed i marks.key)))
+
+  abbrev pub annotation_listed : (r : Res) (first : Test) (n : Name) (a : Ann) → Listing (AnnotationFinds m ctx r first n a)
+  annotation_listed (res.Local x) false n a = equal_listed (finding n.place E24)
+  annotation_listed r first n a = ann_listed m ctx.bases a
+
+  abbrev mutual
+    pub stmt_listed : (seen : NamesBound) (s : Stmt) (marks : StmtMarks s) → Listing (StmtFinds m ctx seen s marks)
+    stmt_listed seen (pass p) marks = nothing_listed
+    stmt_listed seen (breaks p) marks = nothing_listed
+    stmt_listed seen (continues p) marks = nothing_listed
+    stmt_listed seen (returns p e) marks = both_listed (flow_listed (option_place m ctx p e) marks.flows) (option_listed e marks.value)
+    stmt_listed seen (asserts p c e) marks = both_listed (expr_listed c marks.condition) (option_listed e marks.message)
+    stmt_listed seen (annotated p n a e) marks =
+        both_listed (annotation_listed (ctx.resolve n.text) (is_first seen n) n a) (both_listed (flow_listed (option_place m ctx p e) marks.flows) (option_listed e marks.value))
+    stmt_listed seen (assigns p t e) marks = both_listed (flow_listed (place_of e) marks.flows) (both_listed (expr_listed e marks.value) (target_listed t marks.target))
+    stmt_listed seen (evaluates p e) marks = expr_listed e marks
+    stmt_listed seen (while_loop p c b) marks = both_listed (expr_listed c marks.condition) (suite_listed seen b marks.body)
+    stmt_listed seen (for_loop p n e b) marks =
+        both_listed (found_listed (place_of e) marks.item.codes) (both_listed (flow_listed (place_of e) marks.flows) (both_listed (expr_listed e marks.iterable) (suite_listed (n.text ∷ seen) b marks.body)))
+    stmt_listed seen (conditional p bs o) marks = both_listed (branches_listed seen bs marks.branches) (suite_listed (texts (bound_by_branches bs) ++ seen) o marks.otherwise)
+
+    pub suite_listed : (seen : NamesBound) (b : Stmts) (marks : SuiteMarks b) → Listing (SuiteFinds m ctx seen b marks)
+    suite_listed seen no_stmts marks = nothing_listed
+    suite_listed seen (more_stmts s rest) marks =
+        both_listed (stmt_listed seen s marks.0) (behind_listed (completes s) marks.1 (λ r. SuiteFinds m ctx (texts (bound_by_stmt s) ++ seen) rest r.1) (λ r. suite_listed (texts (bound_by_stmt s) ++ seen) rest r.1))
+
+    pub branches_listed : (seen : NamesBound) (bs : Branches) (marks : BranchesMarks bs) → Listing (BranchesFind m ctx seen bs marks)
+    branches_listed seen no_branches marks = nothing_listed
+    branches_listed seen (more_branches c b rest) marks =
+        both_listed (expr_listed c marks.condition) (both_listed (suite_listed seen b marks.body) (branches_listed (texts (bound_by b) ++ seen) rest marks.rest))
+
+-- ---- functions, classes, items
+
+abbrev pub default_listed : (l : Option Literal) (flows : FlowMarks) → Listing (DefaultFinds l flows)
+default_listed None flows = nothing_listed
+default_listed (Some l) flows = flow_listed (literal_place l) flows
+
+module _ (m : Module) where
+  abbrev pub params_listed : (ps : List Param) (marks : ParamsMarks ps) → Listing (ParamsFind m ps marks)
+  params_listed [] marks = nothing_listed
+  params_listed (p ∷ ps) marks = both_listed (option_ann_listed m (bases_of m) p.annotation) (both_listed (default_listed p.default marks.default) (params_listed ps marks.rest))
+
+  module _ (constants : List Tree) where
+    abbrev pub function_listed : (owner : Owner) (f : FuncDef) (marks : FunctionMarks f) → Listing (FunctionFinds m constants owner f marks)
+    function_listed owner f marks =
+        both_listed (params_listed f.params marks.params) (both_listed (option_ann_listed m (bases_of m) f.returns) (both_listed (code_listed f.name.place marks.completing)
+        (suite_listed m (body_context m constants (locals owner f)) (names_entered [] (entry_parameters m owner f)) f.body marks.body)))
+
+    abbrev pub members_listed : (c k : ℕ) (ms : List Member) (marks : MembersMarks ms) → Listing (MembersFind m constants c k ms marks)
+    members_listed c k [] marks = nothing_listed
+    members_listed c k (field_member d ∷ rest) marks = both_listed (ann_listed m (bases_of m) d.annotation) (both_listed (default_listed d.default marks.default) (members_listed c k rest marks.rest))
+    members_listed c k (method_member d ∷ rest) marks = both_listed (function_listed (owners.Method c k) d marks.method) (members_listed c (suc k) rest marks.rest)
+
+    abbrev pub item_listed : (b : BeforeItem) (i : Item) (marks : ItemMarks i) → Listing (ItemFinds m constants b i marks)
+    item_listed b (constant_item p c) marks = both_listed (option_ann_listed m (bases_of m) c.annotation) (both_listed (flow_listed (place_of c.value) marks.flows) (expr_listed c.value marks.value))
+    item_listed b (class_item p c) marks = members_listed b.classes 0 c.members marks
+    item_listed b (def_item p f) marks = function_listed (owners.Func b.functions) f marks
+
+    abbrev pub all_items_listed : (b : BeforeItem) (items : List Item) (marks : modules.ItemsMarks items) → Listing (modules.ItemsFind m constants b items marks)
+    all_items_listed b [] marks = nothing_listed
+    all_items_listed b (i ∷ rest) marks = both_listed (item_listed b i marks.0) (all_items_listed (before_next m b i marks.0) rest marks.1)

@@ -1,0 +1,21 @@
+-- A module: its classes, its items in order, and `main`.
+pub mod ModuleNames
+pub mod ModuleOrder
+pub mod ModuleItems
+pub mod MainWorld
+pub mod KnownNames
+pub mod MadeClasses
+pub mod Inheritance
+pub mod ClassPremises
+pub mod ClassesAreReady
+pub mod MembersBind
+pub mod DistinctMembers
+pub mod UniqueNames
+pub mod LabelledBodies
+pub mod TimelyBodies
+pub mod EarlyNames
+pub mod AllForms
+pub mod StoppedModules
+pub mod Premises
+pub mod WholeModule
+pub mod Soundness

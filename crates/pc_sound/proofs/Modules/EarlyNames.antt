@@ -1,0 +1,172 @@
+-- In a module without errors no test of an instance in an initializer names too early.
+use Rattle.std.proofs.Common.{◌≡◌, ℕ, zero, suc, ◌≤◌, List, [], ◌∷◌, ◌++◌, length, refl, sym, ap, ◌∙◌, subst, inl, arith, Contains, append-nil, append_assoc}
+use Rattle.std.specs.Prelude.{Bool as Test, true, false, if◌then◌else◌, nat_lt, take, filter_map, Option, Some, None, slice_get}
+use Rattle.std.specs.List.{cons_option}
+use Rattle.std.proofs.lemmas.List.Elements.{Contains-append_left, Contains-append_right}
+use Rattle.std.proofs.lemmas.Bool.Decides.{nat_tests}
+use Rattle.std.proofs.lemmas.Option.{none-some}
+use Rattle.std.proofs.Math.Seq.{take-append_seam}
+use Rattle.pc_source.specs.declared.place.Place.{Place}
+use Rattle.pc_tree.specs.declared.code.Code.TheVariants.{E03, E20}
+use Rattle.pc_tree.specs.Code.{finding}
+use Rattle.pc_tree.specs.Tree.{Name, Expr, name, number, text, truth, nothing, tuple, list, dict, negative, negation, binary, compare, is_none, is_not_none, conjunction, disjunction, attribute, index, call, Constant, Exprs, no_exprs, more_exprs, Entries, no_entries, more_entries, Keywords, no_keywords, more_keywords, Item, constant_item, class_item, def_item, Module}
+use Rattle.pc_tree.specs.Machine.Finishing.{name_of_tree}
+use Rattle.pc_scope.specs.declared.resolution.Res.{Res}
+use Rattle.pc_scope.specs.declared.resolution.Res.TheVariants as res
+use Rattle.pc_scope.specs.Expressions.{parts_in, parts_in_all, parts_in_entries, parts_in_keywords}
+use Rattle.pc_scope.specs.Bindings.{constants_in, classes_in}
+use Rattle.pc_scope.specs.Resolution.{resolve_in_module}
+use Rattle.pc_scope.specs.Findings as scope
+use Rattle.pc_scope.specs.Findings.{IsEarlyMeaning}
+use Rattle.pc_types.specs.Tree.{Tree}
+use Rattle.pc_flow.specs.Environment.{Env, current}
+use Rattle.pc_expr.specs.Operations.{in_error}
+use Rattle.pc_expr.specs.Context.{Context, local_mark, name_mark, constant_mark, is_early}
+use Rattle.pc_expr.specs.Signatures.{initializer_context}
+use Rattle.pc_check.specs.Modules.{Labelling, IsLawful, ItemsMarks, BeforeItem, before_next, nothing_before}
+use Rattle.pc_sound.specs.Sound.{HasNoError}
+use Rattle.pc_sound.proofs.Lists.{get_at_end, one_longer}
+use Rattle.pc_sound.proofs.Keyed.KeyedLabels.{SecondTimely, Timely, ItemsTimely, EntriesTimely, KeywordsTimely}
+use Rattle.pc_sound.proofs.Modules.TimelyBodies.{own_timely}
+use Rattle.pc_sound.proofs.Keyed.KeyedInitializers.{InitializersTimely}
+use Rattle.pc_sound.proofs.Modules.ModuleNames.{constants_append, classes_append}
+
+-- ---- names among expressions
+
+cons_both : (o : Option Name) (us vs : List Name) → cons_option o (us ++ vs) ≡ cons_option o us ++ vs
+cons_both None us vs = refl
+cons_both (Some n) us vs = refl
+
+names_both : (xs ys : List Expr) → filter_map name_of_tree (xs ++ ys) ≡ filter_map name_of_tree xs ++ filter_map name_of_tree ys
+names_both [] ys = refl
+names_both (x ∷ xs) ys = ap (cons_option (name_of_tree x)) (names_both xs ys) ∙ cons_both (name_of_tree x) (filter_map name_of_tree xs) (filter_map name_of_tree ys)
+
+module _ (ctx : Context) (declared : List Tree) where
+  -- a name reads in time in each environment
+  abbrev pub InTime : Name → Type 0
+  InTime n = (env : Env) → is_early (name_mark ctx env (ctx.resolve n.text)).codes ≡ false
+
+  -- so does each name among expressions
+  abbrev pub NamesInTime : List Expr → Type 0
+  NamesInTime xs = (n : Name) → Contains (filter_map name_of_tree xs) n → InTime n
+
+  left_of : (xs ys : List Expr) → NamesInTime (xs ++ ys) → NamesInTime xs
+  left_of xs ys h n c = h n (subst (λ l. Contains l n) (sym (names_both xs ys)) (Contains-append_left (filter_map name_of_tree xs) (filter_map name_of_tree ys) n c))
+
+  right_of : (xs ys : List Expr) → NamesInTime (xs ++ ys) → NamesInTime ys
+  right_of xs ys h n c = h n (subst (λ l. Contains l n) (sym (names_both xs ys)) (Contains-append_right (filter_map name_of_tree xs) (filter_map name_of_tree ys) n c))
+
+  own : (e : Expr) → NamesInTime (parts_in false e) → (n : Name) → e ≡ name n → InTime n
+  own e h n is = h n (subst (λ x. Contains (filter_map name_of_tree (parts_in false x)) n) (sym is) (0, omega arith, refl))
+
+  second : (args : Exprs) → NamesInTime (parts_in_all false args) → SecondTimely ctx declared args
+  second no_exprs h = tt
+  second (more_exprs e no_exprs) h = tt
+  second (more_exprs e (more_exprs f rest)) h = λ env want m law. own_timely ctx declared f (own f (left_of (parts_in false f) (parts_in_all false rest) (right_of (parts_in false e) (parts_in_all false (more_exprs f rest)) h))) env want m law
+
+  mutual
+    pub timely_of : (e : Expr) → NamesInTime (parts_in false e) → Timely ctx declared e
+    timely_of (name n) h = tt
+    timely_of (number p d) h = tt
+    timely_of (text p d) h = tt
+    timely_of (truth p b) h = tt
+    timely_of (nothing p) h = tt
+    timely_of (tuple p es) h = items_of es h
+    timely_of (list p es) h = items_of es h
+    timely_of (dict p es) h = entries_of es h
+    timely_of (negative p e) h = timely_of e h
+    timely_of (negation p e) h = timely_of e h
+    timely_of (binary p o l r) h = (timely_of l (left_of (parts_in false l) (parts_in false r) h), timely_of r (right_of (parts_in false l) (parts_in false r) h))
+    timely_of (compare p o l r) h = (timely_of l (left_of (parts_in false l) (parts_in false r) h), timely_of r (right_of (parts_in false l) (parts_in false r) h))
+    timely_of (is_none p e) h = timely_of e h
+    timely_of (is_not_none p e) h = timely_of e h
+    timely_of (conjunction p l r) h = (timely_of l (left_of (parts_in false l) (parts_in false r) h), timely_of r (right_of (parts_in false l) (parts_in false r) h))
+    timely_of (disjunction p l r) h = (timely_of l (left_of (parts_in false l) (parts_in false r) h), timely_of r (right_of (parts_in false l) (parts_in false r) h))
+    timely_of (attribute p e n) h = timely_of e h
+    timely_of (index p e i) h = (timely_of e (left_of (parts_in false e) (parts_in false i) h), timely_of i (right_of (parts_in false e) (parts_in false i) h))
+    timely_of (call p c args kws) h =
+        let others = right_of (parts_in false c) (parts_in_all false args ++ parts_in_keywords false kws) h in
+        let among = left_of (parts_in_all false args) (parts_in_keywords false kws) others in
+        ((λ is. second args among), (timely_of c (left_of (parts_in false c) (parts_in_all false args ++ parts_in_keywords false kws) h), (items_of args among, keywords_of kws (right_of (parts_in_all false args) (parts_in_keywords false kws) others))))
+
+    items_of : (es : Exprs) → NamesInTime (parts_in_all false es) → ItemsTimely ctx declared es
+    items_of no_exprs h = tt
+    items_of (more_exprs e rest) h = (timely_of e (left_of (parts_in false e) (parts_in_all false rest) h), items_of rest (right_of (parts_in false e) (parts_in_all false rest) h))
+
+    entries_of : (es : Entries) → NamesInTime (parts_in_entries false es) → EntriesTimely ctx declared es
+    entries_of no_entries h = tt
+    entries_of (more_entries a b rest) h =
+        let others = right_of (parts_in false a) (parts_in false b ++ parts_in_entries false rest) h in
+        (timely_of a (left_of (parts_in false a) (parts_in false b ++ parts_in_entries false rest) h), (timely_of b (left_of (parts_in false b) (parts_in_entries false rest) others), entries_of rest (right_of (parts_in false b) (parts_in_entries false rest) others)))
+
+    keywords_of : (es : Keywords) → NamesInTime (parts_in_keywords false es) → KeywordsTimely ctx declared es
+    keywords_of no_keywords h = tt
+    keywords_of (more_keywords w e rest) h = (timely_of e (left_of (parts_in false e) (parts_in_keywords false rest) h), keywords_of rest (right_of (parts_in false e) (parts_in_keywords false rest) h))
+
+-- ---- no initializer of a module without errors names too early
+
+past_end : {A : Type 0} (xs : List A) (i : ℕ) → slice_get xs i ≡ None → length xs ≤ i
+past_end [] i e = omega arith
+past_end (x ∷ xs) zero e = absurd (none-some _ (sym e))
+past_end (x ∷ xs) (suc i) e = let h = past_end xs i e in omega (arith, h)
+
+-- a name of an initializer that is not early reads in time
+in_time : (m : Module) (constants : List Tree) (known : ℕ) (r : Res) → (IsEarlyMeaning (length constants) known r → ⊥) → (env : Env) → is_early (name_mark (initializer_context m constants known) env r).codes ≡ false
+in_time m constants known (res.Local x) h env = of_local (current env x)
+  where
+    of_local : (o : Option Tree) → is_early (local_mark o).codes ≡ false
+    of_local None = refl
+    of_local (Some t) = refl
+in_time m constants known (res.Const i) h env = go (slice_get constants i) refl
+  where
+    go : (o : Option Tree) → slice_get constants i ≡ o → is_early (constant_mark o).codes ≡ false
+    go None e = absurd (h (past_end constants i e))
+    go (Some t) e = refl
+in_time m constants known (res.Func i) h env = absurd (h tt)
+in_time m constants known (res.Class c) h env = go (nat_lt c known) refl
+  where
+    go : (b : Test) → nat_lt c known ≡ b → is_early (if b then in_error E20 else in_error E03).codes ≡ false
+    go true e = refl
+    go false e = absurd (h (grind (arith, nat_tests, e)))
+in_time m constants known (res.Builtin b) h env = refl
+in_time m constants known res.None h env = refl
+
+module _ (m : Module) (marks : Labelling m) (lawful : IsLawful m marks) (clean : HasNoError m) where
+  none_early : (done : List Item) (p : Place) (c : Constant) (rest : List Item) → done ++ constant_item p c ∷ rest ≡ m.items → (n : Name) → Contains (filter_map name_of_tree (parts_in false c.value)) n → IsEarlyMeaning (length (constants_in done)) (length (classes_in done)) (resolve_in_module m n.text) → ⊥
+  none_early done p c rest whole n named early =
+      clean (finding n.place E03) (record {
+        marks = marks;
+        lawful = lawful;
+        found = inl (scope.early (record {
+          at = length done;
+          first = p;
+          constant = c;
+          item = subst (λ l. slice_get l (length done) ≡ Some (constant_item p c)) whole (get_at_end done (constant_item p c) rest);
+          found = inl (record { n = n; named = named; early = subst (λ l. IsEarlyMeaning (length (constants_in l)) (length (classes_in l)) (resolve_in_module m n.text)) (sym taken) early; is = refl });
+        }));
+      }) refl
+    where
+      taken : take (length done) m.items ≡ done
+      taken = ap (take (length done)) (sym whole) ∙ take-append_seam done (constant_item p c ∷ rest)
+
+  timely_items : (done : List Item) (b : BeforeItem) (items : List Item) (marks : ItemsMarks items) → done ++ items ≡ m.items → length b.constants ≡ length (constants_in done) → b.classes ≡ length (classes_in done) → InitializersTimely m b items marks
+  timely_items done b [] marks whole constants classes = tt
+  timely_items done b (constant_item p c ∷ rest) marks whole constants classes = (
+    timely_of (initializer_context m b.constants b.classes) [] c.value
+        (λ n named. in_time m b.constants b.classes (resolve_in_module m n.text) (λ early. none_early done p c rest whole n named
+        (subst (λ k. IsEarlyMeaning k (length (classes_in done)) (resolve_in_module m n.text)) constants (subst (λ k. IsEarlyMeaning (length b.constants) k (resolve_in_module m n.text)) classes early)))),
+    timely_items (done ++ constant_item p c ∷ []) (before_next m b (constant_item p c) marks.0) rest marks.1 (append_assoc done (constant_item p c ∷ []) rest ∙ whole)
+        (one_longer b.constants _ ∙ (ap suc constants ∙ (sym (one_longer (constants_in done) c) ∙ ap length (sym (constants_append done (constant_item p c ∷ []))))))
+        (classes ∙ ap length (sym (classes_append done (constant_item p c ∷ []) ∙ append-nil (classes_in done)))),
+  )
+  timely_items done b (class_item p c ∷ rest) marks whole constants classes =
+      timely_items (done ++ class_item p c ∷ []) (before_next m b (class_item p c) marks.0) rest marks.1 (append_assoc done (class_item p c ∷ []) rest ∙ whole)
+      (constants ∙ ap length (sym (constants_append done (class_item p c ∷ []) ∙ append-nil (constants_in done))))
+      (ap suc classes ∙ (sym (one_longer (classes_in done) c) ∙ ap length (sym (classes_append done (class_item p c ∷ [])))))
+  timely_items done b (def_item p f ∷ rest) marks whole constants classes =
+      timely_items (done ++ def_item p f ∷ []) (before_next m b (def_item p f) marks.0) rest marks.1 (append_assoc done (def_item p f ∷ []) rest ∙ whole)
+      (constants ∙ ap length (sym (constants_append done (def_item p f ∷ []) ∙ append-nil (constants_in done))))
+      (classes ∙ ap length (sym (classes_append done (def_item p f ∷ []) ∙ append-nil (classes_in done))))
+
+  pub initializers_timely : InitializersTimely m nothing_before m.items marks
+  initializers_timely = timely_items [] nothing_before m.items marks refl refl refl

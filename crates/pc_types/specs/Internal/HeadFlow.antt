@@ -1,0 +1,106 @@
+-- What the code decides of two types, head by head: private to this crate, tied to the definitions in proofs/.
+use Rattle.std.specs.Prelude.{◌≡◌, ℕ, Bool as Test, true, false, cond}
+use Rattle.pc_types.specs.Tree.{Tree, Trees, Any, Object, Never, Int, Bool, Str, NoneType, Class, ListOf, DictOf, TupleOf, Union, end, more}
+use Rattle.pc_types.specs.Below.{Bases, Below}
+use Rattle.pc_types.specs.Shape.{count}
+
+-- each member of the first has in the second a member of its head, or an atom or a class above it; parts are not looked at
+pub data Covers (bases : Bases) : Tree → Tree → Type 0 where
+  c_from_any : {t : Tree} → Covers bases Any t
+  c_to_any : {s : Tree} → Covers bases s Any
+  c_never : {t : Tree} → Covers bases Never t
+  c_object : {s : Tree} → Covers bases s Object
+  c_int : Covers bases Int Int
+  c_bool : Covers bases Bool Bool
+  c_bool_int : Covers bases Bool Int
+  c_str : Covers bases Str Str
+  c_none : Covers bases NoneType NoneType
+  c_class : {c d : ℕ} → Below bases (Class c) (Class d) → Covers bases (Class c) (Class d)
+  c_list : {s t : Tree} → Covers bases (ListOf s) (ListOf t)
+  c_dict : {j k v w : Tree} → Covers bases (DictOf j v) (DictOf k w)
+  c_tuple : {ss ts : Trees} → count ss ≡ count ts → Covers bases (TupleOf ss) (TupleOf ts)
+  c_both : {a b u : Tree} → Covers bases a u → Covers bases b u → Covers bases (Union a b) u
+  c_left : {s a b : Tree} → Covers bases s a → Covers bases s (Union a b)
+  c_right : {s a b : Tree} → Covers bases s b → Covers bases s (Union a b)
+
+-- where both directions are wanted, the second covers the first
+abbrev pub CoversBack : Bases → Test → Tree → Tree → Type 0
+CoversBack bases true s t = Covers bases t s
+CoversBack bases false s t = Unit {0}
+
+-- flows of types, and of the parts of tuples
+mutual
+  -- the first flows into the second; where both directions are wanted, the parts of tuples are covered back
+  pub data HeadFlow (bases : Bases) : Test → Tree → Tree → Type 0 where
+    w_from_any : {both : Test} {t : Tree} → HeadFlow bases both Any t
+    w_to_any : {both : Test} {s : Tree} → HeadFlow bases both s Any
+    w_never : {both : Test} {t : Tree} → HeadFlow bases both Never t
+    w_object : {both : Test} {s : Tree} → HeadFlow bases both s Object
+    w_int : {both : Test} → HeadFlow bases both Int Int
+    w_bool : {both : Test} → HeadFlow bases both Bool Bool
+    w_bool_int : {both : Test} → HeadFlow bases both Bool Int
+    w_str : {both : Test} → HeadFlow bases both Str Str
+    w_none : {both : Test} → HeadFlow bases both NoneType NoneType
+    w_class : {both : Test} {c d : ℕ} → Below bases (Class c) (Class d) → HeadFlow bases both (Class c) (Class d)
+    w_list : {both : Test} {s t : Tree} → HeadFlow bases true s t → Covers bases t s → HeadFlow bases both (ListOf s) (ListOf t)
+    w_dict : {both : Test} {j k v w : Tree} → HeadFlow bases true j k → Covers bases k j → HeadFlow bases true v w → Covers bases w v → HeadFlow bases both (DictOf j v) (DictOf k w)
+    w_tuple : {both : Test} {ss ts : Trees} → EachFlow bases both ss ts → HeadFlow bases both (TupleOf ss) (TupleOf ts)
+    w_both : {both : Test} {a b u : Tree} → HeadFlow bases both a u → HeadFlow bases both b u → HeadFlow bases both (Union a b) u
+    w_left : {both : Test} {s a b : Tree} → HeadFlow bases both s a → HeadFlow bases both s (Union a b)
+    w_right : {both : Test} {s a b : Tree} → HeadFlow bases both s b → HeadFlow bases both s (Union a b)
+
+  -- so do the parts of two tuples of one length
+  pub data EachFlow (bases : Bases) : Test → Trees → Trees → Type 0 where
+    w_end : {both : Test} → EachFlow bases both end end
+    w_more : {both : Test} {s t : Tree} {ss ts : Trees} → HeadFlow bases both s t → CoversBack bases both s t → EachFlow bases both ss ts → EachFlow bases both (more s ss) (more t ts)
+
+-- the first flows into the second and, where both directions are wanted, is covered by it
+abbrev pub FlowsBack : Bases → Test → Tree → Tree → Type 0
+FlowsBack bases both s t = HeadFlow bases both s t × CoversBack bases both s t
+
+-- a type as a test sees it, which takes Any as it is, or as object
+abbrev mutual
+  pub seen : Test → Tree → Tree
+  seen gradual Any = cond gradual Any Object
+  seen gradual Object = Object
+  seen gradual Never = Never
+  seen gradual Int = Int
+  seen gradual Bool = Bool
+  seen gradual Str = Str
+  seen gradual NoneType = NoneType
+  seen gradual (Class c) = Class c
+  seen gradual (ListOf t) = ListOf (seen gradual t)
+  seen gradual (DictOf k v) = DictOf (seen gradual k) (seen gradual v)
+  seen gradual (TupleOf ts) = TupleOf (seen_each gradual ts)
+  seen gradual (Union a b) = Union (seen gradual a) (seen gradual b)
+
+  -- the parts of a tuple as a test sees them
+  pub seen_each : Test → Trees → Trees
+  seen_each gradual end = end
+  seen_each gradual (more t ts) = more (seen gradual t) (seen_each gradual ts)
+
+-- the heads of two types that are no unions fit
+abbrev pub HeadFits : Bases → Tree → Tree → Type 0
+HeadFits bases Int Int = Unit {0}
+HeadFits bases Bool Bool = Unit {0}
+HeadFits bases Bool Int = Unit {0}
+HeadFits bases Str Str = Unit {0}
+HeadFits bases NoneType NoneType = Unit {0}
+HeadFits bases (Class c) (Class d) = Below bases (Class c) (Class d)
+HeadFits bases (ListOf s) (ListOf t) = Unit {0}
+HeadFits bases (DictOf j v) (DictOf k w) = Unit {0}
+HeadFits bases (TupleOf ss) (TupleOf ts) = count ss ≡ count ts
+HeadFits bases _ _ = ⊥
+
+-- the heads of two types that are no unions fit, and their parts with them
+abbrev pub FlowFits : Bases → Test → Tree → Tree → Type 0
+FlowFits bases both Int Int = Unit {0}
+FlowFits bases both Bool Bool = Unit {0}
+FlowFits bases both Bool Int = Unit {0}
+FlowFits bases both Str Str = Unit {0}
+FlowFits bases both NoneType NoneType = Unit {0}
+FlowFits bases both (Class c) (Class d) = Below bases (Class c) (Class d)
+FlowFits bases both (ListOf s) (ListOf t) = HeadFlow bases true s t × Covers bases t s
+FlowFits bases both (DictOf j v) (DictOf k w) = HeadFlow bases true j k × Covers bases k j × HeadFlow bases true v w × Covers bases w v
+FlowFits bases both (TupleOf ss) (TupleOf ts) = EachFlow bases both ss ts
+FlowFits bases both _ _ = ⊥
