@@ -32,13 +32,13 @@ use Rattle.pc_class.specs.Bases.{bases_of}
 use Rattle.pc_class.specs.Facts.{ClassFacts, return_type}
 use Rattle.pc_class.specs.Findings.{base_class}
 use Rattle.pc_flow.specs.Environment.{Env}
-use Rattle.pc_expr.specs.Operations.{clean}
-use Rattle.pc_expr.specs.Context.{Context}
-use Rattle.pc_expr.specs.Labels.{FlowMarks, is_of_scopes, mark_of, Finds}
-use Rattle.pc_expr.specs.Signatures.{literal_type, literal_place, LawfulDefault, DefaultFinds, ParamsMarks, LawfulParams, ParamsFind, binds_name, body_context, initializer_context, annotated_types}
-use Rattle.pc_expr.proofs.Saying.{none_among, among_first, IsPart, IsEarlyHere, PartSays, Said, no_flow_of_scopes}
-use Rattle.pc_expr.proofs.SaidByLabels.{said}
-use Rattle.pc_expr.proofs.SaidInLabels.{said_found}
+use Rattle.pc_rules.specs.Operations.{clean}
+use Rattle.pc_rules.specs.Context.{Context}
+use Rattle.pc_rules.specs.Labels.{FlowMarks, is_of_scopes, mark_of, Finds}
+use Rattle.pc_rules.specs.Signatures.{literal_type, literal_place, LawfulDefault, DefaultFinds, ParamsMarks, LawfulParams, ParamsFind, binds_name, body_context, initializer_context, annotated_types}
+use Rattle.pc_rules.proofs.Saying.{none_among, among_first, IsPart, IsEarlyHere, PartSays, Said, no_flow_of_scopes}
+use Rattle.pc_rules.proofs.SaidByLabels.{said}
+use Rattle.pc_rules.proofs.SaidInLabels.{said_found}
 use Rattle.pc_check.specs.Modules.{entry_parameters, names_entered, ReturnsWell, leaves, may_complete, may_not, FunctionMarks, LawfulFunction, FunctionFinds, MembersMarks, LawfulMembers, MembersFind, ItemMarks, ItemsMarks, item_constants, constant_types, BeforeItem, before_next, nothing_before, LawfulItem, LawfulModuleItems, ItemFinds, ItemsFind, Labelling, IsLawful, LabelsSay}
 use Rattle.pc_check.specs.Agreement.{AgreesWithScopes}
 use Rattle.pc_check.proofs.SaidByStatements.{no_code, no_flows, no_annotation, suite_said}

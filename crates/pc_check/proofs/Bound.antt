@@ -20,13 +20,13 @@ use Rattle.pc_flow.specs.Stored.{env_of}
 use Rattle.pc_flow.proofs.Assigned.{assigned_gives, set_well_formed, local_current}
 use Rattle.pc_flow.proofs.Conditions.{assigned_well_formed, current_well_formed}
 use Rattle.pc_notes.specs.Notes.{Note, plain_note}
-use Rattle.pc_expr.specs.Operations.{Mark}
-use Rattle.pc_expr.specs.Context.{is_early}
-use Rattle.pc_expr.specs.Computed.{code_unless, flows_of}
-use Rattle.pc_expr.specs.Found.{brief, flows_at}
-use Rattle.pc_expr.specs.Standing.{mark_with, mark_in, finds_in}
-use Rattle.pc_expr.specs.declared.label.Label.{Label}
-use Rattle.pc_expr.proofs.Once.{once_early}
+use Rattle.pc_rules.specs.Operations.{Mark}
+use Rattle.pc_rules.specs.Context.{is_early}
+use Rattle.pc_rules.specs.Computed.{code_unless, flows_of}
+use Rattle.pc_rules.specs.Found.{brief, flows_at}
+use Rattle.pc_rules.specs.Standing.{mark_with, mark_in, finds_in}
+use Rattle.pc_rules.specs.declared.label.Label.{Label}
+use Rattle.pc_rules.proofs.Once.{once_early}
 use Rattle.pc_flow.specs.WellFormed.{IsWellFormedIfAny}
 use Rattle.pc_check.specs.Statements.{only_code}
 use Rattle.pc_check.specs.ComputedStatements.{BodyFrame, Table, BindingResult, with_declared, known_declared, at, bound_type, bound_name, bind_label, bind_value, declared_alone, annotation_finds}

@@ -4,8 +4,8 @@ use Rattle.std.specs.Option.{option_map}
 use Rattle.pc_types.specs.Tree.{Tree}
 use Rattle.pc_types.specs.Below.{Bases}
 use Rattle.pc_flow.specs.WellFormed.{AreWellFormed, IsWellFormedIfAny}
-use Rattle.pc_expr.specs.Operations.{StoreOffer, only_type}
-use Rattle.pc_expr.specs.Standing.{HasIfAny}
+use Rattle.pc_rules.specs.Operations.{StoreOffer, only_type}
+use Rattle.pc_rules.specs.Standing.{HasIfAny}
 use Rattle.pc_check.specs.Internal.StatementWalk.{HoldsTypeIfAny}
 use Rattle.pc_check.proofs.StoredTypes.{only_well_formed}
 

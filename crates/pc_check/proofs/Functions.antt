@@ -12,7 +12,7 @@ use Rattle.pc_scope.specs.Resolution.{method_at, function_of}
 use Rattle.pc_types.specs.Tree.{Tree}
 use Rattle.pc_class.specs.Facts.{ClassFacts}
 use Rattle.pc_class.specs.Findings.{base_class}
-use Rattle.pc_expr.proofs.Saying.{none_among, among_first}
+use Rattle.pc_rules.proofs.Saying.{none_among, among_first}
 use Rattle.pc_check.specs.Modules.{FunctionMarks, LawfulFunction, FunctionFinds, MembersMarks, LawfulMembers, MembersFind, ItemsMarks, LawfulModuleItems, ItemsFind, BeforeItem, before_next, nothing_before, Labelling, IsLawful, LabelsSay, constant_types}
 
 -- ---- functions and methods by their numbers

@@ -16,12 +16,12 @@ use Rattle.pc_flow.specs.Environment.{Env}
 use Rattle.pc_flow.specs.WellFormed.{IsWellFormedEnv, AreWellFormed, IsWellFormedIfAny}
 use Rattle.pc_flow.specs.Stored.{env_of, declared_of, GivesEnv}
 use Rattle.pc_flow.proofs.Given.{each_kept}
-use Rattle.pc_expr.specs.Operations.{Mark}
-use Rattle.pc_expr.specs.WellFormed.{ContextWellFormed}
-use Rattle.pc_expr.specs.Standing.{Standing, HasIfAny, HasSignature, IsMark, mark_in}
-use Rattle.pc_expr.proofs.ComputedLawful.{labels_are_lawful}
-use Rattle.pc_expr.specs.declared.setting.Signature.{Signature as RustSignature}
-use Rattle.pc_expr.specs.declared.label.Label.{Label}
+use Rattle.pc_rules.specs.Operations.{Mark}
+use Rattle.pc_rules.specs.WellFormed.{ContextWellFormed}
+use Rattle.pc_rules.specs.Standing.{Standing, HasIfAny, HasSignature, IsMark, mark_in}
+use Rattle.pc_rules.proofs.ComputedLawful.{labels_are_lawful}
+use Rattle.pc_rules.specs.declared.setting.Signature.{Signature as RustSignature}
+use Rattle.pc_rules.specs.declared.label.Label.{Label}
 use Rattle.pc_check.specs.declared.frame.Frame.{Frame as RustFrame}
 use Rattle.pc_check.specs.ComputedStatements.{Table, type_table}
 use Rattle.pc_check.specs.Internal.StatementWalk.{HoldsType, HoldsTypeIfAny, HoldsTypes, HoldsTypesIfAny, HoldsFrame, GivesLabel, GivesTypes}

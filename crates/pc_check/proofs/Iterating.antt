@@ -7,9 +7,9 @@ use Rattle.pc_types.specs.Tree.{Int, Any}
 use Rattle.pc_types.specs.Below.{Bases}
 use Rattle.pc_types.specs.WellFormed.{IsWellFormed}
 use Rattle.pc_tree.specs.declared.code.Code.TheVariants.{A5}
-use Rattle.pc_expr.specs.Operations.{clean}
-use Rattle.pc_expr.specs.Calls.{GivenArguments, is_suited, range_signature, arguments_given, range_item}
-use Rattle.pc_expr.specs.Standing.{Standing, finds_in}
+use Rattle.pc_rules.specs.Operations.{clean}
+use Rattle.pc_rules.specs.Calls.{GivenArguments, is_suited, range_signature, arguments_given, range_item}
+use Rattle.pc_rules.specs.Standing.{Standing, finds_in}
 use Rattle.pc_expr.specs.Typing.{range_finds}
 use Rattle.pc_check.specs.ComputedStatements.{BodyFrame, item_mark_of, values_item, iterable_finds}
 use Rattle.pc_check.specs.Internal.Ranges.{over_range}

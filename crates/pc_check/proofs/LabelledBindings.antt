@@ -11,9 +11,9 @@ use Rattle.pc_types.proofs.Readings.{read_ann_well_formed}
 use Rattle.pc_types.specs.WellFormed.{IsWellFormed}
 use Rattle.pc_flow.specs.Environment.{Env, assign, assigned_type, declared_type}
 use Rattle.pc_flow.specs.WellFormed.{IsWellFormedIfAny}
-use Rattle.pc_expr.specs.Context.{FlowsInto}
-use Rattle.pc_expr.specs.Labels.{FlowMarks, Marks, mark_of, type_of}
-use Rattle.pc_expr.specs.Lawful.{Lawful}
+use Rattle.pc_rules.specs.Context.{FlowsInto}
+use Rattle.pc_rules.specs.Labels.{FlowMarks, Marks, mark_of, type_of}
+use Rattle.pc_rules.specs.Lawful.{Lawful}
 use Rattle.pc_check.specs.StatementLabels.{OptionMarks}
 use Rattle.pc_check.specs.Statements.{DeclaredAt, LawfulAnnotated, LawfulBinding, LawfulDeclaration, NamesBound, annotation_at, is_first, known_type, only_code}
 use Rattle.pc_flow.proofs.Conditions.{assigned_well_formed}

@@ -10,18 +10,18 @@ use Rattle.pc_types.specs.Below.{AreSmaller, Bases}
 use Rattle.pc_types.specs.WellFormed.{IsWellFormed}
 use Rattle.pc_flow.specs.Environment.{Env}
 use Rattle.pc_flow.specs.WellFormed.{AreWellFormed, IsWellFormedEnv, IsWellFormedIfAny}
-use Rattle.pc_expr.specs.Operations.{Mark, clean, iterate_member, offers_mark}
-use Rattle.pc_expr.specs.Calls.{Seat, call_mark, arguments_given, is_suited, named_seat, positional_seat, is_range, range_item, range_offers, range_signature}
-use Rattle.pc_expr.specs.Context.{FlowsInto}
-use Rattle.pc_expr.specs.Labels.{FlowMarks, ItemsMarks, KeywordsMarks, Marks, mark_of, type_of, with_mark}
-use Rattle.pc_expr.specs.Lawful.{Lawful, LawfulItems, LawfulKeywords, keyword_seat}
-use Rattle.pc_expr.proofs.WellFormed.{int_well_formed, object_well_formed}
-use Rattle.pc_expr.proofs.Called.{CallsWellFormed, SeatWellFormed, builtin_well_formed, called_well_formed, keyword_well_formed, named_well_formed, positional_well_formed}
-use Rattle.pc_expr.specs.Computed.{flows_of}
-use Rattle.pc_expr.proofs.ComputedFlows.{flows_are_lawful}
-use Rattle.pc_expr.proofs.ComputedLawful.{has_labels}
-use Rattle.pc_expr.proofs.Same.{SameWhere}
-use Rattle.pc_expr.proofs.One.{one}
+use Rattle.pc_rules.specs.Operations.{Mark, clean, iterate_member, offers_mark}
+use Rattle.pc_rules.specs.Calls.{Seat, call_mark, arguments_given, is_suited, named_seat, positional_seat, is_range, range_item, range_offers, range_signature}
+use Rattle.pc_rules.specs.Context.{FlowsInto}
+use Rattle.pc_rules.specs.Labels.{FlowMarks, ItemsMarks, KeywordsMarks, Marks, mark_of, type_of, with_mark}
+use Rattle.pc_rules.specs.Lawful.{Lawful, LawfulItems, LawfulKeywords, keyword_seat}
+use Rattle.pc_rules.proofs.WellFormed.{int_well_formed, object_well_formed}
+use Rattle.pc_rules.proofs.Called.{CallsWellFormed, SeatWellFormed, builtin_well_formed, called_well_formed, keyword_well_formed, named_well_formed, positional_well_formed}
+use Rattle.pc_rules.specs.Computed.{flows_of}
+use Rattle.pc_rules.proofs.ComputedFlows.{flows_are_lawful}
+use Rattle.pc_rules.proofs.ComputedLawful.{has_labels}
+use Rattle.pc_rules.proofs.Same.{SameWhere}
+use Rattle.pc_rules.proofs.One.{one}
 use Rattle.pc_check.specs.Statements.{LawfulIterable, LawfulRange, LawfulValues, RangeOrValues, NamesBound}
 use Rattle.pc_check.proofs.StoredTypes.{turns_well_formed}
 use Rattle.pc_check.specs.LabellingLaws.{Agree, IsDeclaredTable, Setting, GoesByNames}

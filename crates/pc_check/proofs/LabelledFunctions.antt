@@ -4,7 +4,7 @@ use Rattle.pc_class.specs.Facts as facts
 use Rattle.std.proofs.Common.{List, [], ap, arith, inl, inr, length, refl, suc, zero, ℕ, ◌∷◌, ◌≡◌}
 use Rattle.std.specs.Prelude.{Bool as Test, None, Option, Some, false, replicate, true}
 use Rattle.pc_tree.specs.declared.code.Code.{Code}
-use Rattle.pc_tree.specs.Tree.{FuncDef, Literal, Member, Module, Param, field_member, method_member, negative_literal, none_literal, number_literal, text_literal, truth_literal}
+use Rattle.pc_tree.specs.Tree.{FuncDef, Literal, Member, Module, Param, field_member, method_member}
 use Rattle.pc_scope.specs.declared.resolution.Owner.{Owner}
 use Rattle.pc_scope.specs.Resolution.{locals, receiver}
 use Rattle.pc_types.specs.Tree.{Any, NoneType, Tree}
@@ -20,12 +20,13 @@ use Rattle.pc_class.specs.WellFormed.{ParametersWellFormed}
 use Rattle.pc_class.proofs.WellFormed.{params_well_formed, returned_well_formed}
 use Rattle.pc_flow.specs.Environment.{Env, none_assigned}
 use Rattle.pc_flow.specs.WellFormed.{AreWellFormed, IsWellFormedEnv}
-use Rattle.pc_expr.specs.Operations.{clean}
-use Rattle.pc_expr.specs.Labels.{FlowMarks}
-use Rattle.pc_expr.specs.Signatures.{LawfulDefault, LawfulParams, ParamsMarks, binds_name, body_context, literal_type}
-use Rattle.pc_expr.proofs.Contexts.{bodies_well_formed}
+use Rattle.pc_rules.specs.Operations.{clean}
+use Rattle.pc_rules.specs.Labels.{FlowMarks}
+use Rattle.pc_rules.specs.Signatures.{LawfulDefault, LawfulParams, ParamsMarks, binds_name, body_context, literal_type}
+use Rattle.pc_rules.proofs.Contexts.{bodies_well_formed}
 use Rattle.pc_check.specs.Modules.{ReturnsWell, entry_parameters, leaves, may_complete, may_not, names_entered}
 use Rattle.pc_check.specs.LabellingLaws.{FunctionLabelled, IsDeclaredTable, MembersLabelled, Setting, GoesByNames}
+use Rattle.pc_rules.proofs.SignaturesListed.{literal_well_formed}
 use Rattle.pc_check.proofs.LocalNames.{names_are}
 use Rattle.pc_check.proofs.OneModule.{none_kept}
 use Rattle.pc_check.proofs.LabelledEntry.{entry_labelled}
@@ -47,14 +48,6 @@ none_well_formed bases zero = tt
 none_well_formed bases (suc n) = (tt, none_well_formed bases n)
 
 -- ---- defaults
-
--- the type of a literal
-literal_well_formed : (bases : Bases) (l : Literal) → IsWellFormed bases (literal_type l)
-literal_well_formed bases (number_literal p d) = (tt, tt, omega arith)
-literal_well_formed bases (negative_literal p d) = (tt, tt, omega arith)
-literal_well_formed bases (text_literal p d) = (tt, tt, omega arith)
-literal_well_formed bases (truth_literal p d) = (tt, tt, omega arith)
-literal_well_formed bases (none_literal p) = (tt, tt, omega arith)
 
 -- the flows of a default
 record DefaultLabelled (bases : Bases) (b : Test) (l : Option Literal) (t : Tree) : Type 0 where

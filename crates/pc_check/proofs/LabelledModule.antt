@@ -10,10 +10,10 @@ use Rattle.pc_class.specs.Bases.{bases_of}
 use Rattle.pc_class.specs.Findings.{base_class}
 use Rattle.pc_types.proofs.Earlier.{smaller}
 use Rattle.pc_flow.specs.WellFormed.{AreWellFormed, IsWellFormedIfAny}
-use Rattle.pc_expr.specs.Labels.{mark_of, type_of}
-use Rattle.pc_expr.specs.Signatures.{binds_name, initializer_context, annotated_types, constant_type, first_of_types}
-use Rattle.pc_expr.proofs.Contexts.{initializers_well_formed}
-use Rattle.pc_expr.proofs.ComputedLawful.{has_labels}
+use Rattle.pc_rules.specs.Labels.{mark_of, type_of}
+use Rattle.pc_rules.specs.Signatures.{binds_name, initializer_context, annotated_types, constant_type, first_of_types}
+use Rattle.pc_rules.proofs.Contexts.{initializers_well_formed}
+use Rattle.pc_rules.proofs.ComputedLawful.{has_labels}
 use Rattle.pc_check.specs.Modules.{BeforeItem, HasLabelling, ItemMarks, ItemsMarks, LawfulItem, LawfulModuleItems, before_next, constant_types, nothing_before}
 use Rattle.pc_check.proofs.LabelledFunctions.{function_labelled, members_labelled}
 use Rattle.pc_check.proofs.LabelledExpressions.{flows_labelled}

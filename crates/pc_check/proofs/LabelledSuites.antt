@@ -9,8 +9,8 @@ use Rattle.pc_scope.specs.Bindings.{texts}
 use Rattle.pc_types.specs.Tree.{NoneType, Tree}
 use Rattle.pc_types.specs.WellFormed.{IsWellFormed}
 use Rattle.pc_flow.specs.Environment.{Env, join_ways}
-use Rattle.pc_expr.specs.Operations.{clean}
-use Rattle.pc_expr.specs.Labels.{FlowMarks, mark_of}
+use Rattle.pc_rules.specs.Operations.{clean}
+use Rattle.pc_rules.specs.Labels.{FlowMarks, mark_of}
 use Rattle.pc_check.specs.StatementLabels.{Behind, BehindRule, OptionMarks, StmtMarks, SuiteMarks, behind_list, breaks_in, breaks_in_suite}
 use Rattle.pc_check.specs.Statements.{LawfulOption, LawfulReturn, LawfulStmt, LawfulSuite, NamesBound, AreUndeclared}
 use Rattle.pc_check.specs.LabellingLaws.{Agree, IsDeclaredTable, OutSettled, Setting, GoesByNames, SettledAll, StmtLabelled, SuiteLabelled, any_way}

@@ -10,9 +10,9 @@ use Rattle.pc_types.specs.Tree.{Any, Tree}
 use Rattle.pc_types.specs.WellFormed.{IsWellFormed}
 use Rattle.pc_flow.specs.Environment.{Env, assign, assigned_type, declared_type}
 use Rattle.pc_flow.specs.WellFormed.{AreWellFormed}
-use Rattle.pc_expr.specs.Operations.{Mark, clean, only_type, store_codes, store_index_types, stored_types}
-use Rattle.pc_expr.specs.Context.{FlowsInto}
-use Rattle.pc_expr.specs.Labels.{FlowMarks, Marks, mark_of, type_of}
+use Rattle.pc_rules.specs.Operations.{Mark, clean, only_type, store_codes, store_index_types, stored_types}
+use Rattle.pc_rules.specs.Context.{FlowsInto}
+use Rattle.pc_rules.specs.Labels.{FlowMarks, Marks, mark_of, type_of}
 use Rattle.pc_check.specs.StatementLabels.{TargetMarks}
 use Rattle.pc_check.specs.Statements.{LawfulStore, LawfulTarget, NamesBound, AreUndeclared, UndeclaredName, attribute_offers, index_offers, is_first, only_code}
 use Rattle.pc_check.proofs.StoredTypes.{fields_stored, items_stored, keys_stored, only_well_formed}

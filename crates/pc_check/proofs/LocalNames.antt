@@ -10,7 +10,7 @@ use Rattle.pc_scope.specs.declared.resolution.Res.{Res}
 use Rattle.pc_scope.specs.Reserved.{builtin_of}
 use Rattle.pc_scope.specs.Resolution.{bound_first, builtin_meaning, index_of, local_meaning, or_meaning, resolve_among, resolve_in_module}
 use Rattle.pc_types.specs.Tree.{Tree}
-use Rattle.pc_expr.specs.Signatures.{body_context}
+use Rattle.pc_rules.specs.Signatures.{body_context}
 use Rattle.std.proofs.lemmas.Option.{same_Some}
 use Rattle.pc_check.specs.LabellingLaws.{Locals}
 

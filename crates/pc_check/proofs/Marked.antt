@@ -7,7 +7,7 @@ use Rattle.pc_scope.specs.declared.resolution.Res.TheVariants as res
 use Rattle.pc_scope.specs.Resolution.{is_one_of}
 use Rattle.pc_types.specs.Tree.{Tree, Any}
 use Rattle.pc_flow.specs.Environment.{declared_type}
-use Rattle.pc_expr.specs.Context.{Context}
+use Rattle.pc_rules.specs.Context.{Context}
 use Rattle.pc_check.specs.ComputedStatements.{type_table, bound_type}
 use Rattle.pc_check.specs.Statements.{NamesBound}
 use Rattle.pc_check.specs.LabellingLaws.{Locals}

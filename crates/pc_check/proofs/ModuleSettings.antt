@@ -20,12 +20,12 @@ use Rattle.pc_class.specs.Bases.{bases_of}
 use Rattle.pc_class.specs.Facts.{ClassFacts, classes_of, return_type}
 use Rattle.pc_class.specs.Tables.{ClassEntry, HasParameter, HasMethod, HasEntry, HasEntries}
 use Rattle.pc_class.specs.declared.table.Parameter.{Parameter as RustParameter}
-use Rattle.pc_expr.specs.Context.{Signature}
-use Rattle.pc_expr.specs.Signatures.{signature_of, signatures_of}
-use Rattle.pc_expr.specs.SignaturesFound.{class_methods, method_signatures}
+use Rattle.pc_rules.specs.Context.{Signature}
+use Rattle.pc_rules.specs.Signatures.{signature_of, signatures_of}
+use Rattle.pc_rules.specs.SignaturesFound.{class_methods, method_signatures}
 use Rattle.pc_expr.specs.SignaturesHeld.{HeldSignatures, HasSigned, signature_numbered, all_signatures_with}
-use Rattle.pc_expr.specs.Standing.{HasSignature, signature_with}
-use Rattle.pc_expr.specs.declared.setting.Signature.{Signature as RustSignature}
+use Rattle.pc_rules.specs.Standing.{HasSignature, signature_with}
+use Rattle.pc_rules.specs.declared.setting.Signature.{Signature as RustSignature}
 use Rattle.pc_check.specs.declared.bodies.ModuleSetting.{ModuleSetting}
 use Rattle.pc_check.specs.Internal.ModuleWalk.{signature_for, IsModuleSetting}
 use Rattle.pc_check.specs.ComputedStatements.{BodyFrame, body_frame_of}

@@ -20,12 +20,12 @@ use Rattle.pc_class.specs.Bases.{bases_of}
 use Rattle.pc_class.specs.Facts.{TypedParameter, ClassFacts, parameters_of, return_type, binds_field}
 use Rattle.pc_class.specs.Findings.{base_class}
 use Rattle.pc_flow.specs.Environment.{Env, declared_type, none_assigned}
-use Rattle.pc_expr.specs.Context.{Context, FlowsInto}
-use Rattle.pc_expr.specs.Labels.{FlowMarks, mark_of}
-use Rattle.pc_expr.specs.Operations.{clean}
-use Rattle.pc_expr.specs.Signatures.{body_context, initializer_context, literal_type, LawfulDefault, binds_name, ParamsMarks, LawfulParams, annotated_types, first_of_types}
-use Rattle.pc_expr.proofs.Same.{SameWhere}
-use Rattle.pc_expr.proofs.One.{into_one, one}
+use Rattle.pc_rules.specs.Context.{Context, FlowsInto}
+use Rattle.pc_rules.specs.Labels.{FlowMarks, mark_of}
+use Rattle.pc_rules.specs.Operations.{clean}
+use Rattle.pc_rules.specs.Signatures.{body_context, initializer_context, literal_type, LawfulDefault, binds_name, ParamsMarks, LawfulParams, annotated_types, first_of_types}
+use Rattle.pc_rules.proofs.Same.{SameWhere}
+use Rattle.pc_rules.proofs.One.{into_one, one}
 use Rattle.pc_check.specs.Statements.{NamesBound}
 use Rattle.pc_check.specs.Modules.{entry_parameters, names_entered, DeclaredEntry, LawfulEntry, assigned_at_entry, entry_env, ReturnsWell, leaves, may_complete, may_not, FunctionMarks, LawfulFunction, MembersMarks, LawfulMembers, ItemMarks, ItemsMarks, item_constants, constant_types, BeforeItem, before_next, nothing_before, LawfulItem, LawfulModuleItems, HasOneLabelling}
 use Rattle.pc_check.proofs.OneStatement.{IsAmong, among_right, assign_kept, SameSeen, suite_one}

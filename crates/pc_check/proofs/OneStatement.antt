@@ -15,13 +15,13 @@ use Rattle.pc_types.specs.Shape.{members}
 use Rattle.pc_types.specs.Annotations.{read_ann}
 use Rattle.pc_flow.specs.Environment.{Env, declared_type, assign, assigned_type, join_envs_onto, join_ways}
 use Rattle.pc_flow.specs.Narrowing.{narrow}
-use Rattle.pc_expr.specs.Operations.{Mark, clean, offers_mark, iterate_member, store_codes, store_index_types, stored_types, only_type}
-use Rattle.pc_expr.specs.Context.{Context, FlowsInto}
-use Rattle.pc_expr.specs.Calls.{arguments_given, positional_seat, named_seat, is_range, range_offers, range_item}
-use Rattle.pc_expr.specs.Labels.{FlowMarks, Marks, mark_of, type_of, with_mark}
-use Rattle.pc_expr.specs.Lawful.{Lawful}
-use Rattle.pc_expr.proofs.Same.{SameWhere, Alike, SameWhereAll, all_joins_alike, heads_alike, narrow_alike}
-use Rattle.pc_expr.proofs.One.{into_one, one, items_one, keywords_one}
+use Rattle.pc_rules.specs.Operations.{Mark, clean, offers_mark, iterate_member, store_codes, store_index_types, stored_types, only_type}
+use Rattle.pc_rules.specs.Context.{Context, FlowsInto}
+use Rattle.pc_rules.specs.Calls.{arguments_given, positional_seat, named_seat, is_range, range_offers, range_item}
+use Rattle.pc_rules.specs.Labels.{FlowMarks, Marks, mark_of, type_of, with_mark}
+use Rattle.pc_rules.specs.Lawful.{Lawful}
+use Rattle.pc_rules.proofs.Same.{SameWhere, Alike, SameWhereAll, all_joins_alike, heads_alike, narrow_alike}
+use Rattle.pc_rules.proofs.One.{into_one, one, items_one, keywords_one}
 use Rattle.pc_check.specs.StatementLabels.{OptionMarks, TargetMarks, StmtMarks, SuiteMarks, BranchesMarks, Behind, BehindRule, behind_list, breaks_in, breaks_in_suite, breaks_in_branches, ways_in}
 use Rattle.pc_check.specs.Statements.{only_code, NamesBound, is_first, binds_number, LawfulRange, LawfulValues, RangeOrValues, LawfulIterable, DeclaredAt, known_type, LawfulBinding, LawfulDeclaration, LawfulTarget, UndeclaredName, AreUndeclared, attribute_offers, index_offers, LawfulStore, annotation_at, LawfulAnnotated, LawfulReturn, LawfulOption, LawfulStmt, LawfulSuite, LawfulBranches}
 

@@ -22,14 +22,14 @@ use Rattle.pc_types.specs.Shape.{members}
 use Rattle.pc_types.specs.Annotations.{named_type, applied_type, empty_type, union_type, readings, PartFinds, PartsFind, AnnFinds}
 use Rattle.pc_flow.specs.Environment.{Env, declared_type}
 use Rattle.pc_flow.specs.Narrowing.{narrow}
-use Rattle.pc_expr.specs.Operations.{Mark, clean}
-use Rattle.pc_expr.specs.Context.{Context, FlowsInto}
-use Rattle.pc_expr.specs.Calls.{GivenArguments, arguments_given, is_suited, is_range, range_signature, range_offers, range_item}
-use Rattle.pc_expr.specs.Labels.{FlowMarks, Marks, mark_of, type_of, is_of_scopes, Finds, IsFoundAt, IsFlowAt, IsCodeAt}
-use Rattle.pc_expr.specs.Lawful.{Lawful}
-use Rattle.pc_expr.proofs.Silent.{Silent, items_silent, stored_items_silent, stored_fields_silent, called_silent, calls_silent}
-use Rattle.pc_expr.proofs.Saying.{not_of_scopes, no_flow_of_scopes, none_among, IsPart, part_left, part_right, Said, said_left, said_right, said_behind}
-use Rattle.pc_expr.proofs.SaidByLabels.{said, arguments_said, keywords_said}
+use Rattle.pc_rules.specs.Operations.{Mark, clean}
+use Rattle.pc_rules.specs.Context.{Context, FlowsInto}
+use Rattle.pc_rules.specs.Calls.{GivenArguments, arguments_given, is_suited, is_range, range_signature, range_offers, range_item}
+use Rattle.pc_rules.specs.Labels.{FlowMarks, Marks, mark_of, type_of, is_of_scopes, Finds, IsFoundAt, IsFlowAt, IsCodeAt}
+use Rattle.pc_rules.specs.Lawful.{Lawful}
+use Rattle.pc_rules.proofs.Silent.{Silent, items_silent, stored_items_silent, stored_fields_silent, called_silent, calls_silent}
+use Rattle.pc_rules.proofs.Saying.{not_of_scopes, no_flow_of_scopes, none_among, IsPart, part_left, part_right, Said, said_left, said_right, said_behind}
+use Rattle.pc_rules.proofs.SaidByLabels.{said, arguments_said, keywords_said}
 use Rattle.pc_check.specs.StatementLabels.{OptionMarks, TargetMarks, StmtMarks, SuiteMarks, BranchesMarks, Behind, BehindRule}
 use Rattle.pc_check.specs.Statements.{NamesBound, is_first, RangeOrValues, AreUndeclared, LawfulRange, LawfulValues, LawfulIterable, LawfulBinding, LawfulTarget, LawfulStore, LawfulAssignment, LawfulAnnotated, LawfulReturn, LawfulOption, LawfulStmt, LawfulSuite, LawfulBranches, OptionFinds, option_place, TargetFinds, AnnotationFinds, StmtFinds, SuiteFinds, BranchesFind}
 

@@ -13,13 +13,13 @@ use Rattle.pc_scope.specs.Expressions.{is_instance_test, first_or_all, parts_in,
 use Rattle.pc_types.specs.Tree.{Tree}
 use Rattle.pc_flow.specs.Environment.{Env}
 use Rattle.pc_flow.specs.Narrowing.{narrow}
-use Rattle.pc_expr.specs.Operations.{Mark}
-use Rattle.pc_expr.specs.Context.{Context}
-use Rattle.pc_expr.specs.Calls.{arguments_given, is_range, range_item}
-use Rattle.pc_expr.specs.Labels.{FlowMarks, Marks, Finds}
-use Rattle.pc_expr.specs.Lawful.{Lawful}
-use Rattle.pc_expr.proofs.Saying.{IsPart, part_either, IsEarlyHere, NameSays, PartSays}
-use Rattle.pc_expr.proofs.SaidInLabels.{arguments_found, first_found, items_found, keywords_found, said_found}
+use Rattle.pc_rules.specs.Operations.{Mark}
+use Rattle.pc_rules.specs.Context.{Context}
+use Rattle.pc_rules.specs.Calls.{arguments_given, is_range, range_item}
+use Rattle.pc_rules.specs.Labels.{FlowMarks, Marks, Finds}
+use Rattle.pc_rules.specs.Lawful.{Lawful}
+use Rattle.pc_rules.proofs.Saying.{IsPart, part_either, IsEarlyHere, NameSays, PartSays}
+use Rattle.pc_rules.proofs.SaidInLabels.{arguments_found, first_found, items_found, keywords_found, said_found}
 use Rattle.pc_check.specs.StatementLabels.{OptionMarks, TargetMarks, StmtMarks, SuiteMarks, BranchesMarks, Behind, BehindRule}
 use Rattle.pc_check.specs.Statements.{NamesBound, RangeOrValues, LawfulRange, LawfulValues, LawfulIterable, LawfulBinding, LawfulStore, LawfulAssignment, LawfulAnnotated, LawfulReturn, LawfulOption, AreUndeclared, LawfulStmt, LawfulSuite, LawfulBranches, OptionFinds, TargetFinds, StmtFinds, SuiteFinds, BranchesFind}
 

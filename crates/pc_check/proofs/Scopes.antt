@@ -4,7 +4,7 @@ use Rattle.std.specs.Prelude.{Bool as Test}
 use Rattle.pc_tree.specs.declared.code.Finding.{Finding}
 use Rattle.pc_tree.specs.Tree.{Module}
 use Rattle.pc_scope.specs.Findings.{ScopeFinds}
-use Rattle.pc_expr.specs.Labels.{is_of_scopes}
+use Rattle.pc_rules.specs.Labels.{is_of_scopes}
 use Rattle.pc_check.specs.Modules.{Labelling, IsLawful, LabelsSay, IsFinding}
 use Rattle.pc_check.proofs.Agreement.{agrees}
 use Rattle.pc_check.proofs.LabelledModule.{every_module_has_a_labelling}

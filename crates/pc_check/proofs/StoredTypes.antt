@@ -10,9 +10,9 @@ use Rattle.pc_class.specs.Facts.{TypedParameter, Method, field_by_name, method_b
 use Rattle.pc_class.specs.WellFormed.{ClassesWellFormed}
 use Rattle.pc_class.proofs.WellFormed.{class_at_well_formed}
 use Rattle.pc_flow.specs.WellFormed.{AreWellFormed, IsWellFormedIfAny}
-use Rattle.pc_expr.specs.Operations.{StoreOffer, store_codes, store_index_types, stored_types, only_type, store_found, store_attribute_member, store_index_member, has_error, offers_mark, iterate_member}
-use Rattle.pc_expr.proofs.WellFormed.{int_well_formed, item_well_formed, key_well_formed, value_well_formed, parts_well_formed, members_well_formed, append_well_formed, if_none, all_well_formed}
-use Rattle.pc_expr.proofs.OfferedTypes.{OfferWellFormed, ParameterWellFormed, plain, field_well_formed, each_well_formed, offers_well_formed}
+use Rattle.pc_rules.specs.Operations.{StoreOffer, store_codes, store_index_types, stored_types, only_type, store_found, store_attribute_member, store_index_member, has_error, offers_mark, iterate_member}
+use Rattle.pc_rules.proofs.WellFormed.{int_well_formed, item_well_formed, key_well_formed, value_well_formed, parts_well_formed, members_well_formed, append_well_formed, if_none, all_well_formed}
+use Rattle.pc_rules.proofs.OfferedTypes.{OfferWellFormed, ParameterWellFormed, plain, field_well_formed, each_well_formed, offers_well_formed}
 
 -- what the index and the stored value flow into is well-formed
 record StoreWellFormed (bases : Bases) (o : StoreOffer) : Type 0 where

@@ -12,7 +12,7 @@ use Rattle.pc_flow.specs.Narrowing.{narrow}
 use Rattle.pc_flow.specs.WellFormed.{AreWellFormed, IsWellFormedEnv}
 use Rattle.pc_flow.proofs.Conditions.{conditions_well_formed, heads_well_formed, joins_well_formed}
 use Rattle.pc_flow.proofs.Conditions as flow
-use Rattle.pc_expr.proofs.Same.{SameWhere, SameWhereAll, all_joins_alike, heads_alike, narrow_alike}
+use Rattle.pc_rules.proofs.Same.{SameWhere, SameWhereAll, all_joins_alike, heads_alike, narrow_alike}
 use Rattle.pc_check.specs.Statements.{NamesBound}
 use Rattle.pc_check.proofs.OneStatement.{IsAmong, assign_kept}
 use Rattle.std.proofs.lemmas.List.{get_or-set_other, get_or-set_same, length-set}

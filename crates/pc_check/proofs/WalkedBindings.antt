@@ -18,14 +18,14 @@ use Rattle.pc_flow.specs.Environment.{Env, declared_type, assign, assigned_type}
 use Rattle.pc_flow.specs.WellFormed.{IsWellFormedIfAny}
 use Rattle.pc_flow.proofs.Conditions.{assign_well_formed, assigned_well_formed, current_well_formed}
 use Rattle.pc_notes.specs.Notes.{Note}
-use Rattle.pc_expr.specs.Operations.{Mark, clean}
-use Rattle.pc_expr.specs.Context.{FlowsInto}
-use Rattle.pc_expr.specs.Labels.{FlowMarks, Marks, mark_of, type_of, Finds, IsFlowAt}
-use Rattle.pc_expr.specs.Lawful.{Lawful}
-use Rattle.pc_expr.specs.Computed.{flows_of}
-use Rattle.pc_expr.specs.Found.{flows_at}
-use Rattle.pc_expr.specs.Standing.{finds_in}
-use Rattle.pc_expr.proofs.WellFormed.{unwrap_well_formed}
+use Rattle.pc_rules.specs.Operations.{Mark, clean}
+use Rattle.pc_rules.specs.Context.{FlowsInto}
+use Rattle.pc_rules.specs.Labels.{FlowMarks, Marks, mark_of, type_of, Finds, IsFlowAt}
+use Rattle.pc_rules.specs.Lawful.{Lawful}
+use Rattle.pc_rules.specs.Computed.{flows_of}
+use Rattle.pc_rules.specs.Found.{flows_at}
+use Rattle.pc_rules.specs.Standing.{finds_in}
+use Rattle.pc_rules.proofs.WellFormed.{unwrap_well_formed}
 use Rattle.pc_check.specs.StatementLabels.{OptionMarks}
 use Rattle.pc_check.specs.Statements.{NamesBound, is_first, only_code, DeclaredAt, known_type, LawfulBinding, LawfulDeclaration, LawfulTarget, annotation_at, LawfulAnnotated, OptionFinds, option_place, AnnotationFinds}
 use Rattle.pc_check.specs.LabellingLaws.{Setting}

@@ -8,7 +8,7 @@ use Rattle.pc_flow.specs.Environment.{Env, join_env, join_envs_onto, join_ways, 
 use Rattle.pc_flow.specs.Narrowing.{narrow}
 use Rattle.pc_flow.specs.WellFormed.{IsWellFormedEnv}
 use Rattle.pc_flow.proofs.Conditions.{conditions_well_formed, heads_well_formed, joins_well_formed}
-use Rattle.pc_expr.proofs.Same.{joins_alike, heads_alike, narrow_alike}
+use Rattle.pc_rules.proofs.Same.{joins_alike, heads_alike, narrow_alike}
 use Rattle.pc_check.specs.LabellingLaws.{Setting}
 use Rattle.pc_check.specs.ComputedStatements.{Table, type_table, join_onto_way, with_way}
 use Rattle.pc_check.specs.WalkLaw.{EnvFits, OutFits, with_breaks}

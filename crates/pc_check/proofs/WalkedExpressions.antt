@@ -11,19 +11,19 @@ use Rattle.pc_types.specs.Computed.{static_test, assignable_test}
 use Rattle.pc_flow.specs.Environment.{Env}
 use Rattle.pc_flow.specs.WellFormed.{AreWellFormed, IsWellFormedEnv, IsWellFormedIfAny}
 use Rattle.pc_notes.specs.Notes.{Note}
-use Rattle.pc_expr.specs.Operations.{Mark, clean, iterate_member, offers_mark}
-use Rattle.pc_expr.specs.Calls.{CallOffer, arguments_given, is_suited, call_mark, positional_seat, named_seat, is_range, range_item, range_offers, range_signature}
-use Rattle.pc_expr.specs.Context.{FlowsInto}
-use Rattle.pc_expr.specs.Labels.{FlowMarks, Marks, mark_of, type_of, Finds, IsFlowAt}
-use Rattle.pc_expr.specs.Lawful.{Lawful}
-use Rattle.pc_expr.specs.Computed.{labels_of, flows_of}
-use Rattle.pc_expr.specs.Found.{codes_at, flows_at, notes_under}
-use Rattle.pc_expr.specs.Standing.{Standing, mark_in, finds_in, items_in, keywords_in, arguments_find, keywords_find}
-use Rattle.pc_expr.proofs.One.{one, items_one, keywords_one, into_one}
-use Rattle.pc_expr.proofs.WellFormed.{int_well_formed, object_well_formed}
-use Rattle.pc_expr.proofs.Called.{CallsWellFormed, builtin_well_formed, called_well_formed, named_well_formed, positional_well_formed}
-use Rattle.pc_expr.proofs.ComputedFlows.{are_tests, flows_are_lawful}
-use Rattle.pc_expr.proofs.ComputedLawful.{labels_are_lawful, items_lawful, keywords_lawful}
+use Rattle.pc_rules.specs.Operations.{Mark, clean, iterate_member, offers_mark}
+use Rattle.pc_rules.specs.Calls.{CallOffer, arguments_given, is_suited, call_mark, positional_seat, named_seat, is_range, range_item, range_offers, range_signature}
+use Rattle.pc_rules.specs.Context.{FlowsInto}
+use Rattle.pc_rules.specs.Labels.{FlowMarks, Marks, mark_of, type_of, Finds, IsFlowAt}
+use Rattle.pc_rules.specs.Lawful.{Lawful}
+use Rattle.pc_rules.specs.Computed.{labels_of, flows_of}
+use Rattle.pc_rules.specs.Found.{codes_at, flows_at, notes_under}
+use Rattle.pc_rules.specs.Standing.{Standing, mark_in, finds_in, items_in, keywords_in, arguments_find, keywords_find}
+use Rattle.pc_rules.proofs.One.{one, items_one, keywords_one, into_one}
+use Rattle.pc_rules.proofs.WellFormed.{int_well_formed, object_well_formed}
+use Rattle.pc_rules.proofs.Called.{CallsWellFormed, builtin_well_formed, called_well_formed, named_well_formed, positional_well_formed}
+use Rattle.pc_rules.proofs.ComputedFlows.{are_tests, flows_are_lawful}
+use Rattle.pc_rules.proofs.ComputedLawful.{labels_are_lawful, items_lawful, keywords_lawful}
 use Rattle.pc_check.specs.Statements.{RangeOrValues, LawfulRange, LawfulValues, LawfulIterable}
 use Rattle.pc_check.specs.LabellingLaws.{Setting}
 use Rattle.pc_expr.specs.Typing.{range_finds}

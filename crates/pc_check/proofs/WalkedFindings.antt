@@ -14,10 +14,10 @@ use Rattle.pc_types.specs.Annotations.{AnnFinds}
 use Rattle.pc_ann.specs.Listed.{ann_findings}
 use Rattle.pc_ann.proofs.Listing.{all_listed}
 use Rattle.pc_notes.specs.Notes.{Note, plain_note, findings_of}
-use Rattle.pc_expr.specs.Operations.{clean}
-use Rattle.pc_expr.specs.Labels.{FlowMarks, Marks, is_of_scopes, IsFoundAt, IsFlowAt, Finds}
-use Rattle.pc_expr.specs.Found.{codes_at, flows_at, notes_under}
-use Rattle.pc_expr.proofs.FoundList.{findings_listed, plain_findings}
+use Rattle.pc_rules.specs.Operations.{clean}
+use Rattle.pc_rules.specs.Labels.{FlowMarks, Marks, is_of_scopes, IsFoundAt, IsFlowAt, Finds}
+use Rattle.pc_rules.specs.Found.{codes_at, flows_at, notes_under}
+use Rattle.pc_rules.proofs.FoundList.{findings_listed, plain_findings}
 use Rattle.pc_check.specs.WalkLaw.{Adds}
 use Rattle.pc_check.proofs.SaidByStatements.{no_annotation}
 

@@ -19,10 +19,10 @@ use Rattle.pc_class.proofs.WellFormed.{returned_well_formed}
 use Rattle.pc_flow.specs.Environment.{Env, declared_type, assign, none_assigned}
 use Rattle.pc_flow.proofs.Conditions.{assign_well_formed}
 use Rattle.pc_notes.specs.Notes.{plain_note}
-use Rattle.pc_expr.specs.Labels.{IsCodeAt}
-use Rattle.pc_expr.specs.Signatures.{body_context}
-use Rattle.pc_expr.proofs.ComputedFlows.{are_tests}
-use Rattle.pc_expr.proofs.Contexts.{bodies_well_formed}
+use Rattle.pc_rules.specs.Labels.{IsCodeAt}
+use Rattle.pc_rules.specs.Signatures.{body_context}
+use Rattle.pc_rules.proofs.ComputedFlows.{are_tests}
+use Rattle.pc_rules.proofs.Contexts.{bodies_well_formed}
 use Rattle.pc_types.proofs.Earlier.{smaller}
 use Rattle.pc_check.specs.Statements.{NamesBound}
 use Rattle.pc_check.specs.Modules.{DeclaredEntry, LawfulEntry, assigned_at_entry, entry_env, entry_parameters, names_entered, ReturnsWell, leaves, may_complete, may_not}

@@ -17,15 +17,15 @@ use Rattle.pc_class.specs.Findings.{base_class}
 use Rattle.pc_class.proofs.ClassesBuilt.{base_here}
 use Rattle.pc_flow.specs.WellFormed.{AreWellFormed}
 use Rattle.pc_notes.specs.Notes.{Note, plain_note}
-use Rattle.pc_expr.specs.Labels.{Marks, Finds, IsFlowAt, type_of}
-use Rattle.pc_expr.specs.Operations.{Mark}
-use Rattle.pc_expr.specs.Signatures.{initializer_context, binds_name, constant_type, annotated_types, first_of_types}
-use Rattle.pc_expr.specs.SignaturesFound.{ItemsReached, type_of_constant, value_findings, constant_findings, members_findings, function_findings, functions_findings, behind, behind_all, class_notes, items_findings, no_name, base_at}
-use Rattle.pc_expr.proofs.Contexts.{initializers_well_formed}
-use Rattle.pc_expr.proofs.ComputedLawful.{has_labels}
-use Rattle.pc_expr.proofs.InitializersListed.{initializer_label, value_listed}
-use Rattle.pc_expr.proofs.One.{one_labelling}
-use Rattle.pc_expr.proofs.SignaturesListed.{option_listed}
+use Rattle.pc_rules.specs.Labels.{Marks, Finds, IsFlowAt, type_of}
+use Rattle.pc_rules.specs.Operations.{Mark}
+use Rattle.pc_rules.specs.Signatures.{initializer_context, binds_name, constant_type, annotated_types, first_of_types}
+use Rattle.pc_rules.specs.SignaturesFound.{ItemsReached, type_of_constant, value_findings, constant_findings, members_findings, function_findings, functions_findings, behind, behind_all, class_notes, items_findings, no_name, base_at}
+use Rattle.pc_rules.proofs.Contexts.{initializers_well_formed}
+use Rattle.pc_rules.proofs.ComputedLawful.{has_labels}
+use Rattle.pc_rules.proofs.InitializersListed.{initializer_label, value_listed}
+use Rattle.pc_rules.proofs.One.{one_labelling}
+use Rattle.pc_rules.proofs.SignaturesListed.{option_listed}
 use Rattle.pc_check.specs.Modules.{ItemMarks, ItemsMarks, constant_types, BeforeItem, before_next, LawfulItem, LawfulModuleItems}
 use Rattle.pc_check.specs.ComputedStatements.{function_finds}
 use Rattle.pc_check.specs.ComputedModules.{methods_find, bodies_find}

@@ -12,10 +12,10 @@ use Rattle.pc_class.specs.Bases.{bases_of}
 use Rattle.pc_class.specs.Facts.{ClassFacts}
 use Rattle.pc_flow.specs.WellFormed.{AreWellFormed}
 use Rattle.pc_notes.specs.Notes.{Note}
-use Rattle.pc_expr.specs.Signatures.{DefaultFinds, LawfulParams, ParamsMarks, ParamsFind}
-use Rattle.pc_expr.specs.SignaturesFound.{def_findings, field_findings, members_findings}
-use Rattle.pc_expr.proofs.FoundList.{Noted as ListsOne}
-use Rattle.pc_expr.proofs.SignaturesListed.{def_listed, field_listed}
+use Rattle.pc_rules.specs.Signatures.{DefaultFinds, LawfulParams, ParamsMarks, ParamsFind}
+use Rattle.pc_rules.specs.SignaturesFound.{def_findings, field_findings, members_findings}
+use Rattle.pc_rules.proofs.FoundList.{Noted as ListsOne}
+use Rattle.pc_rules.proofs.SignaturesListed.{def_listed, field_listed}
 use Rattle.pc_check.specs.Modules.{FunctionMarks, FunctionFinds, MembersMarks, LawfulMembers, MembersFind}
 use Rattle.pc_check.specs.ComputedStatements.{function_finds}
 use Rattle.pc_check.specs.ComputedModules.{methods_find}

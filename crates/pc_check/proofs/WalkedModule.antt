@@ -12,7 +12,7 @@ use Rattle.pc_class.specs.Bases.{bases_of}
 use Rattle.pc_class.specs.Findings.{ClassFinds}
 use Rattle.pc_flow.specs.WellFormed.{AreWellFormed}
 use Rattle.pc_notes.specs.Notes.{Note, findings_of}
-use Rattle.pc_expr.specs.SignaturesFound.{constants_of, signatures_find, nothing_reached, functions_findings, items_findings}
+use Rattle.pc_rules.specs.SignaturesFound.{constants_of, signatures_find, nothing_reached, functions_findings, items_findings}
 use Rattle.pc_check.specs.Modules.{Labelling, IsLawful, ItemsMarks, BeforeItem, nothing_before, before_next, constant_types, ItemsFind, LabelsSay, LabelsFind, IsFinding}
 use Rattle.pc_check.specs.ComputedModules.{bodies_find, module_finds}
 use Rattle.pc_check.specs.WalkLaw.{Adds}

@@ -13,8 +13,8 @@ use Rattle.pc_types.specs.WellFormed.{IsWellFormed}
 use Rattle.pc_flow.specs.Environment.{Env, join_envs_onto, join_ways}
 use Rattle.pc_flow.specs.Narrowing.{narrow}
 use Rattle.pc_notes.specs.Notes.{Note}
-use Rattle.pc_expr.specs.Found.{codes_at}
-use Rattle.pc_expr.specs.Standing.{finds_in}
+use Rattle.pc_rules.specs.Found.{codes_at}
+use Rattle.pc_rules.specs.Standing.{finds_in}
 use Rattle.pc_check.specs.StatementLabels.{StmtMarks, SuiteMarks, BranchesMarks, Behind, BehindRule, behind_list, breaks_in, breaks_in_suite, breaks_in_branches, ways_in}
 use Rattle.pc_check.specs.Statements.{NamesBound, binds_number, AreUndeclared, OptionFinds, StmtFinds, SuiteFinds, BranchesFind, LawfulStmt, LawfulSuite, LawfulBranches}
 use Rattle.pc_check.specs.LabellingLaws.{Setting}

@@ -9,13 +9,13 @@ use Rattle.pc_types.specs.Tree.{Tree, NoneType}
 use Rattle.pc_types.specs.WellFormed.{IsWellFormed}
 use Rattle.pc_flow.specs.Environment.{Env}
 use Rattle.pc_flow.specs.WellFormed.{AreWellFormed, IsWellFormedEnv, IsWellFormedIfAny}
-use Rattle.pc_expr.specs.Operations.{clean, StoreOffer, store_codes, store_index_types, stored_types, only_type}
-use Rattle.pc_expr.specs.Context.{FlowsInto}
-use Rattle.pc_expr.specs.Labels.{FlowMarks, Marks, mark_of, type_of, Finds, IsFoundAt, IsFlowAt}
-use Rattle.pc_expr.specs.Lawful.{Lawful}
-use Rattle.pc_expr.specs.Computed.{flows_of}
-use Rattle.pc_expr.specs.Found.{codes_at, flows_at}
-use Rattle.pc_expr.specs.Standing.{Standing, mark_in, finds_in}
+use Rattle.pc_rules.specs.Operations.{clean, StoreOffer, store_codes, store_index_types, stored_types, only_type}
+use Rattle.pc_rules.specs.Context.{FlowsInto}
+use Rattle.pc_rules.specs.Labels.{FlowMarks, Marks, mark_of, type_of, Finds, IsFoundAt, IsFlowAt}
+use Rattle.pc_rules.specs.Lawful.{Lawful}
+use Rattle.pc_rules.specs.Computed.{flows_of}
+use Rattle.pc_rules.specs.Found.{codes_at, flows_at}
+use Rattle.pc_rules.specs.Standing.{Standing, mark_in, finds_in}
 use Rattle.pc_check.specs.StatementLabels.{OptionMarks, TargetMarks}
 use Rattle.pc_check.specs.Statements.{attribute_offers, index_offers, LawfulStore, LawfulReturn, LawfulOption, OptionFinds, option_place, TargetFinds}
 use Rattle.pc_check.specs.LabellingLaws.{Setting}

@@ -12,7 +12,7 @@ use Rattle.pc_scope.specs.Bindings.{constants_in, classes_in, Body, bodies}
 use Rattle.pc_scope.specs.Resolution.{resolve_in_module}
 use Rattle.pc_scope.specs.Expressions.{parts_in, other_callee, exprs_in_all}
 use Rattle.pc_scope.specs.Findings.{IsUnknownIn, IsEarlyMeaning, ScopeFinds}
-use Rattle.pc_expr.specs.Labels.{is_of_scopes}
+use Rattle.pc_rules.specs.Labels.{is_of_scopes}
 use Rattle.pc_check.specs.Modules.{Labelling, LabelsSay}
 
 -- a labelling says E02 and E03 where scopes find them, and nowhere else; of what stands second in a test of an instance it says nothing

@@ -6,7 +6,7 @@ use Rattle.pc_tree.specs.Tree.{Member, field_member, method_member, Item, consta
 use Rattle.pc_scope.specs.declared.resolution.Owner.TheVariants as owners
 use Rattle.pc_types.specs.Tree.{Tree}
 use Rattle.pc_notes.specs.Notes.{Note}
-use Rattle.pc_expr.specs.SignaturesFound.{constants_of, signatures_find}
+use Rattle.pc_rules.specs.SignaturesFound.{constants_of, signatures_find}
 use Rattle.pc_check.specs.ComputedStatements.{function_finds}
 
 module _ (m : Module) (constants : List Tree) where

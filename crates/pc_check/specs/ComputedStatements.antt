@@ -24,14 +24,14 @@ use Rattle.pc_class.specs.Facts.{TypedParameter, return_type}
 use Rattle.pc_flow.specs.Environment.{Env, assign, assigned_type, join_env, loop_head, none_assigned}
 use Rattle.pc_flow.specs.Narrowing.{narrow}
 use Rattle.pc_notes.specs.Notes.{Note, plain_note}
-use Rattle.pc_expr.specs.Operations.{Mark, clean, offers_mark, iterate_member, StoreOffer, store_attribute_member, store_index_member, store_codes, store_index_types, stored_types, only_type}
-use Rattle.pc_expr.specs.Context.{Context}
-use Rattle.pc_expr.specs.Calls.{arguments_given, is_range, range_item}
-use Rattle.pc_expr.specs.Computed.{flows_of}
-use Rattle.pc_expr.specs.Found.{codes_at, flows_at}
-use Rattle.pc_expr.specs.Standing.{Standing, mark_in, finds_in}
+use Rattle.pc_rules.specs.Operations.{Mark, clean, offers_mark, iterate_member, StoreOffer, store_attribute_member, store_index_member, store_codes, store_index_types, stored_types, only_type}
+use Rattle.pc_rules.specs.Context.{Context}
+use Rattle.pc_rules.specs.Calls.{arguments_given, is_range, range_item}
+use Rattle.pc_rules.specs.Computed.{flows_of}
+use Rattle.pc_rules.specs.Found.{codes_at, flows_at}
+use Rattle.pc_rules.specs.Standing.{Standing, mark_in, finds_in}
 use Rattle.pc_expr.specs.Typing.{range_finds}
-use Rattle.pc_expr.specs.Signatures.{body_context}
+use Rattle.pc_rules.specs.Signatures.{body_context}
 use Rattle.pc_check.specs.Statements.{only_code, binds_number}
 use Rattle.pc_check.specs.Modules.{entry_parameters}
 

@@ -17,8 +17,8 @@ use Rattle.pc_class.specs.Facts.{ClassFacts}
 use Rattle.pc_flow.specs.Environment.{Env, declared_type}
 use Rattle.pc_flow.specs.Agreement.{SameWhere}
 use Rattle.pc_flow.specs.WellFormed.{IsWellFormedEnv, AreWellFormed}
-use Rattle.pc_expr.specs.Context.{Context}
-use Rattle.pc_expr.specs.WellFormed.{ContextWellFormed}
+use Rattle.pc_rules.specs.Context.{Context}
+use Rattle.pc_rules.specs.WellFormed.{ContextWellFormed}
 use Rattle.pc_check.specs.StatementLabels.{StmtMarks, SuiteMarks, BranchesMarks, breaks_in, breaks_in_suite, breaks_in_branches, ways_in}
 use Rattle.pc_check.specs.Statements.{NamesBound, LawfulStmt, LawfulSuite, LawfulBranches}
 use Rattle.pc_check.specs.Modules.{FunctionMarks, LawfulFunction, MembersMarks, LawfulMembers}

@@ -7,7 +7,7 @@ use Rattle.pc_tree.specs.Tree.{Module}
 use Rattle.pc_scope.specs.Findings.{ScopeFinds}
 use Rattle.pc_class.specs.Findings.{ClassFinds}
 use Rattle.pc_notes.specs.Notes.{Note, findings_of}
-use Rattle.pc_expr.specs.SignaturesFound.{constants_of}
+use Rattle.pc_rules.specs.SignaturesFound.{constants_of}
 use Rattle.pc_check.specs.Modules.{Labelling, IsLawful, LabelsSay, LabelsFind, IsFinding, constant_types}
 use Rattle.pc_check.specs.ComputedModules.{module_finds}
 use Rattle.pc_check.specs.WalkLaw.{Adds}

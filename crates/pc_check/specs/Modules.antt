@@ -20,10 +20,10 @@ use Rattle.pc_class.specs.Bases.{bases_of}
 use Rattle.pc_class.specs.Facts.{TypedParameter, ClassFacts, binds_field, parameters_of, return_type}
 use Rattle.pc_class.specs.Findings.{ClassFinds, base_class}
 use Rattle.pc_flow.specs.Environment.{Env, none_assigned, assign, declared_type}
-use Rattle.pc_expr.specs.Context.{FlowsInto}
-use Rattle.pc_expr.specs.Labels.{FlowMarks, Marks, mark_of, type_of, Finds, IsFlowAt, IsCodeAt, is_of_scopes}
-use Rattle.pc_expr.specs.Lawful.{Lawful}
-use Rattle.pc_expr.specs.Signatures.{body_context, initializer_context, LawfulDefault, DefaultFinds, ParamsMarks, LawfulParams, ParamsFind, binds_name, constant_type, annotated_types, first_of_types}
+use Rattle.pc_rules.specs.Context.{FlowsInto}
+use Rattle.pc_rules.specs.Labels.{FlowMarks, Marks, mark_of, type_of, Finds, IsFlowAt, IsCodeAt, is_of_scopes}
+use Rattle.pc_rules.specs.Lawful.{Lawful}
+use Rattle.pc_rules.specs.Signatures.{body_context, initializer_context, LawfulDefault, DefaultFinds, ParamsMarks, LawfulParams, ParamsFind, binds_name, constant_type, annotated_types, first_of_types}
 use Rattle.pc_check.specs.StatementLabels.{SuiteMarks}
 use Rattle.pc_check.specs.Statements.{NamesBound, LawfulSuite, SuiteFinds}
 

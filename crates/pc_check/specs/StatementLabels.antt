@@ -5,8 +5,8 @@ use Rattle.pc_tree.specs.declared.code.Code.{Code}
 use Rattle.pc_tree.specs.Tree.{Expr, Target, to_name, to_attribute, to_index, Stmt, Stmts, Branches, pass, breaks, continues, returns, asserts, annotated, assigns, evaluates, while_loop, for_loop, conditional, no_stmts, more_stmts, no_branches, more_branches}
 use Rattle.pc_scope.specs.Reach.{completes}
 use Rattle.pc_flow.specs.Environment.{Env}
-use Rattle.pc_expr.specs.Labels.{FlowMarks, Marks}
-use Rattle.pc_expr.specs.Operations.{Mark}
+use Rattle.pc_rules.specs.Labels.{FlowMarks, Marks}
+use Rattle.pc_rules.specs.Operations.{Mark}
 
 -- the labels of an expression that may be missing
 abbrev pub OptionMarks : Option Expr → Type 0

@@ -20,11 +20,11 @@ use Rattle.pc_types.specs.Shape.{members}
 use Rattle.pc_types.specs.Annotations.{read_ann, AnnFinds}
 use Rattle.pc_flow.specs.Environment.{Env, declared_type, assign, assigned_type, join_envs_onto, join_ways, loop_head}
 use Rattle.pc_flow.specs.Narrowing.{narrow}
-use Rattle.pc_expr.specs.Operations.{Mark, clean, offers_mark, StoreOffer, store_codes, store_index_types, stored_types, only_type, store_attribute_member, store_index_member, iterate_member}
-use Rattle.pc_expr.specs.Context.{Context, FlowsInto}
-use Rattle.pc_expr.specs.Calls.{arguments_given, call_mark, positional_seat, named_seat, is_range, range_offers, range_item}
-use Rattle.pc_expr.specs.Labels.{FlowMarks, Marks, mark_of, type_of, with_mark, Finds, IsFoundAt, IsFlowAt}
-use Rattle.pc_expr.specs.Lawful.{Lawful, LawfulItems, LawfulKeywords}
+use Rattle.pc_rules.specs.Operations.{Mark, clean, offers_mark, StoreOffer, store_codes, store_index_types, stored_types, only_type, store_attribute_member, store_index_member, iterate_member}
+use Rattle.pc_rules.specs.Context.{Context, FlowsInto}
+use Rattle.pc_rules.specs.Calls.{arguments_given, call_mark, positional_seat, named_seat, is_range, range_offers, range_item}
+use Rattle.pc_rules.specs.Labels.{FlowMarks, Marks, mark_of, type_of, with_mark, Finds, IsFoundAt, IsFlowAt}
+use Rattle.pc_rules.specs.Lawful.{Lawful, LawfulItems, LawfulKeywords}
 use Rattle.pc_check.specs.StatementLabels.{OptionMarks, TargetMarks, StmtMarks, SuiteMarks, BranchesMarks, BehindRule, breaks_in_suite, ways_in}
 
 -- the code of a single flow

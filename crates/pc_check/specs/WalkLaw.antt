@@ -17,8 +17,8 @@ use Rattle.pc_flow.specs.Agreement.{SameWhere}
 use Rattle.pc_flow.specs.Environment.{Env, declared_type, join_envs_onto}
 use Rattle.pc_flow.specs.WellFormed.{AreWellFormed, IsWellFormedEnv}
 use Rattle.pc_notes.specs.Notes.{Note, findings_of}
-use Rattle.pc_expr.specs.Labels.{is_of_scopes, IsCodeAt}
-use Rattle.pc_expr.specs.Signatures.{body_context}
+use Rattle.pc_rules.specs.Labels.{is_of_scopes, IsCodeAt}
+use Rattle.pc_rules.specs.Signatures.{body_context}
 use Rattle.pc_check.specs.StatementLabels.{StmtMarks, SuiteMarks, breaks_in, breaks_in_suite}
 use Rattle.pc_check.specs.Statements.{NamesBound, LawfulStmt, LawfulSuite, StmtFinds, SuiteFinds}
 use Rattle.pc_check.specs.Modules.{FunctionMarks, LawfulFunction, entry_parameters, names_entered}

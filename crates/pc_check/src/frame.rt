@@ -1,8 +1,8 @@
 //! What the statements of a function stand in.
 
 use pc_class::ClassTable;
-use pc_expr::Signature;
 use pc_flow::Resolver;
+use pc_rules::Signature;
 use pc_scope::Scopes;
 use pc_tree::Module;
 use pc_types::Parents;

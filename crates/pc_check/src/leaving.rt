@@ -6,15 +6,15 @@ ghost use Rattle.pc_tree.specs.Tree.{expr_of, option_expr_of};
 ghost use Rattle.pc_types.specs.Store.{KeepsTypes};
 ghost use Rattle.pc_flow.specs.Stored.{env_of};
 ghost use Rattle.pc_notes.specs.Notes.{notes_of};
-ghost use Rattle.pc_expr.specs.Standing.{finds_in};
+ghost use Rattle.pc_rules.specs.Standing.{finds_in};
 ghost use Rattle.pc_check.specs.ComputedStatements.{at, narrowed_at, join_onto_way, with_way, return_finds, option_finds};
 ghost use Rattle.pc_check.specs.Internal.StatementWalk.{frame_with, HoldsFrame, HoldsTypes, HoldsTypesIfAny, GivesTypes, GivesTypesIfAny};
 
 use crate::frame::Frame;
 use crate::typing::{flow_in, join_in, narrow_in, type_in};
-use pc_expr::Label;
 use pc_flow::{BothWays, DeclaredTypes, Env, Resolver};
 use pc_notes::Notes;
+use pc_rules::Label;
 use pc_source::{OutOfMemory, Place};
 use pc_tree::Expr;
 use pc_types::TypeStore;

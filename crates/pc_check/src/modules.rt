@@ -9,7 +9,7 @@ ghost use Rattle.pc_class.specs.Bases.{bases_of};
 ghost use Rattle.pc_class.specs.Facts.{classes_of};
 ghost use Rattle.pc_class.specs.Tables.{HasEntries, classes_with};
 ghost use Rattle.pc_notes.specs.Notes.{notes_of};
-ghost use Rattle.pc_expr.specs.SignaturesFound.{constants_of};
+ghost use Rattle.pc_rules.specs.SignaturesFound.{constants_of};
 ghost use Rattle.pc_check.specs.ComputedModules.{methods_find, bodies_find, module_finds};
 ghost use Rattle.pc_check.specs.Internal.ModuleWalk.{module_in, IsModuleSetting};
 

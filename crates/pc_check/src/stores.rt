@@ -6,19 +6,19 @@ ghost use Rattle.pc_types.specs.Store.{KeepsTypes};
 ghost use Rattle.pc_flow.specs.WellFormed.{AreWellFormed};
 ghost use Rattle.pc_flow.specs.Stored.{env_of};
 ghost use Rattle.pc_notes.specs.Notes.{notes_of};
-ghost use Rattle.pc_expr.specs.Operations.{stored_types};
-ghost use Rattle.pc_expr.specs.Storing.{HasStoreOffer, store_offer_with};
+ghost use Rattle.pc_rules.specs.Operations.{stored_types};
+ghost use Rattle.pc_operate.specs.Storing.{HasStoreOffer, store_offer_with};
 ghost use Rattle.pc_check.specs.ComputedStatements.{at, store_finds, stored_finds};
 ghost use Rattle.pc_check.specs.Internal.StatementWalk.{frame_with, HoldsFrame, HoldsTypes};
 
 use crate::frame::Frame;
 use crate::typing::type_in;
-use pc_expr::{
-    StoreOffer, StoreTarget, find_codes, find_flows, only_type, store_codes, store_index_types,
-    store_offers, stored_types,
-};
 use pc_flow::{DeclaredTypes, Env, Resolver};
 use pc_notes::Notes;
+use pc_operate::{
+    StoreOffer, StoreTarget, only_type, store_codes, store_index_types, store_offers, stored_types,
+};
+use pc_rules::{find_codes, find_flows};
 use pc_source::{OutOfMemory, Place};
 use pc_tree::{Expr, Name, Target};
 use pc_types::TypeStore;

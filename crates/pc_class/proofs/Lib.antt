@@ -2,6 +2,7 @@ pub mod ClassAdded
 pub mod ClassOverrides
 pub mod ClassesBefore
 pub mod ClassesBuilt
+pub mod EachAncestor
 pub mod EntriesGiven
 pub mod EntryWalk
 pub mod FoundBases

@@ -1,10 +1,12 @@
 //! The laws on the findings of classes and on overrides.
 
-ghost use Rattle.std.specs.Prelude.{ℕ};
+ghost use Rattle.std.specs.Prelude.{◌≡◌, ℕ, List, true, Contains, Some, bytes_eq};
 ghost use Rattle.pc_tree.specs.Tree.{ClassDef, FuncDef, Module};
-ghost use Rattle.pc_class.specs.Bases.{bases_of};
+ghost use Rattle.pc_types.specs.Tree.{Class};
+ghost use Rattle.pc_types.specs.Below.{Below};
+ghost use Rattle.pc_class.specs.Bases.{base_named, bases_of};
 ghost use Rattle.pc_class.specs.ClassFindingsLaw.{ClashesStop, ClassesFindJustTheirLists};
-ghost use Rattle.pc_class.specs.Facts.{method_made};
+ghost use Rattle.pc_class.specs.Facts.{Method, class_facts_at, classes_of, method_made};
 ghost use Rattle.pc_class.specs.NameFindings.{BasesAreFound, LateFieldsAreFound, ClassFindingsAreListed};
 ghost use Rattle.pc_class.specs.Overrides.{IsJudgedOnce, overridden};
 ghost use Rattle.pc_class.specs.OverrideFindings.{OverridesAreFound};
@@ -15,6 +17,11 @@ ghost use Rattle.pc_class.specs.WellFormed.{ClassesAreWellFormed};
 /// one code or none: it is good and static, good alone (`A8`), or not good (`E11`).
 pub fn methods_are_judged_once()
     ensures { (m : Module) (c number : ℕ) (class : ClassDef) (f : FuncDef) → IsJudgedOnce (bases_of m) (overridden (base_class m c class).methods f.name.text) (method_made m c number f) }
+{}
+
+/// The law that a method of a class is judged against the methods of its name of each ancestor, the farther ones too.
+pub fn methods_are_judged_against_each_ancestor()
+    ensures { (m : Module) (c b a : ℕ) (class : ClassDef) (name : List ℕ) (old : Method) → base_named m c class.base ≡ Some b → Below (bases_of m) (Class b) (Class a) → Contains (class_facts_at (classes_of m) a).methods old → bytes_eq name old.name ≡ true → Contains (overridden (base_class m c class).methods name) old }
 {}
 
 /// The law that the types of the fields and methods of a module's classes are in normal form, without absorbed members and

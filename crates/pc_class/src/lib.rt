@@ -16,8 +16,8 @@ mod table;
 
 pub use building::class_table;
 pub use laws::{
-    class_findings_are_exact, classes_are_well_formed, methods_are_judged_once, names_are_found,
-    overrides_are_found,
+    class_findings_are_exact, classes_are_well_formed, methods_are_judged_against_each_ancestor,
+    methods_are_judged_once, names_are_found, overrides_are_found,
 };
 pub use overriding::override_findings;
 pub use pc_types::bases_stand_before;

@@ -20,12 +20,12 @@ use Rattle.pc_class.specs.Facts as facts
 use Rattle.pc_class.specs.Facts.{TypedParameter, Method, field_by_name, method_by_name, class_facts_at}
 use Rattle.pc_flow.specs.Environment.{Env, current, join_or_object, join_all}
 use Rattle.pc_flow.specs.Narrowing.{Tested, for_none, for_type, for_list, test_of_argument, local_of_argument, first_argument, second_argument}
-use Rattle.pc_expr.specs.Operations.{Mark, clean, in_error, Offer, offers_mark, index_member, attribute_found, attribute_member, StoreOffer, store_found, store_attribute_member, store_index_member, store_codes, iterate_member, contain_member, length_member, negative_member, Kind, kind_of, row_of_kinds, pair_found, pair_offers, is_never, is_any, is_dynamic, pairs_mark, takes_kind, kind_type, binary_mark, order_mark, display_mark}
-use Rattle.pc_expr.specs.Context.{Context, Signature, local_mark, constant_mark, name_mark}
-use Rattle.pc_expr.specs.Calls.{GivenArguments, is_suited, CallOffer, plain_call, fails_at_call, signature_offer, value_offer, value_offers, class_signature, method_signature, builtin_signature, class_offers, list_offers, dict_offers, method_offers, is_one, is_two, CallRule, member_rule, length_rule, test_rule, CalleeLabel, function_offer, value_callee, good_callee, own_callee, builtin_callee, name_callee, method_callee, call_mark, length_mark, first_type, is_object_or_any, any_list_codes, current_of, test_codes, test_mark, second_code, range_signature, range_offers, range_item}
-use Rattle.pc_expr.specs.Labels.{Marks, ItemsMarks, mark_of, type_of}
-use Rattle.pc_expr.specs.Lawful.{KeyValue, list_mark, compare_mark, callee_of, whole_call_mark, early_second, whole_second_code}
-use Rattle.pc_expr.specs.Computed.{keys_mark, dict_mark}
+use Rattle.pc_rules.specs.Operations.{Mark, clean, in_error, Offer, offers_mark, index_member, attribute_found, attribute_member, StoreOffer, store_found, store_attribute_member, store_index_member, store_codes, iterate_member, contain_member, length_member, negative_member, Kind, kind_of, row_of_kinds, pair_found, pair_offers, is_never, is_any, is_dynamic, pairs_mark, takes_kind, kind_type, binary_mark, order_mark, display_mark}
+use Rattle.pc_rules.specs.Context.{Context, Signature, local_mark, constant_mark, name_mark}
+use Rattle.pc_rules.specs.Calls.{GivenArguments, is_suited, CallOffer, plain_call, fails_at_call, signature_offer, value_offer, value_offers, class_signature, method_signature, builtin_signature, class_offers, list_offers, dict_offers, method_offers, is_one, is_two, CallRule, member_rule, length_rule, test_rule, CalleeLabel, function_offer, value_callee, good_callee, own_callee, builtin_callee, name_callee, method_callee, call_mark, length_mark, first_type, is_object_or_any, any_list_codes, current_of, test_codes, test_mark, second_code, range_signature, range_offers, range_item}
+use Rattle.pc_rules.specs.Labels.{Marks, ItemsMarks, mark_of, type_of}
+use Rattle.pc_rules.specs.Lawful.{KeyValue, list_mark, compare_mark, callee_of, whole_call_mark, early_second, whole_second_code}
+use Rattle.pc_rules.specs.Computed.{keys_mark, dict_mark}
 
 -- ---- lists
 

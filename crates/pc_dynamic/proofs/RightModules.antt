@@ -6,7 +6,7 @@ use Rattle.pc_types.specs.Tree.{Tree}
 use Rattle.pc_class.specs.Bases.{bases_of}
 use Rattle.pc_flow.specs.WellFormed.{AreWellFormed}
 use Rattle.pc_notes.specs.Notes.{Note}
-use Rattle.pc_expr.specs.SignaturesFound.{constants_of, signatures_find}
+use Rattle.pc_rules.specs.SignaturesFound.{constants_of, signatures_find}
 use Rattle.pc_dynamic.proofs.RightNotes.{AreRight, right_append}
 use Rattle.pc_dynamic.proofs.RightSignatures.{constants_formed, right_signatures}
 use Rattle.pc_check.specs.ComputedStatements.{function_finds}

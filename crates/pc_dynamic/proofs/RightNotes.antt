@@ -20,44 +20,23 @@ use Rattle.pc_flow.specs.Environment.{Env}
 use Rattle.pc_flow.specs.Narrowing.{narrow}
 use Rattle.pc_flow.specs.WellFormed.{IsWellFormedIfAny, IsWellFormedEnv, AreWellFormed}
 use Rattle.pc_notes.specs.Notes.{Note, plain_note}
-use Rattle.pc_expr.specs.Operations.{Mark, FlowMark, operand_types, index_member, attribute_member, negative_member}
-use Rattle.pc_expr.specs.Context.{Context, is_early}
-use Rattle.pc_expr.specs.Calls.{Seat, arguments_given, count_exprs, call_mark, positional_seat, named_seat, range_signature, range_offers}
-use Rattle.pc_expr.specs.Labels.{FlowMarks, Marks, ItemsMarks, EntriesMarks, KeywordsMarks, mark_of, type_of, with_mark, is_of_scopes, second_place, item_types, key_types, value_types}
-use Rattle.pc_expr.specs.Lawful.{list_item, dict_parts, tuple_parts, members_of_expected, item_seat, part_seat, key_seat, value_seat, int_literal, compare_types, callee_of, keyword_seat}
-use Rattle.pc_expr.specs.Computed.{code_by, code_unless, flows_of, labels, items_labels, entries_labels, keywords_labels}
-use Rattle.pc_expr.specs.Found.{own_at, has_code, add_code, once_onto, once, codes_at, notes_of_code, flow_note, own_flow, flow_then, flows_behind, flows_at, whole, found_in_parts, found_in_items, found_in_arguments, found_in_entries, found_in_keywords, notes_under}
-use Rattle.pc_expr.specs.Standing.{Standing, mark_in, finds_in, items_in, keywords_in, arguments_find, keywords_find}
+use Rattle.pc_rules.specs.Operations.{Mark, FlowMark, operand_types, index_member, attribute_member, negative_member}
+use Rattle.pc_rules.specs.Context.{Context, is_early}
+use Rattle.pc_rules.specs.Calls.{Seat, arguments_given, count_exprs, call_mark, positional_seat, named_seat, range_signature, range_offers}
+use Rattle.pc_rules.specs.Labels.{FlowMarks, Marks, ItemsMarks, EntriesMarks, KeywordsMarks, mark_of, type_of, with_mark, is_of_scopes, second_place, item_types, key_types, value_types}
+use Rattle.pc_rules.specs.Lawful.{list_item, dict_parts, tuple_parts, members_of_expected, item_seat, part_seat, key_seat, value_seat, int_literal, compare_types, callee_of, keyword_seat}
+use Rattle.pc_rules.specs.Computed.{code_by, code_unless, flows_of, labels, items_labels, entries_labels, keywords_labels}
+use Rattle.pc_rules.specs.Found.{own_at, has_code, add_code, once_onto, once, codes_at, notes_of_code, flow_note, own_flow, flow_then, flows_behind, flows_at, whole, found_in_parts, found_in_items, found_in_arguments, found_in_entries, found_in_keywords, notes_under}
+use Rattle.pc_rules.specs.Standing.{Standing, mark_in, finds_in, items_in, keywords_in, arguments_find, keywords_find}
 use Rattle.pc_expr.specs.Typing.{range_finds}
-use Rattle.pc_expr.specs.WellFormed.{ContextWellFormed, FlowsWellFormed, MarksWellFormed, ItemsWellFormed, EntriesWellFormed, KeywordsWellFormed}
-use Rattle.pc_expr.proofs.WellFormed.{int_well_formed, object_well_formed}
-use Rattle.pc_expr.proofs.Called.{CallsWellFormed, builtin_well_formed, called_well_formed, positional_well_formed, named_well_formed}
-use Rattle.pc_expr.proofs.ComputedFlows.{flows_well_formed, are_tests}
-use Rattle.pc_expr.proofs.ComputedLawful.{labels_are_lawful, items_lawful, keywords_lawful}
-use Rattle.pc_expr.proofs.Saying.{own_mark}
+use Rattle.pc_rules.specs.WellFormed.{ContextWellFormed, FlowsWellFormed, MarksWellFormed, ItemsWellFormed, EntriesWellFormed, KeywordsWellFormed}
+use Rattle.pc_rules.proofs.WellFormed.{int_well_formed, object_well_formed}
+use Rattle.pc_rules.proofs.Called.{CallsWellFormed, builtin_well_formed, called_well_formed, positional_well_formed, named_well_formed}
+use Rattle.pc_rules.proofs.ComputedFlows.{flows_well_formed, are_tests}
+use Rattle.pc_rules.proofs.ComputedLawful.{labels_are_lawful, items_lawful, keywords_lawful}
+use Rattle.pc_rules.proofs.Saying.{own_mark}
+use Rattle.pc_expr.proofs.Forms.{parts_kept}
 use Rattle.pc_dynamic.proofs.PlainCodes.{all_append, in_both, tells_flow, IsPlain, ArePlain, MarkPlain, IsPlainIfAny, mapped_plain, index_plain, attribute_plain, negative_plain, binary_plain, compare_plain, display_plain, list_plain, dict_plain, name_plain, callee_mark_plain, whole_call_plain, whole_second_plain, range_plain}
-
--- the parts of an expression whose own label is another one
-parts_kept : (e : Expr) (m : Marks e) (here : Mark) → found_in_parts e (with_mark e m here) ≡ found_in_parts e m
-parts_kept (name n) m here = refl
-parts_kept (number p d) m here = refl
-parts_kept (text p d) m here = refl
-parts_kept (truth p d) m here = refl
-parts_kept (nothing p) m here = refl
-parts_kept (tuple p es) m here = refl
-parts_kept (list p es) m here = refl
-parts_kept (dict p es) m here = refl
-parts_kept (negative p e) m here = refl
-parts_kept (negation p e) m here = refl
-parts_kept (binary p o l r) m here = refl
-parts_kept (compare p o l r) m here = refl
-parts_kept (is_none p e) m here = refl
-parts_kept (is_not_none p e) m here = refl
-parts_kept (conjunction p l r) m here = refl
-parts_kept (disjunction p l r) m here = refl
-parts_kept (attribute p e field) m here = refl
-parts_kept (index p e i) m here = refl
-parts_kept (call p c args kws) m here = refl
 
 -- ---- right notes
 

@@ -1,5 +1,5 @@
 -- The notes of the signatures of a module and of its constants are right, and the types of its constants are well-formed.
-use Rattle.std.proofs.Common.{ℕ, arith, Bool as Test, true, false, List, [], ◌∷◌, ◌++◌, Option, Some, None, refl, map}
+use Rattle.std.proofs.Common.{ℕ, Bool as Test, true, false, List, [], ◌∷◌, ◌++◌, Option, Some, None, refl, map}
 use Rattle.std.specs.Prelude.{if◌then◌else◌, nat_le, codes}
 use Rattle.std.specs.List.{AllByRecursion}
 use Rattle.pc_source.specs.declared.place.Place.{Place}
@@ -9,7 +9,7 @@ use Rattle.pc_tree.specs.declared.code.Finding.{Finding}
 use Rattle.pc_tree.specs.Code.{finding}
 use Rattle.pc_tree.specs.Depth.{place_of, place_of_ann}
 use Rattle.pc_tree.specs.Stopping.{name_of_member}
-use Rattle.pc_tree.specs.Tree.{number_literal, negative_literal, text_literal, truth_literal, none_literal, Ann, Anns, named, none_type, applied, applied_empty, no_anns, more_anns, Expr, Literal, Param, FuncDef, Field, Member, field_member, method_member, Constant, Item, constant_item, class_item, def_item, Module}
+use Rattle.pc_tree.specs.Tree.{Ann, Anns, named, none_type, applied, applied_empty, no_anns, more_anns, Expr, Literal, Param, FuncDef, Field, Member, field_member, method_member, Constant, Item, constant_item, class_item, def_item, Module}
 use Rattle.pc_tree.specs.Tree as tree
 use Rattle.pc_scope.specs.Resolution.{resolve_in_module}
 use Rattle.pc_types.specs.Tree.{Tree}
@@ -22,28 +22,19 @@ use Rattle.pc_types.proofs.Readings.{read_ann_well_formed, read_option_well_form
 use Rattle.pc_ann.specs.Listed.{without_type, inside_type, part_findings, parts_findings, ann_findings, option_findings}
 use Rattle.pc_class.specs.Bases.{bases_of}
 use Rattle.pc_class.specs.Facts.{ClassFacts}
-use Rattle.pc_flow.specs.WellFormed.{AreWellFormed, IsWellFormedIfAny}
+use Rattle.pc_flow.specs.WellFormed.{AreWellFormed}
 use Rattle.pc_notes.specs.Notes.{Note, plain_note}
-use Rattle.pc_expr.specs.Operations.{clean}
-use Rattle.pc_expr.specs.Computed.{flows_of}
-use Rattle.pc_expr.specs.Found.{flows_at}
-use Rattle.pc_expr.specs.Signatures.{literal_type, literal_place, constant_type, annotated_types, first_of_types}
-use Rattle.pc_expr.specs.SignaturesFound.{no_name, with_name, binds_text, binds_as_field, default_findings, ItemsReached, nothing_reached, param_findings, params_findings, def_findings, function_findings, functions_findings, field_findings, member_findings, members_findings, base_at, initial, initializer_types, initializer_mark, type_of_constant, value_findings, constant_findings, behind, behind_all, item_findings, items_findings, constants_of, signatures_find}
-use Rattle.pc_expr.specs.Standing.{mark_in, finds_in}
-use Rattle.pc_expr.proofs.Contexts.{initializers_well_formed}
+use Rattle.pc_rules.specs.Operations.{clean}
+use Rattle.pc_rules.specs.Computed.{flows_of}
+use Rattle.pc_rules.specs.Found.{flows_at}
+use Rattle.pc_rules.specs.Signatures.{literal_type, literal_place, constant_type, annotated_types, first_of_types}
+use Rattle.pc_rules.specs.SignaturesFound.{no_name, with_name, binds_text, binds_as_field, default_findings, ItemsReached, nothing_reached, param_findings, params_findings, def_findings, function_findings, functions_findings, field_findings, member_findings, members_findings, base_at, initial, initializer_types, initializer_mark, type_of_constant, value_findings, constant_findings, behind, behind_all, item_findings, items_findings, constants_of, signatures_find}
+use Rattle.pc_rules.specs.Standing.{mark_in, finds_in}
+use Rattle.pc_rules.proofs.Contexts.{initializers_well_formed}
+use Rattle.pc_rules.proofs.SignaturesListed.{literal_well_formed}
+use Rattle.pc_rules.proofs.InitializersListed.{first_well_formed}
 use Rattle.pc_dynamic.proofs.PlainCodes.{all_append, in_both, IsPlain}
 use Rattle.pc_dynamic.proofs.RightNotes.{AreRight, right_append, right_plain, right_flows, StandsWell, mark_well_formed, right_in}
-
-literal_well_formed : (bases : Bases) (l : Literal) → IsWellFormed bases (literal_type l)
-literal_well_formed bases (number_literal p d) = (tt, tt, omega arith)
-literal_well_formed bases (negative_literal p d) = (tt, tt, omega arith)
-literal_well_formed bases (text_literal p d) = (tt, tt, omega arith)
-literal_well_formed bases (truth_literal p v) = (tt, tt, omega arith)
-literal_well_formed bases (none_literal p) = (tt, tt, omega arith)
-
-first_well_formed : (bases : Bases) (ts : List Tree) → AreWellFormed bases ts → IsWellFormedIfAny bases (first_of_types ts)
-first_well_formed bases [] k = tt
-first_well_formed bases (t ∷ ts) k = k.0
 
 -- ---- annotations
 

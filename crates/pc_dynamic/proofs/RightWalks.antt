@@ -26,15 +26,15 @@ use Rattle.pc_flow.specs.Environment.{Env, join_env, none_assigned}
 use Rattle.pc_flow.specs.WellFormed.{AreWellFormed, IsWellFormedEnv, IsWellFormedIfAny}
 use Rattle.pc_flow.proofs.Conditions.{assign_well_formed, current_well_formed, assignments_well_formed, conditions_well_formed, heads_well_formed, joins_well_formed}
 use Rattle.pc_notes.specs.Notes.{Note, plain_note}
-use Rattle.pc_expr.specs.Operations.{Mark, clean, iterate_member, StoreOffer, store_codes, store_index_types, stored_types, only_type}
-use Rattle.pc_expr.specs.Calls.{arguments_given, is_suited, is_range, range_item, range_signature}
-use Rattle.pc_expr.specs.Computed.{flows_of}
-use Rattle.pc_expr.specs.Found.{codes_at, flows_at}
-use Rattle.pc_expr.specs.Standing.{Standing, mark_in, finds_in}
+use Rattle.pc_rules.specs.Operations.{Mark, clean, iterate_member, StoreOffer, store_codes, store_index_types, stored_types, only_type}
+use Rattle.pc_rules.specs.Calls.{arguments_given, is_suited, is_range, range_item, range_signature}
+use Rattle.pc_rules.specs.Computed.{flows_of}
+use Rattle.pc_rules.specs.Found.{codes_at, flows_at}
+use Rattle.pc_rules.specs.Standing.{Standing, mark_in, finds_in}
 use Rattle.pc_expr.specs.Typing.{range_finds}
-use Rattle.pc_expr.specs.WellFormed.{ContextWellFormed}
-use Rattle.pc_expr.proofs.Contexts.{bodies_well_formed}
-use Rattle.pc_expr.proofs.WellFormed.{any_well_formed, int_well_formed, none_well_formed, unwrap_well_formed}
+use Rattle.pc_rules.specs.WellFormed.{ContextWellFormed}
+use Rattle.pc_rules.proofs.Contexts.{bodies_well_formed}
+use Rattle.pc_rules.proofs.WellFormed.{any_well_formed, int_well_formed, none_well_formed, unwrap_well_formed}
 use Rattle.pc_dynamic.proofs.PlainCodes.{in_both, ArePlain, MarkPlain, mapped_plain, iterate_plain, range_item_plain, attribute_stores_plain, index_stores_plain}
 use Rattle.pc_dynamic.proofs.RightNotes.{AreRight, right_append, right_codes, right_flows, StandsWell, mark_well_formed, right_in, right_range}
 use Rattle.pc_dynamic.proofs.RightSignatures.{right_annotation}

@@ -16,9 +16,9 @@ use Rattle.pc_scope.proofs.Among.{none_among, among_first}
 use Rattle.pc_scope.specs.Expressions.{is_instance_test}
 use Rattle.pc_types.specs.Tree.{Tree}
 use Rattle.pc_notes.specs.Notes.{Note, plain_note}
-use Rattle.pc_expr.specs.Operations.{FlowMark}
-use Rattle.pc_expr.specs.Labels.{FlowMarks, Marks, ItemsMarks, EntriesMarks, KeywordsMarks, mark_of, is_of_scopes, second_place}
-use Rattle.pc_expr.specs.Found.{own_at, has_code, once, codes_at, notes_of_code, flow_note, own_flow, flow_then, flows_behind, flows_at, whole, found_in_parts, found_in_items, found_in_arguments, found_in_entries, found_in_keywords, notes_under}
+use Rattle.pc_rules.specs.Operations.{FlowMark}
+use Rattle.pc_rules.specs.Labels.{FlowMarks, Marks, ItemsMarks, EntriesMarks, KeywordsMarks, mark_of, is_of_scopes, second_place}
+use Rattle.pc_rules.specs.Found.{own_at, has_code, once, codes_at, notes_of_code, flow_note, own_flow, flow_then, flows_behind, flows_at, whole, found_in_parts, found_in_items, found_in_arguments, found_in_entries, found_in_keywords, notes_under}
 use Rattle.pc_dynamic.specs.FlowsOfExpressions.{DynamicFlow, IsFirstDynamic, IsDynamicAt, DynamicIn, DynamicInExprs, DynamicInArguments, DynamicInEntries, DynamicInKeywords}
 use Rattle.pc_dynamic.proofs.PlainCodes.{all_append, in_both}
 

@@ -26,17 +26,17 @@ use Rattle.pc_class.proofs.WellFormed.{returned_well_formed}
 use Rattle.pc_flow.specs.Environment.{Env, none_assigned}
 use Rattle.pc_flow.specs.WellFormed.{AreWellFormed}
 use Rattle.pc_notes.specs.Notes.{Note, plain_note}
-use Rattle.pc_expr.specs.Operations.{Mark, clean}
-use Rattle.pc_expr.specs.Labels.{FlowMarks, Marks, mark_of, type_of}
-use Rattle.pc_expr.specs.Computed.{labels_of, flows_of}
-use Rattle.pc_expr.specs.Found.{notes_under, flows_at}
-use Rattle.pc_expr.specs.Signatures.{body_context, initializer_context, literal_type, literal_place, LawfulDefault, binds_name, ParamsMarks, LawfulParams, constant_type, annotated_types, first_of_types}
-use Rattle.pc_expr.specs.SignaturesFound.{constants_of, signatures_find, no_name, ItemsReached, nothing_reached, default_findings, params_findings, def_findings, function_findings, functions_findings, members_findings, base_at, initial, type_of_constant, value_findings, constant_findings, class_notes, behind, items_findings}
-use Rattle.pc_expr.specs.Standing.{mark_in, finds_in}
-use Rattle.pc_expr.proofs.ComputedFlows.{flows_are_lawful}
-use Rattle.pc_expr.proofs.ComputedLawful.{labels_are_lawful}
-use Rattle.pc_expr.proofs.Contexts.{bodies_well_formed, initializers_well_formed}
-use Rattle.pc_expr.proofs.One.{into_one, one_labelling}
+use Rattle.pc_rules.specs.Operations.{Mark, clean}
+use Rattle.pc_rules.specs.Labels.{FlowMarks, Marks, mark_of, type_of}
+use Rattle.pc_rules.specs.Computed.{labels_of, flows_of}
+use Rattle.pc_rules.specs.Found.{notes_under, flows_at}
+use Rattle.pc_rules.specs.Signatures.{body_context, initializer_context, literal_type, literal_place, LawfulDefault, binds_name, ParamsMarks, LawfulParams, constant_type, annotated_types, first_of_types}
+use Rattle.pc_rules.specs.SignaturesFound.{constants_of, signatures_find, no_name, ItemsReached, nothing_reached, default_findings, params_findings, def_findings, function_findings, functions_findings, members_findings, base_at, initial, type_of_constant, value_findings, constant_findings, class_notes, behind, items_findings}
+use Rattle.pc_rules.specs.Standing.{mark_in, finds_in}
+use Rattle.pc_rules.proofs.ComputedFlows.{flows_are_lawful}
+use Rattle.pc_rules.proofs.ComputedLawful.{labels_are_lawful}
+use Rattle.pc_rules.proofs.Contexts.{bodies_well_formed, initializers_well_formed}
+use Rattle.pc_rules.proofs.One.{into_one, one_labelling}
 use Rattle.pc_check.specs.Modules.{entry_parameters, names_entered, entry_env, FunctionMarks, LawfulFunction, MembersMarks, LawfulMembers, ItemMarks, ItemsMarks, constant_types, BeforeItem, nothing_before, before_next, LawfulItem, LawfulModuleItems, Labelling, IsLawful}
 use Rattle.pc_check.specs.LabellingLaws.{Setting}
 use Rattle.pc_check.specs.ComputedStatements.{Walk, walk_suite, enter_parameters, end_finds, function_finds}

@@ -21,14 +21,14 @@ use Rattle.pc_flow.specs.Narrowing.{narrow}
 use Rattle.pc_flow.specs.WellFormed.{IsWellFormedIfAny}
 use Rattle.pc_flow.proofs.Conditions.{current_well_formed}
 use Rattle.pc_notes.specs.Notes.{Note}
-use Rattle.pc_expr.specs.Operations.{Mark, clean}
-use Rattle.pc_expr.specs.Context.{FlowsInto}
-use Rattle.pc_expr.specs.Labels.{FlowMarks, Marks, mark_of, type_of}
-use Rattle.pc_expr.specs.Lawful.{Lawful}
-use Rattle.pc_expr.specs.Computed.{flows_of}
-use Rattle.pc_expr.specs.Found.{codes_at, flows_at}
-use Rattle.pc_expr.specs.Standing.{finds_in}
-use Rattle.pc_expr.proofs.WellFormed.{unwrap_well_formed}
+use Rattle.pc_rules.specs.Operations.{Mark, clean}
+use Rattle.pc_rules.specs.Context.{FlowsInto}
+use Rattle.pc_rules.specs.Labels.{FlowMarks, Marks, mark_of, type_of}
+use Rattle.pc_rules.specs.Lawful.{Lawful}
+use Rattle.pc_rules.specs.Computed.{flows_of}
+use Rattle.pc_rules.specs.Found.{codes_at, flows_at}
+use Rattle.pc_rules.specs.Standing.{finds_in}
+use Rattle.pc_rules.proofs.WellFormed.{unwrap_well_formed}
 use Rattle.pc_check.specs.StatementLabels.{OptionMarks, StmtMarks, SuiteMarks, BranchesMarks, Behind, BehindRule}
 use Rattle.pc_check.specs.Statements.{NamesBound, is_first, binds_number, AreUndeclared, DeclaredAt, known_type, LawfulBinding, LawfulTarget, annotation_at, LawfulAnnotated, LawfulStmt, LawfulSuite, LawfulBranches}
 use Rattle.pc_check.specs.LabellingLaws.{Setting}

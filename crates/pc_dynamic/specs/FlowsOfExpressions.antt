@@ -7,8 +7,8 @@ use Rattle.pc_tree.specs.Depth.{place_of}
 use Rattle.pc_tree.specs.Tree.{Expr, Exprs, Entries, Keywords, name, number, text, truth, nothing, tuple, list, dict, negative, negation, binary, compare, is_none, is_not_none, conjunction, disjunction, attribute, index, call, no_exprs, more_exprs, no_entries, more_entries, no_keywords, more_keywords}
 use Rattle.pc_scope.specs.Expressions.{is_instance_test}
 use Rattle.pc_types.specs.Tree.{Tree}
-use Rattle.pc_expr.specs.Operations.{FlowMark}
-use Rattle.pc_expr.specs.Labels.{FlowMarks, Marks, ItemsMarks, EntriesMarks, KeywordsMarks}
+use Rattle.pc_rules.specs.Operations.{FlowMark}
+use Rattle.pc_rules.specs.Labels.{FlowMarks, Marks, ItemsMarks, EntriesMarks, KeywordsMarks}
 
 -- a type that flows at a place, and the one that it flows into
 pub record DynamicFlow : Type 0 where

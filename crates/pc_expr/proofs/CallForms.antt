@@ -14,13 +14,13 @@ use Rattle.pc_tree.proofs.Trees.{call_tree}
 use Rattle.pc_scope.specs.Expressions.{is_named, are_two, is_instance_test}
 use Rattle.pc_types.specs.Tree.{Tree}
 use Rattle.pc_notes.specs.Notes.{Note}
-use Rattle.pc_expr.specs.Calls.{GivenArguments, CallOffer, CallRule, member_rule, length_rule, test_rule, CalleeLabel, arguments_given, positional_seat, named_seat}
-use Rattle.pc_expr.specs.Labels.{ItemsMarks, second_place}
-use Rattle.pc_expr.specs.Lawful.{whole_call_mark, whole_second_code, early_second}
-use Rattle.pc_expr.specs.Context.{Context}
-use Rattle.pc_expr.specs.Found.{own_at, once, codes_at, notes_of_code}
-use Rattle.pc_expr.specs.Standing.{Standing, items_in, mark_in, parts_find, types_in, arguments_find, keywords_find}
-use Rattle.pc_expr.specs.Internal.JudgedCalls.{second_code_of}
+use Rattle.pc_rules.specs.Calls.{GivenArguments, CallOffer, CallRule, member_rule, length_rule, test_rule, CalleeLabel, arguments_given, positional_seat, named_seat}
+use Rattle.pc_rules.specs.Labels.{ItemsMarks, second_place}
+use Rattle.pc_rules.specs.Lawful.{whole_call_mark, whole_second_code, early_second}
+use Rattle.pc_rules.specs.Context.{Context}
+use Rattle.pc_rules.specs.Found.{own_at, once, codes_at, notes_of_code}
+use Rattle.pc_rules.specs.Standing.{Standing, items_in, mark_in, parts_find, types_in, arguments_find, keywords_find}
+use Rattle.pc_call.specs.JudgedCalls.{second_code_of}
 use Rattle.pc_expr.specs.Typing.{callee_in, callee_finds, early_in}
 use Rattle.pc_expr.proofs.Forms.{callee_whole, mark_call}
 use Rattle.pc_expr.proofs.Typed.{two_found}

@@ -7,15 +7,15 @@ use Rattle.pc_tree.specs.Tree.{more_exprs, no_exprs, expr_of}
 use Rattle.pc_tree.specs.Lists.{exprs_of_list}
 use Rattle.pc_types.specs.Tree.{Tree}
 use Rattle.pc_notes.specs.Notes.{Note}
-use Rattle.pc_expr.specs.Calls.{CalleeLabel, Seat}
-use Rattle.pc_expr.specs.Context.{is_early}
-use Rattle.pc_expr.specs.Found.{once}
-use Rattle.pc_expr.specs.Standing.{Standing, mark_in, finds_in, types_in, arguments_find}
+use Rattle.pc_rules.specs.Calls.{CalleeLabel, Seat}
+use Rattle.pc_rules.specs.Context.{is_early}
+use Rattle.pc_rules.specs.Found.{once}
+use Rattle.pc_rules.specs.Standing.{Standing, mark_in, finds_in, types_in, arguments_find}
 use Rattle.pc_expr.specs.Typing.{early_in}
-use Rattle.pc_expr.proofs.Once.{once_early}
+use Rattle.pc_rules.proofs.Once.{once_early}
 use Rattle.pc_expr.proofs.Forms.{types_none, types_more, early_two, arguments_first}
-use Rattle.pc_expr.specs.declared.callee.Callee.{Callee as RustCallee}
-use Rattle.pc_expr.specs.Internal.JudgedCalls.{IsCallee}
+use Rattle.pc_call.specs.declared.callee.Callee.{Callee as RustCallee}
+use Rattle.pc_call.specs.JudgedCalls.{IsCallee}
 
 module _ {Store Ty : Type 0} (has : Store → Ty → Type 0) (tree : Ty → Tree) (store : Store) where
   -- what is a callee is what equals it

@@ -11,12 +11,12 @@ use Rattle.pc_tree.proofs.Stops.{cons_at}
 use Rattle.pc_scope.specs.Resolution.{is_one_of}
 use Rattle.pc_types.specs.Tree.{Tree}
 use Rattle.pc_notes.specs.Notes.{Note}
-use Rattle.pc_expr.specs.Calls.{Seat, nowhere}
-use Rattle.pc_expr.specs.Lawful.{keyword_seat}
-use Rattle.pc_expr.specs.Computed.{flows_of}
-use Rattle.pc_expr.specs.Found.{brief, flows_at}
-use Rattle.pc_expr.specs.declared.label.Label.{Label}
-use Rattle.pc_expr.specs.Standing.{Standing, mark_with, mark_in, finds_in, keys_in, values_in, entries_find, keywords_find}
+use Rattle.pc_rules.specs.Calls.{Seat, nowhere}
+use Rattle.pc_rules.specs.Lawful.{keyword_seat}
+use Rattle.pc_rules.specs.Computed.{flows_of}
+use Rattle.pc_rules.specs.Found.{brief, flows_at}
+use Rattle.pc_rules.specs.declared.label.Label.{Label}
+use Rattle.pc_rules.specs.Standing.{Standing, mark_with, mark_in, finds_in, keys_in, values_in, entries_find, keywords_find}
 use Rattle.pc_expr.proofs.Forms.{keys_none, keys_more, values_none, values_more, entries_none, entries_more, keywords_none, keywords_more}
 use Rattle.pc_expr.proofs.Typed.{type_is, two_found, three_found}
 

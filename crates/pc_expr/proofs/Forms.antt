@@ -14,14 +14,14 @@ use Rattle.pc_types.specs.Shape.{members, trees}
 use Rattle.pc_types.specs.Computed.{static_test, assignable_test}
 use Rattle.pc_flow.specs.Environment.{join_or_object}
 use Rattle.pc_notes.specs.Notes.{Note}
-use Rattle.pc_expr.specs.Operations.{Mark, clean, in_error, offers_mark, operand_types, negative_member, attribute_member, index_member, binary_mark, display_mark}
-use Rattle.pc_expr.specs.Context.{Context, name_mark, is_early}
-use Rattle.pc_expr.specs.Calls.{Seat, GivenArguments, CalleeLabel, CallRule, member_rule, length_rule, test_rule, arguments_given, count_exprs, value_callee, name_callee, method_callee, positional_seat, named_seat}
-use Rattle.pc_expr.specs.Labels.{Marks, ItemsMarks, mark_of, type_of, with_mark, second_place}
-use Rattle.pc_expr.specs.Lawful.{list_item, dict_parts, tuple_parts, members_of_expected, item_seat, part_seat, list_mark, key_seat, value_seat, int_literal, compare_mark, compare_types, whole_call_mark, whole_second_code, early_second, keyword_seat}
-use Rattle.pc_expr.specs.Computed.{flows_of, dict_mark, labels_of}
-use Rattle.pc_expr.specs.Found.{codes_at, notes_of_code, flows_at, notes_under, found_in_parts, found_in_items, found_in_arguments}
-use Rattle.pc_expr.specs.Standing.{Standing, narrowed_standing, mark_in, finds_in, parts_find, items_in, types_in, items_find, arguments_find, keys_in, values_in, entries_find, keywords_find}
+use Rattle.pc_rules.specs.Operations.{Mark, clean, in_error, offers_mark, operand_types, negative_member, attribute_member, index_member, binary_mark, display_mark}
+use Rattle.pc_rules.specs.Context.{Context, name_mark, is_early}
+use Rattle.pc_rules.specs.Calls.{Seat, GivenArguments, CalleeLabel, CallRule, member_rule, length_rule, test_rule, arguments_given, count_exprs, value_callee, name_callee, method_callee, positional_seat, named_seat}
+use Rattle.pc_rules.specs.Labels.{Marks, ItemsMarks, mark_of, type_of, with_mark, second_place}
+use Rattle.pc_rules.specs.Lawful.{list_item, dict_parts, tuple_parts, members_of_expected, item_seat, part_seat, list_mark, key_seat, value_seat, int_literal, compare_mark, compare_types, whole_call_mark, whole_second_code, early_second, keyword_seat}
+use Rattle.pc_rules.specs.Computed.{flows_of, dict_mark, labels_of}
+use Rattle.pc_rules.specs.Found.{codes_at, notes_of_code, flows_at, notes_under, found_in_parts, found_in_items, found_in_arguments}
+use Rattle.pc_rules.specs.Standing.{Standing, narrowed_standing, mark_in, finds_in, parts_find, items_in, types_in, items_find, arguments_find, keys_in, values_in, entries_find, keywords_find}
 use Rattle.pc_expr.specs.Typing.{is_other, unnamed_callee, callee_in, callee_finds, early_in}
 
 module _ (k : Standing) (want : Option Tree) where
@@ -264,7 +264,7 @@ module _ (k : Standing) (seat : List ℕ → Seat) (before : List (List ℕ)) wh
 -- ---- callees and calls
 
 -- the parts of an expression whose own label is another one
-parts_kept : (e : Expr) (m : Marks e) (here : Mark) → found_in_parts e (with_mark e m here) ≡ found_in_parts e m
+pub parts_kept : (e : Expr) (m : Marks e) (here : Mark) → found_in_parts e (with_mark e m here) ≡ found_in_parts e m
 parts_kept (name n) m here = refl
 parts_kept (number p d) m here = refl
 parts_kept (text p d) m here = refl

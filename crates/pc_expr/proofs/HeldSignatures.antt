@@ -7,8 +7,8 @@ use Rattle.pc_types.specs.Tree.{Tree}
 use Rattle.pc_types.specs.Store.{KeepsTypes}
 use Rattle.pc_class.specs.Tables.{ClassEntry, HasParameter, HasMethod, HasEntry, HasEntries}
 use Rattle.pc_class.specs.declared.table.Parameter.{Parameter as RustParameter}
-use Rattle.pc_expr.specs.declared.setting.Signature.{Signature as RustSignature}
-use Rattle.pc_expr.specs.Standing.{HasSignature}
+use Rattle.pc_rules.specs.declared.setting.Signature.{Signature as RustSignature}
+use Rattle.pc_rules.specs.Standing.{HasSignature}
 use Rattle.pc_expr.specs.declared.constants.Globals.{Globals}
 use Rattle.pc_expr.specs.SignaturesHeld.{methods_seen, all_signatures_with}
 use Rattle.pc_expr.specs.Internal.SignaturesRead.{HasSignatures, HasMethods, AreGlobals, methods_with}

@@ -13,10 +13,10 @@ use Rattle.pc_types.specs.Below.{Bases}
 use Rattle.pc_class.specs.Bases.{bases_of}
 use Rattle.pc_class.specs.Facts.{ClassFacts, classes_of}
 use Rattle.pc_flow.specs.Environment.{Env}
-use Rattle.pc_expr.specs.Context.{Signature}
-use Rattle.pc_expr.specs.Signatures.{signatures_of}
-use Rattle.pc_expr.specs.SignaturesFound.{initial}
-use Rattle.pc_expr.specs.Standing.{Standing}
+use Rattle.pc_rules.specs.Context.{Signature}
+use Rattle.pc_rules.specs.Signatures.{signatures_of}
+use Rattle.pc_rules.specs.SignaturesFound.{initial}
+use Rattle.pc_rules.specs.Standing.{Standing}
 
 module _ (m : Module) where
   -- names mean to the module what its tables say

@@ -5,7 +5,7 @@ use Rattle.pc_tree.specs.declared.tree.Literal.{Literal as RustLiteral}
 use Rattle.pc_tree.specs.declared.tree.LiteralKind.{LiteralKind}
 use Rattle.pc_tree.specs.declared.tree.LiteralKind.TheVariants as rust_literal
 use Rattle.pc_tree.specs.Tree.{literal_of, literal_of_kind}
-use Rattle.pc_expr.specs.Signatures.{literal_place}
+use Rattle.pc_rules.specs.Signatures.{literal_place}
 
 kind_at : (p : Place) (k : LiteralKind) → p ≡ literal_place (literal_of_kind p k)
 kind_at p (rust_literal.Int digits) = refl

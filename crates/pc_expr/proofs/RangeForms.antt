@@ -6,9 +6,9 @@ use Rattle.pc_tree.specs.declared.code.Code.{Code}
 use Rattle.pc_tree.specs.Tree.{Expr, Exprs, Keywords}
 use Rattle.pc_scope.specs.Expressions.{is_instance_test}
 use Rattle.pc_notes.specs.Notes.{Note}
-use Rattle.pc_expr.specs.Calls.{GivenArguments, CallOffer, arguments_given, call_mark, call_codes, positional_seat, named_seat, range_offers}
-use Rattle.pc_expr.specs.Found.{own_at, once, codes_at}
-use Rattle.pc_expr.specs.Standing.{Standing, arguments_find, keywords_find}
+use Rattle.pc_rules.specs.Calls.{GivenArguments, CallOffer, arguments_given, call_mark, call_codes, positional_seat, named_seat, range_offers}
+use Rattle.pc_rules.specs.Found.{own_at, once, codes_at}
+use Rattle.pc_rules.specs.Standing.{Standing, arguments_find, keywords_find}
 use Rattle.pc_expr.specs.Typing.{range_finds}
 use Rattle.pc_expr.proofs.Typed.{two_found}
 

@@ -11,15 +11,15 @@ use Rattle.pc_tree.specs.Lists.{exprs_of_list}
 use Rattle.pc_tree.proofs.Stops.{cons_at}
 use Rattle.pc_types.specs.Tree.{Tree}
 use Rattle.pc_notes.specs.Notes.{Note}
-use Rattle.pc_expr.specs.Context.{is_early}
-use Rattle.pc_expr.specs.Calls.{Seat}
-use Rattle.pc_expr.specs.Computed.{flows_of}
-use Rattle.pc_expr.specs.Found.{brief, once, flows_at}
-use Rattle.pc_expr.specs.declared.label.Label.{Label}
+use Rattle.pc_rules.specs.Context.{is_early}
+use Rattle.pc_rules.specs.Calls.{Seat}
+use Rattle.pc_rules.specs.Computed.{flows_of}
+use Rattle.pc_rules.specs.Found.{brief, once, flows_at}
+use Rattle.pc_rules.specs.declared.label.Label.{Label}
 use Rattle.pc_expr.proofs.Typed.{type_is}
-use Rattle.pc_expr.specs.Standing.{Standing, mark_with, mark_in, finds_in, types_in, items_find}
+use Rattle.pc_rules.specs.Standing.{Standing, mark_with, mark_in, finds_in, types_in, items_find}
 use Rattle.pc_expr.specs.Typing.{early_in}
-use Rattle.pc_expr.proofs.Once.{once_early}
+use Rattle.pc_rules.proofs.Once.{once_early}
 use Rattle.pc_expr.proofs.Forms.{types_none, types_more, items_none, items_more, early_none, early_one, early_two}
 
 -- the seats from a position on

@@ -1,46 +1,35 @@
 -- The label of an expression of each form, and what is found in it, by the labels of its parts as the program holds them.
 use Rattle.std.specs.Prelude.{Vec, length, suc}
 use Rattle.std.specs.Global.{Global}
-use Rattle.std.proofs.Common.{◌≡◌, ℕ, List, [], ◌∷◌, ◌++◌, refl, sym, ap, ◌∙◌, subst, map, append_assoc, Option, Some, None}
-use Rattle.std.specs.Prelude.{Bool as Test, true, false, Result, Ok, Err, IfOk, OnOk, flat_map}
-use Rattle.std.specs.Option.{option_map}
-use Rattle.std.proofs.lemmas.List.{append-nil}
+use Rattle.std.proofs.Common.{◌≡◌, ℕ, List, [], ◌∷◌, ◌++◌, refl, sym, ap, ◌∙◌, map, append_assoc, Option, None}
+use Rattle.std.specs.Prelude.{Bool as Test, true, false, flat_map}
 use Rattle.pc_source.specs.declared.place.Place.{Place}
-use Rattle.pc_tree.specs.declared.code.Code.{Code}
 use Rattle.pc_tree.specs.declared.tree.BinaryOperator.{BinaryOperator}
 use Rattle.pc_tree.specs.declared.tree.ComparisonOperator.{ComparisonOperator}
-use Rattle.pc_tree.specs.Tree.{Name, Expr, Exprs, negative, negation, binary, compare, is_none, is_not_none, conjunction, disjunction, attribute, index}
+use Rattle.pc_tree.specs.Tree.{Name, Expr, negative, binary, compare, conjunction, disjunction, attribute, index}
 use Rattle.pc_tree.specs.Tree.{expr_of}
 use Rattle.pc_tree.specs.declared.tree.Expr.{Expr as RustExpr}
 use Rattle.pc_tree.specs.declared.tree.Expr.TheViews as View
 use Rattle.pc_tree.specs.declared.tree.Entry.{Entry as RustEntry}
-use Rattle.pc_tree.specs.Lists.{exprs_of_list, entries_of_list, keywords_of_list}
-use Rattle.pc_tree.proofs.Trees.{tuple_tree, list_tree, dict_tree, call_tree}
+use Rattle.pc_tree.specs.Lists.{exprs_of_list, entries_of_list}
+use Rattle.pc_tree.proofs.Trees.{tuple_tree, list_tree, dict_tree}
 use Rattle.pc_types.specs.Tree.{TupleOf}
 use Rattle.pc_types.specs.Shape.{trees}
 use Rattle.pc_types.specs.Computed.{static_test, assignable_test}
 use Rattle.pc_notes.specs.Notes.{Note}
-use Rattle.pc_expr.specs.Calls.{Seat, count_exprs}
+use Rattle.pc_rules.specs.Calls.{Seat, count_exprs}
 use Rattle.pc_tree.specs.Depth.{place_of}
 use Rattle.pc_types.specs.Tree.{Tree}
 use Rattle.pc_types.specs.Shape.{members}
 use Rattle.pc_flow.specs.Environment.{Env, join_or_object}
 use Rattle.pc_flow.specs.Narrowing.{narrow}
-use Rattle.pc_expr.specs.Operations.{Mark, clean, offers_mark, operand_types, negative_member, attribute_member, index_member, binary_mark, display_mark}
-use Rattle.pc_expr.specs.Lawful.{list_item, dict_parts, tuple_parts, members_of_expected, item_seat, part_seat, list_mark, key_seat, value_seat, int_literal, compare_mark, compare_types}
-use Rattle.pc_expr.specs.Computed.{flows_of, dict_mark}
-use Rattle.pc_expr.specs.Found.{own_at, once, brief, codes_at, flows_at}
-use Rattle.pc_expr.specs.Standing.{Standing, narrowed_standing, mark_in, finds_in, parts_find, types_in, items_find, keys_in, values_in, entries_find, mark_with, IsMark}
-use Rattle.pc_expr.specs.declared.label.Label.{Label}
+use Rattle.pc_rules.specs.Operations.{Mark, clean, offers_mark, operand_types, negative_member, attribute_member, index_member, binary_mark, display_mark}
+use Rattle.pc_rules.specs.Lawful.{list_item, dict_parts, tuple_parts, members_of_expected, item_seat, part_seat, list_mark, key_seat, value_seat, int_literal, compare_mark, compare_types}
+use Rattle.pc_rules.specs.Computed.{flows_of, dict_mark}
+use Rattle.pc_rules.specs.Found.{own_at, once, brief, codes_at, flows_at}
+use Rattle.pc_rules.specs.Standing.{Standing, narrowed_standing, mark_in, finds_in, parts_find, types_in, items_find, keys_in, values_in, entries_find, mark_with}
+use Rattle.pc_rules.specs.declared.label.Label.{Label}
 use Rattle.pc_expr.proofs.Forms.{finds_whole, mark_negative, mark_attribute, mark_binary, mark_compare, parts_compare, mark_conjunction, mark_disjunction, parts_conjunction, parts_disjunction, parts_binary, mark_index, parts_index, mark_tuple, parts_tuple, mark_list, parts_list, mark_dict, parts_dict}
-
--- ---- labels and findings along equations
-
-pub marked_by : {Store Ty E : Type 0} (has : Store → Ty → Type 0) (tree : Ty → Tree) (store : Store) (r : Result (Label Ty) E) (m n : Mark) → m ≡ n → IfOk r (λ l. IsMark has tree store l m) → IfOk r (λ l. IsMark has tree store l n)
-marked_by has tree store r m n e h = subst (λ (x : Mark). IfOk r (λ l. IsMark has tree store l x)) e h
-
-pub pushed_by : {T E : Type 0} (r : Result T E) (new old more : List Note) → old ≡ more → OnOk r (new ≡ old) → OnOk r (new ≡ more)
-pushed_by r new old more e h = subst (λ (x : List Note). OnOk r (new ≡ x)) e h
 
 module _ {T : Type 0} (tree : T → Tree) (l : Label T) (m : Mark) (is : mark_with tree l ≡ brief m) where
   pub type_is : tree l.ty ≡ m.type
@@ -131,16 +120,6 @@ module _ {T : Type 0} (tree : T → Tree) (k : Standing) (want : Option Tree) wh
 -- the standing behind a condition, by the environment that it leaves
 pub standing_after : (k : Standing) (env : Env) (holds : Test) (e : Expr) → env ≡ narrow k.context.bases k.declared k.context.resolve holds e k.env → (let s : Standing = record { context = k.context; declared = k.declared; env = env } in s) ≡ narrowed_standing k holds e
 standing_after k env holds e h = ap (λ (x : Env). let s : Standing = record { context = k.context; declared = k.declared; env = x } in s) h
-
--- what holds anyway holds where there is a value
-pub on_ok : {T E : Type 0} {P : Type 0} (r : Result T E) → P → OnOk r P
-on_ok (Ok x) p = p
-on_ok (Err x) p = tt
-
--- from what holds where there is a value, what follows holds there
-pub if_ok : {T E : Type 0} {P Q : Type 0} (r : Result T E) → (P → Q) → OnOk r P → OnOk r Q
-if_ok (Ok x) f p = f p
-if_ok (Err x) f p = tt
 
 -- ---- displays
 

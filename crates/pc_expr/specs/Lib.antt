@@ -1,15 +1,3 @@
-pub mod Calls
-pub mod Computed
-pub mod Context
-pub mod Found
-pub mod Labels
-pub mod Lawful
-pub mod Operations
-pub mod Signatures
-pub mod SignaturesFound
-pub mod SignaturesHeld
-pub mod Standing
-pub mod Storing
-pub mod Typing
-pub mod WellFormed
 pub mod Internal
+pub mod SignaturesHeld
+pub mod Typing

@@ -3,9 +3,9 @@
 use Rattle.std.specs.Prelude.{ℕ, List, map, Option, Some, None, All, Vec, slice_get}
 use Rattle.std.specs.Global.{Global}
 use Rattle.pc_types.specs.Tree.{Tree}
-use Rattle.pc_expr.specs.declared.setting.Signature.{Signature as RustSignature}
-use Rattle.pc_expr.specs.Context.{Signature}
-use Rattle.pc_expr.specs.Standing.{HasSignature, signature_with}
+use Rattle.pc_rules.specs.declared.setting.Signature.{Signature as RustSignature}
+use Rattle.pc_rules.specs.Context.{Signature}
+use Rattle.pc_rules.specs.Standing.{HasSignature, signature_with}
 
 -- the types of the constants, what the functions take and return, and what the methods of each class do, each in text order
 pub record HeldSignatures (Ty : Type 0) : Type 0 where

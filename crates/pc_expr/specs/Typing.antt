@@ -6,13 +6,13 @@ use Rattle.pc_tree.specs.declared.code.Code.TheVariants.{E03}
 use Rattle.pc_tree.specs.Tree.{Expr, Exprs, Keywords, name, attribute}
 use Rattle.pc_scope.specs.Expressions.{is_instance_test}
 use Rattle.pc_notes.specs.Notes.{Note}
-use Rattle.pc_expr.specs.Operations.{Mark, in_error}
-use Rattle.pc_expr.specs.Calls.{GivenArguments, CalleeLabel, Seat, value_callee, arguments_given, call_mark, positional_seat, named_seat, range_offers}
-use Rattle.pc_expr.specs.Labels.{with_mark}
-use Rattle.pc_expr.specs.Lawful.{callee_of, early_second}
-use Rattle.pc_expr.specs.Computed.{labels_of}
-use Rattle.pc_expr.specs.Found.{notes_under, codes_at}
-use Rattle.pc_expr.specs.Standing.{Standing, items_in, arguments_find, keywords_find}
+use Rattle.pc_rules.specs.Operations.{Mark, in_error}
+use Rattle.pc_rules.specs.Calls.{GivenArguments, CalleeLabel, Seat, value_callee, arguments_given, call_mark, positional_seat, named_seat, range_offers}
+use Rattle.pc_rules.specs.Labels.{with_mark}
+use Rattle.pc_rules.specs.Lawful.{callee_of, early_second}
+use Rattle.pc_rules.specs.Computed.{labels_of}
+use Rattle.pc_rules.specs.Found.{notes_under, codes_at}
+use Rattle.pc_rules.specs.Standing.{Standing, items_in, arguments_find, keywords_find}
 
 -- an expression that is neither a name nor an attribute
 abbrev pub is_other : Expr → Test

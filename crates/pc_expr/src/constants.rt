@@ -11,21 +11,20 @@ ghost use Rattle.pc_types.specs.Store.{Means, KeepsTypes};
 ghost use Rattle.pc_class.specs.Facts.{base_facts, classes_of};
 ghost use Rattle.pc_class.specs.Tables.{classes_with};
 ghost use Rattle.pc_notes.specs.Notes.{notes_of};
-ghost use Rattle.pc_expr.specs.Signatures.{signature_of};
-ghost use Rattle.pc_expr.specs.SignaturesFound.{bound_in, base_has_member, binds_as_field, member_findings, members_findings, class_methods, signatures_of_methods, initial, type_of_constant, constant_findings, behind, item_findings, items_findings, constants_of, method_signatures, no_name, with_name, def_findings, field_findings, class_notes, value_findings, nothing_reached};
+ghost use Rattle.pc_rules.specs.Signatures.{signature_of};
+ghost use Rattle.pc_rules.specs.SignaturesFound.{bound_in, base_has_member, binds_as_field, member_findings, members_findings, class_methods, signatures_of_methods, initial, type_of_constant, constant_findings, behind, item_findings, items_findings, constants_of, method_signatures, no_name, with_name, def_findings, field_findings, class_notes, value_findings, nothing_reached};
 ghost use Rattle.pc_expr.specs.Internal.SignaturesRead.{module_in, IsFrame, AreGlobals, AreSignatures, HasSignatures, HasReached, signatures_with, methods_with, reached_with};
-ghost use Rattle.pc_expr.specs.Standing.{IsMark, HasIfAny, mark_in, finds_in};
+ghost use Rattle.pc_rules.specs.Standing.{IsMark, HasIfAny, mark_in, finds_in};
 
 use crate::bound::{Texts, bind, is_bound};
 use crate::defaults::{binds, find_default, find_into, is_reserved};
-use crate::label::Label;
-use crate::setting::{Setting, Signature};
 use crate::signatures::{Frame, read_annotation, read_signature};
 use crate::typing::type_expr;
 use indexmap::IndexSet;
 use pc_class::ClassTable;
 use pc_flow::{DeclaredTypes, Env, OwnerNames};
 use pc_notes::Notes;
+use pc_rules::{Label, Setting, Signature};
 use pc_scope::Owner;
 use pc_source::OutOfMemory;
 use pc_tree::{ClassDef, Constant, Expr, Field, FuncDef, Item, ItemKind, Member, Name};
@@ -362,7 +361,7 @@ fn add_item<S: TypeStore>(
 
 /// The types of the constants of a module, and what the methods of its classes take and return; what is found of its
 /// constants and classes.
-#[tactic(auto, unfolding(crate::specs::SignaturesFound::constants_of, crate::specs::SignaturesFound::method_signatures))]
+#[tactic(auto, unfolding(pc_rules::specs::SignaturesFound::constants_of, pc_rules::specs::SignaturesFound::method_signatures))]
 pub(crate) fn read_items<S: TypeStore>(
     store: &mut S,
     alloc: Global,

@@ -3,15 +3,15 @@
 ghost use Rattle.std.specs.Prelude.{◌≡◌, ◌||◌, ◌&&◌, nat_eq, Some, None, [], map, All, IfOk};
 ghost use Rattle.std.specs.Option.{option_map};
 ghost use Rattle.pc_types.specs.Store.{KeepsTypes};
-ghost use Rattle.pc_expr.specs.Context.{is_early};
-ghost use Rattle.pc_expr.specs.Lawful.{item_seat, part_seat, list_item, tuple_parts, members_of_expected, list_mark};
-ghost use Rattle.pc_expr.specs.Standing.{HasIfAny, IsMark};
-ghost use Rattle.pc_expr.specs.Internal.JudgedCalls.{IsSeat};
+ghost use Rattle.pc_rules.specs.Context.{is_early};
+ghost use Rattle.pc_rules.specs.Lawful.{item_seat, part_seat, list_item, tuple_parts, members_of_expected, list_mark};
+ghost use Rattle.pc_rules.specs.Standing.{HasIfAny, IsMark};
+ghost use Rattle.pc_call.specs.JudgedCalls.{IsSeat};
 ghost use Rattle.pc_expr.specs.Internal.Seats.{seats_of, HasSeats};
 
-use crate::display::{list_item, list_label, tuple_parts};
-use crate::label::{Label, is_early};
-use crate::seats::Seat;
+use pc_call::Seat;
+use pc_operate::{list_item, list_label, tuple_parts};
+use pc_rules::{Label, is_early};
 use pc_source::OutOfMemory;
 use pc_tree::Code;
 use pc_types::{Parents, TypeStore};

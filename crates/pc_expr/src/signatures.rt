@@ -9,16 +9,16 @@ ghost use Rattle.pc_ann.specs.Listed.{ann_findings, option_findings};
 ghost use Rattle.pc_class.specs.Bases.{bases_of};
 ghost use Rattle.pc_class.specs.Facts.{typed_parameter, parameters_of};
 ghost use Rattle.pc_notes.specs.Notes.{notes_of, plain_note};
-ghost use Rattle.pc_expr.specs.Signatures.{signature_of, signatures_of};
-ghost use Rattle.pc_expr.specs.SignaturesFound.{bound_in, param_findings, params_findings, def_findings, function_findings, functions_findings};
+ghost use Rattle.pc_rules.specs.Signatures.{signature_of, signatures_of};
+ghost use Rattle.pc_rules.specs.SignaturesFound.{bound_in, param_findings, params_findings, def_findings, function_findings, functions_findings};
 ghost use Rattle.pc_expr.specs.Internal.SignaturesRead.{module_in, IsFrame, IsParameter, AreParameters, IsSignature, AreSignatures, HasSignatures, signatures_with};
 
 use crate::bound::{Texts, bind};
 use crate::defaults::{binds, find_default};
-use crate::setting::Signature;
 use indexmap::IndexSet;
 use pc_class::Parameter;
 use pc_notes::Notes;
+use pc_rules::Signature;
 use pc_scope::Scopes;
 use pc_source::OutOfMemory;
 use pc_tree::{Ann, FuncDef, Item, ItemKind, Module, Param};
@@ -193,7 +193,7 @@ fn add_function<S: TypeStore>(
 }
 
 /// What the functions of a module take and return; what is found in their annotations and at their defaults.
-#[tactic(auto, unfolding(crate::specs::Signatures::signatures_of))]
+#[tactic(auto, unfolding(pc_rules::specs::Signatures::signatures_of))]
 pub(crate) fn read_functions<S: TypeStore>(
     store: &mut S,
     alloc: Global,

@@ -9,16 +9,16 @@ ghost use Rattle.pc_class.specs.Bases.{bases_of};
 ghost use Rattle.pc_class.specs.Facts.{classes_of};
 ghost use Rattle.pc_class.specs.Tables.{HasEntries, classes_with};
 ghost use Rattle.pc_notes.specs.Notes.{notes_of};
-ghost use Rattle.pc_expr.specs.Signatures.{signatures_of};
-ghost use Rattle.pc_expr.specs.SignaturesFound.{constants_of, method_signatures, signatures_find};
+ghost use Rattle.pc_rules.specs.Signatures.{signatures_of};
+ghost use Rattle.pc_rules.specs.SignaturesFound.{constants_of, method_signatures, signatures_find};
 ghost use Rattle.pc_expr.specs.SignaturesHeld.{HeldSignatures, methods_seen, method_numbered, HasSigned, all_signatures_with};
-ghost use Rattle.pc_expr.specs.Standing.{signature_with};
+ghost use Rattle.pc_rules.specs.Standing.{signature_with};
 
 use crate::constants::{Globals, read_items};
-use crate::setting::Signature;
 use crate::signatures::{Frame, read_functions};
 use pc_class::ClassTable;
 use pc_notes::Notes;
+use pc_rules::Signature;
 use pc_scope::Scopes;
 use pc_source::OutOfMemory;
 use pc_tree::Module;
@@ -82,7 +82,7 @@ impl<Ty: Drop> Sigs<Ty> {
 ///
 /// Language Reference 3.12, 7.2 "Assignment statements" and 8.7 "Function definitions"; library reference, `dataclasses`;
 /// typing specification, "Type annotations"; own rules of the profile.
-#[tactic(auto, unfolding(crate::specs::SignaturesFound::signatures_find))]
+#[tactic(auto, unfolding(pc_rules::specs::SignaturesFound::signatures_find))]
 pub fn read_signatures<S: TypeStore>(
     store: &mut S,
     alloc: Global,

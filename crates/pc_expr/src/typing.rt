@@ -1,5 +1,5 @@
 //! The labels of expressions, with what is found in them.
-#![tactic(auto, using(crate::proofs::Kept::stands_further))]
+#![tactic(auto, using(pc_rules::proofs::Kept::stands_further))]
 
 // The type of an expression, and what is found in it.
 
@@ -9,36 +9,27 @@ ghost use Rattle.pc_tree.specs.Tree.{expr_of};
 ghost use Rattle.pc_tree.specs.Lists.{exprs_of_list, entries_of_list, keywords_of_list};
 ghost use Rattle.pc_types.specs.Store.{KeepsTypes};
 ghost use Rattle.pc_notes.specs.Notes.{notes_of};
-ghost use Rattle.pc_expr.specs.Calls.{positional_seat, named_seat};
-ghost use Rattle.pc_expr.specs.Standing.{standing_of, mark_in, finds_in, parts_find, types_in, items_find, arguments_find, entries_find, keywords_find, HasGivenAll, HasIfAny, IsMark};
-ghost use Rattle.pc_expr.specs.Internal.JudgedCalls.{given_with, offer_called, HasCallOffer, IsCallee};
+ghost use Rattle.pc_rules.specs.Calls.{positional_seat, named_seat};
+ghost use Rattle.pc_rules.specs.Standing.{standing_of, mark_in, finds_in, parts_find, types_in, items_find, arguments_find, entries_find, keywords_find, HasGivenAll, HasIfAny, IsMark};
+ghost use Rattle.pc_call.specs.JudgedCalls.{given_with, offer_called, HasCallOffer, IsCallee};
 ghost use Rattle.pc_expr.specs.Typing.{callee_in};
 ghost use Rattle.pc_expr.specs.Internal.Seats.{seats_of, seat_with, HasSeats, HasEntrySeats, AreTyped, AreEntryTypes};
 
-use crate::arguments::Given;
 use crate::call_labels::{callee_of_other, is_test, label_call, still_called};
-use crate::call_offers::CallOffer;
-use crate::callee::Callee;
-use crate::comparing::label_comparison;
-use crate::display::tuple_label;
 use crate::entries::{EntrySeats, EntryTypes, dict_seats, label_dict};
-use crate::flows::find_flows;
-use crate::given::given;
 use crate::items::{Seats, Typed, early_at, label_list, list_seats, seat_at, tuple_seats};
-use crate::label::{Label, find_codes, is_early};
-use crate::methods::callee_of_method;
-use crate::naming::name_label;
-use crate::naming_callees::callee_of_name;
-use crate::operating::{
-    env_where, label_attribute, label_bool, label_index, label_int, label_junction, label_negative,
-    label_none, label_str, still_stands,
-};
-use crate::pairs::binary_label;
-use crate::seats::{keyword_seat, positional_seat};
-use crate::setting::Setting;
 use indexmap::IndexSet;
+use pc_call::given::given;
+use pc_call::{
+    CallOffer, Callee, Given, callee_of_method, callee_of_name, keyword_seat, positional_seat,
+};
 use pc_flow::{Env, Resolver};
 use pc_notes::Notes;
+use pc_operate::{
+    binary_label, env_where, label_attribute, label_bool, label_comparison, label_index, label_int,
+    label_junction, label_negative, label_none, label_str, still_stands, tuple_label,
+};
+use pc_rules::{Label, Setting, find_codes, find_flows, is_early, name_label};
 use pc_source::OutOfMemory;
 use pc_tree::{Entry, Expr, KeywordArgument};
 use pc_types::TypeStore;

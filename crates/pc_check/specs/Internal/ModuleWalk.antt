@@ -10,11 +10,11 @@ use Rattle.pc_types.specs.Tree.{Tree}
 use Rattle.pc_class.specs.Bases.{bases_of}
 use Rattle.pc_class.specs.Facts.{classes_of}
 use Rattle.pc_class.specs.Tables.{HasEntries, classes_with}
-use Rattle.pc_expr.specs.Signatures.{signatures_of}
-use Rattle.pc_expr.specs.SignaturesFound.{constants_of, method_signatures}
+use Rattle.pc_rules.specs.Signatures.{signatures_of}
+use Rattle.pc_rules.specs.SignaturesFound.{constants_of, method_signatures}
 use Rattle.pc_expr.specs.SignaturesHeld.{HeldSignatures, HasSigned, method_numbered, all_signatures_with}
-use Rattle.pc_expr.specs.Standing.{signature_with}
-use Rattle.pc_expr.specs.declared.setting.Signature.{Signature as RustSignature}
+use Rattle.pc_rules.specs.Standing.{signature_with}
+use Rattle.pc_rules.specs.declared.setting.Signature.{Signature as RustSignature}
 use Rattle.pc_check.specs.declared.bodies.ModuleSetting.{ModuleSetting}
 
 -- the module whose bodies are walked over

@@ -3,7 +3,7 @@
 use Rattle.std.specs.Prelude.{ℕ, List, Bool as Test, false}
 use Rattle.pc_tree.specs.Tree.{Expr, name, call}
 use Rattle.pc_scope.specs.declared.resolution.Res.{Res}
-use Rattle.pc_expr.specs.Calls.{is_range}
+use Rattle.pc_rules.specs.Calls.{is_range}
 
 -- an expression is a call of what means `range`
 abbrev pub over_range : (List ℕ → Res) → Expr → Test

@@ -14,11 +14,11 @@ use Rattle.pc_flow.specs.WellFormed.{IsWellFormedEnv}
 use Rattle.pc_flow.specs.Narrowing.{as_local}
 use Rattle.pc_flow.specs.Stored.{HasEach, env_of}
 use Rattle.pc_notes.specs.Notes.{Note}
-use Rattle.pc_expr.specs.Operations.{Mark}
-use Rattle.pc_expr.specs.Context.{Context}
-use Rattle.pc_expr.specs.Standing.{HasSignature, IsMark, signature_with}
-use Rattle.pc_expr.specs.WellFormed.{ContextWellFormed}
-use Rattle.pc_expr.specs.declared.label.Label.{Label}
+use Rattle.pc_rules.specs.Operations.{Mark}
+use Rattle.pc_rules.specs.Context.{Context}
+use Rattle.pc_rules.specs.Standing.{HasSignature, IsMark, signature_with}
+use Rattle.pc_rules.specs.WellFormed.{ContextWellFormed}
+use Rattle.pc_rules.specs.declared.label.Label.{Label}
 use Rattle.pc_check.specs.ComputedStatements.{BodyFrame, Table, Walk, BindingResult, BranchesResult, with_declared, bound_type}
 use Rattle.pc_check.specs.declared.frame.Frame.{Frame as RustFrame}
 

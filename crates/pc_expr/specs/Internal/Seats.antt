@@ -4,15 +4,15 @@ use Rattle.std.specs.Prelude.{◌≡◌, ℕ, map, All}
 use Rattle.std.specs.Option.{option_map}
 use Rattle.pc_tree.specs.Tree.{Exprs, Entries}
 use Rattle.pc_types.specs.Tree.{Tree}
-use Rattle.pc_expr.specs.Calls.{Seat}
-use Rattle.pc_expr.specs.Lawful.{item_seat, part_seat}
-use Rattle.pc_expr.specs.Standing.{Standing, types_in, keys_in, values_in, HasIfAny}
+use Rattle.pc_rules.specs.Calls.{Seat}
+use Rattle.pc_rules.specs.Lawful.{item_seat, part_seat}
+use Rattle.pc_rules.specs.Standing.{Standing, types_in, keys_in, values_in, HasIfAny}
 use Rattle.pc_expr.specs.declared.items.Seats.{Seats}
 use Rattle.pc_expr.specs.declared.items.Seats.TheVariants.{Same, Parts}
 use Rattle.pc_expr.specs.declared.items.Typed.{Typed}
 use Rattle.pc_expr.specs.declared.entries.EntrySeats.{EntrySeats}
 use Rattle.pc_expr.specs.declared.entries.EntryTypes.{EntryTypes}
-use Rattle.pc_expr.specs.declared.seats.Seat.{Seat as RustSeat}
+use Rattle.pc_call.specs.declared.seats.Seat.{Seat as RustSeat}
 use Rattle.pc_expr.specs.Typing.{early_in}
 
 module _ {Ty : Type 0} (tree : Ty → Tree) where

@@ -9,14 +9,14 @@ use Rattle.pc_class.specs.Bases.{bases_of}
 use Rattle.pc_class.specs.Facts.{TypedParameter, classes_of}
 use Rattle.pc_class.specs.Tables.{HasParameter, HasEntries, parameter_with, parameters_with, classes_with}
 use Rattle.pc_class.specs.declared.table.Parameter.{Parameter as RustParameter}
-use Rattle.pc_expr.specs.declared.setting.Signature.{Signature as RustSignature}
+use Rattle.pc_rules.specs.declared.setting.Signature.{Signature as RustSignature}
 use Rattle.pc_expr.specs.declared.signatures.Frame.{Frame}
 use Rattle.pc_expr.specs.declared.constants.Globals.{Globals}
 use Rattle.pc_expr.specs.declared.constants.Walk.{Walk}
-use Rattle.pc_expr.specs.Context.{Signature}
-use Rattle.pc_expr.specs.Signatures.{signatures_of}
-use Rattle.pc_expr.specs.SignaturesFound.{ItemsReached, bound_in}
-use Rattle.pc_expr.specs.Standing.{HasSignature, signature_with}
+use Rattle.pc_rules.specs.Context.{Signature}
+use Rattle.pc_rules.specs.Signatures.{signatures_of}
+use Rattle.pc_rules.specs.SignaturesFound.{ItemsReached, bound_in}
+use Rattle.pc_rules.specs.Standing.{HasSignature, signature_with}
 
 -- the module in which annotations are read
 abbrev pub module_in : Frame → Module

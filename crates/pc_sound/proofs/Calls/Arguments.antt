@@ -4,10 +4,10 @@ use Rattle.pc_tree.specs.Tree.{Expr, Exprs, Keywords, no_exprs, more_exprs, no_k
 use Rattle.pc_tree.specs.Depth.{place_of}
 use Rattle.pc_types.specs.Below.{Bases}
 use Rattle.pc_flow.specs.Environment.{Env}
-use Rattle.pc_expr.specs.Context.{Context, FlowsInto}
-use Rattle.pc_expr.specs.Calls.{Seat}
-use Rattle.pc_expr.specs.Labels.{ItemsMarks, KeywordsMarks, mark_of, type_of, ItemsFind, KeywordsFind}
-use Rattle.pc_expr.specs.Lawful.{LawfulItems, LawfulKeywords, keyword_seat}
+use Rattle.pc_rules.specs.Context.{Context, FlowsInto}
+use Rattle.pc_rules.specs.Calls.{Seat}
+use Rattle.pc_rules.specs.Labels.{ItemsMarks, KeywordsMarks, mark_of, type_of, ItemsFind, KeywordsFind}
+use Rattle.pc_rules.specs.Lawful.{LawfulItems, LawfulKeywords, keyword_seat}
 use Rattle.pc_value.specs.Value.{Value, Gives}
 use Rattle.pc_machine.specs.Calls.{NamedValue}
 use Rattle.pc_machine.specs.Evaluation.{eval_all, eval_keywords}

@@ -20,12 +20,12 @@ use Rattle.pc_types.specs.Below.{Below}
 use Rattle.pc_class.specs.Bases.{bases_of}
 use Rattle.pc_class.specs.Facts.{Method, parameters_of, return_type, classes_of, class_facts_at, method_by_name}
 use Rattle.pc_flow.specs.Environment.{Env}
-use Rattle.pc_expr.specs.Operations.{in_error}
-use Rattle.pc_expr.specs.Context.{Context, name_mark}
-use Rattle.pc_expr.specs.Signatures.{signature_of, signatures_of}
-use Rattle.pc_expr.specs.Calls.{arguments_given, signature_offer, function_offer, class_signature, good_callee, value_callee, name_callee, value_offers, method_callee, CalleeLabel, member_rule, call_mark, positional_seat, named_seat}
-use Rattle.pc_expr.specs.Labels.{Marks, mark_of, type_of, with_mark, item_types, Finds, ItemsFind}
-use Rattle.pc_expr.specs.Lawful.{Lawful, LawfulItems, LawfulKeywords, callee_of}
+use Rattle.pc_rules.specs.Operations.{in_error}
+use Rattle.pc_rules.specs.Context.{Context, name_mark}
+use Rattle.pc_rules.specs.Signatures.{signature_of, signatures_of}
+use Rattle.pc_rules.specs.Calls.{arguments_given, signature_offer, function_offer, class_signature, good_callee, value_callee, name_callee, value_offers, method_callee, CalleeLabel, member_rule, call_mark, positional_seat, named_seat}
+use Rattle.pc_rules.specs.Labels.{Marks, mark_of, type_of, with_mark, item_types, Finds, ItemsFind}
+use Rattle.pc_rules.specs.Lawful.{Lawful, LawfulItems, LawfulKeywords, callee_of}
 use Rattle.pc_value.specs.Value.{Gives}
 use Rattle.pc_machine.specs.Names.{meaning_of_global}
 use Rattle.pc_tree.specs.Depth.{place_of}

@@ -12,9 +12,9 @@ use Rattle.pc_types.specs.Below.{Bases, AreSmaller}
 use Rattle.pc_types.specs.Normal.{IsKey}
 use Rattle.pc_class.specs.Facts as facts
 use Rattle.pc_flow.specs.Environment.{Env, join_or_object}
-use Rattle.pc_expr.specs.Context.{Signature}
-use Rattle.pc_expr.specs.Calls.{GivenArguments, arguments_given, count_exprs, is_suited, CallOffer, signature_offer, fails_at_callee, builtin_signature, type_at, list_offers, dict_offers, Seat}
-use Rattle.pc_expr.specs.Labels.{ItemsMarks, KeywordsMarks}
+use Rattle.pc_rules.specs.Context.{Signature}
+use Rattle.pc_rules.specs.Calls.{GivenArguments, arguments_given, count_exprs, is_suited, CallOffer, signature_offer, fails_at_callee, builtin_signature, type_at, list_offers, dict_offers, Seat}
+use Rattle.pc_rules.specs.Labels.{ItemsMarks, KeywordsMarks}
 use Rattle.pc_value.specs.Value as value
 use Rattle.pc_value.specs.Value.{Value, Gives, location, list_cell, Heap, seen, class_seen}
 use Rattle.pc_value.specs.Actions as action

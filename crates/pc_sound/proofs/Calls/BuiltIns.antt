@@ -18,12 +18,12 @@ use Rattle.pc_types.specs.Below.{Bases}
 use Rattle.pc_types.specs.Shape.{members}
 use Rattle.pc_class.specs.Facts as facts
 use Rattle.pc_flow.specs.Environment.{Env}
-use Rattle.pc_expr.specs.Operations.{Mark, in_error, offers_mark, length_member}
-use Rattle.pc_expr.specs.Context.{Context}
-use Rattle.pc_expr.specs.Calls.{GivenArguments, arguments_given, count_exprs, is_one, is_two, CallOffer, plain_call, fails_at_call, Seat, length_rule, test_rule, own_callee, builtin_callee, good_callee, value_callee, name_callee, call_mark, length_mark, positional_seat, named_seat}
-use Rattle.pc_expr.specs.Labels.{Marks, type_of, item_types, ItemsMarks, KeywordsMarks, Finds, ItemsFind, ArgumentsFind, IsFoundAt}
-use Rattle.pc_expr.specs.Lawful.{Lawful, callee_of, whole_call_mark}
-use Rattle.pc_expr.proofs.SaidInLabels.{as_arguments}
+use Rattle.pc_rules.specs.Operations.{Mark, in_error, offers_mark, length_member}
+use Rattle.pc_rules.specs.Context.{Context}
+use Rattle.pc_rules.specs.Calls.{GivenArguments, arguments_given, count_exprs, is_one, is_two, CallOffer, plain_call, fails_at_call, Seat, length_rule, test_rule, own_callee, builtin_callee, good_callee, value_callee, name_callee, call_mark, length_mark, positional_seat, named_seat}
+use Rattle.pc_rules.specs.Labels.{Marks, type_of, item_types, ItemsMarks, KeywordsMarks, Finds, ItemsFind, ArgumentsFind, IsFoundAt}
+use Rattle.pc_rules.specs.Lawful.{Lawful, callee_of, whole_call_mark}
+use Rattle.pc_rules.proofs.SaidInLabels.{as_arguments}
 use Rattle.pc_value.specs.Value as value
 use Rattle.pc_value.specs.Value.{Value, Gives, whole, boolean, string, tuple_of, location, Heap, seen}
 use Rattle.pc_value.specs.Actions as action

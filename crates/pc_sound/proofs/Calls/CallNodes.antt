@@ -13,12 +13,12 @@ use Rattle.pc_types.specs.Below.{Bases}
 use Rattle.pc_class.specs.Bases.{bases_of}
 use Rattle.pc_class.specs.Facts.{parameters_of, return_type, classes_of, class_facts_at}
 use Rattle.pc_flow.specs.Environment.{Env}
-use Rattle.pc_expr.specs.Operations.{Mark}
-use Rattle.pc_expr.specs.Context.{Context, Signature}
-use Rattle.pc_expr.specs.Signatures.{signature_of}
-use Rattle.pc_expr.specs.Calls.{GivenArguments, arguments_given, is_suited, Seat, signature_offer, fails_at_call, class_signature, all_codes, call_mark, positional_seat, named_seat}
-use Rattle.pc_expr.specs.Labels.{ItemsMarks, KeywordsMarks, ItemsFind, KeywordsFind, IsFoundAt}
-use Rattle.pc_expr.specs.Lawful.{LawfulItems, LawfulKeywords}
+use Rattle.pc_rules.specs.Operations.{Mark}
+use Rattle.pc_rules.specs.Context.{Context, Signature}
+use Rattle.pc_rules.specs.Signatures.{signature_of}
+use Rattle.pc_rules.specs.Calls.{GivenArguments, arguments_given, is_suited, Seat, signature_offer, fails_at_call, class_signature, all_codes, call_mark, positional_seat, named_seat}
+use Rattle.pc_rules.specs.Labels.{ItemsMarks, KeywordsMarks, ItemsFind, KeywordsFind, IsFoundAt}
+use Rattle.pc_rules.specs.Lawful.{LawfulItems, LawfulKeywords}
 use Rattle.pc_value.specs.Value.{Value}
 use Rattle.pc_machine.specs.State.{State, Function, Class, Globals}
 use Rattle.pc_machine.specs.Names.{means_class, means_function, meaning_in_run}

@@ -6,9 +6,9 @@ use Rattle.pc_tree.specs.Stopping.{has_none}
 use Rattle.pc_types.specs.Tree.{Any}
 use Rattle.pc_types.specs.Below.{Bases, AreSmaller}
 use Rattle.pc_flow.specs.Environment.{join_all}
-use Rattle.pc_expr.specs.Operations.{has_error}
-use Rattle.pc_expr.specs.Context.{Signature}
-use Rattle.pc_expr.specs.Calls.{GivenArguments, is_suited, CallOffer, signature_offer, fails_at_call, call_codes, all_codes, call_mark, signatures}
+use Rattle.pc_rules.specs.Operations.{has_error}
+use Rattle.pc_rules.specs.Context.{Signature}
+use Rattle.pc_rules.specs.Calls.{GivenArguments, is_suited, CallOffer, signature_offer, fails_at_call, call_codes, all_codes, call_mark, signatures}
 use Rattle.pc_value.specs.Value.{Value}
 use Rattle.pc_sound.specs.Values.{HeapTyping, HasType}
 use Rattle.pc_sound.proofs.Lists.{front_empty, not_empty, rest_empty}

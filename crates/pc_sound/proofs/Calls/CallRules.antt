@@ -12,11 +12,11 @@ use Rattle.pc_scope.specs.declared.resolution.Res.TheVariants as res
 use Rattle.pc_scope.specs.Reserved.{builtin_of}
 use Rattle.pc_scope.specs.Expressions.{is_instance_test, are_two}
 use Rattle.pc_flow.specs.Environment.{Env}
-use Rattle.pc_expr.specs.Operations.{Mark}
-use Rattle.pc_expr.specs.Context.{Context}
-use Rattle.pc_expr.specs.Calls.{arguments_given, count_exprs, is_two, member_rule, test_rule, CalleeLabel, own_callee, good_callee, fails_at_call, name_callee, call_mark}
-use Rattle.pc_expr.specs.Labels.{Marks}
-use Rattle.pc_expr.specs.Lawful.{callee_of, whole_call_mark}
+use Rattle.pc_rules.specs.Operations.{Mark}
+use Rattle.pc_rules.specs.Context.{Context}
+use Rattle.pc_rules.specs.Calls.{arguments_given, count_exprs, is_two, member_rule, test_rule, CalleeLabel, own_callee, good_callee, fails_at_call, name_callee, call_mark}
+use Rattle.pc_rules.specs.Labels.{Marks}
+use Rattle.pc_rules.specs.Lawful.{callee_of, whole_call_mark}
 use Rattle.pc_types.specs.Tree.{Tree}
 
 -- the name `isinstance` means the built-in

@@ -11,7 +11,7 @@ use Rattle.pc_scope.specs.Bindings.{texts}
 use Rattle.pc_scope.specs.Resolution.{is_one_of}
 use Rattle.pc_types.specs.Below.{Bases}
 use Rattle.pc_class.specs.Facts.{TypedParameter, field_by_name}
-use Rattle.pc_expr.specs.Calls.{once_each, position_of, is_free, are_filled, parameter_names}
+use Rattle.pc_rules.specs.Calls.{once_each, position_of, is_free, are_filled, parameter_names}
 use Rattle.pc_value.specs.Value.{Value}
 use Rattle.pc_value.specs.Texts.{same_text}
 use Rattle.pc_machine.specs.State as state

@@ -16,12 +16,12 @@ use Rattle.pc_class.specs.Bases.{bases_of}
 use Rattle.pc_class.specs.Facts.{classes_of, class_facts_at}
 use Rattle.pc_types.proofs.Earlier.{smaller}
 use Rattle.pc_flow.specs.Environment.{Env}
-use Rattle.pc_expr.specs.Operations.{in_error}
-use Rattle.pc_expr.specs.Context.{Context, name_mark}
-use Rattle.pc_expr.specs.Signatures.{initializer_context}
-use Rattle.pc_expr.specs.Calls.{arguments_given, CalleeLabel, member_rule, signature_offer, class_signature, good_callee, value_callee, name_callee, value_offers, call_mark, positional_seat, named_seat}
-use Rattle.pc_expr.specs.Labels.{Marks, mark_of, with_mark, item_types, Finds, ItemsFind}
-use Rattle.pc_expr.specs.Lawful.{Lawful, LawfulItems, LawfulKeywords, callee_of}
+use Rattle.pc_rules.specs.Operations.{in_error}
+use Rattle.pc_rules.specs.Context.{Context, name_mark}
+use Rattle.pc_rules.specs.Signatures.{initializer_context}
+use Rattle.pc_rules.specs.Calls.{arguments_given, CalleeLabel, member_rule, signature_offer, class_signature, good_callee, value_callee, name_callee, value_offers, call_mark, positional_seat, named_seat}
+use Rattle.pc_rules.specs.Labels.{Marks, mark_of, with_mark, item_types, Finds, ItemsFind}
+use Rattle.pc_rules.specs.Lawful.{Lawful, LawfulItems, LawfulKeywords, callee_of}
 use Rattle.pc_machine.specs.Steps.{Parts}
 use Rattle.pc_machine.specs.Free.{Step, free}
 use Rattle.pc_machine.specs.Evaluation.{ordinary, eval_call, eval_node}
@@ -29,7 +29,7 @@ use Rattle.pc_sound.specs.Values.{HasType}
 use Rattle.pc_sound.proofs.Steps.Judgment.{Around, IsSafe, IsContextOf}
 use Rattle.pc_sound.proofs.Keyed.KeyedDicts.{Keyed}
 use Rattle.pc_sound.proofs.Expressions.SimpleExpressions.{Covered, GoodEval}
-use Rattle.pc_expr.proofs.Saying.{found_here, own_mark}
+use Rattle.pc_rules.proofs.Saying.{found_here, own_mark}
 use Rattle.pc_sound.proofs.Values.Flows.{Evaluates}
 use Rattle.pc_sound.proofs.Heap.Fields.{Inherits}
 use Rattle.pc_sound.proofs.Expressions.NameReads.{KnowsNames, means_a_class, no_error_at}

@@ -17,11 +17,11 @@ use Rattle.pc_types.specs.Tree.{Tree, Bool}
 use Rattle.pc_flow.specs.Environment.{Env}
 use Rattle.pc_flow.specs.Narrowing as narrowing
 use Rattle.pc_flow.specs.Narrowing.{Tested, test_named}
-use Rattle.pc_expr.specs.Operations.{Mark, in_error}
-use Rattle.pc_expr.specs.Context.{Context, name_mark, is_early}
-use Rattle.pc_expr.specs.Calls.{arguments_given, Seat, second_code, positional_seat, test_rule, own_callee}
-use Rattle.pc_expr.specs.Labels.{Marks, mark_of, type_of, item_types, Finds, ArgumentsFind, IsCodeAt}
-use Rattle.pc_expr.specs.Lawful.{Lawful, callee_of, whole_call_mark, whole_second_code}
+use Rattle.pc_rules.specs.Operations.{Mark, in_error}
+use Rattle.pc_rules.specs.Context.{Context, name_mark, is_early}
+use Rattle.pc_rules.specs.Calls.{arguments_given, Seat, second_code, positional_seat, test_rule, own_callee}
+use Rattle.pc_rules.specs.Labels.{Marks, mark_of, type_of, item_types, Finds, ArgumentsFind, IsCodeAt}
+use Rattle.pc_rules.specs.Lawful.{Lawful, callee_of, whole_call_mark, whole_second_code}
 use Rattle.pc_value.specs.Value.{boolean}
 use Rattle.pc_machine.specs.State.{State}
 use Rattle.pc_machine.specs.Names.{meaning_in_run}

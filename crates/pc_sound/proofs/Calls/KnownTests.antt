@@ -9,7 +9,7 @@ use Rattle.pc_types.specs.Tree.{Int, Bool, Str}
 use Rattle.pc_types.specs.Tree as tree
 use Rattle.pc_flow.specs.Environment.{Env}
 use Rattle.pc_flow.specs.Narrowing.{Tested, for_type, for_list, test_named}
-use Rattle.pc_expr.specs.Context.{Context}
+use Rattle.pc_rules.specs.Context.{Context}
 use Rattle.pc_value.specs.Value.{Gives}
 use Rattle.pc_machine.specs.State.{State, Class, Globals}
 use Rattle.pc_machine.specs.Names.{meaning_in_run}

@@ -15,9 +15,9 @@ use Rattle.pc_types.specs.Tree.{Tree, Any}
 use Rattle.pc_types.specs.Below.{Bases, Static, same}
 use Rattle.pc_class.specs.Facts.{TypedParameter, field_by_name}
 use Rattle.pc_class.specs.Overrides.{has_shape_of}
-use Rattle.pc_expr.specs.Context.{Signature}
-use Rattle.pc_expr.specs.Calls.{count_exprs, once_each, arguments_given, position_of, is_free, are_filled, parameter_names, is_suited, Seat, nowhere, type_at, CallOffer, signatures, positional_seat, named_seat}
-use Rattle.pc_expr.specs.Labels.{ItemsMarks, KeywordsMarks}
+use Rattle.pc_rules.specs.Context.{Signature}
+use Rattle.pc_rules.specs.Calls.{count_exprs, once_each, arguments_given, position_of, is_free, are_filled, parameter_names, is_suited, Seat, nowhere, type_at, CallOffer, signatures, positional_seat, named_seat}
+use Rattle.pc_rules.specs.Labels.{ItemsMarks, KeywordsMarks}
 use Rattle.pc_value.specs.Value.{Value}
 use Rattle.pc_value.specs.Texts.{same_text}
 use Rattle.pc_machine.specs.State as state

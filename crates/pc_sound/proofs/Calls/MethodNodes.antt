@@ -16,11 +16,11 @@ use Rattle.pc_class.specs.Bases.{bases_of}
 use Rattle.pc_class.specs.Facts.{TypedParameter, Method, return_type, classes_of, class_facts_at, method_by_name, field_by_name}
 use Rattle.pc_class.specs.Overrides.{has_shape_of, IsStatic}
 use Rattle.pc_flow.specs.Environment.{Env}
-use Rattle.pc_expr.specs.Operations.{Mark, attribute_found, attribute_member}
-use Rattle.pc_expr.specs.Context.{Context, Signature}
-use Rattle.pc_expr.specs.Calls.{GivenArguments, arguments_given, is_suited, CallOffer, signature_offer, value_offer, value_offers, method_signature, class_offers, list_offers, dict_offers, method_offers, all_codes, call_mark, signatures, positional_seat, named_seat, type_at}
-use Rattle.pc_expr.specs.Labels.{Marks, type_of, Finds, ItemsMarks, KeywordsMarks, ItemsFind, KeywordsFind, IsFoundAt}
-use Rattle.pc_expr.specs.Lawful.{Lawful, LawfulItems, LawfulKeywords}
+use Rattle.pc_rules.specs.Operations.{Mark, attribute_found, attribute_member}
+use Rattle.pc_rules.specs.Context.{Context, Signature}
+use Rattle.pc_rules.specs.Calls.{GivenArguments, arguments_given, is_suited, CallOffer, signature_offer, value_offer, value_offers, method_signature, class_offers, list_offers, dict_offers, method_offers, all_codes, call_mark, signatures, positional_seat, named_seat, type_at}
+use Rattle.pc_rules.specs.Labels.{Marks, type_of, Finds, ItemsMarks, KeywordsMarks, ItemsFind, KeywordsFind, IsFoundAt}
+use Rattle.pc_rules.specs.Lawful.{Lawful, LawfulItems, LawfulKeywords}
 use Rattle.pc_value.specs.Value.{Value, location, seen, Out, Gives}
 use Rattle.pc_value.specs.Actions as action
 use Rattle.pc_value.specs.Attributes.{attribute_outcome}

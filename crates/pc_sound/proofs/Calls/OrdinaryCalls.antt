@@ -4,11 +4,11 @@ use Rattle.pc_source.specs.declared.place.Place.{Place}
 use Rattle.pc_tree.specs.Tree.{Expr, Exprs, Keywords}
 use Rattle.pc_tree.specs.Depth.{place_of}
 use Rattle.pc_flow.specs.Environment.{Env}
-use Rattle.pc_expr.specs.Operations.{Mark}
-use Rattle.pc_expr.specs.Context.{Context}
-use Rattle.pc_expr.specs.Calls.{Seat}
-use Rattle.pc_expr.specs.Labels.{ItemsMarks, KeywordsMarks, ItemsFind, KeywordsFind, IsFoundAt}
-use Rattle.pc_expr.specs.Lawful.{LawfulItems, LawfulKeywords}
+use Rattle.pc_rules.specs.Operations.{Mark}
+use Rattle.pc_rules.specs.Context.{Context}
+use Rattle.pc_rules.specs.Calls.{Seat}
+use Rattle.pc_rules.specs.Labels.{ItemsMarks, KeywordsMarks, ItemsFind, KeywordsFind, IsFoundAt}
+use Rattle.pc_rules.specs.Lawful.{LawfulItems, LawfulKeywords}
 use Rattle.pc_value.specs.Value.{Value}
 use Rattle.pc_machine.specs.Calls.{Callee, NamedValue}
 use Rattle.pc_machine.specs.Evaluation.{eval_all, eval_keywords, call_callee}

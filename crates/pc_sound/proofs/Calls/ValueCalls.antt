@@ -9,12 +9,12 @@ use Rattle.pc_scope.specs.Expressions.{is_instance_test}
 use Rattle.pc_types.specs.Tree.{Tree, Any, Object, Never, Int, Bool, Str, NoneType, Class, ListOf, DictOf, TupleOf, Union}
 use Rattle.pc_types.specs.Shape.{members}
 use Rattle.pc_flow.specs.Environment.{Env}
-use Rattle.pc_expr.specs.Operations.{Mark}
-use Rattle.pc_expr.specs.Context.{Context, name_mark}
-use Rattle.pc_expr.specs.Calls.{CallOffer, value_offer, value_offers, call_mark, positional_seat, named_seat}
-use Rattle.pc_expr.specs.Labels.{Marks, ItemsMarks, KeywordsMarks, mark_of, type_of, with_mark, Finds, ItemsFind, ArgumentsFind, KeywordsFind, IsFoundAt}
-use Rattle.pc_expr.specs.Lawful.{Lawful, LawfulItems, LawfulKeywords}
-use Rattle.pc_expr.proofs.SaidInLabels.{as_arguments}
+use Rattle.pc_rules.specs.Operations.{Mark}
+use Rattle.pc_rules.specs.Context.{Context, name_mark}
+use Rattle.pc_rules.specs.Calls.{CallOffer, value_offer, value_offers, call_mark, positional_seat, named_seat}
+use Rattle.pc_rules.specs.Labels.{Marks, ItemsMarks, KeywordsMarks, mark_of, type_of, with_mark, Finds, ItemsFind, ArgumentsFind, KeywordsFind, IsFoundAt}
+use Rattle.pc_rules.specs.Lawful.{Lawful, LawfulItems, LawfulKeywords}
+use Rattle.pc_rules.proofs.SaidInLabels.{as_arguments}
 use Rattle.pc_value.specs.Value.{Value, Stop, Raised, Other, Outside, Cut, Out, Gives, Stops}
 use Rattle.pc_machine.specs.State.{State}
 use Rattle.pc_machine.specs.Names.{Meaning, means_value, means_unbound, means_function, means_class, means_reserved, means_nothing, meaning_in_run}

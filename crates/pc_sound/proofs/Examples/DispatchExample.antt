@@ -21,9 +21,9 @@ use Rattle.pc_class.specs.Facts as facts
 use Rattle.pc_class.specs.Facts.{Method, classes_of, method_made}
 use Rattle.pc_class.specs.Overrides.{TypeFlow, override_flows, IsGood, IsStatic, Judges, dynamic, overridden}
 use Rattle.pc_class.specs.Findings.{IsOverride, ClassFinds, base_class}
-use Rattle.pc_expr.specs.Operations.{clean, in_error}
-use Rattle.pc_expr.specs.Context.{static}
-use Rattle.pc_expr.specs.Signatures.{signatures_of}
+use Rattle.pc_rules.specs.Operations.{clean, in_error}
+use Rattle.pc_rules.specs.Context.{static}
+use Rattle.pc_rules.specs.Signatures.{signatures_of}
 use Rattle.pc_check.specs.Modules.{Labelling, IsLawful, HasLabelling, may_complete, leaves}
 use Rattle.pc_machine.specs.Runs.{Run}
 use Rattle.pc_sound.specs.Examples.{FindsJust}

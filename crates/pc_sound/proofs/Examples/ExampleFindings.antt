@@ -26,8 +26,8 @@ use Rattle.pc_types.specs.Tree.{Tree}
 use Rattle.pc_types.specs.Below.{Bases}
 use Rattle.pc_class.specs.Findings as class
 use Rattle.pc_class.specs.Findings.{ClassFinds}
-use Rattle.pc_expr.specs.Operations.{Mark, FlowMark}
-use Rattle.pc_expr.specs.Context.{FlowUnless, FlowAt, is_early}
+use Rattle.pc_rules.specs.Operations.{Mark, FlowMark}
+use Rattle.pc_rules.specs.Context.{FlowUnless, FlowAt, is_early}
 use Rattle.pc_check.specs.Modules.{Labelling, IsLawful, LabelsSay, LabelsFind, IsFinding, constant_types, nothing_before}
 use Rattle.pc_check.proofs.Scopes.{said_is_found}
 use Rattle.pc_check.proofs.OneModule.{one_labelling}

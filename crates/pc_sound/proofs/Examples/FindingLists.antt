@@ -27,10 +27,10 @@ use Rattle.pc_types.specs.Shape.{nodes, node_limit}
 use Rattle.pc_types.specs.Annotations as ann
 use Rattle.pc_types.specs.Annotations.{named_type, applied_type, empty_type, union_type, reading, readings, PartFinds, PartsFind, IsTooLarge, AnnFinds}
 use Rattle.pc_class.specs.Bases.{bases_of}
-use Rattle.pc_expr.specs.Operations.{FlowMark}
-use Rattle.pc_expr.specs.Context.{Context}
-use Rattle.pc_expr.specs.Labels.{FlowMarks, Marks, ItemsMarks, EntriesMarks, KeywordsMarks, IsFoundAt, IsFlowAt, IsCodeAt, second_place, Finds, ItemsFind, ArgumentsFind, EntriesFind, KeywordsFind}
-use Rattle.pc_expr.specs.Signatures.{body_context, literal_place, DefaultFinds, ParamsMarks, ParamsFind}
+use Rattle.pc_rules.specs.Operations.{FlowMark}
+use Rattle.pc_rules.specs.Context.{Context}
+use Rattle.pc_rules.specs.Labels.{FlowMarks, Marks, ItemsMarks, EntriesMarks, KeywordsMarks, IsFoundAt, IsFlowAt, IsCodeAt, second_place, Finds, ItemsFind, ArgumentsFind, EntriesFind, KeywordsFind}
+use Rattle.pc_rules.specs.Signatures.{body_context, literal_place, DefaultFinds, ParamsMarks, ParamsFind}
 use Rattle.pc_check.specs.StatementLabels.{OptionMarks, TargetMarks, Behind, BehindRule, StmtMarks, SuiteMarks, BranchesMarks}
 use Rattle.pc_check.specs.Statements.{NamesBound, is_first, option_place, OptionFinds, TargetFinds, AnnotationFinds, StmtFinds, SuiteFinds, BranchesFind}
 use Rattle.pc_check.specs.Modules as modules

@@ -8,9 +8,9 @@ use Rattle.pc_types.specs.Tree.{Any, Int, NoneType}
 use Rattle.pc_types.specs.Below.{same, object}
 use Rattle.pc_class.specs.Bases.{bases_of}
 use Rattle.pc_class.specs.Facts.{classes_of}
-use Rattle.pc_expr.specs.Operations.{clean, in_error}
-use Rattle.pc_expr.specs.Context.{static}
-use Rattle.pc_expr.specs.Signatures.{signatures_of}
+use Rattle.pc_rules.specs.Operations.{clean, in_error}
+use Rattle.pc_rules.specs.Context.{static}
+use Rattle.pc_rules.specs.Signatures.{signatures_of}
 use Rattle.pc_check.specs.Modules.{Labelling, IsLawful, HasLabelling, may_complete}
 use Rattle.pc_machine.specs.Runs.{Run}
 use Rattle.pc_sound.specs.Examples.{FindsJust}

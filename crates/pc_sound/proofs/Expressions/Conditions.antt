@@ -18,10 +18,10 @@ use Rattle.pc_types.specs.Shape.{members}
 use Rattle.pc_flow.specs.Environment.{Env, current, join_or_object}
 use Rattle.pc_flow.specs.Narrowing.{Tested, for_none, for_type, for_list, as_local, local_named, test_named, first_argument, second_argument, local_of_argument, test_of_argument, narrow_current, narrow_local, narrow_instance, narrow}
 use Rattle.pc_flow.specs.Narrowing as narrowing
-use Rattle.pc_expr.specs.Context.{Context}
-use Rattle.pc_expr.specs.Labels.{Marks, type_of, item_types, Finds, IsFoundAt}
-use Rattle.pc_expr.specs.Lawful.{Lawful, whole_call_mark}
-use Rattle.pc_expr.specs.Calls.{is_object_or_any, any_list_codes, current_of, test_codes, test_mark}
+use Rattle.pc_rules.specs.Context.{Context}
+use Rattle.pc_rules.specs.Labels.{Marks, type_of, item_types, Finds, IsFoundAt}
+use Rattle.pc_rules.specs.Lawful.{Lawful, whole_call_mark}
+use Rattle.pc_rules.specs.Calls.{is_object_or_any, any_list_codes, current_of, test_codes, test_mark}
 use Rattle.pc_value.specs.Value as value
 use Rattle.pc_value.specs.Value.{Value, boolean, Out, Gives, Stops, Cut, Heap, is_true}
 use Rattle.pc_value.specs.Actions as action

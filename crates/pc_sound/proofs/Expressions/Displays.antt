@@ -10,11 +10,11 @@ use Rattle.pc_types.specs.Below.{Bases, Static}
 use Rattle.pc_types.specs.Normal.{IsKey}
 use Rattle.pc_types.specs.Shape.{nodes, node_limit, trees}
 use Rattle.pc_flow.specs.Environment.{Env, join_all}
-use Rattle.pc_expr.specs.Operations.{Mark, clean, in_error, display_mark}
-use Rattle.pc_expr.specs.Context.{Context, FlowsInto}
-use Rattle.pc_expr.specs.Calls.{Seat, nowhere, count_exprs}
-use Rattle.pc_expr.specs.Labels.{Marks, ItemsMarks, EntriesMarks, mark_of, type_of, item_types, key_types, value_types, Finds, ItemsFind, EntriesFind}
-use Rattle.pc_expr.specs.Lawful.{Lawful, LawfulItems, LawfulEntries, KeyValue, list_item, dict_parts, tuple_parts, members_of_expected, item_seat, part_seat, list_mark, DictMark, no_keys, int_keys, str_keys, other_keys, DictRule, key_seat, value_seat}
+use Rattle.pc_rules.specs.Operations.{Mark, clean, in_error, display_mark}
+use Rattle.pc_rules.specs.Context.{Context, FlowsInto}
+use Rattle.pc_rules.specs.Calls.{Seat, nowhere, count_exprs}
+use Rattle.pc_rules.specs.Labels.{Marks, ItemsMarks, EntriesMarks, mark_of, type_of, item_types, key_types, value_types, Finds, ItemsFind, EntriesFind}
+use Rattle.pc_rules.specs.Lawful.{Lawful, LawfulItems, LawfulEntries, KeyValue, list_item, dict_parts, tuple_parts, members_of_expected, item_seat, part_seat, list_mark, DictMark, no_keys, int_keys, str_keys, other_keys, DictRule, key_seat, value_seat}
 use Rattle.pc_value.specs.Value.{Value, Entry, Gives, tuple_of, values_of}
 use Rattle.pc_value.specs.Actions as action
 use Rattle.pc_value.specs.Outcomes.{action_result}

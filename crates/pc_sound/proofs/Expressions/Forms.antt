@@ -11,12 +11,12 @@ use Rattle.pc_scope.specs.declared.resolution.Res.TheVariants as res
 use Rattle.pc_scope.specs.Expressions.{is_instance_test}
 use Rattle.pc_types.specs.Tree.{Tree}
 use Rattle.pc_flow.specs.Environment.{Env}
-use Rattle.pc_expr.specs.Context.{Context}
+use Rattle.pc_rules.specs.Context.{Context}
 use Rattle.pc_tree.specs.declared.code.Code.TheVariants.{E20}
-use Rattle.pc_expr.specs.Operations.{in_error}
-use Rattle.pc_expr.specs.Calls.{GivenArguments, builtin_callee, value_callee}
-use Rattle.pc_expr.specs.Labels.{Marks, type_of, Finds}
-use Rattle.pc_expr.specs.Lawful.{Lawful}
+use Rattle.pc_rules.specs.Operations.{in_error}
+use Rattle.pc_rules.specs.Calls.{GivenArguments, builtin_callee, value_callee}
+use Rattle.pc_rules.specs.Labels.{Marks, type_of, Finds}
+use Rattle.pc_rules.specs.Lawful.{Lawful}
 use Rattle.pc_machine.specs.Steps.{Parts}
 use Rattle.pc_machine.specs.Evaluation.{eval_node}
 use Rattle.pc_machine.specs.Free.{Step, free}

@@ -11,11 +11,11 @@ use Rattle.pc_types.specs.Below.{Bases, AreSmaller}
 use Rattle.pc_types.specs.Shape.{members, list_of_trees}
 use Rattle.pc_class.specs.Facts as facts
 use Rattle.pc_flow.specs.Environment.{Env, join_all}
-use Rattle.pc_expr.specs.Operations.{offers_mark, operand_types, index_member}
-use Rattle.pc_expr.specs.Context.{Context, FlowsInto}
-use Rattle.pc_expr.specs.Labels.{Marks, mark_of, type_of, Finds}
-use Rattle.pc_expr.specs.Lawful as lawful
-use Rattle.pc_expr.specs.Lawful.{Lawful, int_literal}
+use Rattle.pc_rules.specs.Operations.{offers_mark, operand_types, index_member}
+use Rattle.pc_rules.specs.Context.{Context, FlowsInto}
+use Rattle.pc_rules.specs.Labels.{Marks, mark_of, type_of, Finds}
+use Rattle.pc_rules.specs.Lawful as lawful
+use Rattle.pc_rules.specs.Lawful.{Lawful, int_literal}
 use Rattle.pc_value.specs.Value as value
 use Rattle.pc_value.specs.Value.{Value, Values, Out, Gives, whole, boolean, string, tuple_of, location, no_values, more_values, list_of, a_number, Heap, seen}
 use Rattle.pc_value.specs.Actions as action

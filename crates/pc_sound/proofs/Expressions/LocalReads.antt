@@ -7,8 +7,8 @@ use Rattle.pc_scope.specs.declared.resolution.Res.TheVariants as res
 use Rattle.pc_scope.specs.Resolution.{index_of}
 use Rattle.pc_types.specs.Tree.{Tree}
 use Rattle.pc_flow.specs.Environment.{Env, current}
-use Rattle.pc_expr.specs.Operations.{Mark}
-use Rattle.pc_expr.specs.Context.{Context, name_mark, local_mark}
+use Rattle.pc_rules.specs.Operations.{Mark}
+use Rattle.pc_rules.specs.Context.{Context, name_mark, local_mark}
 use Rattle.pc_machine.specs.State.{State}
 use Rattle.pc_machine.specs.Names.{meaning_in_run, meaning_of_local, meaning_of_global, global_by_name}
 use Rattle.pc_machine.specs.Calls.{value_of_meaning}

@@ -18,9 +18,9 @@ use Rattle.pc_scope.specs.Resolution.{index_of}
 use Rattle.pc_types.specs.Tree.{Tree}
 use Rattle.pc_types.specs.Below.{Bases}
 use Rattle.pc_flow.specs.Environment.{Env}
-use Rattle.pc_expr.specs.Operations.{Mark, in_error}
-use Rattle.pc_expr.specs.Context.{Context, name_mark, constant_mark}
-use Rattle.pc_expr.specs.Labels.{IsFoundAt}
+use Rattle.pc_rules.specs.Operations.{Mark, in_error}
+use Rattle.pc_rules.specs.Context.{Context, name_mark, constant_mark}
+use Rattle.pc_rules.specs.Labels.{IsFoundAt}
 use Rattle.pc_value.specs.Value.{Value}
 use Rattle.pc_machine.specs.State.{State, Class, Globals, a_value, a_class}
 use Rattle.pc_machine.specs.Names.{means_class, means_reserved, meaning_in_run, meaning_of_local, meaning_of_global, local_by_name, global_by_name}

@@ -16,10 +16,10 @@ use Rattle.pc_types.specs.Below.{Bases, AreSmaller}
 use Rattle.pc_types.specs.Shape.{members}
 use Rattle.pc_class.specs.Facts.{ClassFacts}
 use Rattle.pc_flow.specs.Environment.{Env}
-use Rattle.pc_expr.specs.Operations.{Mark, Offer, clean, in_error, found_of, offers_mark, negative_member, Kind, whole_kind, text_kind, kind_of, kind_type, takes_kind, row_of_kinds, pair_found, pair_offers, pairs_mark, is_never, is_any, is_dynamic, binary_mark, contain_member}
-use Rattle.pc_expr.specs.Context.{Context, FlowsInto}
-use Rattle.pc_expr.specs.Labels.{Marks, mark_of, type_of, Finds}
-use Rattle.pc_expr.specs.Lawful.{Lawful, compare_mark, compare_types}
+use Rattle.pc_rules.specs.Operations.{Mark, Offer, clean, in_error, found_of, offers_mark, negative_member, Kind, whole_kind, text_kind, kind_of, kind_type, takes_kind, row_of_kinds, pair_found, pair_offers, pairs_mark, is_never, is_any, is_dynamic, binary_mark, contain_member}
+use Rattle.pc_rules.specs.Context.{Context, FlowsInto}
+use Rattle.pc_rules.specs.Labels.{Marks, mark_of, type_of, Finds}
+use Rattle.pc_rules.specs.Lawful.{Lawful, compare_mark, compare_types}
 use Rattle.pc_value.specs.Value as value
 use Rattle.pc_value.specs.Value.{Value, Out, whole, boolean, string, Values, tuple_of, location, Entry, Seen, a_number, a_text, Heap, seen}
 use Rattle.pc_value.specs.Actions as action

@@ -8,10 +8,10 @@ use Rattle.pc_tree.specs.Code.{finding, IsError}
 use Rattle.pc_tree.specs.Tree.{Expr, number, text, truth, nothing, negation, is_none, is_not_none}
 use Rattle.pc_types.specs.Tree.{Tree, Int, Bool, Str, NoneType}
 use Rattle.pc_flow.specs.Environment.{Env}
-use Rattle.pc_expr.specs.Operations.{Mark, clean}
-use Rattle.pc_expr.specs.Context.{Context}
-use Rattle.pc_expr.specs.Labels.{Marks, type_of, Finds, IsFoundAt}
-use Rattle.pc_expr.specs.Lawful.{Lawful}
+use Rattle.pc_rules.specs.Operations.{Mark, clean}
+use Rattle.pc_rules.specs.Context.{Context}
+use Rattle.pc_rules.specs.Labels.{Marks, type_of, Finds, IsFoundAt}
+use Rattle.pc_rules.specs.Lawful.{Lawful}
 use Rattle.pc_value.specs.Value as value
 use Rattle.pc_value.specs.Value.{Value, Out, Gives, Stops, boolean, string, is_true}
 use Rattle.pc_value.specs.Actions as action

@@ -11,10 +11,10 @@ use Rattle.pc_types.proofs.Structural.{Chain, here, up, Sub, s_class, sub_of}
 use Rattle.pc_class.specs.Facts as facts
 use Rattle.pc_class.specs.Facts.{TypedParameter, Method, field_by_name, method_by_name, class_facts_at}
 use Rattle.pc_flow.specs.Environment.{Env}
-use Rattle.pc_expr.specs.Operations.{offers_mark, attribute_found, attribute_member}
-use Rattle.pc_expr.specs.Context.{Context}
-use Rattle.pc_expr.specs.Labels.{Marks, type_of, Finds}
-use Rattle.pc_expr.specs.Lawful.{Lawful}
+use Rattle.pc_rules.specs.Operations.{offers_mark, attribute_found, attribute_member}
+use Rattle.pc_rules.specs.Context.{Context}
+use Rattle.pc_rules.specs.Labels.{Marks, type_of, Finds}
+use Rattle.pc_rules.specs.Lawful.{Lawful}
 use Rattle.pc_value.specs.Value.{Value, location, Slot, instance_cell, Heap, seen}
 use Rattle.pc_value.specs.Actions as action
 use Rattle.pc_value.specs.Texts.{same_text}

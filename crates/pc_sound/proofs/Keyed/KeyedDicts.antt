@@ -5,8 +5,8 @@ use Rattle.pc_tree.specs.Tree.{Expr, Exprs, Entries, Keywords, name, number, tex
 use Rattle.pc_types.specs.Tree.{Tree, Trees, ListOf, DictOf, TupleOf, Union, end, more}
 use Rattle.pc_types.specs.Normal.{IsKey}
 use Rattle.pc_scope.specs.Expressions.{is_instance_test}
-use Rattle.pc_expr.specs.Labels.{Marks, ItemsMarks, EntriesMarks, KeywordsMarks, type_of}
-use Rattle.pc_expr.specs.Lawful.{early_second}
+use Rattle.pc_rules.specs.Labels.{Marks, ItemsMarks, EntriesMarks, KeywordsMarks, type_of}
+use Rattle.pc_rules.specs.Lawful.{early_second}
 
 -- each dict, anywhere in a type, has int or str as its key
 abbrev mutual

@@ -20,11 +20,11 @@ use Rattle.pc_types.specs.Shape.{members, list_of_trees, trees, nodes, node_limi
 use Rattle.pc_class.specs.Facts.{TypedParameter, Method, field_by_name, method_by_name, class_facts_at}
 use Rattle.pc_flow.specs.Environment.{Env, current, join_or_object, join_all}
 use Rattle.pc_flow.specs.Narrowing.{narrow}
-use Rattle.pc_expr.specs.Operations.{Mark, clean, in_error, Offer, has_error, found_of, offers_mark, tuple_item, index_member, attribute_found, attribute_member, contain_member, length_member, negative_member, Kind, whole_kind, text_kind, kind_of, kind_type, row_of_kinds, pair_found, pair_offers, pairs_mark, takes_kind, is_never, is_any, is_dynamic, display_mark}
-use Rattle.pc_expr.specs.Context.{Context, Signature, local_mark, constant_mark, name_mark, is_early}
-use Rattle.pc_expr.specs.Calls.{GivenArguments, arguments_given, plain_call, fails_at_call, fails_at_callee, count_exprs, CallOffer, CalleeLabel, signature_offer, is_suited, value_offer, value_callee, class_signature, method_signature, builtin_signature, class_offers, list_offers, dict_offers, method_offers, CallRule, member_rule, length_rule, test_rule, own_callee, builtin_callee, function_offer, good_callee, name_callee, method_callee, is_one, is_two, first_type, call_mark, all_codes, signatures, Seat, only_member, expected_type, type_at, positional_seat, named_seat, nowhere, length_mark}
-use Rattle.pc_expr.specs.Labels.{Marks, ItemsMarks, EntriesMarks, KeywordsMarks, mark_of, type_of, with_mark, item_types, key_types, value_types}
-use Rattle.pc_expr.specs.Lawful.{Lawful, LawfulItems, LawfulEntries, LawfulKeywords, KeyValue, list_item, dict_parts, tuple_parts, members_of_expected, item_seat, part_seat, list_mark, DictMark, no_keys, int_keys, str_keys, other_keys, DictRule, key_seat, value_seat, int_literal, compare_mark, callee_of, whole_call_mark, early_second, keyword_seat}
+use Rattle.pc_rules.specs.Operations.{Mark, clean, in_error, Offer, has_error, found_of, offers_mark, tuple_item, index_member, attribute_found, attribute_member, contain_member, length_member, negative_member, Kind, whole_kind, text_kind, kind_of, kind_type, row_of_kinds, pair_found, pair_offers, pairs_mark, takes_kind, is_never, is_any, is_dynamic, display_mark}
+use Rattle.pc_rules.specs.Context.{Context, Signature, local_mark, constant_mark, name_mark, is_early}
+use Rattle.pc_rules.specs.Calls.{GivenArguments, arguments_given, plain_call, fails_at_call, fails_at_callee, count_exprs, CallOffer, CalleeLabel, signature_offer, is_suited, value_offer, value_callee, class_signature, method_signature, builtin_signature, class_offers, list_offers, dict_offers, method_offers, CallRule, member_rule, length_rule, test_rule, own_callee, builtin_callee, function_offer, good_callee, name_callee, method_callee, is_one, is_two, first_type, call_mark, all_codes, signatures, Seat, only_member, expected_type, type_at, positional_seat, named_seat, nowhere, length_mark}
+use Rattle.pc_rules.specs.Labels.{Marks, ItemsMarks, EntriesMarks, KeywordsMarks, mark_of, type_of, with_mark, item_types, key_types, value_types}
+use Rattle.pc_rules.specs.Lawful.{Lawful, LawfulItems, LawfulEntries, LawfulKeywords, KeyValue, list_item, dict_parts, tuple_parts, members_of_expected, item_seat, part_seat, list_mark, DictMark, no_keys, int_keys, str_keys, other_keys, DictRule, key_seat, value_seat, int_literal, compare_mark, callee_of, whole_call_mark, early_second, keyword_seat}
 use Rattle.pc_sound.proofs.Keyed.KeyedDicts.{IsKeyed, AreKeyed, Keyed, ItemsKeyed, EntriesKeyed, KeywordsKeyed, keyed_type}
 use Rattle.pc_sound.proofs.Values.UnionMembers.{AllOf}
 use Rattle.pc_sound.proofs.Expressions.Indexing.{keyed_members}

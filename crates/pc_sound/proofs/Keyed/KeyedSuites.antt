@@ -21,12 +21,12 @@ use Rattle.pc_types.specs.Shape.{members, list_of_trees}
 use Rattle.pc_types.specs.Annotations.{read_ann}
 use Rattle.pc_flow.specs.Environment.{Env, current, declared_type, assigned_type, join_env, join_envs_onto, join_ways, head_local, loop_head}
 use Rattle.pc_flow.specs.Narrowing.{narrow}
-use Rattle.pc_expr.specs.Context.{Context}
+use Rattle.pc_rules.specs.Context.{Context}
 use Rattle.pc_class.specs.Facts.{TypedParameter, Method, field_by_name, method_by_name, class_facts_at}
-use Rattle.pc_expr.specs.Operations.{Mark, clean, StoreOffer, has_error, store_codes, iterate_member, store_found, store_attribute_member, store_index_member, stored_types, only_type}
-use Rattle.pc_expr.specs.Calls.{arguments_given, is_suited, builtin_signature, positional_seat, named_seat, is_range, range_offers, range_item}
-use Rattle.pc_expr.specs.Labels.{FlowMarks, Marks, type_of}
-use Rattle.pc_expr.specs.Lawful.{Lawful}
+use Rattle.pc_rules.specs.Operations.{Mark, clean, StoreOffer, has_error, store_codes, iterate_member, store_found, store_attribute_member, store_index_member, stored_types, only_type}
+use Rattle.pc_rules.specs.Calls.{arguments_given, is_suited, builtin_signature, positional_seat, named_seat, is_range, range_offers, range_item}
+use Rattle.pc_rules.specs.Labels.{FlowMarks, Marks, type_of}
+use Rattle.pc_rules.specs.Lawful.{Lawful}
 use Rattle.pc_check.specs.StatementLabels.{OptionMarks, TargetMarks, StmtMarks, SuiteMarks, BranchesMarks, Behind, BehindRule, breaks_in, breaks_in_suite, breaks_in_branches, behind_list, ways_in}
 use Rattle.pc_check.specs.Statements.{NamesBound, is_first, only_code, LawfulRange, LawfulValues, RangeOrValues, LawfulIterable, LawfulTarget, LawfulDeclaration, annotation_at, LawfulAnnotated, LawfulAssignment, LawfulReturn, LawfulOption, LawfulStmt, LawfulSuite, LawfulBranches, binds_number, DeclaredAt, known_type, bound_env, LawfulBinding, LawfulStore, UndeclaredName, AreUndeclared}
 use Rattle.pc_sound.proofs.TruthValues.{not_both}

@@ -19,7 +19,7 @@ use Rattle.pc_types.proofs.Structural.{Chain, here, up, chain_below, Sub, s_clas
 use Rattle.pc_class.specs.Bases.{bases_of}
 use Rattle.pc_machine.specs.State.{Class, Globals}
 use Rattle.pc_machine.specs.Calls.{descends_from, class_at}
-use Rattle.pc_expr.specs.Signatures.{initializer_context}
+use Rattle.pc_rules.specs.Signatures.{initializer_context}
 use Rattle.pc_sound.specs.Values.{HeapTyping}
 use Rattle.pc_sound.proofs.Lists.{within}
 use Rattle.pc_sound.proofs.Expressions.NameReads.{KnowsNames}

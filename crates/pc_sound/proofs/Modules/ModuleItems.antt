@@ -15,10 +15,10 @@ use Rattle.pc_scope.specs.Resolution.{is_one_of, bound_first, or_meaning, builti
 use Rattle.pc_types.specs.Tree.{Tree}
 use Rattle.pc_class.specs.Bases.{bases_of}
 use Rattle.pc_class.specs.Facts.{TypedParameter, parameters_of, return_type, classes_of}
-use Rattle.pc_expr.specs.Context.{FlowsInto}
-use Rattle.pc_expr.specs.Labels.{mark_of}
-use Rattle.pc_expr.specs.Lawful.{Lawful}
-use Rattle.pc_expr.specs.Signatures.{initializer_context, binds_name, annotated_types, first_of_types}
+use Rattle.pc_rules.specs.Context.{FlowsInto}
+use Rattle.pc_rules.specs.Labels.{mark_of}
+use Rattle.pc_rules.specs.Lawful.{Lawful}
+use Rattle.pc_rules.specs.Signatures.{initializer_context, binds_name, annotated_types, first_of_types}
 use Rattle.pc_check.specs.Modules.{BeforeItem, before_next, ItemMarks, ItemsMarks, LawfulItem, LawfulModuleItems, ItemFinds, ItemsFind}
 use Rattle.pc_value.specs.Value.{Gives}
 use Rattle.pc_machine.specs.State.{State, Function, Class, Globals}

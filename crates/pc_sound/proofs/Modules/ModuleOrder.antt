@@ -19,10 +19,10 @@ use Rattle.pc_types.specs.Tree.{Tree}
 use Rattle.pc_types.specs.Annotations.{read_ann, read_option}
 use Rattle.pc_class.specs.Bases.{bases_of}
 use Rattle.pc_class.specs.Facts.{parameters_of, classes_of}
-use Rattle.pc_expr.specs.Labels.{FlowMarks, Marks, mark_of, type_of, Finds, IsFlowAt, IsCodeAt}
-use Rattle.pc_expr.specs.Context.{FlowsInto}
-use Rattle.pc_expr.specs.Lawful.{Lawful}
-use Rattle.pc_expr.specs.Signatures.{initializer_context, literal_type, literal_place, LawfulDefault, DefaultFinds, binds_name, ParamsMarks, LawfulParams, ParamsFind, constant_type, annotated_types, first_of_types}
+use Rattle.pc_rules.specs.Labels.{FlowMarks, Marks, mark_of, type_of, Finds, IsFlowAt, IsCodeAt}
+use Rattle.pc_rules.specs.Context.{FlowsInto}
+use Rattle.pc_rules.specs.Lawful.{Lawful}
+use Rattle.pc_rules.specs.Signatures.{initializer_context, literal_type, literal_place, LawfulDefault, DefaultFinds, binds_name, ParamsMarks, LawfulParams, ParamsFind, constant_type, annotated_types, first_of_types}
 use Rattle.pc_check.specs.Modules.{}
 use Rattle.pc_value.specs.Value as value
 use Rattle.pc_value.specs.Value.{Value, boolean, string, Out, Gives}

@@ -8,11 +8,11 @@ use Rattle.pc_scope.specs.declared.resolution.Res.{Res}
 use Rattle.pc_scope.specs.declared.resolution.Res.TheVariants as res
 use Rattle.pc_types.specs.Tree.{Tree}
 use Rattle.pc_flow.specs.Environment.{Env, current}
-use Rattle.pc_expr.specs.Operations.{in_error}
-use Rattle.pc_expr.specs.Context.{Context, local_mark, constant_mark, name_mark, is_early}
-use Rattle.pc_expr.specs.Labels.{Marks, mark_of}
-use Rattle.pc_expr.specs.Lawful.{Lawful}
-use Rattle.pc_expr.proofs.Silent.{silent_punctual, own_silent}
+use Rattle.pc_rules.specs.Operations.{in_error}
+use Rattle.pc_rules.specs.Context.{Context, local_mark, constant_mark, name_mark, is_early}
+use Rattle.pc_rules.specs.Labels.{Marks, mark_of}
+use Rattle.pc_rules.specs.Lawful.{Lawful}
+use Rattle.pc_rules.proofs.Silent.{silent_punctual, own_silent}
 use Rattle.pc_sound.proofs.Keyed.KeyedLabels.{Timely, ItemsTimely, EntriesTimely, KeywordsTimely}
 
 -- what the names of a body mean is there

@@ -16,8 +16,8 @@ use Rattle.pc_types.specs.Tree.{Tree, NoneType}
 use Rattle.pc_class.specs.Bases.{bases_of}
 use Rattle.pc_class.specs.Facts.{return_type, classes_of}
 use Rattle.pc_types.proofs.Earlier.{smaller}
-use Rattle.pc_expr.specs.Context.{Context}
-use Rattle.pc_expr.specs.Signatures.{initializer_context}
+use Rattle.pc_rules.specs.Context.{Context}
+use Rattle.pc_rules.specs.Signatures.{initializer_context}
 use Rattle.pc_check.proofs.Scopes.{said_is_found}
 use Rattle.pc_check.specs.Modules.{Labelling, IsLawful, IsFinding, constant_types, BeforeItem, nothing_before, ItemsFind}
 use Rattle.pc_value.specs.Value.{Value, Raised, Other, Outside, Cut, Out, Gives, Stops}

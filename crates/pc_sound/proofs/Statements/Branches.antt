@@ -9,7 +9,7 @@ use Rattle.pc_scope.specs.Bindings.{texts}
 use Rattle.pc_types.specs.Tree.{Tree}
 use Rattle.pc_flow.specs.Environment.{Env, join_ways}
 use Rattle.pc_flow.specs.Narrowing.{narrow}
-use Rattle.pc_expr.specs.Context.{Context}
+use Rattle.pc_rules.specs.Context.{Context}
 use Rattle.pc_check.specs.StatementLabels.{StmtMarks, SuiteMarks, BranchesMarks, breaks_in, breaks_in_suite, breaks_in_branches, ways_in}
 use Rattle.pc_check.specs.Statements.{NamesBound, LawfulStmt, LawfulSuite, LawfulBranches, StmtFinds, SuiteFinds, BranchesFind}
 use Rattle.pc_machine.specs.State.{State, Frame}

@@ -10,9 +10,9 @@ use Rattle.pc_types.specs.Shape.{members}
 use Rattle.pc_class.specs.Facts as facts
 use Rattle.pc_class.specs.Facts.{TypedParameter, Method, field_by_name, method_by_name, class_facts_at}
 use Rattle.pc_flow.specs.Environment.{Env}
-use Rattle.pc_expr.specs.Operations.{store_codes, has_error, stored_types, store_found, store_attribute_member}
-use Rattle.pc_expr.specs.Context.{Context, FlowsInto}
-use Rattle.pc_expr.specs.Labels.{FlowMarks, Marks, mark_of, type_of, Finds, IsFlowAt}
+use Rattle.pc_rules.specs.Operations.{store_codes, has_error, stored_types, store_found, store_attribute_member}
+use Rattle.pc_rules.specs.Context.{Context, FlowsInto}
+use Rattle.pc_rules.specs.Labels.{FlowMarks, Marks, mark_of, type_of, Finds, IsFlowAt}
 use Rattle.pc_check.specs.StatementLabels.{TargetMarks}
 use Rattle.pc_check.specs.Statements.{LawfulStore, TargetFinds}
 use Rattle.pc_value.specs.Value.{Value, Gives, Heap, seen}

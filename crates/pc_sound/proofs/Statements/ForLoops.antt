@@ -12,9 +12,9 @@ use Rattle.pc_scope.specs.declared.resolution.Res.TheVariants as res
 use Rattle.pc_types.specs.Tree.{Tree}
 use Rattle.pc_types.specs.Below.{Bases}
 use Rattle.pc_flow.specs.Environment.{Env, declared_type, assign, assigned_type, loop_head}
-use Rattle.pc_expr.specs.Operations.{Mark, FlowMark, clean}
-use Rattle.pc_expr.specs.Context.{Context, Flows, static, FlowsInto}
-use Rattle.pc_expr.specs.Labels.{Marks, Finds, IsFoundAt, IsFlowAt}
+use Rattle.pc_rules.specs.Operations.{Mark, FlowMark, clean}
+use Rattle.pc_rules.specs.Context.{Context, Flows, static, FlowsInto}
+use Rattle.pc_rules.specs.Labels.{Marks, Finds, IsFoundAt, IsFlowAt}
 use Rattle.pc_check.specs.StatementLabels.{StmtMarks, SuiteMarks, breaks_in_suite}
 use Rattle.pc_check.specs.Statements.{NamesBound, only_code, binds_number, LawfulIterable, LawfulTarget, LawfulStmt, LawfulSuite, StmtFinds, SuiteFinds}
 use Rattle.pc_value.specs.Value.{Value, Gives}

@@ -6,7 +6,7 @@ use Rattle.pc_types.specs.Below.{Bases, AreSmaller}
 use Rattle.pc_types.specs.Shape.{members, list_of_trees}
 use Rattle.pc_class.specs.Facts as facts
 use Rattle.pc_flow.specs.Environment.{join_all}
-use Rattle.pc_expr.specs.Operations.{Mark, Offer, found_of, offers_mark, has_error, iterate_member}
+use Rattle.pc_rules.specs.Operations.{Mark, Offer, found_of, offers_mark, has_error, iterate_member}
 use Rattle.pc_value.specs.Value.{Value, Values, whole, string, tuple_of, location, no_values, more_values, list_of, Cell, list_cell, dict_cell, instance_cell, Entry, Heap, seen, seen_cell, Other}
 use Rattle.pc_value.specs.Actions.{Iteration, over_list, over_dict, over_text, over_tuple, over_range, gives, finished, stops}
 use Rattle.pc_value.specs.Iteration.{iterate_outcome, turn_outcome, turn_item, turn_character, list_turn, dict_turn}

@@ -13,10 +13,10 @@ use Rattle.pc_types.specs.Assignable.{Assignable}
 use Rattle.pc_types.proofs.Meets.{Meets, m_from_any, m_to_any, m_never, m_object, m_int, m_bool, m_bool_int, m_str, m_none, m_class, m_list, m_dict, m_tuple, m_both, m_left, m_right}
 use Rattle.pc_types.proofs.Complete.{meets_from_assignable}
 use Rattle.pc_flow.specs.Environment.{Env, assigned_type}
-use Rattle.pc_expr.specs.Operations.{Mark, FlowMark}
-use Rattle.pc_expr.specs.Context.{Context, Flows, static, dynamic, wrong, FlowUnless, FlowAt, FlowsInto, is_early}
-use Rattle.pc_expr.specs.Labels.{FlowMarks, Marks, mark_of, type_of, Finds, IsFlowAt}
-use Rattle.pc_expr.specs.Lawful.{Lawful}
+use Rattle.pc_rules.specs.Operations.{Mark, FlowMark}
+use Rattle.pc_rules.specs.Context.{Context, Flows, static, dynamic, wrong, FlowUnless, FlowAt, FlowsInto, is_early}
+use Rattle.pc_rules.specs.Labels.{FlowMarks, Marks, mark_of, type_of, Finds, IsFlowAt}
+use Rattle.pc_rules.specs.Lawful.{Lawful}
 use Rattle.pc_value.specs.Value.{Value, Out, Gives, Stops}
 use Rattle.pc_machine.specs.State.{State}
 use Rattle.pc_machine.specs.Free.{Step}
@@ -26,7 +26,7 @@ use Rattle.pc_sound.proofs.Values.ValuesFlow.{of_static}
 use Rattle.pc_sound.proofs.Steps.SafeSteps.{weaken, stopped_as}
 use Rattle.pc_sound.proofs.Expressions.SimpleExpressions.{Covered, GoodEval}
 use Rattle.pc_sound.proofs.Keyed.KeyedDicts.{Keyed}
-use Rattle.pc_expr.proofs.Saying.{found_here}
+use Rattle.pc_rules.proofs.Saying.{found_here}
 use Rattle.pc_sound.proofs.Values.Flows.{Evaluates, early_code, flow_safe}
 
 -- ---- types of literals

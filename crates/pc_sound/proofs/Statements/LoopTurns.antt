@@ -13,9 +13,9 @@ use Rattle.pc_scope.specs.Resolution.{index_of}
 use Rattle.pc_types.specs.Tree.{Tree}
 use Rattle.pc_flow.specs.Environment.{Env, declared_type, join_envs_onto, loop_head}
 use Rattle.pc_flow.specs.Narrowing.{narrow}
-use Rattle.pc_expr.specs.Context.{Context}
-use Rattle.pc_expr.specs.Labels.{Marks, Finds}
-use Rattle.pc_expr.specs.Lawful.{Lawful}
+use Rattle.pc_rules.specs.Context.{Context}
+use Rattle.pc_rules.specs.Labels.{Marks, Finds}
+use Rattle.pc_rules.specs.Lawful.{Lawful}
 use Rattle.pc_check.specs.StatementLabels.{SuiteMarks, breaks_in_suite}
 use Rattle.pc_check.specs.Statements.{NamesBound, is_local_number, binds_number, LawfulSuite, SuiteFinds}
 use Rattle.pc_value.specs.Value.{Value, Gives}

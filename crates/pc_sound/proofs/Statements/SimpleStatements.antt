@@ -11,10 +11,10 @@ use Rattle.pc_types.specs.Tree.{Tree, NoneType}
 use Rattle.pc_types.specs.Below.{Static}
 use Rattle.pc_flow.specs.Environment.{Env, declared_type, assign, assigned_type}
 use Rattle.pc_flow.specs.Narrowing.{narrow}
-use Rattle.pc_expr.specs.Operations.{FlowMark, clean}
-use Rattle.pc_expr.specs.Context.{Context, FlowsInto}
-use Rattle.pc_expr.specs.Labels.{FlowMarks, Marks, mark_of, type_of, Finds, IsFlowAt}
-use Rattle.pc_expr.specs.Lawful.{Lawful}
+use Rattle.pc_rules.specs.Operations.{FlowMark, clean}
+use Rattle.pc_rules.specs.Context.{Context, FlowsInto}
+use Rattle.pc_rules.specs.Labels.{FlowMarks, Marks, mark_of, type_of, Finds, IsFlowAt}
+use Rattle.pc_rules.specs.Lawful.{Lawful}
 use Rattle.pc_check.specs.StatementLabels.{OptionMarks, TargetMarks, StmtMarks}
 use Rattle.pc_check.specs.Statements.{NamesBound, only_code, LawfulBinding, LawfulStore, LawfulOption, LawfulStmt, OptionFinds, TargetFinds, StmtFinds}
 use Rattle.pc_value.specs.Value.{Value, none, Gives, Stops, Other, is_true}

@@ -10,7 +10,7 @@ use Rattle.pc_scope.specs.Bindings.{texts}
 use Rattle.pc_scope.specs.Reach.{completes}
 use Rattle.pc_types.specs.Tree.{Tree}
 use Rattle.pc_flow.specs.Environment.{Env}
-use Rattle.pc_expr.specs.Context.{Context}
+use Rattle.pc_rules.specs.Context.{Context}
 use Rattle.pc_check.specs.StatementLabels.{StmtMarks, SuiteMarks, Behind, BehindRule, behind_list, breaks_in, breaks_in_suite}
 use Rattle.pc_check.specs.Statements.{NamesBound, AreUndeclared, LawfulStmt, LawfulSuite, StmtFinds, SuiteFinds}
 use Rattle.pc_value.specs.Value.{Gives}

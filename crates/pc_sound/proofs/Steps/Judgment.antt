@@ -11,7 +11,7 @@ use Rattle.pc_scope.specs.Resolution.{index_of}
 use Rattle.pc_class.specs.Facts as facts
 use Rattle.pc_flow.specs.Environment.{Env, declared_type}
 use Rattle.pc_flow.specs.Narrowing.{narrow}
-use Rattle.pc_expr.specs.Context.{Context}
+use Rattle.pc_rules.specs.Context.{Context}
 use Rattle.pc_value.specs.Value.{Value, Out, Gives, Stops, Raised, Other, Outside, Cut, is_true}
 use Rattle.pc_machine.specs.State.{State, Class, Globals, Frame}
 use Rattle.pc_machine.specs.Names.{local_by_name, with_local}

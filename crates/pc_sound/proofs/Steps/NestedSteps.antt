@@ -2,7 +2,7 @@
 use Rattle.std.proofs.Common.{ℕ, zero, suc}
 use Rattle.pc_tree.specs.Tree.{Module}
 use Rattle.pc_types.specs.Tree.{Tree}
-use Rattle.pc_expr.specs.Context.{Context}
+use Rattle.pc_rules.specs.Context.{Context}
 use Rattle.pc_value.specs.Value.{Stops, Cut}
 use Rattle.pc_machine.specs.Free.{Step, free}
 use Rattle.pc_machine.specs.Evaluation.{eval_node, eval_over, exec_all, steps}

@@ -10,11 +10,11 @@ use Rattle.pc_tree.specs.Tree.{Expr}
 use Rattle.pc_tree.specs.Depth.{place_of}
 use Rattle.pc_types.specs.Tree.{Tree}
 use Rattle.pc_flow.specs.Environment.{Env}
-use Rattle.pc_expr.specs.Operations.{FlowMark}
-use Rattle.pc_expr.specs.Context.{Context, Flows, static, dynamic, wrong, FlowUnless, FlowAt, is_early}
-use Rattle.pc_expr.specs.Labels.{Marks, mark_of, type_of, Finds, IsFlowAt}
-use Rattle.pc_expr.specs.Lawful.{Lawful}
-use Rattle.pc_expr.proofs.Saying.{found_here}
+use Rattle.pc_rules.specs.Operations.{FlowMark}
+use Rattle.pc_rules.specs.Context.{Context, Flows, static, dynamic, wrong, FlowUnless, FlowAt, is_early}
+use Rattle.pc_rules.specs.Labels.{Marks, mark_of, type_of, Finds, IsFlowAt}
+use Rattle.pc_rules.specs.Lawful.{Lawful}
+use Rattle.pc_rules.proofs.Saying.{found_here}
 use Rattle.pc_value.specs.Value.{Value, Out, Gives, Stops}
 use Rattle.pc_machine.specs.State.{State}
 use Rattle.pc_machine.specs.Free.{Step, ◌>>=◌, Emits}

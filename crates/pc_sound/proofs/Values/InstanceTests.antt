@@ -9,7 +9,7 @@ use Rattle.pc_types.specs.Below.{Bases, Below}
 use Rattle.pc_class.specs.Facts as facts
 use Rattle.pc_flow.specs.Environment.{Env}
 use Rattle.pc_flow.specs.Narrowing.{Tested, for_type, for_list, test_named}
-use Rattle.pc_expr.specs.Context.{Context}
+use Rattle.pc_rules.specs.Context.{Context}
 use Rattle.pc_value.specs.Value.{Value, whole, boolean, string, location, Gives, Cell, list_cell, dict_cell, instance_cell, Heap, is_list, seen_cell, class_seen}
 use Rattle.pc_value.specs.Value as value
 use Rattle.pc_machine.specs.State.{State, Class}

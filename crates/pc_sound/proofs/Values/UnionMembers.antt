@@ -6,7 +6,7 @@ use Rattle.pc_types.specs.Tree.{Tree, Any}
 use Rattle.pc_types.specs.Below.{Bases, AreSmaller}
 use Rattle.pc_types.specs.Shape.{members}
 use Rattle.pc_flow.specs.Environment.{join_all}
-use Rattle.pc_expr.specs.Operations.{Mark, Offer, found_of, offers_mark, operand_types, has_error}
+use Rattle.pc_rules.specs.Operations.{Mark, Offer, found_of, offers_mark, operand_types, has_error}
 use Rattle.pc_value.specs.Value.{Value, Out, Gives, Stops, Raised, Other, Outside, Cut}
 use Rattle.pc_sound.specs.Values.{HeapTyping, HasType, Extends}
 use Rattle.pc_sound.proofs.Steps.Judgment.{EndsWell}

@@ -9,11 +9,11 @@ use Rattle.pc_class.specs.Bases.{bases_of}
 use Rattle.pc_class.proofs.WellFormed.{returned_well_formed}
 use Rattle.pc_flow.specs.WellFormed.{AreWellFormed}
 use Rattle.pc_notes.specs.Notes.{notes_of}
-use Rattle.pc_expr.specs.Context.{Signature}
-use Rattle.pc_expr.specs.SignaturesFound.{constants_of}
-use Rattle.pc_expr.specs.Standing.{HasSignature, signature_with}
-use Rattle.pc_expr.specs.WellFormed.{ContextWellFormed}
-use Rattle.pc_expr.proofs.Contexts.{bodies_well_formed}
+use Rattle.pc_rules.specs.Context.{Signature}
+use Rattle.pc_rules.specs.SignaturesFound.{constants_of}
+use Rattle.pc_rules.specs.Standing.{HasSignature, signature_with}
+use Rattle.pc_rules.specs.WellFormed.{ContextWellFormed}
+use Rattle.pc_rules.proofs.Contexts.{bodies_well_formed}
 use Rattle.pc_check.specs.Internal.ModuleWalk.{module_in}
 use Rattle.pc_check.specs.ComputedStatements.{BodyFrame, function_finds}
 use Rattle.pc_check.proofs.ModuleSettings.{frame_is, names_mean}

@@ -8,10 +8,10 @@ use Rattle.pc_types.specs.Tree.{Tree}
 use Rattle.pc_types.specs.WellFormed.{IsWellFormed}
 use Rattle.pc_flow.specs.Stored.{env_of}
 use Rattle.pc_notes.specs.Notes.{Note, notes_of}
-use Rattle.pc_expr.specs.Operations.{Mark}
-use Rattle.pc_expr.specs.Calls.{arguments_given, range_item, range_offers, positional_seat, named_seat, call_mark}
-use Rattle.pc_expr.specs.Found.{codes_at}
-use Rattle.pc_expr.specs.Standing.{Standing, IsMark, arguments_find, keywords_find}
+use Rattle.pc_rules.specs.Operations.{Mark}
+use Rattle.pc_rules.specs.Calls.{arguments_given, range_item, range_offers, positional_seat, named_seat, call_mark}
+use Rattle.pc_rules.specs.Found.{codes_at}
+use Rattle.pc_rules.specs.Standing.{Standing, IsMark, arguments_find, keywords_find}
 use Rattle.pc_check.specs.ComputedStatements.{at, item_mark_of}
 use Rattle.pc_check.specs.Internal.StatementWalk.{frame_with, context_in, GivesLabel}
 use Rattle.pc_check.proofs.Held.{declared_is, declared_well_formed}

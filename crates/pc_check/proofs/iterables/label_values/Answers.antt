@@ -5,9 +5,9 @@ use Rattle.pc_types.specs.Tree.{Tree}
 use Rattle.pc_types.specs.Shape.{members}
 use Rattle.pc_types.specs.WellFormed.{IsWellFormed}
 use Rattle.pc_flow.specs.Stored.{env_of}
-use Rattle.pc_expr.specs.Operations.{Mark, offers_mark, iterate_member}
-use Rattle.pc_expr.specs.Standing.{IsMark}
-use Rattle.pc_expr.proofs.Offering.{entries_kept}
+use Rattle.pc_rules.specs.Operations.{Mark, offers_mark, iterate_member}
+use Rattle.pc_rules.specs.Standing.{IsMark}
+use Rattle.pc_operate.proofs.Offering.{entries_kept}
 use Rattle.pc_check.specs.ComputedStatements.{at, values_item}
 use Rattle.pc_check.specs.Internal.StatementWalk.{frame_with, GivesLabel}
 use Rattle.pc_check.proofs.StoredTypes.{turns_well_formed}

@@ -1,5 +1,5 @@
 use Rattle.pc_types.specs.Tree.{NoneType}
-use Rattle.pc_expr.specs.Operations.{clean}
+use Rattle.pc_rules.specs.Operations.{clean}
 use Rattle.pc_check.proofs.leaving.find_return.Goals as goal
 
 pub returns-in_ok-flow_in-in-None-clause-pushed : goal.returns-in_ok-flow_in-in-None-clause-pushed

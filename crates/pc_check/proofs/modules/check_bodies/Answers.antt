@@ -2,7 +2,7 @@ use Rattle.std.proofs.Common.{◌+◌, ◌∷◌, map, drop, sym, ap, ◌∙◌,
 use Rattle.pc_tree.specs.Tree.{class_of, constant_of, func_of, item_of, item_of_kind}
 use Rattle.pc_scope.specs.Bindings.{classes_in, functions_in}
 use Rattle.pc_notes.specs.Notes.{notes_of}
-use Rattle.pc_expr.specs.SignaturesFound.{constants_of}
+use Rattle.pc_rules.specs.SignaturesFound.{constants_of}
 use Rattle.pc_check.specs.Internal.ModuleWalk.{module_in, IsModuleSetting}
 use Rattle.pc_check.specs.ComputedModules.{bodies_find}
 use Rattle.pc_check.proofs.CheckedModules.{ItemsAt, items_next, class_here, def_here, constant_passed, class_passed, def_passed}

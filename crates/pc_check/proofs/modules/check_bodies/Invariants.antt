@@ -3,7 +3,7 @@ use Rattle.pc_tree.specs.Tree.{item_of}
 use Rattle.pc_scope.specs.Bindings.{classes_in, functions_in}
 use Rattle.pc_types.specs.Store.{KeepsTypes}
 use Rattle.pc_notes.specs.Notes.{notes_of}
-use Rattle.pc_expr.specs.SignaturesFound.{constants_of}
+use Rattle.pc_rules.specs.SignaturesFound.{constants_of}
 use Rattle.pc_check.specs.Internal.ModuleWalk.{module_in, IsModuleSetting}
 use Rattle.pc_check.specs.ComputedModules.{bodies_find}
 use Rattle.pc_check.proofs.CheckedModules.{StandsFrom}

@@ -3,7 +3,7 @@ use Rattle.pc_tree.specs.Tree.{class_of, func_of, field_of, member_of}
 use Rattle.pc_scope.specs.Bindings.{methods_in}
 use Rattle.pc_scope.specs.Resolution.{method_at}
 use Rattle.pc_notes.specs.Notes.{notes_of}
-use Rattle.pc_expr.specs.SignaturesFound.{constants_of}
+use Rattle.pc_rules.specs.SignaturesFound.{constants_of}
 use Rattle.pc_check.specs.Internal.ModuleWalk.{module_in, IsModuleSetting}
 use Rattle.pc_check.specs.ComputedModules.{methods_find}
 use Rattle.pc_check.proofs.CheckedModules.{MembersAt, members_next, method_here, field_passed, method_passed}

@@ -6,10 +6,10 @@ use Rattle.pc_flow.specs.WellFormed.{AreWellFormed}
 use Rattle.pc_flow.specs.Stored.{env_of}
 use Rattle.pc_flow.proofs.Given.{keeps_both}
 use Rattle.pc_notes.specs.Notes.{Note, notes_of}
-use Rattle.pc_expr.specs.Operations.{Mark, StoreOffer, stored_types}
-use Rattle.pc_expr.specs.Standing.{mark_in, finds_in}
-use Rattle.pc_expr.specs.Storing.{HasStoreOffer, store_offer_with}
-use Rattle.pc_expr.proofs.Offering.{entries_kept}
+use Rattle.pc_rules.specs.Operations.{Mark, StoreOffer, stored_types}
+use Rattle.pc_rules.specs.Standing.{mark_in, finds_in}
+use Rattle.pc_operate.specs.Storing.{HasStoreOffer, store_offer_with}
+use Rattle.pc_operate.proofs.Offering.{entries_kept}
 use Rattle.pc_check.specs.ComputedStatements.{at, stored_finds, attribute_stores}
 use Rattle.pc_check.specs.Internal.StatementWalk.{frame_with}
 use Rattle.pc_check.proofs.Held.{types_kept, frame_kept}

@@ -6,13 +6,13 @@ use Rattle.pc_flow.specs.WellFormed.{AreWellFormed}
 use Rattle.pc_flow.specs.Stored.{env_of}
 use Rattle.pc_flow.proofs.Given.{keeps_both}
 use Rattle.pc_notes.specs.Notes.{Note, notes_of}
-use Rattle.pc_expr.specs.Operations.{Mark, StoreOffer, stored_types, store_index_types}
-use Rattle.pc_expr.specs.Found.{flows_at}
-use Rattle.pc_expr.specs.Computed.{flows_of}
-use Rattle.pc_expr.specs.Standing.{mark_in, finds_in}
-use Rattle.pc_expr.specs.Storing.{HasStoreOffer, store_offer_with}
-use Rattle.pc_expr.proofs.Offering.{entries_kept}
-use Rattle.pc_expr.proofs.Storing.{all_stores_kept}
+use Rattle.pc_rules.specs.Operations.{Mark, StoreOffer, stored_types, store_index_types}
+use Rattle.pc_rules.specs.Found.{flows_at}
+use Rattle.pc_rules.specs.Computed.{flows_of}
+use Rattle.pc_rules.specs.Standing.{mark_in, finds_in}
+use Rattle.pc_operate.specs.Storing.{HasStoreOffer, store_offer_with}
+use Rattle.pc_operate.proofs.Offering.{entries_kept}
+use Rattle.pc_operate.proofs.Storing.{all_stores_kept}
 use Rattle.pc_check.specs.ComputedStatements.{at, stored_finds, index_stores}
 use Rattle.pc_check.specs.Internal.StatementWalk.{frame_with}
 use Rattle.pc_check.proofs.Held.{types_kept, frame_kept}

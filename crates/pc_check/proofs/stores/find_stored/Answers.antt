@@ -2,7 +2,7 @@ use Rattle.std.proofs.Common.{◌∙◌, map, sym, ap, subst}
 use Rattle.std.specs.Prelude.{All}
 use Rattle.pc_flow.specs.WellFormed.{AreWellFormed}
 use Rattle.pc_flow.proofs.Given.{keeps_both, all_kept}
-use Rattle.pc_expr.specs.Storing.{store_offer_with}
+use Rattle.pc_operate.specs.Storing.{store_offer_with}
 use Rattle.pc_check.proofs.FoundStores.{want_holds}
 use Rattle.pc_check.proofs.stores.find_stored.Goals as goal
 

@@ -1,8 +1,8 @@
 use Rattle.std.proofs.Common.{◌∙◌, ◌++◌, [], List, ap}
 use Rattle.pc_notes.specs.Notes.{Note, notes_of}
-use Rattle.pc_expr.specs.Operations.{Mark}
-use Rattle.pc_expr.specs.Found.{flow_then}
-use Rattle.pc_expr.proofs.Flowing.{one_flow}
+use Rattle.pc_rules.specs.Operations.{Mark}
+use Rattle.pc_rules.specs.Found.{flow_then}
+use Rattle.pc_rules.proofs.Flowing.{one_flow}
 use Rattle.pc_check.proofs.Bound.{code_alike}
 use Rattle.pc_check.proofs.typing.flow_in.Goals as goal
 

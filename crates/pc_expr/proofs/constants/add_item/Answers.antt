@@ -1,7 +1,7 @@
 use Rattle.std.proofs.Common.{◌≡◌, OnOk, sym, subst}
 use Rattle.pc_tree.specs.declared.tree.ItemKind.{ItemKind}
 use Rattle.pc_tree.specs.Tree.{item_of_kind}
-use Rattle.pc_expr.specs.SignaturesFound.{behind}
+use Rattle.pc_rules.specs.SignaturesFound.{behind}
 use Rattle.pc_expr.specs.Internal.SignaturesRead.{module_in, reached_with}
 use Rattle.pc_expr.proofs.constants.add_item.Goals as goal
 

@@ -3,7 +3,7 @@ use Rattle.std.specs.Prelude.{string_bytes, codes}
 use Rattle.pc_tree.specs.Tree.{func_of}
 use Rattle.pc_scope.specs.Resolution.{is_one_of}
 use Rattle.pc_notes.specs.Notes.{notes_of}
-use Rattle.pc_expr.specs.SignaturesFound.{bound_in, no_name, with_name, def_findings}
+use Rattle.pc_rules.specs.SignaturesFound.{bound_in, no_name, with_name, def_findings}
 use Rattle.pc_expr.specs.Internal.SignaturesRead.{module_in}
 use Rattle.pc_expr.proofs.constants.add_method.Goals as goal
 

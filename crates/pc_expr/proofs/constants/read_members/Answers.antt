@@ -2,7 +2,7 @@ use Rattle.std.proofs.Common.{◌∙◌, ap, arith}
 use Rattle.pc_tree.specs.Tree.{Name}
 use Rattle.pc_class.specs.Facts.{base_facts, classes_of}
 use Rattle.pc_notes.specs.Notes.{notes_of}
-use Rattle.pc_expr.specs.SignaturesFound.{bound_in, with_name}
+use Rattle.pc_rules.specs.SignaturesFound.{bound_in, with_name}
 use Rattle.pc_expr.specs.Internal.SignaturesRead.{module_in, signatures_with}
 use Rattle.pc_expr.proofs.HeldSignatures.{globals_kept}
 use Rattle.pc_expr.proofs.SignatureWalks.{stepped, walked, methods_apart, no_methods, members_found}

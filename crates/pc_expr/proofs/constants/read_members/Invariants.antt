@@ -4,8 +4,8 @@ use Rattle.pc_scope.specs.Bindings.{methods_in}
 use Rattle.pc_types.specs.Store.{KeepsTypes}
 use Rattle.pc_class.specs.Facts.{base_facts, classes_of}
 use Rattle.pc_notes.specs.Notes.{notes_of}
-use Rattle.pc_expr.specs.Signatures.{signature_of}
-use Rattle.pc_expr.specs.SignaturesFound.{bound_in, no_name, members_findings}
+use Rattle.pc_rules.specs.Signatures.{signature_of}
+use Rattle.pc_rules.specs.SignaturesFound.{bound_in, no_name, members_findings}
 use Rattle.pc_expr.specs.Internal.SignaturesRead.{module_in, AreGlobals, HasSignatures, signatures_with}
 use Rattle.pc_expr.proofs.constants.read_members.Given as goal
 

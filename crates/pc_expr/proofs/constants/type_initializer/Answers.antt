@@ -4,7 +4,7 @@ use Rattle.std.specs.Option.{option_map}
 use Rattle.pc_tree.specs.Tree.{expr_of}
 use Rattle.pc_flow.specs.Stored.{env_of, declared_of}
 use Rattle.pc_notes.specs.Notes.{notes_of}
-use Rattle.pc_expr.specs.Standing.{Standing, IsMark, mark_in, finds_in}
+use Rattle.pc_rules.specs.Standing.{Standing, IsMark, mark_in, finds_in}
 use Rattle.pc_expr.specs.Internal.SignaturesRead.{module_in}
 use Rattle.pc_expr.proofs.InitializerStanding.{module_names, standing_is}
 use Rattle.pc_expr.proofs.constants.type_initializer.Goals as goal

@@ -3,11 +3,11 @@ use Rattle.std.specs.Prelude.{Option}
 use Rattle.pc_tree.specs.declared.code.Code.{Code}
 use Rattle.pc_types.specs.Computed.{static_test, assignable_test}
 use Rattle.pc_notes.specs.Notes.{notes_of}
-use Rattle.pc_expr.specs.Context.{is_early}
-use Rattle.pc_expr.specs.Computed.{code_unless}
-use Rattle.pc_expr.specs.Found.{flow_at}
-use Rattle.pc_expr.specs.Standing.{mark_with}
-use Rattle.pc_expr.proofs.Flowing.{one_flow, flows_alike}
+use Rattle.pc_rules.specs.Context.{is_early}
+use Rattle.pc_rules.specs.Computed.{code_unless}
+use Rattle.pc_rules.specs.Found.{flow_at}
+use Rattle.pc_rules.specs.Standing.{mark_with}
+use Rattle.pc_rules.proofs.Flowing.{one_flow, flows_alike}
 use Rattle.pc_expr.proofs.defaults.find_into.Goals as goal
 
 pub returns-clause-pushed : goal.returns-clause-pushed

@@ -1,11 +1,11 @@
 use Rattle.pc_tree.specs.Tree.{literal_of}
 use Rattle.pc_notes.specs.Notes.{notes_of}
-use Rattle.pc_expr.specs.Operations.{clean}
-use Rattle.pc_expr.specs.Signatures.{literal_type}
+use Rattle.pc_rules.specs.Operations.{clean}
+use Rattle.pc_rules.specs.Signatures.{literal_type}
 use Rattle.std.proofs.Common.{◌≡◌, ◌++◌, ◌∷◌, [], OnOk, subst}
 use Rattle.pc_source.specs.declared.place.Place.{Place}
-use Rattle.pc_expr.specs.Computed.{flows_of}
-use Rattle.pc_expr.specs.Found.{flows_at}
+use Rattle.pc_rules.specs.Computed.{flows_of}
+use Rattle.pc_rules.specs.Found.{flows_at}
 use Rattle.pc_expr.proofs.LiteralPlaces.{place_is}
 use Rattle.pc_expr.proofs.defaults.find_literal.Goals as goal
 

@@ -2,12 +2,12 @@ use Rattle.std.proofs.Common.{◌≡◌, ◌++◌, ◌∙◌, map, length, sym, 
 use Rattle.pc_tree.specs.Tree.{expr_of}
 use Rattle.pc_tree.specs.Lists.{exprs_of_list, keywords_of_list}
 use Rattle.pc_notes.specs.Notes.{notes_of}
-use Rattle.pc_expr.specs.Standing.{standing_of}
-use Rattle.pc_expr.specs.Internal.JudgedCalls.{given_with, offer_called}
-use Rattle.pc_expr.proofs.Kept.{stands_kept}
-use Rattle.pc_expr.proofs.CallsKept.{offers_kept}
+use Rattle.pc_rules.specs.Standing.{standing_of}
+use Rattle.pc_call.specs.JudgedCalls.{given_with, offer_called}
+use Rattle.pc_rules.proofs.Kept.{stands_kept}
+use Rattle.pc_call.proofs.CallsKept.{offers_kept}
 use Rattle.pc_expr.proofs.CallForms.{two_tested}
-use Rattle.pc_expr.proofs.Typed.{if_ok}
+use Rattle.pc_rules.proofs.Along.{if_ok}
 use Rattle.pc_expr.proofs.RangeForms.{range_found}
 use Rattle.pc_expr.proofs.range_typing.find_range.Goals as goal
 

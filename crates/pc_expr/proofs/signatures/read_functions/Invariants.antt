@@ -3,8 +3,8 @@ use Rattle.pc_tree.specs.Tree.{item_of}
 use Rattle.pc_scope.specs.Bindings.{functions_in}
 use Rattle.pc_types.specs.Store.{KeepsTypes}
 use Rattle.pc_notes.specs.Notes.{notes_of}
-use Rattle.pc_expr.specs.Signatures.{signature_of}
-use Rattle.pc_expr.specs.SignaturesFound.{functions_findings}
+use Rattle.pc_rules.specs.Signatures.{signature_of}
+use Rattle.pc_rules.specs.SignaturesFound.{functions_findings}
 use Rattle.pc_expr.specs.Internal.SignaturesRead.{module_in, HasSignatures, signatures_with}
 use Rattle.pc_expr.proofs.signatures.read_functions.Given as goal
 

@@ -3,7 +3,7 @@ use Rattle.pc_tree.specs.Tree.{param_of}
 use Rattle.pc_class.specs.Facts.{typed_parameter}
 use Rattle.pc_class.specs.Tables.{HasParameter, parameter_with, parameters_with}
 use Rattle.pc_notes.specs.Notes.{notes_of}
-use Rattle.pc_expr.specs.SignaturesFound.{bound_in, with_name}
+use Rattle.pc_rules.specs.SignaturesFound.{bound_in, with_name}
 use Rattle.pc_expr.specs.Internal.SignaturesRead.{module_in}
 use Rattle.pc_expr.proofs.HeldSignatures.{params_kept, held_push}
 use Rattle.pc_expr.proofs.SignatureWalks.{stepped, pushed_one, params_apart, params_found}

@@ -6,26 +6,27 @@ use Rattle.pc_tree.specs.Tree.{Expr, expr_of, name_of}
 use Rattle.pc_tree.specs.Lists.{exprs_of_list, entries_of_list, keywords_of_list}
 use Rattle.pc_tree.proofs.Trees.{tuple_tree, list_tree, dict_tree, call_tree}
 use Rattle.pc_notes.specs.Notes.{notes_of}
-use Rattle.pc_expr.specs.Standing.{standing_of, mark_in, parts_find}
+use Rattle.pc_rules.specs.Standing.{standing_of, mark_in, parts_find}
 use Rattle.pc_expr.proofs.Forms.{mark_name, parts_name, mark_number, parts_number, mark_text, parts_text, mark_truth, parts_truth, mark_nothing, parts_nothing, parts_negative, mark_negation, parts_negation, mark_is_none, parts_is_none, mark_is_not_none, parts_is_not_none, parts_attribute, callee_name, callee_attribute, callee_other, callee_early, arguments_all}
-use Rattle.pc_expr.proofs.Typed.{marked_by, pushed_by, on_ok, if_ok, whole_found, negative_is, attribute_is, binary_is, binary_found, compare_is, compare_found, index_is, index_found, and_is, and_found, or_is, or_found, standing_after, codes_are, list_is, list_found, tuple_is, tuple_found, dict_is, dict_found, counted, type_is}
+use Rattle.pc_rules.proofs.Along.{marked_by, pushed_by, on_ok, if_ok}
+use Rattle.pc_expr.proofs.Typed.{whole_found, negative_is, attribute_is, binary_is, binary_found, compare_is, compare_found, index_is, index_found, and_is, and_found, or_is, or_found, standing_after, codes_are, list_is, list_found, tuple_is, tuple_found, dict_is, dict_found, counted, type_is}
 use Rattle.std.proofs.lemmas.List.Elements.{All-push, All-nil}
 use Rattle.pc_flow.specs.Stored.{env_of}
-use Rattle.pc_expr.specs.Calls.{positional_seat, method_callee, named_seat}
-use Rattle.pc_expr.specs.Found.{once}
-use Rattle.pc_expr.specs.Internal.JudgedCalls.{HasCallOffer, offer_called, given_with, rule_of, names_in}
+use Rattle.pc_rules.specs.Calls.{positional_seat, method_callee, named_seat}
+use Rattle.pc_rules.specs.Found.{once}
+use Rattle.pc_call.specs.JudgedCalls.{HasCallOffer, offer_called, given_with, rule_of, names_in}
 use Rattle.pc_expr.specs.Internal.Seats.{seats_of, seat_with}
 use Rattle.pc_expr.proofs.EntrySteps.{keys_step, values_step, entries_step, keys_end, values_end, entries_end, keywords_step, keywords_end}
-use Rattle.pc_expr.proofs.Kept.{keeps_both, entries_kept, stands_kept, types_kept}
+use Rattle.pc_rules.proofs.Kept.{keeps_both, entries_kept, stands_kept, types_kept}
 use Rattle.pc_expr.proofs.SeatsKept.{seats_kept, entry_seats_kept}
 use Rattle.pc_expr.proofs.Steps.{seated_types, seated_finds, types_end, finds_end, early_step, early_end}
 use Rattle.pc_tree.specs.declared.tree.Expr.{Expr as RustExpr}
 use Rattle.pc_expr.specs.Typing.{is_other, callee_in}
 use Rattle.pc_expr.proofs.CalleesTyped.{callee_as, two_arguments, two_types, two_early, first_found}
 use Rattle.pc_expr.proofs.CallForms.{call_mark_is, call_parts_found}
-use Rattle.pc_expr.proofs.CallsKept.{offers_kept}
+use Rattle.pc_call.proofs.CallsKept.{offers_kept}
 use Rattle.pc_scope.specs.Resolution.{is_one_of}
-use Rattle.pc_expr.proofs.NamesGiven.{with_name, name_inserted}
+use Rattle.pc_call.proofs.NamesGiven.{with_name, name_inserted}
 use Rattle.pc_expr.proofs.NamesBefore.{same_with}
 use Rattle.pc_tree.specs.declared.tree.Expr.TheFolds.{the_lemmas}
 use Rattle.pc_expr.proofs.typing.+typing.Goals as goal

@@ -1,4 +1,4 @@
-use Rattle.pc_expr.proofs.Offering.{entries_kept}
+use Rattle.pc_operate.proofs.Offering.{entries_kept}
 use Rattle.pc_expr.proofs.whole.length_label.Goals as goal
 
 pub member_offers-requires-clause-classes : goal.member_offers-requires-clause-classes

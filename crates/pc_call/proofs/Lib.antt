@@ -1,0 +1,11 @@
+pub mod CallLabels
+pub mod CalleesMeant
+pub mod CallsKept
+pub mod Copied
+pub mod ErrorsOfCalls
+pub mod Filling
+pub mod FirstNames
+pub mod HeldClasses
+pub mod MethodOffers
+pub mod NamesGiven
+pub mod SeatTypes

@@ -1,0 +1,7 @@
+use Rattle.std.proofs.Common.{◌≡◌, ◌++◌, drop}
+use Rattle.std.specs.Prelude.{option_to_list}
+use Rattle.pc_call.proofs.ErrorsOfCalls.{any_error}
+use Rattle.pc_call.proofs.seats.is_in_error.Given as goal
+
+abbrev pub invariant-loop-offer : goal.invariant-loop-offer
+invariant-loop-offer g l = any_error (drop l.offer-index l.offers) ≡ any_error l.offers

@@ -1,0 +1,26 @@
+//! What calls come to: which arguments suit, what they flow into, and what a callee is.
+#![tactic(auto)]
+
+mod arguments;
+mod call_offers;
+mod callee;
+mod calling;
+mod functions;
+pub mod given;
+mod instances;
+mod methods;
+mod naming_callees;
+mod params;
+mod ranging;
+mod seats;
+
+pub use arguments::{Given, Names};
+pub use call_offers::{CallOffer, CallRule, Called};
+pub use callee::{Callee, callee_in_error, callee_of_value};
+pub use calling::{call_codes, members_label};
+pub use instances::{second_code, test_label};
+pub use methods::callee_of_method;
+pub use naming_callees::callee_of_name;
+pub use params::{Numbers, Param, Params};
+pub use ranging::{is_range, range_item, range_offers};
+pub use seats::{Seat, keyword_seat, positional_seat};

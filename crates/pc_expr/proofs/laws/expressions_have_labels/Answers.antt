@@ -1,5 +1,0 @@
-use Rattle.pc_expr.proofs.ComputedLawful.{has_labels, lawful_labels_well_formed}
-use Rattle.pc_expr.proofs.laws.expressions_have_labels.Goals as goal
-
-pub returns : goal.returns
-returns c = record { labels = has_labels; types = lawful_labels_well_formed }

@@ -1,5 +1,0 @@
-use Rattle.pc_expr.proofs.ComputedLawful.{labels_are_lawful}
-use Rattle.pc_expr.proofs.laws.labels_are_lawful.Goals as goal
-
-pub returns : goal.returns
-returns c = labels_are_lawful

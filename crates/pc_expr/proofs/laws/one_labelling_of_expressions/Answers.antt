@@ -1,5 +1,0 @@
-use Rattle.pc_expr.proofs.One.{one_labelling}
-use Rattle.pc_expr.proofs.laws.one_labelling_of_expressions.Goals as goal
-
-pub returns : goal.returns
-returns c = one_labelling

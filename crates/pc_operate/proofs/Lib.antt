@@ -1,0 +1,9 @@
+pub mod ByHead
+pub mod Displayed
+pub mod Indexing
+pub mod KindPairs
+pub mod Literals
+pub mod Offering
+pub mod Operators
+pub mod StoredByHead
+pub mod Storing

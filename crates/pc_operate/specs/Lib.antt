@@ -1,0 +1,4 @@
+pub mod Displays
+pub mod Internal
+pub mod JudgedOperations
+pub mod Storing

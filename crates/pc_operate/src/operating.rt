@@ -1,0 +1,204 @@
+//! Labels of the forms of expressions over the labels of their operands.
+
+ghost use Rattle.std.specs.Prelude.{◌≡◌, ◌++◌, map, All, IfOk, OnOk};
+ghost use Rattle.pc_tree.specs.Tree.{name_of, expr_of};
+ghost use Rattle.pc_tree.specs.Depth.{place_of};
+ghost use Rattle.pc_types.specs.Tree.{Int, Bool, Str, NoneType};
+ghost use Rattle.pc_types.specs.Shape.{members};
+ghost use Rattle.pc_types.specs.Store.{KeepsTypes};
+ghost use Rattle.pc_class.specs.Tables.{classes_with, HasEntries};
+ghost use Rattle.pc_flow.specs.Environment.{join_or_object};
+ghost use Rattle.pc_flow.specs.Narrowing.{narrow};
+ghost use Rattle.pc_flow.specs.Stored.{env_of, declared_of};
+ghost use Rattle.pc_notes.specs.Notes.{notes_of};
+ghost use Rattle.pc_rules.specs.Operations.{Mark, clean, offers_mark, operand_types, negative_member, attribute_member, index_member};
+ghost use Rattle.pc_rules.specs.Lawful.{int_literal};
+ghost use Rattle.pc_rules.specs.Computed.{flows_of};
+ghost use Rattle.pc_rules.specs.Found.{brief, flows_at};
+ghost use Rattle.pc_rules.specs.Standing.{mark_with, HasGivenAll, IsMark};
+
+use crate::offers::{Operation, literal_index, member_offers, offers_label, operand_types};
+use pc_flow::{Env, Resolver, join_or_object, narrow_false, narrow_true};
+use pc_notes::Notes;
+use pc_rules::{Label, Setting, find_flows};
+use pc_source::OutOfMemory;
+use pc_tree::{Expr, Name};
+use pc_types::{Parents, TypeStore};
+use std::alloc::Global;
+
+/// The label of a whole number.
+pub fn label_int<S: TypeStore>(store: &mut S, alloc: Global) -> Result<Label<S::Ty>, OutOfMemory>
+    ensures value { IfOk result (λ l. IsMark S.has S.tree store.new l (clean Int)) }
+    ensures kept { KeepsTypes S.has store.old store.new }
+{
+    let ty = store.int(alloc)?;
+    let codes = Vec::new(alloc);
+    Ok(Label { ty, codes })
+}
+
+/// The label of a text.
+pub fn label_str<S: TypeStore>(store: &mut S, alloc: Global) -> Result<Label<S::Ty>, OutOfMemory>
+    ensures value { IfOk result (λ l. IsMark S.has S.tree store.new l (clean Str)) }
+    ensures kept { KeepsTypes S.has store.old store.new }
+{
+    let ty = store.str(alloc)?;
+    let codes = Vec::new(alloc);
+    Ok(Label { ty, codes })
+}
+
+/// The label of a truth value.
+pub fn label_bool<S: TypeStore>(store: &mut S, alloc: Global) -> Result<Label<S::Ty>, OutOfMemory>
+    ensures value { IfOk result (λ l. IsMark S.has S.tree store.new l (clean Bool)) }
+    ensures kept { KeepsTypes S.has store.old store.new }
+{
+    let ty = store.bool(alloc)?;
+    let codes = Vec::new(alloc);
+    Ok(Label { ty, codes })
+}
+
+/// The label of `None`.
+pub fn label_none<S: TypeStore>(store: &mut S, alloc: Global) -> Result<Label<S::Ty>, OutOfMemory>
+    ensures value { IfOk result (λ l. IsMark S.has S.tree store.new l (clean NoneType)) }
+    ensures kept { KeepsTypes S.has store.old store.new }
+{
+    let ty = store.none(alloc)?;
+    let codes = Vec::new(alloc);
+    Ok(Label { ty, codes })
+}
+
+/// The label of `-` before an operand of a type. Language Reference 6.6 "Unary arithmetic and bitwise operations".
+pub fn label_negative<S: TypeStore, R: Resolver>(
+    store: &mut S,
+    alloc: Global,
+    setting: &Setting<'_, S::Ty, R>,
+    operand: &S::Ty,
+) -> Result<Label<S::Ty>, OutOfMemory>
+    requires operand { S.has store.old operand.now }
+    requires classes { HasEntries (S.has store.old) setting.now.classes.now }
+    ensures value { IfOk result (λ l. IsMark S.has S.tree store.new l (offers_mark setting.now.parents.now (map negative_member (members (S.tree operand.now))))) }
+    ensures kept { KeepsTypes S.has store.old store.new }
+{
+    let parents = setting.parents;
+    let offers = member_offers(
+        store,
+        alloc,
+        parents,
+        setting.classes,
+        Operation::Negative,
+        operand,
+    )?;
+    offers_label(store, alloc, parents, &offers)
+}
+
+/// The label of an attribute of an object of a type. Language Reference 6.3.1 "Attribute references".
+pub fn label_attribute<S: TypeStore, R: Resolver>(
+    store: &mut S,
+    alloc: Global,
+    setting: &Setting<'_, S::Ty, R>,
+    field: &Name,
+    object: &S::Ty,
+) -> Result<Label<S::Ty>, OutOfMemory>
+    requires object { S.has store.old object.now }
+    requires classes { HasEntries (S.has store.old) setting.now.classes.now }
+    ensures value { IfOk result (λ l. IsMark S.has S.tree store.new l (offers_mark setting.now.parents.now (map (attribute_member (classes_with S.tree setting.now.classes.now) (name_of field.now).text) (members (S.tree object.now))))) }
+    ensures kept { KeepsTypes S.has store.old store.new }
+{
+    let parents = setting.parents;
+    let attribute = Operation::Attribute(field.text.as_str());
+    let offers = member_offers(store, alloc, parents, setting.classes, attribute, object)?;
+    offers_label(store, alloc, parents, &offers)
+}
+
+/// The label of an object of a type at an index, and what is found where the index flows. Language Reference 6.3.2
+/// "Subscriptions".
+pub fn label_index<S: TypeStore, R: Resolver>(
+    store: &mut S,
+    alloc: Global,
+    setting: &Setting<'_, S::Ty, R>,
+    object: &S::Ty,
+    key: &Expr,
+    label: &Label<S::Ty>,
+    found: &mut Notes,
+) -> Result<Label<S::Ty>, OutOfMemory>
+    requires object { S.has store.old object.now }
+    requires key { S.has store.old label.now.ty }
+    requires classes { HasEntries (S.has store.old) setting.now.classes.now }
+    ensures value { IfOk result (λ l. IsMark S.has S.tree store.new l (offers_mark setting.now.parents.now (map (index_member setting.now.parents.now (int_literal (expr_of key.now))) (members (S.tree object.now))))) }
+    ensures pushed { (m : Mark) → mark_with S.tree label.now ≡ brief m → OnOk result (notes_of found.new ≡ notes_of found.old ++ flows_at (place_of (expr_of key.now)) (flows_of setting.now.parents.now m (operand_types (map (index_member setting.now.parents.now (int_literal (expr_of key.now))) (members (S.tree object.now)))))) }
+    ensures kept { KeepsTypes S.has store.old store.new }
+{
+    let parents = setting.parents;
+    let index = Operation::Index(literal_index(key));
+    let offers = member_offers(store, alloc, parents, setting.classes, index, object)?;
+    let types = operand_types(store, alloc, &offers)?;
+    find_flows(store, alloc, parents, key.place(), label, &types, found)?;
+    offers_label(store, alloc, parents, &offers)
+}
+
+/// The label of `and` and `or` over operands of two types. Language Reference 6.11 "Boolean operations".
+pub fn label_junction<S: TypeStore>(
+    store: &mut S,
+    alloc: Global,
+    parents: &Parents,
+    left: &S::Ty,
+    right: &S::Ty,
+) -> Result<Label<S::Ty>, OutOfMemory>
+    requires left { S.has store.old left.now }
+    requires right { S.has store.old right.now }
+    ensures value { IfOk result (λ l. IsMark S.has S.tree store.new l (clean (join_or_object parents.now (S.tree left.now) (S.tree right.now)))) }
+    ensures kept { KeepsTypes S.has store.old store.new }
+{
+    let ty = join_or_object(store, alloc, parents, left, right)?;
+    let codes = Vec::new(alloc);
+    Ok(Label { ty, codes })
+}
+
+/// The environment where a condition is true, or where it is false. Typing specification, "Type narrowing".
+pub fn env_where<S: TypeStore, R: Resolver>(
+    store: &mut S,
+    alloc: Global,
+    setting: &Setting<'_, S::Ty, R>,
+    env: &Env<S::Ty>,
+    holds: bool,
+    condition: &Expr,
+) -> Result<Env<S::Ty>, OutOfMemory>
+    requires { HasGivenAll (S.has store.old) S.tree setting.now env.now }
+    ensures given { IfOk result (λ e. HasGivenAll (S.has store.new) S.tree setting.now e) }
+    ensures value { IfOk result (λ e. env_of S.tree e ≡ narrow setting.now.parents.now (declared_of S.tree setting.now.declared.now) (R.meaning setting.now.names.now) holds (expr_of condition.now) (env_of S.tree env.now)) }
+    ensures kept { KeepsTypes S.has store.old store.new }
+{
+    let parents = setting.parents;
+    let declared = setting.declared;
+    if holds {
+        let after = narrow_true(
+            store,
+            alloc,
+            parents,
+            declared,
+            setting.names,
+            condition,
+            env,
+        )?;
+        return Ok(after);
+    }
+    let after = narrow_false(
+        store,
+        alloc,
+        parents,
+        declared,
+        setting.names,
+        condition,
+        env,
+    )?;
+    Ok(after)
+}
+
+/// Does nothing: it says again that a setting and an environment hold types of the store, for a call that needs it next.
+pub fn still_stands<S: TypeStore, R: Resolver>(
+    _store: &S,
+    _setting: &Setting<'_, S::Ty, R>,
+    _env: &Env<S::Ty>,
+)
+    requires { HasGivenAll (S.has _store.now) S.tree _setting.now _env.now }
+    ensures { HasGivenAll (S.has _store.now) S.tree _setting.now _env.now }
+{}

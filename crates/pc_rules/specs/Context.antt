@@ -1,0 +1,78 @@
+-- What an expression stands in: the classes, functions and constants that it may name, and what its names mean.
+-- Language Reference 3.12, 4.2.2 "Resolution of names"; own rules of the profile.
+use Rattle.std.specs.Prelude.{◌≡◌, ℕ, List, [], ◌∷◌, Bool as Test, true, false, if◌then◌else◌, nat_lt, Option, Some, None, slice_get}
+use Rattle.pc_tree.specs.declared.code.Code.{Code}
+use Rattle.pc_tree.specs.declared.code.Code.TheVariants.{E02, E03, E04, E20}
+use Rattle.pc_scope.specs.declared.resolution.Res.{Res}
+use Rattle.pc_scope.specs.declared.resolution.Res.TheVariants as res
+use Rattle.pc_types.specs.Tree.{Tree}
+use Rattle.pc_types.specs.Below.{Bases, Static}
+use Rattle.pc_types.specs.Assignable.{Assignable}
+use Rattle.pc_tree.specs.declared.code.Code.TheVariants.{A1, E12}
+use Rattle.pc_class.specs.Facts as facts
+use Rattle.pc_class.specs.Facts.{TypedParameter}
+use Rattle.pc_flow.specs.Environment.{Env, current}
+use Rattle.pc_rules.specs.Operations.{Mark, FlowMark, clean, in_error}
+
+-- what is called: its parameters, what it returns, and whether it takes arguments by name
+pub record Signature : Type 0 where
+  pub parameters : List TypedParameter
+  pub returns : Tree
+  pub takes_names : Test
+
+-- what an expression may name; in an initializer the constants and classes defined earlier alone, and no function
+pub record Context : Type 0 where
+  pub bases : Bases
+  pub classes : List facts.ClassFacts
+  pub functions : List Signature
+  pub constants : List Tree
+  pub known : ℕ
+  pub in_body : Test
+  pub resolve : List ℕ → Res
+
+-- a flow of a type into another: nothing where static, A1 where assignable alone, else E12
+pub data Flows (bases : Bases) (s t : Tree) : Option Code → Type 0 where
+  static : Static bases s t → Flows bases s t None
+  dynamic : ¬ (Static bases s t) → Assignable bases s t → Flows bases s t (Some A1)
+  wrong : ¬ (Assignable bases s t) → Flows bases s t (Some E12)
+
+-- a local that is not assigned is E04
+abbrev pub local_mark : Option Tree → Mark
+local_mark None = in_error E04
+local_mark (Some t) = clean t
+
+-- a constant that an initializer names too early reads as Any
+abbrev pub constant_mark : Option Tree → Mark
+constant_mark None = in_error E03
+constant_mark (Some t) = clean t
+
+-- what a name is as a value: a function, a class and a reserved name are none
+abbrev pub name_mark : Context → Env → Res → Mark
+name_mark ctx env (res.Local x) = local_mark (current env x)
+name_mark ctx env (res.Const i) = constant_mark (slice_get ctx.constants i)
+name_mark ctx env (res.Func i) = if ctx.in_body then in_error E20 else in_error E03
+name_mark ctx env (res.Class c) = if nat_lt c ctx.known then in_error E20 else in_error E03
+name_mark ctx env (res.Builtin b) = in_error E20
+name_mark ctx env res.None = in_error E02
+
+-- the codes of a node are those of E03, in place of all other findings at it
+abbrev pub is_early : List Code → Test
+is_early (E03 ∷ rest) = true
+is_early _ = false
+
+-- the flow of a labelled expression into a type; where E03 stands at it, that is the only finding
+abbrev pub FlowUnless : (early : Test) → Bases → Tree → Tree → Option Code → Type 0
+FlowUnless true bases s t code = code ≡ None
+FlowUnless false bases s t code = Flows bases s t code
+
+-- the flow of an expression with this label into one type: its type, that type, and its code
+pub record FlowAt (bases : Bases) (m : Mark) (t : Tree) (flow : FlowMark) : Type 0 where
+  pub from : flow.from ≡ m.type
+  pub into : flow.into ≡ t
+  pub code : FlowUnless (is_early m.codes) bases m.type t flow.code
+
+-- its flow into several types, one after another
+abbrev pub FlowsInto : Bases → Mark → List Tree → List FlowMark → Type 0
+FlowsInto bases m [] [] = Unit {0}
+FlowsInto bases m (t ∷ ts) (f ∷ fs) = FlowAt bases m t f × FlowsInto bases m ts fs
+FlowsInto bases m _ _ = ⊥

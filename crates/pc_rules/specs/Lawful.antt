@@ -1,0 +1,258 @@
+-- The lawful labelling of an expression: each part obeys its own rule with respect to its neighbours alone.
+-- Language Reference 3.12, 6 "Expressions"; own rules of the profile.
+use Rattle.std.specs.Prelude.{◌≡◌, ℕ, suc, ◌+◌, ◌*◌, ◌-◌, List, [], ◌∷◌, map, Bool as Test, true, false, if◌then◌else◌, nat_eq, Option, Some, None, All, slice_get}
+use Rattle.pc_tree.specs.declared.tree.ComparisonOperator.{ComparisonOperator}
+use Rattle.pc_tree.specs.declared.tree.ComparisonOperator.TheVariants.{Equal, NotEqual, In, NotIn}
+use Rattle.pc_tree.specs.declared.code.Code.{Code}
+use Rattle.pc_tree.specs.declared.code.Code.TheVariants.{E03, E22}
+use Rattle.pc_tree.specs.Tree.{Name, Expr, Exprs, Entries, Keywords, name, number, text, truth, nothing, tuple, list, dict, negative, negation, binary, compare, is_none, is_not_none, conjunction, disjunction, attribute, index, call, no_exprs, more_exprs, no_entries, more_entries, no_keywords, more_keywords}
+use Rattle.pc_scope.specs.Resolution.{is_one_of}
+use Rattle.pc_types.specs.Tree.{Tree, Any, Int, Bool, Str, NoneType, ListOf, DictOf, TupleOf}
+use Rattle.pc_types.specs.Below.{Bases, Static}
+use Rattle.pc_types.specs.Shape.{members, list_of_trees, trees, count}
+use Rattle.pc_flow.specs.Environment.{Env, join_or_object, join_all}
+use Rattle.pc_flow.specs.Narrowing.{narrow, test_of_argument, second_argument}
+use Rattle.pc_rules.specs.Operations.{Mark, clean, in_error, Offer, offers_mark, operand_types, index_member, attribute_member, contain_member, negative_member, binary_mark, order_mark, display_mark}
+use Rattle.pc_rules.specs.Context.{Context, FlowsInto, name_mark, is_early}
+use Rattle.pc_rules.specs.Calls.{GivenArguments, arguments_given, count_exprs, CallOffer, CallRule, member_rule, length_rule, test_rule, CalleeLabel, value_callee, name_callee, method_callee, call_mark, Seat, nowhere, positional_seat, named_seat, length_mark, test_mark, second_code}
+use Rattle.pc_rules.specs.Labels.{Marks, ItemsMarks, EntriesMarks, KeywordsMarks, mark_of, type_of, with_mark, item_types, key_types, value_types}
+
+-- ---- what is expected of the parts of a display
+
+-- the item type of the first list among members, if there is one
+abbrev pub list_item : List Tree → Option Tree
+list_item [] = None
+list_item (ListOf t ∷ ms) = Some t
+list_item (m ∷ ms) = list_item ms
+
+-- the types of a dict's keys and of its values
+pub record KeyValue : Type 0 where
+  pub key : Tree
+  pub value : Tree
+
+-- the key and value types of the first dict among members, if there is one
+abbrev pub dict_parts : List Tree → Option KeyValue
+dict_parts [] = None
+dict_parts (DictOf k v ∷ ms) = Some (record { key = k; value = v })
+dict_parts (m ∷ ms) = dict_parts ms
+
+-- the parts of the first tuple of this length among members, none where there is no such tuple
+abbrev pub tuple_parts : ℕ → List Tree → List Tree
+tuple_parts n [] = []
+tuple_parts n (TupleOf ts ∷ ms) = if nat_eq (count ts) n then list_of_trees ts else tuple_parts n ms
+tuple_parts n (m ∷ ms) = tuple_parts n ms
+
+-- the members of an expected type, none where nothing is expected
+abbrev pub members_of_expected : Option Tree → List Tree
+members_of_expected None = []
+members_of_expected (Some t) = members t
+
+-- an item that is expected of a type and flows into it, or of which nothing is expected
+abbrev pub item_seat : Option Tree → Seat
+item_seat None = nowhere
+item_seat (Some t) = record { want = Some t; into = t ∷ [] }
+
+-- an item of a tuple is expected of the type there, and flows nowhere
+abbrev pub part_seat : List Tree → ℕ → Seat
+part_seat ts i = record { want = slice_get ts i; into = [] }
+
+-- the type of a list display: of the expected items, else of the join of its items, of Any where it is empty
+abbrev pub list_mark : Bases → Option Tree → List Tree → Mark
+list_mark bases (Some t) types = clean (ListOf t)
+list_mark bases None [] = display_mark (ListOf Any)
+list_mark bases None (t ∷ ts) = display_mark (ListOf (join_all bases (t ∷ ts)))
+
+-- the type of a dict display without an expected dict: its keys are int or str where every key is static to it, and int where both
+pub data DictMark (bases : Bases) (values : List Tree) : List Tree → Mark → Type 0 where
+  no_keys : DictMark bases values [] (in_error E22)
+  int_keys : {k : Tree} {ks : List Tree} → All (λ t. Static bases t Int) (k ∷ ks) → DictMark bases values (k ∷ ks) (display_mark (DictOf Int (join_all bases values)))
+  str_keys : {k : Tree} {ks : List Tree} → ¬ (All (λ t. Static bases t Int) (k ∷ ks)) → All (λ t. Static bases t Str) (k ∷ ks) → DictMark bases values (k ∷ ks) (display_mark (DictOf Str (join_all bases values)))
+  other_keys : {k : Tree} {ks : List Tree} → ¬ (All (λ t. Static bases t Int) (k ∷ ks)) → ¬ (All (λ t. Static bases t Str) (k ∷ ks)) → DictMark bases values (k ∷ ks) (in_error E22)
+
+-- the label of a dict display: the type of the expected dict, else what its own keys and values make
+abbrev pub DictRule : Bases → Option KeyValue → (keys values : List Tree) → Mark → Type 0
+DictRule bases (Some kv) keys values m = m ≡ clean (DictOf kv.key kv.value)
+DictRule bases None keys values m = DictMark bases values keys m
+
+-- the seat of a key of a dict display: the key type of the expected dict, or nowhere
+abbrev pub key_seat : Option KeyValue → Seat
+key_seat None = nowhere
+key_seat (Some kv) = item_seat (Some kv.key)
+
+-- the seat of a value of a dict display: the value type of the expected dict, or nowhere
+abbrev pub value_seat : Option KeyValue → Seat
+value_seat None = nowhere
+value_seat (Some kv) = item_seat (Some kv.value)
+
+-- ---- an int literal as an index
+
+-- the number that digits stand for, behind those that stand for n
+abbrev pub number_behind : ℕ → List ℕ → ℕ
+number_behind n [] = n
+number_behind n (d ∷ ds) = number_behind (10 * n + (d - 48)) ds
+
+-- the number of an int literal, none for any other expression
+abbrev pub int_literal : Expr → Option ℕ
+int_literal (number p digits) = Some (number_behind 0 digits)
+int_literal _ = None
+
+-- ---- comparisons
+
+-- what `in` comes to on each member of its right operand's type
+abbrev pub contain_offers : Tree → List Offer
+contain_offers t = map contain_member (members t)
+
+-- `==` and `!=` take anything; `in` goes by its right operand
+abbrev pub compare_mark : Bases → ComparisonOperator → Tree → Tree → Mark
+compare_mark bases Equal s t = clean Bool
+compare_mark bases NotEqual s t = clean Bool
+compare_mark bases In s t = offers_mark bases (contain_offers t)
+compare_mark bases NotIn s t = offers_mark bases (contain_offers t)
+compare_mark bases _ s t = order_mark bases s t
+
+-- what the left operand of a comparison flows into: with `in` and `not in` what the right one takes, else nothing
+abbrev pub compare_types : ComparisonOperator → Tree → List Tree
+compare_types In t = operand_types (contain_offers t)
+compare_types NotIn t = operand_types (contain_offers t)
+compare_types _ t = []
+
+-- ---- calls
+
+-- a callee: a name, a method of an object, or a value; in an initializer a callee that is no name is E03
+abbrev pub callee_of : Context → Env → GivenArguments → (e : Expr) → Marks e → CalleeLabel
+callee_of ctx env g (name n) m = name_callee ctx env g (ctx.resolve n.text)
+callee_of ctx env g (attribute p e field) m = if ctx.in_body then method_callee ctx g field.text (type_of e m.object) else value_callee (in_error E03)
+callee_of ctx env g e m = if ctx.in_body then value_callee (mark_of e m) else value_callee (in_error E03)
+
+-- the label of a call, by its rule
+abbrev pub whole_call_mark : Context → Env → CallRule → List CallOffer → (arguments : Exprs) → (types : List Tree) → Mark
+whole_call_mark ctx env member_rule offers arguments types = call_mark ctx.bases offers
+whole_call_mark ctx env length_rule offers arguments types = length_mark ctx.bases types
+whole_call_mark ctx env test_rule offers arguments types = test_mark ctx env arguments
+
+-- whether an initializer names the second argument too early
+abbrev pub early_second : (es : Exprs) → ItemsMarks es → Test
+early_second no_exprs m = false
+early_second (more_exprs e no_exprs) m = false
+early_second (more_exprs e (more_exprs f rest)) m = is_early (mark_of f m.rest.first).codes
+
+-- the code at the second argument of a call, which only a test of an instance has
+abbrev pub whole_second_code : Context → CallRule → (arguments : Exprs) → ItemsMarks arguments → Option Code
+whole_second_code ctx test_rule arguments m = second_code (test_of_argument ctx.resolve (second_argument arguments)) (early_second arguments m)
+whole_second_code ctx _ arguments m = None
+
+-- the seat of an argument by name, behind arguments of these names: nowhere where its own is among them
+abbrev pub keyword_seat : (List ℕ → Seat) → List (List ℕ) → Name → Seat
+keyword_seat seat before n = if is_one_of n.text before then nowhere else seat n.text
+
+-- ---- each form's rule
+
+module _ (ctx : Context) (declared : List Tree) where
+  -- the labels are lawful: of an expression, of items, of the entries of a dict, of arguments by name
+  abbrev mutual
+    -- an expression obeys its form's rule, in an environment and with the type that is expected of it
+    pub Lawful : Env → (want : Option Tree) → (e : Expr) → Marks e → Type 0
+    Lawful env want (name n) m = m ≡ name_mark ctx env (ctx.resolve n.text)
+    Lawful env want (number p digits) m = m ≡ clean Int
+    Lawful env want (text p characters) m = m ≡ clean Str
+    Lawful env want (truth p value) m = m ≡ clean Bool
+    Lawful env want (nothing p) m = m ≡ clean NoneType
+    Lawful env want (tuple p es) m = record {
+      items : LawfulItems env (part_seat (tuple_parts (count_exprs es) (members_of_expected want))) es m.items;
+      here : m.here ≡ display_mark (TupleOf (trees (item_types es m.items)));
+    }
+    Lawful env want (list p es) m = record {
+      items : LawfulItems env (λ i. item_seat (list_item (members_of_expected want))) es m.items;
+      here : m.here ≡ list_mark ctx.bases (list_item (members_of_expected want)) (item_types es m.items);
+    }
+    Lawful env want (dict p es) m = record {
+      entries : LawfulEntries env (key_seat (dict_parts (members_of_expected want))) (value_seat (dict_parts (members_of_expected want))) es m.entries;
+      here : DictRule ctx.bases (dict_parts (members_of_expected want)) (key_types es m.entries) (value_types es m.entries) m.here;
+    }
+    Lawful env want (negative p e) m = record {
+      operand : Lawful env None e m.operand;
+      here : m.here ≡ offers_mark ctx.bases (map negative_member (members (type_of e m.operand)));
+    }
+    Lawful env want (negation p e) m = record {
+      operand : Lawful env None e m.operand;
+      here : m.here ≡ clean Bool;
+    }
+    Lawful env want (binary p operator l r) m = record {
+      left : Lawful env None l m.left;
+      right : Lawful env None r m.right;
+      here : m.here ≡ binary_mark ctx.bases operator (type_of l m.left) (type_of r m.right);
+    }
+    Lawful env want (compare p operator l r) m = record {
+      left : Lawful env None l m.left;
+      right : Lawful env None r m.right;
+      here : m.here ≡ compare_mark ctx.bases operator (type_of l m.left) (type_of r m.right);
+      flows : FlowsInto ctx.bases (mark_of l m.left) (compare_types operator (type_of r m.right)) m.flows;
+    }
+    Lawful env want (is_none p e) m = record {
+      operand : Lawful env None e m.operand;
+      here : m.here ≡ clean Bool;
+    }
+    Lawful env want (is_not_none p e) m = record {
+      operand : Lawful env None e m.operand;
+      here : m.here ≡ clean Bool;
+    }
+    -- the right side of `and` is checked after the left one is true, that of `or` after it is false
+    Lawful env want (conjunction p l r) m = record {
+      left : Lawful env None l m.left;
+      right : Lawful (narrow ctx.bases declared ctx.resolve true l env) None r m.right;
+      here : m.here ≡ clean (join_or_object ctx.bases (type_of l m.left) (type_of r m.right));
+    }
+    Lawful env want (disjunction p l r) m = record {
+      left : Lawful env None l m.left;
+      right : Lawful (narrow ctx.bases declared ctx.resolve false l env) None r m.right;
+      here : m.here ≡ clean (join_or_object ctx.bases (type_of l m.left) (type_of r m.right));
+    }
+    Lawful env want (attribute p e field) m = record {
+      object : Lawful env None e m.object;
+      here : m.here ≡ offers_mark ctx.bases (map (attribute_member ctx.classes field.text) (members (type_of e m.object)));
+    }
+    Lawful env want (index p e i) m = record {
+      object : Lawful env None e m.object;
+      key : Lawful env None i m.key;
+      here : m.here ≡ offers_mark ctx.bases (map (index_member ctx.bases (int_literal i)) (members (type_of e m.object)));
+      flows : FlowsInto ctx.bases (mark_of i m.key) (operand_types (map (index_member ctx.bases (int_literal i)) (members (type_of e m.object)))) m.flows;
+    }
+    -- the callee has the labels of a value but for its own, which says what it is as a callee
+    Lawful env want (call p c args kws) m = record {
+      value : Marks c;
+      lawful : Lawful env None c value;
+      callee : m.callee ≡ with_mark c value (callee_of ctx env (arguments_given args kws) c value).mark;
+      arguments : LawfulItems env (positional_seat (callee_of ctx env (arguments_given args kws) c value).offers) args m.arguments;
+      keywords : LawfulKeywords env (named_seat (callee_of ctx env (arguments_given args kws) c value).offers) [] kws m.keywords;
+      here : m.here ≡ whole_call_mark ctx env (callee_of ctx env (arguments_given args kws) c value).rule (callee_of ctx env (arguments_given args kws) c value).offers args (item_types args m.arguments);
+      second : m.second ≡ whole_second_code ctx (callee_of ctx env (arguments_given args kws) c value).rule args m.arguments;
+    }
+
+    -- items or arguments by position are lawful, each for the seat at its position
+    pub LawfulItems : Env → (seat : ℕ → Seat) → (es : Exprs) → ItemsMarks es → Type 0
+    LawfulItems env seat no_exprs m = Unit {0}
+    LawfulItems env seat (more_exprs e rest) m = record {
+      first : Lawful env (seat 0).want e m.first;
+      flows : FlowsInto ctx.bases (mark_of e m.first) (seat 0).into m.flows;
+      rest : LawfulItems env (λ i. seat (suc i)) rest m.rest;
+    }
+
+    -- the entries of a dict are lawful, each key and each value for its seat
+    pub LawfulEntries : Env → (key value : Seat) → (es : Entries) → EntriesMarks es → Type 0
+    LawfulEntries env k v no_entries m = Unit {0}
+    LawfulEntries env k v (more_entries a b rest) m = record {
+      key : Lawful env k.want a m.key;
+      key_flows : FlowsInto ctx.bases (mark_of a m.key) k.into m.key_flows;
+      value : Lawful env v.want b m.value;
+      value_flows : FlowsInto ctx.bases (mark_of b m.value) v.into m.value_flows;
+      rest : LawfulEntries env k v rest m.rest;
+    }
+
+    -- of a name given twice the later argument flows nowhere
+    pub LawfulKeywords : Env → (seat : List ℕ → Seat) → (before : List (List ℕ)) → (es : Keywords) → KeywordsMarks es → Type 0
+    LawfulKeywords env seat before no_keywords m = Unit {0}
+    LawfulKeywords env seat before (more_keywords parameter value rest) m = record {
+      first : Lawful env (keyword_seat seat before parameter).want value m.first;
+      flows : FlowsInto ctx.bases (mark_of value m.first) (keyword_seat seat before parameter).into m.flows;
+      rest : LawfulKeywords env seat (parameter.text ∷ before) rest m.rest;
+    }

@@ -1,0 +1,12 @@
+pub mod Calls
+pub mod Computed
+pub mod Context
+pub mod Found
+pub mod Labels
+pub mod Lawful
+pub mod ListTests
+pub mod Operations
+pub mod Signatures
+pub mod SignaturesFound
+pub mod Standing
+pub mod WellFormed

@@ -1,0 +1,17 @@
+//! The rules of expressions and their laws; labels, names as values, and flows into types.
+#![tactic(auto)]
+
+mod flows;
+mod label;
+mod laws;
+mod naming;
+mod setting;
+
+pub use flows::{find_flow, find_flows};
+pub use label::{Label, Offer, add_found, clean, find_codes, in_error, is_early};
+pub use laws::{
+    contexts_are_well_formed, expressions_have_labels, findings_are_listed, labels_are_lawful,
+    list_tests_are_dynamic_places, one_labelling_of_expressions,
+};
+pub use naming::name_label;
+pub use setting::{Setting, Signature};

@@ -1,0 +1,89 @@
+//! Names as values.
+#![tactic(auto, using(crate::proofs::NamesRead::by_name))]
+
+ghost use Rattle.std.specs.Prelude.{All, IfOk, map, slice_get, string_bytes};
+ghost use Rattle.pc_types.specs.Store.{KeepsTypes};
+ghost use Rattle.pc_flow.specs.Environment.{current};
+ghost use Rattle.pc_flow.specs.Stored.{HasEach, env_of};
+ghost use Rattle.pc_rules.specs.Context.{local_mark, constant_mark, name_mark};
+ghost use Rattle.pc_rules.specs.Standing.{context_with, HasGivenAll, IsMark};
+
+use crate::label::{Label, clean, in_error};
+use crate::setting::Setting;
+use pc_flow::{Env, Resolver};
+use pc_scope::Res;
+use pc_source::OutOfMemory;
+use pc_tree::{Code, Name};
+use pc_types::TypeStore;
+use std::alloc::Global;
+
+/// The label of a local: its current type, E04 where it is not assigned.
+fn local_label<S: TypeStore>(
+    store: &mut S,
+    alloc: Global,
+    env: &Env<S::Ty>,
+    local: usize,
+) -> Result<Label<S::Ty>, OutOfMemory>
+    requires { HasEach (S.has store.old) env.now }
+    ensures value { IfOk result (λ l. IsMark S.has S.tree store.new l (local_mark (current (env_of S.tree env.now) local))) }
+    ensures kept { KeepsTypes S.has store.old store.new }
+{
+    match env.current(local) {
+        Some(ty) => Ok(clean(alloc, store.copy(alloc, ty)?)),
+        None => in_error(store, alloc, Code::E04),
+    }
+}
+
+/// The label of a constant: its type, E03 where it isn't known yet.
+fn constant_label<S: TypeStore>(
+    store: &mut S,
+    alloc: Global,
+    constants: &[S::Ty],
+    number: usize,
+) -> Result<Label<S::Ty>, OutOfMemory>
+    requires { All (S.has store.old) constants.now }
+    ensures value { IfOk result (λ l. IsMark S.has S.tree store.new l (constant_mark (slice_get (map S.tree constants.now) number))) }
+    ensures kept { KeepsTypes S.has store.old store.new }
+{
+    match constants.get(number) {
+        Some(ty) => Ok(clean(alloc, store.copy(alloc, ty)?)),
+        None => in_error(store, alloc, Code::E03),
+    }
+}
+
+/// The label of a name as a value: a function, a class and a reserved name are none. Language Reference 4.2.2 "Resolution of
+/// names"; own rules of the profile.
+pub fn name_label<S: TypeStore, R: Resolver>(
+    store: &mut S,
+    alloc: Global,
+    setting: &Setting<'_, S::Ty, R>,
+    env: &Env<S::Ty>,
+    name: &Name,
+) -> Result<Label<S::Ty>, OutOfMemory>
+    requires { HasGivenAll (S.has store.old) S.tree setting.now env.now }
+    ensures value { IfOk result (λ l. IsMark S.has S.tree store.new l (name_mark (context_with S.tree R.meaning setting.now) (env_of S.tree env.now) (R.meaning setting.now.names.now (string_bytes name.now.text)))) }
+    ensures kept { KeepsTypes S.has store.old store.new }
+{
+    match setting.names.resolve(name.text.as_str()) {
+        Res::Local(local) => local_label(store, alloc, env, local),
+        Res::Const(number) => constant_label(store, alloc, setting.constants, number),
+        Res::Func(_) => {
+            let code = if setting.in_body {
+                Code::E20
+            } else {
+                Code::E03
+            };
+            in_error(store, alloc, code)
+        }
+        Res::Class(class) => {
+            let code = if class < setting.known {
+                Code::E20
+            } else {
+                Code::E03
+            };
+            in_error(store, alloc, code)
+        }
+        Res::Builtin(_) => in_error(store, alloc, Code::E20),
+        Res::None => in_error(store, alloc, Code::E02),
+    }
+}
