@@ -28,8 +28,8 @@ use Rattle.pc_rules.specs.Standing.{mark_with, mark_in, finds_in}
 use Rattle.pc_rules.specs.declared.label.Label.{Label}
 use Rattle.pc_rules.proofs.Once.{once_early}
 use Rattle.pc_flow.specs.WellFormed.{IsWellFormedIfAny}
-use Rattle.pc_check.specs.Statements.{only_code}
-use Rattle.pc_check.specs.ComputedStatements.{BodyFrame, Table, BindingResult, with_declared, known_declared, at, bound_type, bound_name, bind_label, bind_value, declared_alone, annotation_finds}
+use Rattle.pc_labels.specs.Statements.{only_code}
+use Rattle.pc_labels.specs.ComputedStatements.{BodyFrame, Table, BindingResult, with_declared, known_declared, at, bound_type, bound_name, bind_label, bind_value, declared_alone, annotation_finds}
 use Rattle.pc_check.specs.Internal.StatementWalk.{HoldsType, HoldsTypeIfAny, HoldsTypes, GivesTypes, GivesBound, bound_with, annotation_unless, declared_by}
 use Rattle.pc_flow.specs.Stored.{GivesOne}
 

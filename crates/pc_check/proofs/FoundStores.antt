@@ -7,7 +7,7 @@ use Rattle.pc_flow.specs.WellFormed.{AreWellFormed, IsWellFormedIfAny}
 use Rattle.pc_rules.specs.Operations.{StoreOffer, only_type}
 use Rattle.pc_rules.specs.Standing.{HasIfAny}
 use Rattle.pc_check.specs.Internal.StatementWalk.{HoldsTypeIfAny}
-use Rattle.pc_check.proofs.StoredTypes.{only_well_formed}
+use Rattle.pc_labels.proofs.StoredTypes.{only_well_formed}
 
 -- findings pushed twice, and three times
 pub pushed_twice : {A : Type 0} (old x y one two : List A) → one ≡ old ++ x → two ≡ one ++ y → two ≡ old ++ (x ++ y)

@@ -23,7 +23,7 @@ use Rattle.pc_rules.proofs.ComputedLawful.{labels_are_lawful}
 use Rattle.pc_rules.specs.declared.setting.Signature.{Signature as RustSignature}
 use Rattle.pc_rules.specs.declared.label.Label.{Label}
 use Rattle.pc_check.specs.declared.frame.Frame.{Frame as RustFrame}
-use Rattle.pc_check.specs.ComputedStatements.{Table, type_table}
+use Rattle.pc_labels.specs.ComputedStatements.{Table, type_table}
 use Rattle.pc_check.specs.Internal.StatementWalk.{HoldsType, HoldsTypeIfAny, HoldsTypes, HoldsTypesIfAny, HoldsFrame, GivesLabel, GivesTypes}
 
 -- the declared types that a table of the program means

@@ -10,8 +10,8 @@ use Rattle.pc_tree.specs.declared.code.Code.TheVariants.{A5}
 use Rattle.pc_rules.specs.Operations.{clean}
 use Rattle.pc_rules.specs.Calls.{GivenArguments, is_suited, range_signature, arguments_given, range_item}
 use Rattle.pc_rules.specs.Standing.{Standing, finds_in}
-use Rattle.pc_expr.specs.Typing.{range_finds}
-use Rattle.pc_check.specs.ComputedStatements.{BodyFrame, item_mark_of, values_item, iterable_finds}
+use Rattle.pc_rules.specs.RangesFound.{range_finds}
+use Rattle.pc_labels.specs.ComputedStatements.{BodyFrame, item_mark_of, values_item, iterable_finds}
 use Rattle.pc_check.specs.Internal.Ranges.{over_range}
 
 module _ (frame : BodyFrame) (k : Standing) where

@@ -28,7 +28,7 @@ use Rattle.pc_rules.specs.Standing.{HasSignature, signature_with}
 use Rattle.pc_rules.specs.declared.setting.Signature.{Signature as RustSignature}
 use Rattle.pc_check.specs.declared.bodies.ModuleSetting.{ModuleSetting}
 use Rattle.pc_check.specs.Internal.ModuleWalk.{signature_for, IsModuleSetting}
-use Rattle.pc_check.specs.ComputedStatements.{BodyFrame, body_frame_of}
+use Rattle.pc_labels.specs.ComputedStatements.{BodyFrame, body_frame_of}
 
 -- ---- what the store gave stays given
 

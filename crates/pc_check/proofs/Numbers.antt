@@ -6,8 +6,8 @@ use Rattle.pc_tree.specs.Tree.{Name}
 use Rattle.pc_scope.specs.declared.resolution.Res.{Res}
 use Rattle.pc_scope.specs.declared.resolution.Res.TheVariants as res
 use Rattle.pc_flow.specs.Narrowing.{as_local}
-use Rattle.pc_check.specs.Statements.{binds_number, is_local_number}
-use Rattle.pc_check.specs.ComputedStatements.{BodyFrame, Table, unreached_name, unreached_names}
+use Rattle.pc_labels.specs.Statements.{binds_number, is_local_number}
+use Rattle.pc_labels.specs.ComputedStatements.{BodyFrame, Table, unreached_name, unreached_names}
 use Rattle.pc_check.specs.Internal.StatementWalk.{numbers_of, unreached_numbers}
 
 -- a number is among those of names where one of the names binds it

@@ -1,5 +1,5 @@
--- What only the contracts of private functions say: the public contracts speak of the files beside this folder.
-pub mod ModuleWalk
+-- What only the contracts of private functions say: the public contracts speak of definitions of the crates below.
 pub mod Entry
+pub mod ModuleWalk
 pub mod Ranges
 pub mod StatementWalk

@@ -11,7 +11,7 @@ ghost use Rattle.pc_notes.specs.Notes.{notes_of};
 ghost use Rattle.pc_rules.specs.Operations.{Mark};
 ghost use Rattle.pc_rules.specs.Found.{brief};
 ghost use Rattle.pc_rules.specs.Standing.{mark_with};
-ghost use Rattle.pc_check.specs.ComputedStatements.{BodyFrame as FrameOf, with_declared, known_declared, bound_type, bound_name, bind_label, bind_value, annotation_finds, declared_alone, bind_annotated};
+ghost use Rattle.pc_labels.specs.ComputedStatements.{BodyFrame as FrameOf, with_declared, known_declared, bound_type, bound_name, bind_label, bind_value, annotation_finds, declared_alone, bind_annotated};
 ghost use Rattle.pc_check.specs.Internal.StatementWalk.{frame_with, HoldsFrame, HoldsTypes, HoldsTypeIfAny, HoldsType, GivesBound, annotation_unless, declared_by};
 
 use crate::frame::Frame;

@@ -9,7 +9,7 @@ ghost use Rattle.pc_notes.specs.Notes.{notes_of};
 ghost use Rattle.pc_rules.specs.Signatures.{signature_of};
 ghost use Rattle.pc_rules.specs.SignaturesFound.{constants_of};
 ghost use Rattle.pc_rules.specs.Standing.{HasSignature, signature_with};
-ghost use Rattle.pc_check.specs.ComputedStatements.{function_finds};
+ghost use Rattle.pc_labels.specs.ComputedStatements.{function_finds};
 ghost use Rattle.pc_check.specs.Internal.ModuleWalk.{module_in, signature_for, IsModuleSetting};
 
 use crate::entering::check_function;

@@ -9,8 +9,8 @@ ghost use Rattle.pc_class.specs.Tables.{HasParameter, parameters_with};
 ghost use Rattle.pc_class.specs.Facts.{parameters_of};
 ghost use Rattle.pc_flow.specs.Stored.{env_of};
 ghost use Rattle.pc_notes.specs.Notes.{notes_of};
-ghost use Rattle.pc_check.specs.Modules.{receiver_parameter};
-ghost use Rattle.pc_check.specs.ComputedStatements.{body_frame_of, function_finds, enter_parameters, enter_name, end_finds};
+ghost use Rattle.pc_labels.specs.Modules.{receiver_parameter};
+ghost use Rattle.pc_labels.specs.ComputedStatements.{body_frame_of, function_finds, enter_parameters, enter_name, end_finds};
 ghost use Rattle.pc_check.specs.Internal.StatementWalk.{frame_with, HoldsFrame, HoldsType, HoldsTypes};
 ghost use Rattle.pc_check.specs.Internal.Entry.{HoldsParameter, GivesEntry};
 

@@ -8,7 +8,7 @@ ghost use Rattle.pc_class.specs.Bases.{bases_of};
 ghost use Rattle.pc_class.specs.Facts.{classes_of};
 ghost use Rattle.pc_class.specs.Tables.{HasEntries, classes_with};
 ghost use Rattle.pc_notes.specs.Notes.{ExplainsFlow};
-ghost use Rattle.pc_check.specs.DynamicFlows.{dynamic_flow};
+ghost use Rattle.pc_labels.specs.DynamicFlows.{dynamic_flow};
 
 use crate::modules::check_module;
 use pc_class::ClassTable;

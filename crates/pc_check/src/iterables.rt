@@ -10,7 +10,7 @@ ghost use Rattle.pc_flow.specs.Stored.{env_of};
 ghost use Rattle.pc_notes.specs.Notes.{notes_of};
 ghost use Rattle.pc_rules.specs.Found.{codes_at};
 ghost use Rattle.pc_rules.specs.Standing.{finds_in};
-ghost use Rattle.pc_check.specs.ComputedStatements.{at, item_mark_of, values_item, iterable_finds};
+ghost use Rattle.pc_labels.specs.ComputedStatements.{at, item_mark_of, values_item, iterable_finds};
 ghost use Rattle.pc_check.specs.Internal.Ranges.{over_range};
 ghost use Rattle.pc_check.specs.Internal.StatementWalk.{frame_with, HoldsFrame, HoldsType, HoldsTypes, GivesLabel};
 

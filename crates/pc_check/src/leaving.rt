@@ -7,7 +7,7 @@ ghost use Rattle.pc_types.specs.Store.{KeepsTypes};
 ghost use Rattle.pc_flow.specs.Stored.{env_of};
 ghost use Rattle.pc_notes.specs.Notes.{notes_of};
 ghost use Rattle.pc_rules.specs.Standing.{finds_in};
-ghost use Rattle.pc_check.specs.ComputedStatements.{at, narrowed_at, join_onto_way, with_way, return_finds, option_finds};
+ghost use Rattle.pc_labels.specs.ComputedStatements.{at, narrowed_at, join_onto_way, with_way, return_finds, option_finds};
 ghost use Rattle.pc_check.specs.Internal.StatementWalk.{frame_with, HoldsFrame, HoldsTypes, HoldsTypesIfAny, GivesTypes, GivesTypesIfAny};
 
 use crate::frame::Frame;

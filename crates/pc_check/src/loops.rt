@@ -8,7 +8,7 @@ ghost use Rattle.pc_types.specs.Store.{KeepsTypes};
 ghost use Rattle.pc_flow.specs.Stored.{env_of};
 ghost use Rattle.pc_notes.specs.Notes.{notes_of};
 ghost use Rattle.pc_rules.specs.Found.{codes_at};
-ghost use Rattle.pc_check.specs.ComputedStatements.{at, head_at, bind_item, item_mark_of, iterable_finds};
+ghost use Rattle.pc_labels.specs.ComputedStatements.{at, head_at, bind_item, item_mark_of, iterable_finds};
 ghost use Rattle.pc_check.specs.Internal.StatementWalk.{frame_with, HoldsFrame, HoldsType, HoldsTypes, GivesTypes, GivesBound, numbers_of};
 
 use crate::binding::{bind_label, known_type};

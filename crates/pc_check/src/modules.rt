@@ -10,7 +10,7 @@ ghost use Rattle.pc_class.specs.Facts.{classes_of};
 ghost use Rattle.pc_class.specs.Tables.{HasEntries, classes_with};
 ghost use Rattle.pc_notes.specs.Notes.{notes_of};
 ghost use Rattle.pc_rules.specs.SignaturesFound.{constants_of};
-ghost use Rattle.pc_check.specs.ComputedModules.{methods_find, bodies_find, module_finds};
+ghost use Rattle.pc_labels.specs.ComputedModules.{methods_find, bodies_find, module_finds};
 ghost use Rattle.pc_check.specs.Internal.ModuleWalk.{module_in, IsModuleSetting};
 
 use crate::bodies::{ModuleSetting, check_owned};
@@ -102,7 +102,7 @@ fn check_bodies<S: TypeStore>(
 /// then in the bodies of its functions and methods, in text order.
 ///
 /// Language Reference 3.12, 7 "Simple statements" and 8 "Compound statements"; the codes are own rules of the profile.
-#[tactic(auto, unfolding(crate::specs::ComputedModules::module_finds))]
+#[tactic(auto, unfolding(pc_labels::specs::ComputedModules::module_finds))]
 pub fn check_module<S: TypeStore>(
     store: &mut S,
     alloc: Global,

@@ -8,7 +8,7 @@ ghost use Rattle.pc_tree.specs.Lists.{branches_of_list, with_branch};
 ghost use Rattle.pc_types.specs.Store.{KeepsTypes};
 ghost use Rattle.pc_flow.specs.Stored.{env_of};
 ghost use Rattle.pc_notes.specs.Notes.{notes_of};
-ghost use Rattle.pc_check.specs.ComputedStatements.{step, walk_suite, walk_branches, behind_branches};
+ghost use Rattle.pc_labels.specs.ComputedStatements.{step, walk_suite, walk_branches, behind_branches};
 ghost use Rattle.pc_check.specs.Internal.StatementWalk.{frame_with, walk_with, forked_with, HoldsFrame, HoldsTypes, HoldsTypesIfAny, GivesWalk, GivesForked};
 
 use crate::binding::bind_annotated;

@@ -8,7 +8,7 @@ ghost use Rattle.pc_flow.specs.Stored.{env_of};
 ghost use Rattle.pc_notes.specs.Notes.{notes_of};
 ghost use Rattle.pc_rules.specs.Operations.{stored_types};
 ghost use Rattle.pc_operate.specs.Storing.{HasStoreOffer, store_offer_with};
-ghost use Rattle.pc_check.specs.ComputedStatements.{at, store_finds, stored_finds};
+ghost use Rattle.pc_labels.specs.ComputedStatements.{at, store_finds, stored_finds};
 ghost use Rattle.pc_check.specs.Internal.StatementWalk.{frame_with, HoldsFrame, HoldsTypes};
 
 use crate::frame::Frame;

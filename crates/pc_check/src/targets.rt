@@ -5,7 +5,7 @@ ghost use Rattle.pc_tree.specs.Tree.{expr_of, target_of};
 ghost use Rattle.pc_types.specs.Store.{KeepsTypes};
 ghost use Rattle.pc_flow.specs.Stored.{env_of};
 ghost use Rattle.pc_notes.specs.Notes.{notes_of};
-ghost use Rattle.pc_check.specs.ComputedStatements.{at, assign_target, store_finds};
+ghost use Rattle.pc_labels.specs.ComputedStatements.{at, assign_target, store_finds};
 ghost use Rattle.pc_check.specs.Internal.StatementWalk.{frame_with, HoldsFrame, HoldsTypes, GivesBound};
 
 use crate::binding::bind_value;

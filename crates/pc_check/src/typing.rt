@@ -13,7 +13,7 @@ ghost use Rattle.pc_rules.specs.Context.{is_early};
 ghost use Rattle.pc_rules.specs.Computed.{code_unless, flows_of};
 ghost use Rattle.pc_rules.specs.Found.{brief, flows_at};
 ghost use Rattle.pc_rules.specs.Standing.{mark_in, mark_with, finds_in};
-ghost use Rattle.pc_check.specs.ComputedStatements.{type_table, at, narrowed_at};
+ghost use Rattle.pc_labels.specs.ComputedStatements.{type_table, at, narrowed_at};
 ghost use Rattle.pc_check.specs.Internal.StatementWalk.{frame_with, HoldsFrame, HoldsTypes, HoldsTypeIfAny, GivesLabel, GivesTypes};
 
 use crate::frame::Frame;

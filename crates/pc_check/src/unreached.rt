@@ -7,7 +7,7 @@ ghost use Rattle.pc_tree.specs.Stopping.{bound_by_stmt};
 ghost use Rattle.pc_types.specs.Tree.{Any};
 ghost use Rattle.pc_types.specs.Store.{KeepsTypes};
 ghost use Rattle.pc_flow.specs.Stored.{env_of};
-ghost use Rattle.pc_check.specs.ComputedStatements.{bound_type, with_declared, unreached_names};
+ghost use Rattle.pc_labels.specs.ComputedStatements.{bound_type, with_declared, unreached_names};
 ghost use Rattle.pc_check.specs.Internal.StatementWalk.{frame_with, unreached_numbers, HoldsTypes, GivesTypes};
 
 use crate::binding::settle;

@@ -10,17 +10,17 @@ use Rattle.pc_class.specs.Facts.{TypedParameter}
 use Rattle.pc_class.specs.WellFormed.{ParametersWellFormed}
 use Rattle.pc_flow.specs.Environment.{Env, declared_type, assign, none_assigned}
 use Rattle.pc_flow.proofs.Conditions.{assign_well_formed}
-use Rattle.pc_check.specs.Statements.{NamesBound}
-use Rattle.pc_check.specs.Modules.{DeclaredEntry, LawfulEntry, assigned_at_entry, entry_env, names_entered}
-use Rattle.pc_check.specs.LabellingLaws.{Setting}
-use Rattle.pc_check.specs.ComputedStatements.{Table, type_table, bound_type, with_declared, enter_local, enter_name, enter_parameters}
-use Rattle.pc_check.specs.WalkLaw.{TableFits, EnvFits}
-use Rattle.pc_check.proofs.BoundNames.{here_among}
-use Rattle.pc_check.proofs.LabelledFunctions.{none_well_formed}
-use Rattle.pc_check.proofs.Marked.{none_bound, type_of_bound}
-use Rattle.pc_check.proofs.OneModule.{none_kept}
-use Rattle.pc_check.proofs.OneStatement.{assign_kept}
-use Rattle.pc_check.proofs.WalkedTables.{NameFits, name_fits, other_fits}
+use Rattle.pc_labels.specs.Statements.{NamesBound}
+use Rattle.pc_labels.specs.Modules.{DeclaredEntry, LawfulEntry, assigned_at_entry, entry_env, names_entered}
+use Rattle.pc_labels.specs.LabellingLaws.{Setting}
+use Rattle.pc_labels.specs.ComputedStatements.{Table, type_table, bound_type, with_declared, enter_local, enter_name, enter_parameters}
+use Rattle.pc_labels.specs.WalkLaw.{TableFits, EnvFits}
+use Rattle.pc_labels.proofs.BoundNames.{here_among}
+use Rattle.pc_labels.proofs.LabelledFunctions.{none_well_formed}
+use Rattle.pc_labels.proofs.Marked.{none_bound, type_of_bound}
+use Rattle.pc_labels.proofs.OneModule.{none_kept}
+use Rattle.pc_labels.proofs.OneStatement.{assign_kept}
+use Rattle.pc_labels.proofs.WalkedTables.{NameFits, name_fits, other_fits}
 
 module _ (setting : Setting) (declared : List Tree) where
   open setting use {context as ctx}

@@ -24,12 +24,12 @@ use Rattle.pc_notes.specs.Notes.{Note, findings_of, is_same_place, or_else, flow
 use Rattle.pc_dynamic.proofs.Places.{same_place, own_place}
 use Rattle.pc_dynamic.proofs.PlainCodes.{IsPlain, IsPlainIfAny}
 use Rattle.pc_dynamic.proofs.RightNotes.{IsTestedFlow, IsFormedFlow, AreRight}
-use Rattle.pc_check.specs.ComputedModules.{module_finds}
-use Rattle.pc_check.specs.DynamicFlows.{dynamic_flow}
+use Rattle.pc_labels.specs.ComputedModules.{module_finds}
+use Rattle.pc_labels.specs.DynamicFlows.{dynamic_flow}
 use Rattle.pc_dynamic.specs.FlowLaw.{DynamicFlowsAreFound, DynamicFlowsAreDynamic, DynamicFlowsAreWellFormed}
-use Rattle.pc_check.specs.Modules.{IsFinding}
+use Rattle.pc_labels.specs.Modules.{IsFinding}
 use Rattle.pc_dynamic.proofs.RightModules.{right_module}
-use Rattle.pc_check.proofs.WalkedModule.{findings_computed}
+use Rattle.pc_labels.proofs.WalkedModule.{findings_computed}
 
 -- ---- findings of scopes and of classes
 

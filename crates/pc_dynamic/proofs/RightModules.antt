@@ -9,8 +9,8 @@ use Rattle.pc_notes.specs.Notes.{Note}
 use Rattle.pc_rules.specs.SignaturesFound.{constants_of, signatures_find}
 use Rattle.pc_dynamic.proofs.RightNotes.{AreRight, right_append}
 use Rattle.pc_dynamic.proofs.RightSignatures.{constants_formed, right_signatures}
-use Rattle.pc_check.specs.ComputedStatements.{function_finds}
-use Rattle.pc_check.specs.ComputedModules.{methods_find, bodies_find, module_finds}
+use Rattle.pc_labels.specs.ComputedStatements.{function_finds}
+use Rattle.pc_labels.specs.ComputedModules.{methods_find, bodies_find, module_finds}
 use Rattle.pc_dynamic.proofs.RightWalks.{right_function}
 
 module _ (m : Module) (constants : List Tree) (kc : AreWellFormed (bases_of m) constants) where

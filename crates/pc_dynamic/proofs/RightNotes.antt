@@ -28,14 +28,14 @@ use Rattle.pc_rules.specs.Lawful.{list_item, dict_parts, tuple_parts, members_of
 use Rattle.pc_rules.specs.Computed.{code_by, code_unless, flows_of, labels, items_labels, entries_labels, keywords_labels}
 use Rattle.pc_rules.specs.Found.{own_at, has_code, add_code, once_onto, once, codes_at, notes_of_code, flow_note, own_flow, flow_then, flows_behind, flows_at, whole, found_in_parts, found_in_items, found_in_arguments, found_in_entries, found_in_keywords, notes_under}
 use Rattle.pc_rules.specs.Standing.{Standing, mark_in, finds_in, items_in, keywords_in, arguments_find, keywords_find}
-use Rattle.pc_expr.specs.Typing.{range_finds}
 use Rattle.pc_rules.specs.WellFormed.{ContextWellFormed, FlowsWellFormed, MarksWellFormed, ItemsWellFormed, EntriesWellFormed, KeywordsWellFormed}
+use Rattle.pc_rules.specs.RangesFound.{range_finds}
 use Rattle.pc_rules.proofs.WellFormed.{int_well_formed, object_well_formed}
 use Rattle.pc_rules.proofs.Called.{CallsWellFormed, builtin_well_formed, called_well_formed, positional_well_formed, named_well_formed}
 use Rattle.pc_rules.proofs.ComputedFlows.{flows_well_formed, are_tests}
 use Rattle.pc_rules.proofs.ComputedLawful.{labels_are_lawful, items_lawful, keywords_lawful}
 use Rattle.pc_rules.proofs.Saying.{own_mark}
-use Rattle.pc_expr.proofs.Forms.{parts_kept}
+use Rattle.pc_rules.proofs.PartsKept.{parts_kept}
 use Rattle.pc_dynamic.proofs.PlainCodes.{all_append, in_both, tells_flow, IsPlain, ArePlain, MarkPlain, IsPlainIfAny, mapped_plain, index_plain, attribute_plain, negative_plain, binary_plain, compare_plain, display_plain, list_plain, dict_plain, name_plain, callee_mark_plain, whole_call_plain, whole_second_plain, range_plain}
 
 -- ---- right notes

@@ -31,19 +31,19 @@ use Rattle.pc_rules.specs.Calls.{arguments_given, is_suited, is_range, range_ite
 use Rattle.pc_rules.specs.Computed.{flows_of}
 use Rattle.pc_rules.specs.Found.{codes_at, flows_at}
 use Rattle.pc_rules.specs.Standing.{Standing, mark_in, finds_in}
-use Rattle.pc_expr.specs.Typing.{range_finds}
 use Rattle.pc_rules.specs.WellFormed.{ContextWellFormed}
+use Rattle.pc_rules.specs.RangesFound.{range_finds}
 use Rattle.pc_rules.proofs.Contexts.{bodies_well_formed}
 use Rattle.pc_rules.proofs.WellFormed.{any_well_formed, int_well_formed, none_well_formed, unwrap_well_formed}
 use Rattle.pc_dynamic.proofs.PlainCodes.{in_both, ArePlain, MarkPlain, mapped_plain, iterate_plain, range_item_plain, attribute_stores_plain, index_stores_plain}
 use Rattle.pc_dynamic.proofs.RightNotes.{AreRight, right_append, right_codes, right_flows, StandsWell, mark_well_formed, right_in, right_range}
 use Rattle.pc_dynamic.proofs.RightSignatures.{right_annotation}
-use Rattle.pc_check.specs.Modules.{entry_parameters}
-use Rattle.pc_check.specs.Statements.{only_code, binds_number}
-use Rattle.pc_check.specs.ComputedStatements.{Table, type_table, bound_type, with_declared, known_declared, BodyFrame, Walk, BindingResult, BranchesResult, join_onto_way, with_way, at, narrowed_at, unreached_name, unreached_names, bind_label, bind_value, declared_alone, annotation_finds, bound_name, bind_annotated, attribute_stores, index_stores, stored_finds, store_finds, assign_target, values_item, item_mark_of, iterable_finds, bind_item, head_at, option_finds, return_finds, inside_for, step, walk_suite, walk_branches, enter_local, enter_name, enter_parameters, end_finds, body_frame_of, function_finds}
-use Rattle.pc_check.proofs.LabelledFunctions.{entries_well_formed, none_well_formed as unassigned_well_formed}
-use Rattle.pc_check.proofs.StoredTypes.{fields_stored, items_stored, keys_stored, only_well_formed, turns_well_formed}
-use Rattle.pc_check.proofs.WalkedTables.{types_well_formed}
+use Rattle.pc_labels.specs.Modules.{entry_parameters}
+use Rattle.pc_labels.specs.Statements.{only_code, binds_number}
+use Rattle.pc_labels.specs.ComputedStatements.{Table, type_table, bound_type, with_declared, known_declared, BodyFrame, Walk, BindingResult, BranchesResult, join_onto_way, with_way, at, narrowed_at, unreached_name, unreached_names, bind_label, bind_value, declared_alone, annotation_finds, bound_name, bind_annotated, attribute_stores, index_stores, stored_finds, store_finds, assign_target, values_item, item_mark_of, iterable_finds, bind_item, head_at, option_finds, return_finds, inside_for, step, walk_suite, walk_branches, enter_local, enter_name, enter_parameters, end_finds, body_frame_of, function_finds}
+use Rattle.pc_labels.proofs.LabelledFunctions.{entries_well_formed, none_well_formed as unassigned_well_formed}
+use Rattle.pc_labels.proofs.StoredTypes.{fields_stored, items_stored, keys_stored, only_well_formed, turns_well_formed}
+use Rattle.pc_labels.proofs.WalkedTables.{types_well_formed}
 
 -- ---- what stays so over a walk
 

@@ -4,7 +4,7 @@ use Rattle.std.specs.Prelude.{Bool as Test, true, false, if◌then◌else◌}
 use Rattle.pc_source.specs.declared.place.Place.{Place}
 use Rattle.pc_types.specs.Tree.{Tree}
 use Rattle.pc_notes.specs.Notes.{Note, is_same_place, or_else, flow_noted}
-use Rattle.pc_check.specs.ComputedModules.{module_finds}
+use Rattle.pc_labels.specs.ComputedModules.{module_finds}
 use Rattle.pc_dynamic.specs.FlowLaw.{DynamicFlowsStandUnderLabels}
 use Rattle.pc_dynamic.specs.FlowsOfExpressions.{DynamicFlow}
 use Rattle.pc_dynamic.specs.FlowsOfModules.{DynamicUnder}

@@ -19,20 +19,20 @@ use Rattle.pc_rules.specs.Lawful.{Lawful}
 use Rattle.pc_rules.specs.Computed.{labels_of, flows_of}
 use Rattle.pc_rules.specs.Found.{codes_at, flows_at, notes_under}
 use Rattle.pc_rules.specs.Standing.{Standing, mark_in, finds_in, items_in, keywords_in, arguments_find, keywords_find}
-use Rattle.pc_expr.specs.Typing.{range_finds}
+use Rattle.pc_rules.specs.RangesFound.{range_finds}
 use Rattle.pc_rules.proofs.One.{one, items_one, keywords_one}
 use Rattle.pc_rules.proofs.WellFormed.{int_well_formed, object_well_formed, none_well_formed}
 use Rattle.pc_rules.proofs.Called.{CallsWellFormed, builtin_well_formed, called_well_formed, named_well_formed, positional_well_formed}
 use Rattle.pc_rules.proofs.ComputedFlows.{are_tests}
 use Rattle.pc_rules.proofs.ComputedLawful.{labels_are_lawful, items_lawful, keywords_lawful}
-use Rattle.pc_check.specs.StatementLabels.{OptionMarks, TargetMarks}
-use Rattle.pc_check.specs.Statements.{RangeOrValues, LawfulRange, LawfulValues, LawfulIterable, attribute_offers, index_offers, LawfulStore, LawfulReturn, LawfulOption}
-use Rattle.pc_check.specs.LabellingLaws.{Setting}
-use Rattle.pc_check.specs.ComputedStatements.{Table, type_table, BodyFrame, attribute_stores, index_stores, stored_finds, store_finds, iterable_finds, option_finds, return_finds}
-use Rattle.pc_check.specs.WalkLaw.{EnvFits, frame_in}
-use Rattle.pc_check.proofs.StoredTypes.{fields_stored, items_stored, keys_stored, only_well_formed}
-use Rattle.pc_check.proofs.WalkedTables.{types_well_formed}
-use Rattle.pc_check.proofs.WalkedExpressions.{here, ExpressionTold, told, flows_told}
+use Rattle.pc_labels.specs.StatementLabels.{OptionMarks, TargetMarks}
+use Rattle.pc_labels.specs.Statements.{RangeOrValues, LawfulRange, LawfulValues, LawfulIterable, attribute_offers, index_offers, LawfulStore, LawfulReturn, LawfulOption}
+use Rattle.pc_labels.specs.LabellingLaws.{Setting}
+use Rattle.pc_labels.specs.ComputedStatements.{Table, type_table, BodyFrame, attribute_stores, index_stores, stored_finds, store_finds, iterable_finds, option_finds, return_finds}
+use Rattle.pc_labels.specs.WalkLaw.{EnvFits, frame_in}
+use Rattle.pc_labels.proofs.StoredTypes.{fields_stored, items_stored, keys_stored, only_well_formed}
+use Rattle.pc_labels.proofs.WalkedTables.{types_well_formed}
+use Rattle.pc_labels.proofs.WalkedExpressions.{here, ExpressionTold, told, flows_told}
 use Rattle.pc_dynamic.specs.FlowsOfExpressions.{DynamicFlow, IsDynamicAt, DynamicIn}
 use Rattle.pc_dynamic.specs.FlowsOfStatements.{DynamicInOption, DynamicInValue, DynamicInTarget}
 use Rattle.pc_dynamic.proofs.ToldFlows.{AllTell, tell_then, tell_codes, tell_flows, tell_expression}

@@ -37,16 +37,16 @@ use Rattle.pc_rules.proofs.ComputedFlows.{flows_are_lawful}
 use Rattle.pc_rules.proofs.ComputedLawful.{labels_are_lawful}
 use Rattle.pc_rules.proofs.Contexts.{bodies_well_formed, initializers_well_formed}
 use Rattle.pc_rules.proofs.One.{into_one, one_labelling}
-use Rattle.pc_check.specs.Modules.{entry_parameters, names_entered, entry_env, FunctionMarks, LawfulFunction, MembersMarks, LawfulMembers, ItemMarks, ItemsMarks, constant_types, BeforeItem, nothing_before, before_next, LawfulItem, LawfulModuleItems, Labelling, IsLawful}
-use Rattle.pc_check.specs.LabellingLaws.{Setting}
-use Rattle.pc_check.specs.ComputedStatements.{Walk, walk_suite, enter_parameters, end_finds, function_finds}
-use Rattle.pc_check.specs.ComputedModules.{methods_find, bodies_find, module_finds}
-use Rattle.pc_check.specs.WalkLaw.{frame_in}
-use Rattle.pc_check.proofs.LabelledFunctions.{entries_well_formed}
-use Rattle.pc_check.proofs.LabelledModule.{wants_well_formed, first_well_formed, constant_well_formed, one_more}
-use Rattle.pc_check.proofs.LocalNames.{names_are}
-use Rattle.pc_check.proofs.WalkedItems.{reached_at, ClassesFrom}
-use Rattle.pc_check.proofs.WalkedModule.{constants_have_types, constants_well_formed}
+use Rattle.pc_labels.specs.Modules.{entry_parameters, names_entered, entry_env, FunctionMarks, LawfulFunction, MembersMarks, LawfulMembers, ItemMarks, ItemsMarks, constant_types, BeforeItem, nothing_before, before_next, LawfulItem, LawfulModuleItems, Labelling, IsLawful}
+use Rattle.pc_labels.specs.LabellingLaws.{Setting}
+use Rattle.pc_labels.specs.ComputedStatements.{Walk, walk_suite, enter_parameters, end_finds, function_finds}
+use Rattle.pc_labels.specs.ComputedModules.{methods_find, bodies_find, module_finds}
+use Rattle.pc_labels.specs.WalkLaw.{frame_in}
+use Rattle.pc_labels.proofs.LabelledFunctions.{entries_well_formed}
+use Rattle.pc_labels.proofs.LabelledModule.{wants_well_formed, first_well_formed, constant_well_formed, one_more}
+use Rattle.pc_labels.proofs.LocalNames.{names_are}
+use Rattle.pc_labels.proofs.WalkedItems.{reached_at, ClassesFrom}
+use Rattle.pc_labels.proofs.WalkedModule.{constants_have_types, constants_well_formed}
 use Rattle.pc_dynamic.specs.FlowsOfExpressions.{DynamicFlow}
 use Rattle.pc_dynamic.specs.FlowsOfModules.{DynamicAtDefault, DynamicInParams, DynamicInMembers, DynamicInItem, DynamicInItems, DynamicUnder}
 use Rattle.pc_dynamic.specs.FlowsOfStatements.{DynamicInSuite}

@@ -29,16 +29,16 @@ use Rattle.pc_rules.specs.Computed.{flows_of}
 use Rattle.pc_rules.specs.Found.{codes_at, flows_at}
 use Rattle.pc_rules.specs.Standing.{finds_in}
 use Rattle.pc_rules.proofs.WellFormed.{unwrap_well_formed}
-use Rattle.pc_check.specs.StatementLabels.{OptionMarks, StmtMarks, SuiteMarks, BranchesMarks, Behind, BehindRule}
-use Rattle.pc_check.specs.Statements.{NamesBound, is_first, binds_number, AreUndeclared, DeclaredAt, known_type, LawfulBinding, LawfulTarget, annotation_at, LawfulAnnotated, LawfulStmt, LawfulSuite, LawfulBranches}
-use Rattle.pc_check.specs.LabellingLaws.{Setting}
-use Rattle.pc_check.specs.ComputedStatements.{Table, bound_type, known_declared, BodyFrame, Walk, BranchesResult, at, with_way, narrowed_at, head_at, iterable_finds, bind_label, bind_value, bind_annotated, annotation_finds, bound_name, bind_item, store_finds, assign_target, option_finds, return_finds, behind_loop, inside_for, step, walk_suite, walk_branches}
-use Rattle.pc_check.specs.WalkLaw.{TableFits, EnvFits, OutFits, frame_in}
-use Rattle.pc_check.proofs.WalkedTables.{fits_both, unreached_suite}
-use Rattle.pc_check.proofs.WalkedEnvironments.{truth_same, truth_fits, head_same, head_fits}
-use Rattle.pc_check.proofs.WalkedExpressions.{told, iterable_told, flows_told}
-use Rattle.pc_check.proofs.WalkedBindings.{target_says}
-use Rattle.pc_check.proofs.WalkedStatements.{stmt_says, suite_says}
+use Rattle.pc_labels.specs.StatementLabels.{OptionMarks, StmtMarks, SuiteMarks, BranchesMarks, Behind, BehindRule}
+use Rattle.pc_labels.specs.Statements.{NamesBound, is_first, binds_number, AreUndeclared, DeclaredAt, known_type, LawfulBinding, LawfulTarget, annotation_at, LawfulAnnotated, LawfulStmt, LawfulSuite, LawfulBranches}
+use Rattle.pc_labels.specs.LabellingLaws.{Setting}
+use Rattle.pc_labels.specs.ComputedStatements.{Table, bound_type, known_declared, BodyFrame, Walk, BranchesResult, at, with_way, narrowed_at, head_at, iterable_finds, bind_label, bind_value, bind_annotated, annotation_finds, bound_name, bind_item, store_finds, assign_target, option_finds, return_finds, behind_loop, inside_for, step, walk_suite, walk_branches}
+use Rattle.pc_labels.specs.WalkLaw.{TableFits, EnvFits, OutFits, frame_in}
+use Rattle.pc_labels.proofs.WalkedTables.{fits_both, unreached_suite}
+use Rattle.pc_labels.proofs.WalkedEnvironments.{truth_same, truth_fits, head_same, head_fits}
+use Rattle.pc_labels.proofs.WalkedExpressions.{told, iterable_told, flows_told}
+use Rattle.pc_labels.proofs.WalkedBindings.{target_says}
+use Rattle.pc_labels.proofs.WalkedStatements.{stmt_says, suite_says}
 use Rattle.pc_dynamic.specs.FlowsOfExpressions.{DynamicFlow, IsDynamicAt, DynamicIn}
 use Rattle.pc_dynamic.specs.FlowsOfStatements.{DynamicInValue, DynamicInStmt, DynamicInSuite, DynamicInBranches}
 use Rattle.pc_dynamic.proofs.ToldFlows.{AllTell, tell_then, tell_plain, tell_codes, tell_flows}

@@ -11,8 +11,8 @@ use Rattle.pc_types.specs.Below.{Static}
 use Rattle.pc_types.specs.Assignable.{Assignable}
 use Rattle.pc_types.specs.WellFormed.{IsWellFormed}
 use Rattle.pc_class.specs.Bases.{bases_of}
-use Rattle.pc_check.specs.Modules.{Labelling, IsLawful, IsFinding}
-use Rattle.pc_check.specs.DynamicFlows.{dynamic_flow}
+use Rattle.pc_labels.specs.Modules.{Labelling, IsLawful, IsFinding}
+use Rattle.pc_labels.specs.DynamicFlows.{dynamic_flow}
 use Rattle.pc_dynamic.specs.FlowsOfModules.{DynamicUnder}
 
 -- A1 is found at a place exactly where the flow there is dynamic

@@ -5,7 +5,7 @@ use Rattle.pc_tree.specs.Depth.{place_of}
 use Rattle.pc_tree.specs.Tree.{Literal, Param, FuncDef, Member, field_member, method_member, Item, constant_item, class_item, def_item, Module}
 use Rattle.pc_rules.specs.Labels.{FlowMarks}
 use Rattle.pc_rules.specs.Signatures.{literal_place, ParamsMarks}
-use Rattle.pc_check.specs.Modules.{FunctionMarks, MembersMarks, ItemMarks, ItemsMarks, Labelling}
+use Rattle.pc_labels.specs.Modules.{FunctionMarks, MembersMarks, ItemMarks, ItemsMarks, Labelling}
 use Rattle.pc_dynamic.specs.FlowsOfExpressions.{DynamicFlow, IsDynamicAt, DynamicIn}
 use Rattle.pc_dynamic.specs.FlowsOfStatements.{DynamicInSuite}
 

@@ -22,6 +22,7 @@ use Rattle.pc_rules.specs.Lawful.{list_item, dict_parts, tuple_parts, members_of
 use Rattle.pc_rules.specs.Computed.{flows_of, dict_mark, labels_of}
 use Rattle.pc_rules.specs.Found.{codes_at, notes_of_code, flows_at, notes_under, found_in_parts, found_in_items, found_in_arguments}
 use Rattle.pc_rules.specs.Standing.{Standing, narrowed_standing, mark_in, finds_in, parts_find, items_in, types_in, items_find, arguments_find, keys_in, values_in, entries_find, keywords_find}
+use Rattle.pc_rules.proofs.PartsKept.{parts_kept}
 use Rattle.pc_expr.specs.Typing.{is_other, unnamed_callee, callee_in, callee_finds, early_in}
 
 module _ (k : Standing) (want : Option Tree) where
@@ -262,28 +263,6 @@ module _ (k : Standing) (seat : List ℕ → Seat) (before : List (List ℕ)) wh
   keywords_more n e es = refl
 
 -- ---- callees and calls
-
--- the parts of an expression whose own label is another one
-pub parts_kept : (e : Expr) (m : Marks e) (here : Mark) → found_in_parts e (with_mark e m here) ≡ found_in_parts e m
-parts_kept (name n) m here = refl
-parts_kept (number p d) m here = refl
-parts_kept (text p d) m here = refl
-parts_kept (truth p d) m here = refl
-parts_kept (nothing p) m here = refl
-parts_kept (tuple p es) m here = refl
-parts_kept (list p es) m here = refl
-parts_kept (dict p es) m here = refl
-parts_kept (negative p e) m here = refl
-parts_kept (negation p e) m here = refl
-parts_kept (binary p o l r) m here = refl
-parts_kept (compare p o l r) m here = refl
-parts_kept (is_none p e) m here = refl
-parts_kept (is_not_none p e) m here = refl
-parts_kept (conjunction p l r) m here = refl
-parts_kept (disjunction p l r) m here = refl
-parts_kept (attribute p e field) m here = refl
-parts_kept (index p e i) m here = refl
-parts_kept (call p c args kws) m here = refl
 
 mark_put : (e : Expr) (m : Marks e) (here : Mark) → mark_of e (with_mark e m here) ≡ here
 mark_put (name n) m here = refl

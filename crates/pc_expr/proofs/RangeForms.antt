@@ -9,7 +9,7 @@ use Rattle.pc_notes.specs.Notes.{Note}
 use Rattle.pc_rules.specs.Calls.{GivenArguments, CallOffer, arguments_given, call_mark, call_codes, positional_seat, named_seat, range_offers}
 use Rattle.pc_rules.specs.Found.{own_at, once, codes_at}
 use Rattle.pc_rules.specs.Standing.{Standing, arguments_find, keywords_find}
-use Rattle.pc_expr.specs.Typing.{range_finds}
+use Rattle.pc_rules.specs.RangesFound.{range_finds}
 use Rattle.pc_expr.proofs.Typed.{two_found}
 
 module _ (k : Standing) (p : Place) (c : Expr) (args : Exprs) (kws : Keywords) (g : GivenArguments) (given_is : g ≡ arguments_given args kws) (offers : List CallOffer) (offers_are : offers ≡ range_offers g) where

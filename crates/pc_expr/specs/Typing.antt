@@ -1,18 +1,16 @@
 -- What the program that types expressions answers of callees and of several expressions, in terms of the computed labels.
 -- Own rule of the profile.
-use Rattle.std.specs.Prelude.{ℕ, List, [], ◌++◌, Bool as Test, true, false, None}
-use Rattle.pc_source.specs.declared.place.Place.{Place}
+use Rattle.std.specs.Prelude.{ℕ, List, Bool as Test, true, false, None}
 use Rattle.pc_tree.specs.declared.code.Code.TheVariants.{E03}
-use Rattle.pc_tree.specs.Tree.{Expr, Exprs, Keywords, name, attribute}
-use Rattle.pc_scope.specs.Expressions.{is_instance_test}
+use Rattle.pc_tree.specs.Tree.{Expr, Exprs, name, attribute}
 use Rattle.pc_notes.specs.Notes.{Note}
 use Rattle.pc_rules.specs.Operations.{Mark, in_error}
-use Rattle.pc_rules.specs.Calls.{GivenArguments, CalleeLabel, Seat, value_callee, arguments_given, call_mark, positional_seat, named_seat, range_offers}
+use Rattle.pc_rules.specs.Calls.{GivenArguments, CalleeLabel, Seat, value_callee}
 use Rattle.pc_rules.specs.Labels.{with_mark}
 use Rattle.pc_rules.specs.Lawful.{callee_of, early_second}
 use Rattle.pc_rules.specs.Computed.{labels_of}
-use Rattle.pc_rules.specs.Found.{notes_under, codes_at}
-use Rattle.pc_rules.specs.Standing.{Standing, items_in, arguments_find, keywords_find}
+use Rattle.pc_rules.specs.Found.{notes_under}
+use Rattle.pc_rules.specs.Standing.{Standing, items_in}
 
 -- an expression that is neither a name nor an attribute
 abbrev pub is_other : Expr → Test
@@ -36,10 +34,3 @@ callee_finds k g e = notes_under e (with_mark e (labels_of k.context k.declared 
 -- whether an initializer names the second of several expressions too early
 unfoldable pub early_in : Standing → (seat : ℕ → Seat) → Exprs → Test
 early_in k seat es = early_second es (items_in k seat es)
-
--- what is found in a call of `range` as what a `for` goes over: in its arguments, which flow into int, and at the call
-abbrev pub range_finds : Standing → Place → (callee : Expr) → Exprs → Keywords → List Note
-range_finds k p callee arguments keywords =
-    let offers = range_offers (arguments_given arguments keywords) in
-    arguments_find k (is_instance_test callee arguments keywords) (positional_seat offers) arguments
-    ++ (keywords_find k (named_seat offers) [] keywords ++ codes_at p (call_mark k.context.bases offers).codes)

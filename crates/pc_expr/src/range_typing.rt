@@ -7,7 +7,7 @@ ghost use Rattle.pc_types.specs.Store.{KeepsTypes};
 ghost use Rattle.pc_notes.specs.Notes.{notes_of};
 ghost use Rattle.pc_rules.specs.Calls.{arguments_given, range_item};
 ghost use Rattle.pc_rules.specs.Standing.{standing_of, HasGivenAll, IsMark};
-ghost use Rattle.pc_expr.specs.Typing.{range_finds};
+ghost use Rattle.pc_rules.specs.RangesFound.{range_finds};
 
 use crate::typing::{type_arguments, type_keywords};
 use pc_call::given::given;

@@ -1,5 +1,5 @@
 -- Parameters that take their arguments, one after another.
-use Rattle.std.proofs.Common.{◌≡◌, ◌<◌, ◌≤◌, ◌+◌, ◌×◌, ℕ, zero, suc, refl, ap, ◌∙◌, sym, arith, List, [], ◌∷◌, ◌++◌, map, length, get_or, drop, append_assoc, inl, inr}
+use Rattle.std.proofs.Common.{◌≡◌, ◌<◌, ◌≤◌, ◌+◌, ℕ, zero, suc, refl, ap, ◌∙◌, sym, arith, List, [], ◌∷◌, ◌++◌, map, length, get_or, drop, append_assoc, inl, inr}
 use Rattle.std.specs.Prelude.{Option, Some, None, slice_get, MatchOption, IfSome}
 use Rattle.std.specs.Option.{option_map}
 use Rattle.std.specs.Borrow.{Bor}
@@ -16,9 +16,9 @@ use Rattle.pc_machine.specs.Machine.{parameter_of}
 use Rattle.pc_machine.proofs.Lists.{before}
 
 -- the argument at a position
-pub at_position : {Q : RustValue → Type 0} (vs : List RustValue) (i : ℕ) (o : Option (Bor RustValue)) → IfSome o (λ x. x.now ≡ get_or vs i x.now) → MatchOption o (length vs ≤ i) (λ x. (i < length vs) × Q x.now) → option_value o ≡ option_map value_of (slice_get vs i)
-at_position vs i None is within = ap (option_map value_of) (sym (slice_get_past vs i within))
-at_position vs i (Some x) is within = ap (option_map value_of) (sym (slice_get_read vs (length vs) i x.now refl within.0 is))
+pub at_position : (Q : RustValue → Type 0) (vs : List RustValue) (i : ℕ) (o : Option (Bor RustValue)) → IfSome o (λ x. x.now ≡ get_or vs i x.now) → MatchOption o (length vs ≤ i) (λ x. (i < length vs) × Q x.now) → option_value o ≡ option_map value_of (slice_get vs i)
+at_position Q vs i None is within = ap (option_map value_of) (sym (slice_get_past vs i within))
+at_position Q vs i (Some x) is within = ap (option_map value_of) (sym (slice_get_read vs (length vs) i x.now refl within.0 is))
 
 past_drop : {A : Type 0} (xs : List A) (i : ℕ) → length xs ≤ i → drop i xs ≡ []
 past_drop [] zero h = refl

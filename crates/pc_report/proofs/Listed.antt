@@ -1,31 +1,22 @@
 -- A map of flows, as it grows with the list.
-use Rattle.std.proofs.Common.{◌≡◌, List, [], ◌∷◌, ◌++◌, Bool, true, false, cond, Option, Some, None, refl, sym, ap, ◌∙◌, subst, inl, inr, Contains, Equal}
+use Rattle.std.proofs.Common.{◌≡◌, List, [], ◌∷◌, ◌++◌, Bool, true, false, cond, Option, Some, None, refl, sym, ap, ◌∙◌, subst, inl, inr, Contains, arith}
 use Rattle.std.specs.Prelude.{◌⊎◌, MatchOption}
 use Rattle.std.specs.Borrow.{Bor}
 use Rattle.std.specs.Ordering.{is_eq, nat_cmp, ordering_then}
-use Rattle.std.specs.declared.cmp.Ordering.{Ordering}
 use Rattle.std.specs.BTreeMap.{BTreeMap, get}
 use Rattle.std.specs.List.{AllByRecursion}
 use Rattle.std.proofs.lemmas.List.Elements.{Contains-push_cases, Contains-append_left, Contains-append_right}
 use Rattle.pc_source.specs.declared.place.Place.{Place}
-use Rattle.pc_tree.specs.declared.code.Finding.{Finding}
 use Rattle.pc_report.specs.declared.report.Row.{Row}
 use Rattle.pc_report.specs.Flows.{FlowEntry, IsListed, HasFlows, place_cmp}
-use Rattle.pc_report.specs.Report.{row_findings}
-use Rattle.pc_report.proofs.Members.{contains_here}
-use Rattle.pc_report.proofs.Order.{then_equal, nat_equal, nat_self}
-
-equal : (o : Ordering) → is_eq o ≡ true → o ≡ Equal
-equal Rattle.std.specs.declared.cmp.Ordering.TheVariants.Less h = cc
-equal Equal h = refl
-equal Rattle.std.specs.declared.cmp.Ordering.TheVariants.Greater h = cc
+use Rattle.pc_report.proofs.Order.{is_equal, then_equal, nat_equal, nat_self}
 
 apart : (x : Bool) → x ≡ true → x ≡ false → ⊥
 apart x a b = cc
 
 place_same : (p q : Place) → is_eq (place_cmp p q) ≡ true → p ≡ q
 place_same p q h =
-    let both = then_equal (nat_cmp p.start q.start) (nat_cmp p.end q.end) (equal (place_cmp p q) h) in
+    let both = then_equal (nat_cmp p.start q.start) (nat_cmp p.end q.end) (is_equal (place_cmp p q) h) in
     let start : p.start ≡ q.start = nat_equal p.start q.start both.0 in
     let end : p.end ≡ q.end = nat_equal p.end q.end both.1 in
     λ i. record { start = start i; end = end i }
@@ -53,7 +44,7 @@ module _ (xs : List FlowEntry) (b : Bor FlowEntry) (p : Place) where
 
   here : (t : Bool) → is_eq (place_cmp b.now.0 p) ≡ t → (o : Option (Bor FlowEntry)) → MatchOption o (¬ (IsListed xs p)) (λ f. Contains xs f.now × (f.now.0 ≡ p)) → Here (cond t (Some b) o)
   unfolding Here
-  here true h o old = (Contains-append_right xs (b.now ∷ []) b.now (contains_here b.now [] b.now refl), place_same b.now.0 p h)
+  here true h o old = (Contains-append_right xs (b.now ∷ []) b.now (0, omega arith, refl), place_same b.now.0 p h)
   here false h o old = kept h o old
 
 pub flows_more : (xs : List FlowEntry) (b : Bor FlowEntry) (old new : BTreeMap Place (Bor FlowEntry)) → HasFlows xs old → ((q : Place) → get place_cmp new q ≡ cond (is_eq (place_cmp b.now.0 q)) (Some b) (get place_cmp old q)) → HasFlows (xs ++ b.now ∷ []) new
@@ -64,8 +55,3 @@ flows_more xs b old new has step p = subst (Here xs b p) (sym (step p)) (here xs
 pub all_more : (P : Row → Type 0) (rows : List Row) (row : Row) → AllByRecursion P rows → P row → AllByRecursion P (rows ++ row ∷ [])
 all_more P [] row all one = (one, all)
 all_more P (first ∷ rows) row all one = (all.0, all_more P rows row all.1 one)
-
--- the findings of rows and of one more, before others
-pub findings_more : (rows : List Row) (row : Row) (rest : List Finding) → row_findings (rows ++ row ∷ []) ++ rest ≡ row_findings rows ++ (row.finding ∷ rest)
-findings_more [] row rest = refl
-findings_more (first ∷ rows) row rest = ap (λ (l : List Finding). first.finding ∷ l) (findings_more rows row rest)

@@ -1,14 +1,18 @@
 -- The order of findings is that of their starts, ends and codes.
-use Rattle.std.proofs.Common.{◌≡◌, ℕ, ◌<◌, List, [], ◌∷◌, arith, Less, Equal, Greater, refl, ap, inl, inr}
+use Rattle.std.proofs.Common.{◌≡◌, ℕ, ◌<◌, List, [], ◌∷◌, Bool, true, arith, Less, Equal, Greater, refl, sym, ap, ◌∙◌, inl, inr}
+use Rattle.std.proofs.lemmas.List.Kept.{IsStrictlySortedBy-dedup}
 use Rattle.std.specs.Prelude.{◌⊎◌}
 use Rattle.std.specs.declared.cmp.Ordering.{Ordering}
-use Rattle.std.specs.Ordering.{ordering_then, nat_cmp, MatchOrdering}
-use Rattle.std.specs.List.Sorted.{IsStrictlySortedBy}
+use Rattle.std.specs.Ordering.{is_eq, ordering_then, nat_cmp, MatchOrdering}
+use Rattle.std.specs.List.{dedup}
+use Rattle.std.specs.List.Sorted.{IsSorted, IsStrictlySortedBy}
 use Rattle.std.proofs.lemmas.Cmp.{ranked}
 use Rattle.pc_source.specs.declared.place.Place.{Place}
 use Rattle.pc_tree.specs.declared.code.Code.{Code}
 use Rattle.pc_tree.specs.declared.code.Finding.{Finding}
 use Rattle.pc_tree.specs.contracts.code.FindingOrd.TheImpl.{cmp-value}
+use Rattle.pc_tree.specs.contracts.code.FindingOrd.TheImpl.Laws.{total-law, matches_eq-law}
+use Rattle.pc_tree.specs.contracts.code.FindingPartialEq.TheImpl.{eq-value}
 use Rattle.std.specs.Cmp.Lexicographic.{slice_cmp}
 use Rattle.pc_tree.specs.Code.{finding, text_of}
 use Rattle.pc_report.proofs.CodeOrder.{in_text_order, equal_code}
@@ -17,8 +21,16 @@ use Rattle.pc_report.specs.Report.{IsBefore, IsInOrder}
 abbrev pub finding_cmp : Finding → Finding → Ordering
 finding_cmp = cmp-value.it
 
+abbrev pub finding_eq : Finding → Finding → Bool
+finding_eq = eq-value.it
+
 cmp_is : (p q : Place) (c d : Code) → finding_cmp (finding p c) (finding q d) ≡ ordering_then (ordering_then (nat_cmp p.start q.start) (nat_cmp p.end q.end)) (slice_cmp nat_cmp (text_of c) (text_of d))
 cmp_is p q c d = ap (λ o. ordering_then (ordering_then (nat_cmp p.start q.start) (nat_cmp p.end q.end)) o) (in_text_order c d)
+
+pub is_equal : (o : Ordering) → is_eq o ≡ true → o ≡ Equal
+is_equal Less h = cc
+is_equal Equal h = refl
+is_equal Greater h = cc
 
 then_less : (a b : Ordering) → ordering_then a b ≡ Less → (a ≡ Less) ⊎ ((a ≡ Equal) × (b ≡ Less))
 then_less Less b h = inl refl
@@ -83,5 +95,9 @@ in_order [] h = tt
 in_order (f ∷ []) h = tt
 in_order (f ∷ g ∷ fs) h = (less_is_before f g h.0.0, in_order (g ∷ fs) h.1)
 
-pub sorted_in_order : (fs : List Finding) → IsStrictlySortedBy finding_cmp fs → IsInOrder fs
-sorted_in_order = in_order
+pub same_finding : (f g : Finding) → finding_eq f g ≡ true → f ≡ g
+same_finding f g h = equal_is_same f g (is_equal (finding_cmp f g) (sym (matches_eq-law f g) ∙ h))
+
+-- sorted findings, without repeats
+pub sorted_in_order : (fs : List Finding) → IsSorted finding_cmp fs → IsInOrder (dedup finding_eq fs)
+sorted_in_order fs h = in_order (dedup finding_eq fs) (IsStrictlySortedBy-dedup total-law matches_eq-law fs h)

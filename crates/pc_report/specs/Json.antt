@@ -1,5 +1,5 @@
 -- The report as JSON: compact, with the keys in order. Own rule of the profile; RFC 8259.
-use Rattle.std.specs.Prelude.{ℕ, List, [], ◌∷◌, ◌++◌, Option, None, Some, codes, decimal, map, string_bytes}
+use Rattle.std.specs.Prelude.{◌<◌, ◌^◌, ℕ, List, [], ◌∷◌, ◌++◌, Option, None, Some, codes, decimal, map, string_bytes}
 use Rattle.json.specs.Print.{quoted}
 use Rattle.serde_json.specs.Data.{Data, number, string, array, object, unsigned, Items, Members, no_members, member}
 use Rattle.serde_json.specs.View.{items_of}
@@ -64,3 +64,8 @@ findings_data format rows = items_of (map (finding_data format) rows)
 abbrev pub report_data : Format → List Row → Data
 report_data format rows = object (member (codes "dynamic") (number (unsigned (dynamic_count rows))) (member (codes "errors") (number (unsigned (errors_of rows)))
     (member (codes "findings") (array (findings_data format rows)) (member (codes "format") (number (unsigned (format_number format))) no_members))))
+
+-- ---- for private clauses: each number of a row has 64 bits, as the numbers of a value have
+
+abbrev pub FitsWords : Row → Type 0
+FitsWords row = (row.line < 2 ^ 64) × (row.column < 2 ^ 64) × (row.finding.place.start < 2 ^ 64) × (row.finding.place.end < 2 ^ 64)

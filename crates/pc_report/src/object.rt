@@ -1,12 +1,12 @@
 //! The report as JSON.
 
-ghost use Rattle.std.specs.Prelude.{◌≡◌, ◌++◌, ◌∷◌, [], List, ℕ, Some, IfOk, string_bytes, option_and_then};
-ghost use Rattle.serde_json.specs.Data.{array};
+ghost use Rattle.std.specs.Prelude.{◌≡◌, ◌++◌, ◌∷◌, [], List, ℕ, Some, IfOk, OnOk, string_bytes, option_and_then};
+ghost use Rattle.std.specs.List.{AllByRecursion};
 ghost use Rattle.serde_json.specs.Read.{read};
 ghost use Rattle.serde_json.specs.View.{view};
-ghost use Rattle.pc_report.specs.Json.{finding_data, findings_data, report_data, report_json};
+ghost use Rattle.pc_report.specs.Json.{finding_data, finding_json, findings_json, report_json, FitsWords};
 ghost use Rattle.pc_report.specs.ReadBack.{findings_in};
-ghost use Rattle.pc_report.specs.Report.{row_findings};
+ghost use Rattle.pc_report.specs.Report.{row_findings, shown_flow};
 
 use crate::format::Format;
 use crate::report::{Report, Row};
@@ -16,7 +16,8 @@ use std::alloc::{AllocError, Global};
 
 /// A finding as an object.
 fn finding_value(alloc: Global, format: Format, row: &Row) -> Result<Value, AllocError>
-    ensures { IfOk result (λ v. view v ≡ finding_data format row.now) }
+    ensures value { IfOk result (λ v. view v ≡ finding_data format row.now) }
+    ensures words { IfOk result (λ _. FitsWords row.now) }
 {
     let place = row.finding.place;
     let code = row.finding.code.text();
@@ -40,33 +41,44 @@ fn finding_value(alloc: Global, format: Format, row: &Row) -> Result<Value, Allo
     }
 }
 
-/// The findings as an array.
-fn findings_value(alloc: Global, format: Format, rows: &[Row]) -> Result<Value, AllocError>
-    ensures { IfOk result (λ v. view v ≡ array (findings_data format rows.now)) }
+/// Adds the finding of a row.
+fn write_finding(
+    text: &mut String,
+    alloc: Global,
+    format: Format,
+    row: &Row,
+) -> Result<(), OutOfMemory>
+    ensures text { OnOk result (string_bytes text.new ≡ string_bytes text.old ++ finding_json (shown_flow format row.now) row.now) }
+    ensures words { OnOk result (FitsWords row.now) }
 {
-    let mut findings = Vec::new(alloc);
-    for row in rows {
-        findings.push(finding_value(alloc, format, row)?)?;
-    }
-    Ok(Value::Array(findings))
+    let value = finding_value(alloc, format, row)?;
+    text.push_str(value.to_string(alloc)?.as_str())?;
+    Ok(())
 }
 
-/// The report as an object.
-fn report_value(alloc: Global, format: Format, report: &Report) -> Result<Value, AllocError>
-    ensures { IfOk result (λ v. view v ≡ report_data format report.now) }
+/// Adds the findings of rows, a comma between two.
+fn write_findings(
+    text: &mut String,
+    alloc: Global,
+    format: Format,
+    rows: &[Row],
+) -> Result<(), OutOfMemory>
+    ensures text { OnOk result (string_bytes text.new ≡ string_bytes text.old ++ findings_json format rows.now) }
+    ensures words { OnOk result (AllByRecursion FitsWords rows.now) }
 {
-    let findings = findings_value(alloc, format, report.rows())?;
-    json!(in alloc; {
-        "dynamic": report.dynamic(),
-        "errors": report.errors(),
-        "findings": findings,
-        "format": format.number()
-    })
+    if let Some((first, others)) = rows.split_first() {
+        write_finding(text, alloc, format, first)?;
+        for row in others {
+            text.push(',')?;
+            write_finding(text, alloc, format, row)?;
+        }
+    }
+    Ok(())
 }
 
 impl Report {
-    /// The report as JSON, compact and with its keys in order, and a line feed. Own rule of the
-    /// profile; RFC 8259.
+    /// The report as JSON, compact and with its keys in order, and a line feed. A finding is made
+    /// as a value and printed before the next one. Own rule of the profile; RFC 8259.
     ///
     /// # Errors
     ///
@@ -76,9 +88,16 @@ impl Report {
         ensures read_back { IfOk result (λ t. (line : List ℕ) × (string_bytes t ≡ line ++ 10 ∷ [])
             × (option_and_then findings_in (read line) ≡ Some (row_findings self.now))) }
     {
-        let value = report_value(alloc, format, self)?;
-        let mut text = value.to_string(alloc)?;
-        text.push('\n')?;
+        let mut text = String::new(alloc);
+        let dynamic = self.dynamic();
+        let errors = self.errors();
+        write!(
+            text,
+            "{{\"dynamic\":{dynamic},\"errors\":{errors},\"findings\":["
+        )?;
+        write_findings(&mut text, alloc, format, self.rows())?;
+        let number = format.number();
+        writeln!(text, "],\"format\":{number}}}")?;
         Ok(text)
     }
 }

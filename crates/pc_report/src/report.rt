@@ -13,7 +13,7 @@ use crate::format::Format;
 use pc_source::{OutOfMemory, Place, Source};
 use pc_tree::Finding;
 use std::alloc::Global;
-use std::collections::{BTreeMap, BTreeSet};
+use std::collections::BTreeMap;
 use std::marker::Model;
 
 /// A finding, with the line and the column of its start, both from 1, and the two types of the
@@ -51,14 +51,14 @@ impl Model for Report {
 }
 
 /// The findings in order, without repeats.
-fn set_of(alloc: Global, findings: &[Finding]) -> Result<BTreeSet<Finding>, OutOfMemory>
-    ensures { IfOk result (λ s. (f : Finding) → Contains s.keys f ↔ Contains findings.now f) }
+fn sorted(alloc: Global, findings: &[Finding]) -> Result<Vec<Finding>, OutOfMemory>
+    ensures exact { IfOk result (λ v. (f : Finding) → Contains v.items f ↔ Contains findings.now f) }
+    ensures in_order { IfOk result (λ v. IsInOrder v.items) }
 {
-    let mut set = BTreeSet::new(alloc);
-    for finding in findings {
-        set.insert(*finding)?;
-    }
-    Ok(set)
+    let mut sorted = findings.to_vec(alloc)?;
+    sorted.sort_unstable();
+    sorted.dedup();
+    Ok(sorted)
 }
 
 /// A byte of the source, with its line and its column.
@@ -98,22 +98,21 @@ fn position_of(source: &[u8], known: Position, byte: usize) -> Position
     Position { byte, ..position }
 }
 
-/// The rows of findings that are in order: one walk over the source.
+/// The rows of findings: one walk over the source where they are in order.
 fn rows(
     alloc: Global,
     source: &Source,
-    set: &BTreeSet<Finding>,
+    findings: &[Finding],
     flows: &BTreeMap<Place, &(Place, String, String)>,
 ) -> Result<Vec<Row>, OutOfMemory>
-    ensures findings { IfOk result (λ v. row_findings v.items ≡ set.now.keys) }
+    ensures findings { IfOk result (λ v. row_findings v.items ≡ findings.now) }
     ensures placed { IfOk result (λ v. AllByRecursion (IsPlaced source.now) v.items) }
-    ensures sorted { IfOk result (λ v. IsInOrder (row_findings v.items)) }
     ensures explained { IfOk result (λ v. (listed : _) → HasFlows listed flows.now → ExplainsRows listed v.items) }
 {
     let text = source.text().as_bytes();
-    let mut rows = Vec::new(alloc);
+    let mut rows = Vec::with_capacity(alloc, findings.len())?;
     let mut position = START;
-    for finding in set.iter() {
+    for finding in findings {
         position = position_of(text, position, finding.place.start);
         rows.push(Row {
             finding: *finding,
@@ -142,9 +141,9 @@ impl Report {
         ensures lists { IfOk result (Lists source.now (Contains findings.now)) }
         ensures explains { IfOk result (ExplainsRows flows.now) }
     {
-        let set = set_of(alloc, findings)?;
+        let findings = sorted(alloc, findings)?;
         let flows = by_place(alloc, flows)?;
-        let rows = rows(alloc, source, &set, &flows)?;
+        let rows = rows(alloc, source, &findings, &flows)?;
         Ok(Report { rows })
     }
 

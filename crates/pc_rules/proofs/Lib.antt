@@ -15,6 +15,7 @@ pub mod NamesRead
 pub mod OfferedTypes
 pub mod Once
 pub mod One
+pub mod PartsKept
 pub mod Rows
 pub mod SaidByLabels
 pub mod SaidInLabels

@@ -6,6 +6,7 @@ pub mod Labels
 pub mod Lawful
 pub mod ListTests
 pub mod Operations
+pub mod RangesFound
 pub mod Signatures
 pub mod SignaturesFound
 pub mod Standing

@@ -11,8 +11,8 @@ use Rattle.pc_types.specs.Tree.{Tree}
 use Rattle.pc_ann.specs.Text.{type_text}
 use Rattle.pc_notes.specs.Notes.{Note, flow_noted}
 use Rattle.pc_notes.specs.Texts.{FlowText, IsFlowText, places_of, AreFlowTexts}
-use Rattle.pc_check.specs.DynamicFlows.{dynamic_flow}
-use Rattle.pc_check.specs.Modules.{IsFinding}
+use Rattle.pc_labels.specs.DynamicFlows.{dynamic_flow}
+use Rattle.pc_labels.specs.Modules.{IsFinding}
 use Rattle.pc_dynamic.proofs.RightFlows.{flows_found}
 use Rattle.pc_report.specs.declared.flow.FlowTexts.{FlowTexts}
 use Rattle.pc_report.specs.declared.report.Row.{Row}

@@ -14,9 +14,9 @@ use Rattle.pc_class.specs.Findings.{ClassFinds}
 use Rattle.pc_class.specs.OverrideFindings.{override_findings}
 use Rattle.pc_class.proofs.FoundClashes.{just_their_lists}
 use Rattle.pc_notes.specs.Notes.{Note, plain_note, findings_of, is_same_place, flow_or, flow_noted}
-use Rattle.pc_check.specs.Modules.{IsFinding}
-use Rattle.pc_check.specs.ComputedModules.{module_finds}
-use Rattle.pc_check.proofs.WalkedModule.{findings_computed}
+use Rattle.pc_labels.specs.Modules.{IsFinding}
+use Rattle.pc_labels.specs.ComputedModules.{module_finds}
+use Rattle.pc_labels.proofs.WalkedModule.{findings_computed}
 
 -- ---- findings
 

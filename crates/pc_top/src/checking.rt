@@ -7,8 +7,8 @@ ghost use Rattle.pc_tree.specs.Tree.{module_of};
 ghost use Rattle.pc_scope.specs.ModuleScopes.{AreScopes};
 ghost use Rattle.pc_class.specs.Bases.{bases_of};
 ghost use Rattle.pc_notes.specs.Notes.{findings_of, flow_noted, notes_of};
-ghost use Rattle.pc_check.specs.DynamicFlows.{dynamic_flow};
-ghost use Rattle.pc_check.specs.Modules.{IsFinding};
+ghost use Rattle.pc_labels.specs.DynamicFlows.{dynamic_flow};
+ghost use Rattle.pc_labels.specs.Modules.{IsFinding};
 
 use pc_check::check_module;
 use pc_class::{class_table, override_findings};

@@ -6,7 +6,7 @@ use Rattle.pc_types.specs.Below.{Bases}
 use Rattle.pc_class.specs.declared.table.Parameter.{Parameter}
 use Rattle.pc_flow.specs.Environment.{Env}
 use Rattle.pc_flow.specs.Stored.{env_of}
-use Rattle.pc_check.specs.ComputedStatements.{Table}
+use Rattle.pc_labels.specs.ComputedStatements.{Table}
 use Rattle.pc_check.specs.Internal.StatementWalk.{HoldsType, HoldsTypes}
 
 -- the type of a parameter is of the store and well-formed

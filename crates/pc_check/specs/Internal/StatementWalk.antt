@@ -19,7 +19,7 @@ use Rattle.pc_rules.specs.Context.{Context}
 use Rattle.pc_rules.specs.Standing.{HasSignature, IsMark, signature_with}
 use Rattle.pc_rules.specs.WellFormed.{ContextWellFormed}
 use Rattle.pc_rules.specs.declared.label.Label.{Label}
-use Rattle.pc_check.specs.ComputedStatements.{BodyFrame, Table, Walk, BindingResult, BranchesResult, with_declared, bound_type}
+use Rattle.pc_labels.specs.ComputedStatements.{BodyFrame, Table, Walk, BindingResult, BranchesResult, with_declared, bound_type}
 use Rattle.pc_check.specs.declared.frame.Frame.{Frame as RustFrame}
 
 module _ {Ty R : Type 0} (tree : Ty → Tree) (meaning : R → List ℕ → Res) where

@@ -22,9 +22,9 @@ use Rattle.pc_class.specs.Bases.{bases_of}
 use Rattle.pc_class.specs.Facts.{TypedParameter, return_type, classes_of}
 use Rattle.pc_types.proofs.Earlier.{smaller}
 use Rattle.pc_flow.specs.Environment.{Env, none_assigned}
-use Rattle.pc_check.specs.StatementLabels.{breaks_in_suite}
+use Rattle.pc_labels.specs.StatementLabels.{breaks_in_suite}
 use Rattle.pc_rules.specs.Labels.{IsCodeAt}
-use Rattle.pc_check.specs.Modules.{entry_parameters, names_entered, entry_env, ReturnsWell, leaves as never_completes, may_complete, may_not}
+use Rattle.pc_labels.specs.Modules.{entry_parameters, names_entered, entry_env, ReturnsWell, leaves as never_completes, may_complete, may_not}
 use Rattle.pc_value.specs.Value.{none, Out}
 use Rattle.pc_machine.specs.State.{State, Frame, Local, Function}
 use Rattle.pc_machine.specs.Names.{names_bound, unbound, frame_of}

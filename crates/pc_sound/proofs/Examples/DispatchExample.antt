@@ -24,7 +24,7 @@ use Rattle.pc_class.specs.Findings.{IsOverride, ClassFinds, base_class}
 use Rattle.pc_rules.specs.Operations.{clean, in_error}
 use Rattle.pc_rules.specs.Context.{static}
 use Rattle.pc_rules.specs.Signatures.{signatures_of}
-use Rattle.pc_check.specs.Modules.{Labelling, IsLawful, HasLabelling, may_complete, leaves}
+use Rattle.pc_labels.specs.Modules.{Labelling, IsLawful, HasLabelling, may_complete, leaves}
 use Rattle.pc_machine.specs.Runs.{Run}
 use Rattle.pc_sound.specs.Examples.{FindsJust}
 use Rattle.pc_sound.specs.DispatchExample.{m_of_a, m_of_b, m_of_c, class_a, class_b, class_c, program, findings, events, end}

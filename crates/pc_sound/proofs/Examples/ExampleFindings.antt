@@ -28,9 +28,9 @@ use Rattle.pc_class.specs.Findings as class
 use Rattle.pc_class.specs.Findings.{ClassFinds}
 use Rattle.pc_rules.specs.Operations.{Mark, FlowMark}
 use Rattle.pc_rules.specs.Context.{FlowUnless, FlowAt, is_early}
-use Rattle.pc_check.specs.Modules.{Labelling, IsLawful, LabelsSay, LabelsFind, IsFinding, constant_types, nothing_before}
-use Rattle.pc_check.proofs.Scopes.{said_is_found}
-use Rattle.pc_check.proofs.OneModule.{one_labelling}
+use Rattle.pc_labels.specs.Modules.{Labelling, IsLawful, LabelsSay, LabelsFind, IsFinding, constant_types, nothing_before}
+use Rattle.pc_labels.proofs.Scopes.{said_is_found}
+use Rattle.pc_labels.proofs.OneModule.{one_labelling}
 use Rattle.pc_sound.specs.Examples.{FindsJust}
 use Rattle.pc_sound.proofs.Lists.{among_first, first_among, later_among, none_among}
 use Rattle.pc_sound.proofs.Examples.FindingLists.{Listing, none_listed, nothing_listed, equal_listed, both_listed, like, all_items_listed}

@@ -31,10 +31,10 @@ use Rattle.pc_rules.specs.Operations.{FlowMark}
 use Rattle.pc_rules.specs.Context.{Context}
 use Rattle.pc_rules.specs.Labels.{FlowMarks, Marks, ItemsMarks, EntriesMarks, KeywordsMarks, IsFoundAt, IsFlowAt, IsCodeAt, second_place, Finds, ItemsFind, ArgumentsFind, EntriesFind, KeywordsFind}
 use Rattle.pc_rules.specs.Signatures.{body_context, literal_place, DefaultFinds, ParamsMarks, ParamsFind}
-use Rattle.pc_check.specs.StatementLabels.{OptionMarks, TargetMarks, Behind, BehindRule, StmtMarks, SuiteMarks, BranchesMarks}
-use Rattle.pc_check.specs.Statements.{NamesBound, is_first, option_place, OptionFinds, TargetFinds, AnnotationFinds, StmtFinds, SuiteFinds, BranchesFind}
-use Rattle.pc_check.specs.Modules as modules
-use Rattle.pc_check.specs.Modules.{FunctionMarks, FunctionFinds, names_entered, entry_parameters, MembersMarks, MembersFind, ItemMarks, BeforeItem, before_next, ItemFinds}
+use Rattle.pc_labels.specs.StatementLabels.{OptionMarks, TargetMarks, Behind, BehindRule, StmtMarks, SuiteMarks, BranchesMarks}
+use Rattle.pc_labels.specs.Statements.{NamesBound, is_first, option_place, OptionFinds, TargetFinds, AnnotationFinds, StmtFinds, SuiteFinds, BranchesFind}
+use Rattle.pc_labels.specs.Modules as modules
+use Rattle.pc_labels.specs.Modules.{FunctionMarks, FunctionFinds, names_entered, entry_parameters, MembersMarks, MembersFind, ItemMarks, BeforeItem, before_next, ItemFinds}
 use Rattle.pc_sound.proofs.Lists.{among_first, first_among, later_among, none_among}
 
 -- what is found by a rule, as a list

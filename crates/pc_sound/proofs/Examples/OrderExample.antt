@@ -11,7 +11,7 @@ use Rattle.pc_class.specs.Facts.{classes_of}
 use Rattle.pc_rules.specs.Operations.{clean, in_error}
 use Rattle.pc_rules.specs.Context.{static}
 use Rattle.pc_rules.specs.Signatures.{signatures_of}
-use Rattle.pc_check.specs.Modules.{Labelling, IsLawful, HasLabelling, may_complete}
+use Rattle.pc_labels.specs.Modules.{Labelling, IsLawful, HasLabelling, may_complete}
 use Rattle.pc_machine.specs.Runs.{Run}
 use Rattle.pc_sound.specs.Examples.{FindsJust}
 use Rattle.pc_sound.specs.OrderExample.{program, findings, events, end}

@@ -14,8 +14,8 @@ use Rattle.pc_class.specs.Facts.{TypedParameter, return_type}
 use Rattle.pc_class.specs.Bases.{bases_of}
 use Rattle.pc_flow.specs.Environment.{Env, declared_type, none_assigned}
 use Rattle.pc_rules.specs.Signatures.{body_context}
-use Rattle.pc_check.specs.Statements.{NamesBound}
-use Rattle.pc_check.specs.Modules.{entry_parameters, names_entered, DeclaredEntry, LawfulEntry, assigned_at_entry, entry_env, FunctionMarks, LawfulFunction}
+use Rattle.pc_labels.specs.Statements.{NamesBound}
+use Rattle.pc_labels.specs.Modules.{entry_parameters, names_entered, DeclaredEntry, LawfulEntry, assigned_at_entry, entry_env, FunctionMarks, LawfulFunction}
 use Rattle.pc_sound.proofs.Keyed.KeyedDicts.{IsKeyed}
 use Rattle.pc_sound.proofs.Keyed.KeyedStatements.{SuiteKeyed}
 use Rattle.pc_sound.proofs.Keyed.KeyedTypes.{EnvKeyed, assign_keyed}

@@ -7,7 +7,7 @@ use Rattle.pc_types.specs.Tree.{Tree}
 use Rattle.pc_class.specs.Bases.{bases_of}
 use Rattle.pc_rules.specs.Labels.{type_of}
 use Rattle.pc_rules.specs.Signatures.{initializer_context, binds_name, annotated_types, first_of_types, constant_type}
-use Rattle.pc_check.specs.Modules.{ItemsMarks, LawfulModuleItems, BeforeItem, before_next, nothing_before, constant_types, Labelling, IsLawful}
+use Rattle.pc_labels.specs.Modules.{ItemsMarks, LawfulModuleItems, BeforeItem, before_next, nothing_before, constant_types, Labelling, IsLawful}
 use Rattle.pc_sound.proofs.Lists.{get_one_more}
 use Rattle.pc_sound.proofs.Keyed.KeyedDicts.{IsKeyed, keyed_type}
 use Rattle.pc_sound.proofs.Keyed.KeyedTypes.{OptionKeyed}

@@ -2,7 +2,7 @@
 use Rattle.std.specs.Prelude.{Option, Some, None}
 use Rattle.pc_tree.specs.Tree.{Expr, Target, to_name, to_attribute, to_index, Stmt, pass, breaks, continues, returns, asserts, annotated, assigns, evaluates, while_loop, for_loop, conditional, Stmts, no_stmts, more_stmts, Branches, no_branches, more_branches}
 use Rattle.pc_scope.specs.Reach.{completes}
-use Rattle.pc_check.specs.StatementLabels.{OptionMarks, TargetMarks, StmtMarks, SuiteMarks, BranchesMarks, BehindRule}
+use Rattle.pc_labels.specs.StatementLabels.{OptionMarks, TargetMarks, StmtMarks, SuiteMarks, BranchesMarks, BehindRule}
 use Rattle.pc_sound.proofs.Keyed.KeyedDicts.{Keyed}
 
 abbrev pub OptionKeyed : (e : Option Expr) → OptionMarks e → Type 0

@@ -27,8 +27,8 @@ use Rattle.pc_rules.specs.Operations.{Mark, clean, StoreOffer, has_error, store_
 use Rattle.pc_rules.specs.Calls.{arguments_given, is_suited, builtin_signature, positional_seat, named_seat, is_range, range_offers, range_item}
 use Rattle.pc_rules.specs.Labels.{FlowMarks, Marks, type_of}
 use Rattle.pc_rules.specs.Lawful.{Lawful}
-use Rattle.pc_check.specs.StatementLabels.{OptionMarks, TargetMarks, StmtMarks, SuiteMarks, BranchesMarks, Behind, BehindRule, breaks_in, breaks_in_suite, breaks_in_branches, behind_list, ways_in}
-use Rattle.pc_check.specs.Statements.{NamesBound, is_first, only_code, LawfulRange, LawfulValues, RangeOrValues, LawfulIterable, LawfulTarget, LawfulDeclaration, annotation_at, LawfulAnnotated, LawfulAssignment, LawfulReturn, LawfulOption, LawfulStmt, LawfulSuite, LawfulBranches, binds_number, DeclaredAt, known_type, bound_env, LawfulBinding, LawfulStore, UndeclaredName, AreUndeclared}
+use Rattle.pc_labels.specs.StatementLabels.{OptionMarks, TargetMarks, StmtMarks, SuiteMarks, BranchesMarks, Behind, BehindRule, breaks_in, breaks_in_suite, breaks_in_branches, behind_list, ways_in}
+use Rattle.pc_labels.specs.Statements.{NamesBound, is_first, only_code, LawfulRange, LawfulValues, RangeOrValues, LawfulIterable, LawfulTarget, LawfulDeclaration, annotation_at, LawfulAnnotated, LawfulAssignment, LawfulReturn, LawfulOption, LawfulStmt, LawfulSuite, LawfulBranches, binds_number, DeclaredAt, known_type, bound_env, LawfulBinding, LawfulStore, UndeclaredName, AreUndeclared}
 use Rattle.pc_sound.proofs.TruthValues.{not_both}
 use Rattle.pc_sound.proofs.Keyed.KeyedDicts.{IsKeyed, Keyed, keyed_type}
 use Rattle.pc_sound.proofs.Keyed.KeyedTypes.{OptionKeyed, EnvKeyed, assign_keyed, narrow_keyed, join_env_keyed, all_keyed}

@@ -6,7 +6,7 @@ use Rattle.pc_scope.specs.declared.resolution.Builtin.TheVariants as builtin
 use Rattle.pc_scope.specs.declared.resolution.Res.TheVariants as res
 use Rattle.pc_scope.specs.Reserved.{builtin_of}
 use Rattle.pc_types.specs.Tree.{Tree}
-use Rattle.pc_check.specs.Modules.{Labelling, constant_types}
+use Rattle.pc_labels.specs.Modules.{Labelling, constant_types}
 use Rattle.pc_machine.specs.Free.{Step, free}
 use Rattle.pc_machine.specs.Evaluation.{eval_node, steps}
 use Rattle.pc_sound.proofs.Expressions.SimpleExpressions.{GoodEval}

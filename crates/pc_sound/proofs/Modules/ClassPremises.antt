@@ -24,7 +24,7 @@ use Rattle.pc_class.specs.Facts as facts
 use Rattle.pc_class.specs.Facts.{TypedParameter, base_facts, classes_of, class_facts_at, field_by_name, method_by_name, binds_field, own_fields}
 use Rattle.pc_class.specs.Findings as findings
 use Rattle.pc_class.specs.Findings.{base_class, member_texts, has_default_before}
-use Rattle.pc_check.specs.Modules.{Labelling, IsLawful}
+use Rattle.pc_labels.specs.Modules.{Labelling, IsLawful}
 use Rattle.pc_sound.specs.Sound.{HasNoError}
 use Rattle.pc_sound.proofs.Lists.{get_at_end}
 use Rattle.pc_sound.proofs.Modules.Inheritance.{below_class, class_is, no_class_past}

@@ -9,7 +9,7 @@ use Rattle.pc_scope.specs.Resolution.{function_of, method_at}
 use Rattle.pc_types.specs.Tree.{Tree}
 use Rattle.pc_class.specs.Facts as facts
 use Rattle.pc_class.specs.Findings.{base_class}
-use Rattle.pc_check.specs.Modules.{Labelling, IsLawful}
+use Rattle.pc_labels.specs.Modules.{Labelling, IsLawful}
 use Rattle.pc_sound.specs.Sound.{HasNoError}
 use Rattle.pc_sound.proofs.Modules.MadeClasses.{MembersReady, ClassesReady}
 use Rattle.pc_sound.proofs.Modules.MembersBind.{BindAll, members_bind}

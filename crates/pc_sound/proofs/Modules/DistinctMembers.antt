@@ -11,7 +11,7 @@ use Rattle.pc_types.specs.Annotations.{read_ann}
 use Rattle.pc_class.specs.Bases.{bases_of, base_named}
 use Rattle.pc_class.specs.Facts as facts
 use Rattle.pc_class.specs.Facts.{TypedParameter, Method, field_by_name, method_by_name, class_in, class_facts_at, base_facts, classes_of, parameters_of, binds_field, binds_method, own_fields, own_methods, method_made}
-use Rattle.pc_check.specs.Modules.{Labelling, IsLawful}
+use Rattle.pc_labels.specs.Modules.{Labelling, IsLawful}
 use Rattle.pc_sound.specs.Sound.{HasNoError}
 use Rattle.pc_sound.proofs.Modules.Inheritance.{no_class_past, class_is, class_over, below_class}
 use Rattle.pc_sound.proofs.Calls.OverridesFit.{IsIn, found_in, in_either}

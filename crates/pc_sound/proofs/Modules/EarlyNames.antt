@@ -23,7 +23,7 @@ use Rattle.pc_flow.specs.Environment.{Env, current}
 use Rattle.pc_rules.specs.Operations.{in_error}
 use Rattle.pc_rules.specs.Context.{Context, local_mark, name_mark, constant_mark, is_early}
 use Rattle.pc_rules.specs.Signatures.{initializer_context}
-use Rattle.pc_check.specs.Modules.{Labelling, IsLawful, ItemsMarks, BeforeItem, before_next, nothing_before}
+use Rattle.pc_labels.specs.Modules.{Labelling, IsLawful, ItemsMarks, BeforeItem, before_next, nothing_before}
 use Rattle.pc_sound.specs.Sound.{HasNoError}
 use Rattle.pc_sound.proofs.Lists.{get_at_end, one_longer}
 use Rattle.pc_sound.proofs.Keyed.KeyedLabels.{SecondTimely, Timely, ItemsTimely, EntriesTimely, KeywordsTimely}

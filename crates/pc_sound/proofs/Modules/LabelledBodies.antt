@@ -22,9 +22,9 @@ use Rattle.pc_scope.specs.Resolution.{is_one_of, entry_texts, method_at, functio
 use Rattle.pc_scope.specs.Findings as scope
 use Rattle.pc_scope.specs.Findings.{IsScopeCode}
 use Rattle.pc_types.specs.Tree.{Tree}
-use Rattle.pc_check.specs.Modules.{FunctionMarks, LawfulFunction, ItemsMarks, ItemsFind, BeforeItem, before_next, nothing_before, Labelling, IsLawful, constant_types, item_constants}
-use Rattle.pc_check.proofs.Functions.{function_labels}
-use Rattle.pc_check.proofs.Scopes.{said_is_found}
+use Rattle.pc_labels.specs.Modules.{FunctionMarks, LawfulFunction, ItemsMarks, ItemsFind, BeforeItem, before_next, nothing_before, Labelling, IsLawful, constant_types, item_constants}
+use Rattle.pc_labels.proofs.Functions.{function_labels}
+use Rattle.pc_labels.proofs.Scopes.{said_is_found}
 use Rattle.pc_sound.specs.Sound.{HasNoError}
 use Rattle.pc_sound.proofs.TruthValues.{not_both}
 use Rattle.pc_sound.proofs.Keyed.KeyedStatements.{SuiteKeyed}

@@ -35,7 +35,7 @@ use Rattle.pc_machine.specs.Free.{Step, free}
 use Rattle.pc_machine.specs.Evaluation as evaluation
 use Rattle.pc_machine.specs.Evaluation.{make_members, exec_item, dataclass_found, binds_class, Members, fields_of, methods_of, ancestors_of, class_behind, all_have_defaults, defaults_last}
 use Rattle.pc_rules.specs.Signatures.{LawfulDefault}
-use Rattle.pc_check.specs.Modules.{MembersMarks, LawfulMembers, MembersFind, BeforeItem, ItemMarks, LawfulItem, ItemFinds}
+use Rattle.pc_labels.specs.Modules.{MembersMarks, LawfulMembers, MembersFind, BeforeItem, ItemMarks, LawfulItem, ItemFinds}
 use Rattle.pc_sound.specs.Values.{HeapTyping}
 use Rattle.pc_sound.proofs.Steps.Judgment.{EndsWell}
 use Rattle.pc_sound.proofs.TruthValues.{neither}

@@ -20,7 +20,7 @@ use Rattle.pc_class.specs.Bases.{bases_of}
 use Rattle.pc_class.specs.Facts.{TypedParameter, Method, parameters_of, return_type, classes_of, class_facts_at}
 use Rattle.pc_rules.specs.Context.{Context}
 use Rattle.pc_rules.specs.Signatures.{body_context}
-use Rattle.pc_check.specs.Modules.{FunctionMarks, LawfulFunction, FunctionFinds}
+use Rattle.pc_labels.specs.Modules.{FunctionMarks, LawfulFunction, FunctionFinds}
 use Rattle.pc_value.specs.Value.{Value}
 use Rattle.pc_machine.specs.State as state
 use Rattle.pc_machine.specs.State.{Function, Class, Globals, a_value, a_function, a_class}

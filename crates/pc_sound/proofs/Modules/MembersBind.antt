@@ -27,7 +27,7 @@ use Rattle.pc_class.specs.Facts as facts
 use Rattle.pc_class.specs.Facts.{TypedParameter, Method, field_by_name, method_by_name, base_facts, classes_of, class_facts_at, binds_field, binds_method, own_fields, own_methods}
 use Rattle.pc_class.specs.Findings as findings
 use Rattle.pc_class.specs.Findings.{base_class}
-use Rattle.pc_check.specs.Modules.{Labelling, IsLawful}
+use Rattle.pc_labels.specs.Modules.{Labelling, IsLawful}
 use Rattle.pc_sound.specs.Sound.{HasNoError}
 use Rattle.pc_sound.proofs.Lists.{front_empty, rest_empty, same_text_back}
 use Rattle.pc_sound.proofs.Expressions.NameReads.{builtin_text, text_of_builtin}

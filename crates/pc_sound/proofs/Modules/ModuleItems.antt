@@ -19,7 +19,7 @@ use Rattle.pc_rules.specs.Context.{FlowsInto}
 use Rattle.pc_rules.specs.Labels.{mark_of}
 use Rattle.pc_rules.specs.Lawful.{Lawful}
 use Rattle.pc_rules.specs.Signatures.{initializer_context, binds_name, annotated_types, first_of_types}
-use Rattle.pc_check.specs.Modules.{BeforeItem, before_next, ItemMarks, ItemsMarks, LawfulItem, LawfulModuleItems, ItemFinds, ItemsFind}
+use Rattle.pc_labels.specs.Modules.{BeforeItem, before_next, ItemMarks, ItemsMarks, LawfulItem, LawfulModuleItems, ItemFinds, ItemsFind}
 use Rattle.pc_value.specs.Value.{Gives}
 use Rattle.pc_machine.specs.State.{State, Function, Class, Globals}
 use Rattle.pc_machine.specs.Names.{meaning_in_run, meaning_of_global, meaning_of_local, global_by_name}

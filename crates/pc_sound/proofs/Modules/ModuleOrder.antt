@@ -23,7 +23,7 @@ use Rattle.pc_rules.specs.Labels.{FlowMarks, Marks, mark_of, type_of, Finds, IsF
 use Rattle.pc_rules.specs.Context.{FlowsInto}
 use Rattle.pc_rules.specs.Lawful.{Lawful}
 use Rattle.pc_rules.specs.Signatures.{initializer_context, literal_type, literal_place, LawfulDefault, DefaultFinds, binds_name, ParamsMarks, LawfulParams, ParamsFind, constant_type, annotated_types, first_of_types}
-use Rattle.pc_check.specs.Modules.{}
+use Rattle.pc_labels.specs.Modules.{}
 use Rattle.pc_value.specs.Value as value
 use Rattle.pc_value.specs.Value.{Value, boolean, string, Out, Gives}
 use Rattle.pc_value.specs.Actions as action

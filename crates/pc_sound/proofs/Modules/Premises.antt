@@ -25,7 +25,7 @@ use Rattle.pc_class.specs.Findings.{base_class, member_texts}
 use Rattle.pc_class.proofs.Judged.{judged_once}
 use Rattle.pc_class.specs.Overrides.{Judges, dynamic, wrong, overridden}
 use Rattle.pc_rules.specs.Signatures.{body_context}
-use Rattle.pc_check.specs.Modules.{ItemsMarks, BeforeItem, before_next, nothing_before, constant_types, Labelling, IsLawful, IsFinding}
+use Rattle.pc_labels.specs.Modules.{ItemsMarks, BeforeItem, before_next, nothing_before, constant_types, Labelling, IsLawful, IsFinding}
 use Rattle.pc_machine.specs.Free.{Step, free}
 use Rattle.pc_machine.specs.Evaluation.{steps}
 use Rattle.pc_machine.specs.Runs.{Run, End, IsFaultyEnd}

@@ -2,8 +2,8 @@
 use Rattle.std.proofs.Common.{List}
 use Rattle.pc_source.specs.declared.place.Place.{Place}
 use Rattle.pc_tree.specs.Tree.{Module}
-use Rattle.pc_check.specs.Modules.{Labelling, IsLawful, nothing_before, constant_types}
-use Rattle.pc_check.proofs.LabelledModule.{every_module_has_a_labelling}
+use Rattle.pc_labels.specs.Modules.{Labelling, IsLawful, nothing_before, constant_types}
+use Rattle.pc_labels.proofs.LabelledModule.{every_module_has_a_labelling}
 use Rattle.pc_machine.specs.Runs.{Run, End, IsFaultyEnd}
 use Rattle.pc_sound.specs.Sound.{HasNoError, HasEvaluated, Sound}
 use Rattle.pc_sound.proofs.Modules.WholeModule.{IsListedPlace}

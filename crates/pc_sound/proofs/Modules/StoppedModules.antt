@@ -11,7 +11,7 @@ use Rattle.pc_scope.specs.Findings as scope
 use Rattle.pc_scope.specs.Findings.{ScopeFinds}
 use Rattle.pc_class.specs.Findings as class
 use Rattle.pc_class.specs.Findings.{ClassFinds}
-use Rattle.pc_check.specs.Modules.{HasLabelling}
+use Rattle.pc_labels.specs.Modules.{HasLabelling}
 use Rattle.pc_sound.specs.Sound.{HasNoError}
 
 -- a list that is not empty has an element

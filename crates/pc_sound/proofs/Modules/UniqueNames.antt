@@ -16,7 +16,7 @@ use Rattle.pc_scope.specs.Bindings.{classes_in}
 use Rattle.pc_scope.specs.Resolution.{is_one_of, receiver, method_at, function_of}
 use Rattle.pc_class.specs.Facts.{parameters_of}
 use Rattle.pc_rules.specs.Signatures.{binds_name}
-use Rattle.pc_check.specs.Modules.{Labelling, IsLawful}
+use Rattle.pc_labels.specs.Modules.{Labelling, IsLawful}
 use Rattle.pc_sound.specs.Sound.{HasNoError}
 use Rattle.pc_sound.proofs.TruthValues.{neither}
 use Rattle.pc_sound.proofs.Calls.FilledParameters.{Distinct}

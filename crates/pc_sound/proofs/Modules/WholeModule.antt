@@ -18,8 +18,8 @@ use Rattle.pc_class.specs.Facts.{return_type, classes_of}
 use Rattle.pc_types.proofs.Earlier.{smaller}
 use Rattle.pc_rules.specs.Context.{Context}
 use Rattle.pc_rules.specs.Signatures.{initializer_context}
-use Rattle.pc_check.proofs.Scopes.{said_is_found}
-use Rattle.pc_check.specs.Modules.{Labelling, IsLawful, IsFinding, constant_types, BeforeItem, nothing_before, ItemsFind}
+use Rattle.pc_labels.proofs.Scopes.{said_is_found}
+use Rattle.pc_labels.specs.Modules.{Labelling, IsLawful, IsFinding, constant_types, BeforeItem, nothing_before, ItemsFind}
 use Rattle.pc_value.specs.Value.{Value, Raised, Other, Outside, Cut, Out, Gives, Stops}
 use Rattle.pc_machine.specs.State.{nothing_bound}
 use Rattle.pc_machine.specs.Free.{Step, free}

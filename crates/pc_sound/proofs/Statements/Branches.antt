@@ -10,8 +10,8 @@ use Rattle.pc_types.specs.Tree.{Tree}
 use Rattle.pc_flow.specs.Environment.{Env, join_ways}
 use Rattle.pc_flow.specs.Narrowing.{narrow}
 use Rattle.pc_rules.specs.Context.{Context}
-use Rattle.pc_check.specs.StatementLabels.{StmtMarks, SuiteMarks, BranchesMarks, breaks_in, breaks_in_suite, breaks_in_branches, ways_in}
-use Rattle.pc_check.specs.Statements.{NamesBound, LawfulStmt, LawfulSuite, LawfulBranches, StmtFinds, SuiteFinds, BranchesFind}
+use Rattle.pc_labels.specs.StatementLabels.{StmtMarks, SuiteMarks, BranchesMarks, breaks_in, breaks_in_suite, breaks_in_branches, ways_in}
+use Rattle.pc_labels.specs.Statements.{NamesBound, LawfulStmt, LawfulSuite, LawfulBranches, StmtFinds, SuiteFinds, BranchesFind}
 use Rattle.pc_machine.specs.State.{State, Frame}
 use Rattle.pc_machine.specs.Steps.{Parts, StatementEnd, next, breaking, continuing, leaves}
 use Rattle.pc_machine.specs.Free.{Step, free}

@@ -13,8 +13,8 @@ use Rattle.pc_flow.specs.Environment.{Env}
 use Rattle.pc_rules.specs.Operations.{store_codes, has_error, stored_types, store_found, store_attribute_member}
 use Rattle.pc_rules.specs.Context.{Context, FlowsInto}
 use Rattle.pc_rules.specs.Labels.{FlowMarks, Marks, mark_of, type_of, Finds, IsFlowAt}
-use Rattle.pc_check.specs.StatementLabels.{TargetMarks}
-use Rattle.pc_check.specs.Statements.{LawfulStore, TargetFinds}
+use Rattle.pc_labels.specs.StatementLabels.{TargetMarks}
+use Rattle.pc_labels.specs.Statements.{LawfulStore, TargetFinds}
 use Rattle.pc_value.specs.Value.{Value, Gives, Heap, seen}
 use Rattle.pc_value.specs.Actions as action
 use Rattle.pc_value.specs.Attributes.{store_attribute_outcome}

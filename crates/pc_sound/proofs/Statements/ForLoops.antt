@@ -15,8 +15,8 @@ use Rattle.pc_flow.specs.Environment.{Env, declared_type, assign, assigned_type,
 use Rattle.pc_rules.specs.Operations.{Mark, FlowMark, clean}
 use Rattle.pc_rules.specs.Context.{Context, Flows, static, FlowsInto}
 use Rattle.pc_rules.specs.Labels.{Marks, Finds, IsFoundAt, IsFlowAt}
-use Rattle.pc_check.specs.StatementLabels.{StmtMarks, SuiteMarks, breaks_in_suite}
-use Rattle.pc_check.specs.Statements.{NamesBound, only_code, binds_number, LawfulIterable, LawfulTarget, LawfulStmt, LawfulSuite, StmtFinds, SuiteFinds}
+use Rattle.pc_labels.specs.StatementLabels.{StmtMarks, SuiteMarks, breaks_in_suite}
+use Rattle.pc_labels.specs.Statements.{NamesBound, only_code, binds_number, LawfulIterable, LawfulTarget, LawfulStmt, LawfulSuite, StmtFinds, SuiteFinds}
 use Rattle.pc_value.specs.Value.{Value, Gives}
 use Rattle.pc_value.specs.Actions.{Iteration}
 use Rattle.pc_value.specs.Actions as action

@@ -16,8 +16,8 @@ use Rattle.pc_flow.specs.Narrowing.{narrow}
 use Rattle.pc_rules.specs.Context.{Context}
 use Rattle.pc_rules.specs.Labels.{Marks, Finds}
 use Rattle.pc_rules.specs.Lawful.{Lawful}
-use Rattle.pc_check.specs.StatementLabels.{SuiteMarks, breaks_in_suite}
-use Rattle.pc_check.specs.Statements.{NamesBound, is_local_number, binds_number, LawfulSuite, SuiteFinds}
+use Rattle.pc_labels.specs.StatementLabels.{SuiteMarks, breaks_in_suite}
+use Rattle.pc_labels.specs.Statements.{NamesBound, is_local_number, binds_number, LawfulSuite, SuiteFinds}
 use Rattle.pc_value.specs.Value.{Value, Gives}
 use Rattle.pc_value.specs.Texts.{same_text}
 use Rattle.pc_machine.specs.State.{State, Frame}

@@ -20,7 +20,7 @@ use Rattle.pc_rules.specs.Operations.{Mark, clean, offers_mark, iterate_member}
 use Rattle.pc_rules.specs.Context.{Context, Signature}
 use Rattle.pc_rules.specs.Calls.{GivenArguments, arguments_given, is_suited, fails_at_call, builtin_signature, call_mark, signatures, type_at, Seat, positional_seat, named_seat, is_range, range_offers, range_item}
 use Rattle.pc_rules.specs.Labels.{Marks, ItemsMarks, KeywordsMarks, type_of, Finds, IsFoundAt, ItemsFind, ArgumentsFind}
-use Rattle.pc_check.specs.Statements.{LawfulIterable, LawfulRange, LawfulValues, RangeOrValues}
+use Rattle.pc_labels.specs.Statements.{LawfulIterable, LawfulRange, LawfulValues, RangeOrValues}
 use Rattle.pc_rules.proofs.SaidInLabels.{as_arguments}
 use Rattle.pc_value.specs.Value.{Value, Out, Gives, Stops, whole, boolean, seen}
 use Rattle.pc_value.specs.Actions as action

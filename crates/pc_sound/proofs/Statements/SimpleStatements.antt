@@ -15,8 +15,8 @@ use Rattle.pc_rules.specs.Operations.{FlowMark, clean}
 use Rattle.pc_rules.specs.Context.{Context, FlowsInto}
 use Rattle.pc_rules.specs.Labels.{FlowMarks, Marks, mark_of, type_of, Finds, IsFlowAt}
 use Rattle.pc_rules.specs.Lawful.{Lawful}
-use Rattle.pc_check.specs.StatementLabels.{OptionMarks, TargetMarks, StmtMarks}
-use Rattle.pc_check.specs.Statements.{NamesBound, only_code, LawfulBinding, LawfulStore, LawfulOption, LawfulStmt, OptionFinds, TargetFinds, StmtFinds}
+use Rattle.pc_labels.specs.StatementLabels.{OptionMarks, TargetMarks, StmtMarks}
+use Rattle.pc_labels.specs.Statements.{NamesBound, only_code, LawfulBinding, LawfulStore, LawfulOption, LawfulStmt, OptionFinds, TargetFinds, StmtFinds}
 use Rattle.pc_value.specs.Value.{Value, none, Gives, Stops, Other, is_true}
 use Rattle.pc_machine.specs.State.{State, Frame}
 use Rattle.pc_machine.specs.Names.{with_local}

@@ -11,8 +11,8 @@ use Rattle.pc_scope.specs.Reach.{completes}
 use Rattle.pc_types.specs.Tree.{Tree}
 use Rattle.pc_flow.specs.Environment.{Env}
 use Rattle.pc_rules.specs.Context.{Context}
-use Rattle.pc_check.specs.StatementLabels.{StmtMarks, SuiteMarks, Behind, BehindRule, behind_list, breaks_in, breaks_in_suite}
-use Rattle.pc_check.specs.Statements.{NamesBound, AreUndeclared, LawfulStmt, LawfulSuite, StmtFinds, SuiteFinds}
+use Rattle.pc_labels.specs.StatementLabels.{StmtMarks, SuiteMarks, Behind, BehindRule, behind_list, breaks_in, breaks_in_suite}
+use Rattle.pc_labels.specs.Statements.{NamesBound, AreUndeclared, LawfulStmt, LawfulSuite, StmtFinds, SuiteFinds}
 use Rattle.pc_value.specs.Value.{Gives}
 use Rattle.pc_machine.specs.State.{State, Frame}
 use Rattle.pc_machine.specs.Steps.{Parts, StatementEnd, next, breaking, continuing, leaves}

@@ -6,7 +6,7 @@ use Rattle.pc_types.specs.WellFormed.{IsWellFormed}
 use Rattle.pc_types.proofs.Readings.{read_ann_well_formed}
 use Rattle.pc_flow.specs.Stored.{env_of}
 use Rattle.pc_notes.specs.Notes.{Note, notes_of, plain_note}
-use Rattle.pc_check.specs.ComputedStatements.{bound_name}
+use Rattle.pc_labels.specs.ComputedStatements.{bound_name}
 use Rattle.pc_check.specs.Internal.StatementWalk.{frame_with}
 use Rattle.pc_check.proofs.Bound.{bound_unless, bound_finds, first_unless, first_finds}
 use Rattle.pc_check.proofs.binding.annotated_type.Goals as goal

@@ -4,7 +4,7 @@ use Rattle.pc_tree.specs.Tree.{ann_of, name_of, module_of}
 use Rattle.pc_types.specs.Annotations.{read_ann}
 use Rattle.pc_flow.specs.Stored.{env_of}
 use Rattle.pc_notes.specs.Notes.{notes_of}
-use Rattle.pc_check.specs.ComputedStatements.{annotation_finds, bound_name, declared_alone}
+use Rattle.pc_labels.specs.ComputedStatements.{annotation_finds, bound_name, declared_alone}
 use Rattle.pc_check.specs.Internal.StatementWalk.{frame_with, declared_by, GivesBound}
 use Rattle.pc_check.proofs.Bound.{alone_gives}
 use Rattle.pc_check.proofs.Held.{types_kept, frame_kept}

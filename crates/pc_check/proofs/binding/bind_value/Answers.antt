@@ -3,7 +3,7 @@ use Rattle.std.specs.Option.{option_map}
 use Rattle.pc_tree.specs.Tree.{expr_of}
 use Rattle.pc_flow.specs.Stored.{env_of}
 use Rattle.pc_notes.specs.Notes.{Note, notes_of}
-use Rattle.pc_check.specs.ComputedStatements.{BindingResult}
+use Rattle.pc_labels.specs.ComputedStatements.{BindingResult}
 use Rattle.pc_check.specs.Internal.StatementWalk.{frame_with}
 use Rattle.pc_check.proofs.Bound.{known_holds, value_elsewhere}
 use Rattle.pc_check.proofs.Held.{types_kept, type_kept_if_any, want_well_formed}

@@ -15,9 +15,9 @@ use Rattle.pc_rules.specs.Standing.{HasSignature, signature_with}
 use Rattle.pc_rules.specs.WellFormed.{ContextWellFormed}
 use Rattle.pc_rules.proofs.Contexts.{bodies_well_formed}
 use Rattle.pc_check.specs.Internal.ModuleWalk.{module_in}
-use Rattle.pc_check.specs.ComputedStatements.{BodyFrame, function_finds}
+use Rattle.pc_labels.specs.ComputedStatements.{BodyFrame, function_finds}
 use Rattle.pc_check.proofs.ModuleSettings.{frame_is, names_mean}
-use Rattle.pc_check.proofs.WalkedModule.{constants_well_formed}
+use Rattle.pc_labels.proofs.WalkedModule.{constants_well_formed}
 use Rattle.pc_check.proofs.bodies.check_body.Goals as goal
 
 pub check_function-requires-clause-body : goal.check_function-requires-clause-body

@@ -1,7 +1,7 @@
 use Rattle.std.proofs.Common.{◌∙◌, sym, subst}
 use Rattle.std.specs.Prelude.{Some, slice_set}
 use Rattle.pc_flow.specs.Stored.{env_of}
-use Rattle.pc_check.specs.ComputedStatements.{enter_name}
+use Rattle.pc_labels.specs.ComputedStatements.{enter_name}
 use Rattle.pc_check.specs.Internal.Entry.{GivesEntry}
 use Rattle.pc_check.proofs.Entered.{local_entered, none_copied}
 use Rattle.pc_check.proofs.entering.enter_name.Goals as goal

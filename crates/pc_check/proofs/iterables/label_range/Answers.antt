@@ -12,7 +12,7 @@ use Rattle.pc_rules.specs.Operations.{Mark}
 use Rattle.pc_rules.specs.Calls.{arguments_given, range_item, range_offers, positional_seat, named_seat, call_mark}
 use Rattle.pc_rules.specs.Found.{codes_at}
 use Rattle.pc_rules.specs.Standing.{Standing, IsMark, arguments_find, keywords_find}
-use Rattle.pc_check.specs.ComputedStatements.{at, item_mark_of}
+use Rattle.pc_labels.specs.ComputedStatements.{at, item_mark_of}
 use Rattle.pc_check.specs.Internal.StatementWalk.{frame_with, context_in, GivesLabel}
 use Rattle.pc_check.proofs.Held.{declared_is, declared_well_formed}
 use Rattle.pc_check.proofs.Iterating.{range_items, range_found, range_well_formed}

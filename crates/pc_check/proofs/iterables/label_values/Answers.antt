@@ -8,9 +8,9 @@ use Rattle.pc_flow.specs.Stored.{env_of}
 use Rattle.pc_rules.specs.Operations.{Mark, offers_mark, iterate_member}
 use Rattle.pc_rules.specs.Standing.{IsMark}
 use Rattle.pc_operate.proofs.Offering.{entries_kept}
-use Rattle.pc_check.specs.ComputedStatements.{at, values_item}
+use Rattle.pc_labels.specs.ComputedStatements.{at, values_item}
 use Rattle.pc_check.specs.Internal.StatementWalk.{frame_with, GivesLabel}
-use Rattle.pc_check.proofs.StoredTypes.{turns_well_formed}
+use Rattle.pc_labels.proofs.StoredTypes.{turns_well_formed}
 use Rattle.pc_check.proofs.iterables.label_values.Goals as goal
 
 pub item_label-requires-clause-classes : goal.item_label-requires-clause-classes

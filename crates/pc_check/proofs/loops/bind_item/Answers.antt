@@ -8,7 +8,7 @@ use Rattle.pc_types.specs.Tree.{Tree}
 use Rattle.pc_flow.specs.Stored.{env_of}
 use Rattle.pc_notes.specs.Notes.{notes_of}
 use Rattle.pc_rules.specs.Operations.{clean}
-use Rattle.pc_check.specs.ComputedStatements.{bind_item, bind_label, bound_type}
+use Rattle.pc_labels.specs.ComputedStatements.{bind_item, bind_label, bound_type}
 use Rattle.pc_check.specs.Internal.StatementWalk.{frame_with, GivesBound}
 use Rattle.pc_check.proofs.Bound.{known_holds, known_bound}
 use Rattle.pc_check.proofs.loops.bind_item.Goals as goal

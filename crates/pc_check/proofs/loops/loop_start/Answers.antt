@@ -3,8 +3,8 @@ use Rattle.std.specs.Prelude.{IfOk, Bool as Test, false, nat_eq, slice_index_or}
 use Rattle.std.specs.List.{list_any}
 use Rattle.pc_flow.specs.Environment.{loop_head}
 use Rattle.pc_flow.specs.Stored.{env_of}
-use Rattle.pc_check.specs.Statements.{binds_number}
-use Rattle.pc_check.specs.ComputedStatements.{type_table}
+use Rattle.pc_labels.specs.Statements.{binds_number}
+use Rattle.pc_labels.specs.ComputedStatements.{type_table}
 use Rattle.pc_check.specs.Internal.StatementWalk.{GivesTypes}
 use Rattle.pc_check.proofs.Numbers.{numbers_bind}
 use Rattle.pc_check.proofs.loops.loop_start.Goals as goal

@@ -4,7 +4,7 @@ use Rattle.pc_scope.specs.Bindings.{classes_in, functions_in}
 use Rattle.pc_notes.specs.Notes.{notes_of}
 use Rattle.pc_rules.specs.SignaturesFound.{constants_of}
 use Rattle.pc_check.specs.Internal.ModuleWalk.{module_in, IsModuleSetting}
-use Rattle.pc_check.specs.ComputedModules.{bodies_find}
+use Rattle.pc_labels.specs.ComputedModules.{bodies_find}
 use Rattle.pc_check.proofs.CheckedModules.{ItemsAt, items_next, class_here, def_here, constant_passed, class_passed, def_passed}
 use Rattle.pc_check.proofs.ModuleSettings.{setting_kept}
 use Rattle.pc_check.proofs.modules.check_bodies.Goals as goal

@@ -5,7 +5,7 @@ use Rattle.pc_types.specs.Store.{KeepsTypes}
 use Rattle.pc_notes.specs.Notes.{notes_of}
 use Rattle.pc_rules.specs.SignaturesFound.{constants_of}
 use Rattle.pc_check.specs.Internal.ModuleWalk.{module_in, IsModuleSetting}
-use Rattle.pc_check.specs.ComputedModules.{bodies_find}
+use Rattle.pc_labels.specs.ComputedModules.{bodies_find}
 use Rattle.pc_check.proofs.CheckedModules.{StandsFrom}
 use Rattle.pc_check.proofs.modules.check_bodies.Given as goal
 

@@ -5,7 +5,7 @@ use Rattle.pc_scope.specs.Resolution.{method_at}
 use Rattle.pc_notes.specs.Notes.{notes_of}
 use Rattle.pc_rules.specs.SignaturesFound.{constants_of}
 use Rattle.pc_check.specs.Internal.ModuleWalk.{module_in, IsModuleSetting}
-use Rattle.pc_check.specs.ComputedModules.{methods_find}
+use Rattle.pc_labels.specs.ComputedModules.{methods_find}
 use Rattle.pc_check.proofs.CheckedModules.{MembersAt, members_next, method_here, field_passed, method_passed}
 use Rattle.pc_check.proofs.ModuleSettings.{setting_kept}
 use Rattle.pc_check.proofs.modules.check_methods.Goals as goal

@@ -3,7 +3,7 @@ use Rattle.pc_tree.specs.Tree.{stmts_of_list}
 use Rattle.pc_tree.specs.Lists.{branches_of_list}
 use Rattle.pc_types.specs.Store.{KeepsTypes}
 use Rattle.pc_notes.specs.Notes.{notes_of}
-use Rattle.pc_check.specs.ComputedStatements.{walk_suite, walk_branches}
+use Rattle.pc_labels.specs.ComputedStatements.{walk_suite, walk_branches}
 use Rattle.std.specs.Prelude.{None}
 use Rattle.pc_check.specs.Internal.StatementWalk.{frame_with, walk_with, forked_with, HoldsTypes, HoldsTypesIfAny}
 use Rattle.pc_check.proofs.statements.+statements.Given as goal

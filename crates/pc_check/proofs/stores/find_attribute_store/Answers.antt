@@ -10,10 +10,10 @@ use Rattle.pc_rules.specs.Operations.{Mark, StoreOffer, stored_types}
 use Rattle.pc_rules.specs.Standing.{mark_in, finds_in}
 use Rattle.pc_operate.specs.Storing.{HasStoreOffer, store_offer_with}
 use Rattle.pc_operate.proofs.Offering.{entries_kept}
-use Rattle.pc_check.specs.ComputedStatements.{at, stored_finds, attribute_stores}
+use Rattle.pc_labels.specs.ComputedStatements.{at, stored_finds, attribute_stores}
 use Rattle.pc_check.specs.Internal.StatementWalk.{frame_with}
 use Rattle.pc_check.proofs.Held.{types_kept, frame_kept}
-use Rattle.pc_check.proofs.StoredTypes.{fields_stored}
+use Rattle.pc_labels.proofs.StoredTypes.{fields_stored}
 use Rattle.pc_check.proofs.stores.find_attribute_store.Goals as goal
 
 pub store_offers-requires-clause-classes : goal.store_offers-requires-clause-classes

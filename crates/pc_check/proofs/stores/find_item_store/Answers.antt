@@ -13,10 +13,10 @@ use Rattle.pc_rules.specs.Standing.{mark_in, finds_in}
 use Rattle.pc_operate.specs.Storing.{HasStoreOffer, store_offer_with}
 use Rattle.pc_operate.proofs.Offering.{entries_kept}
 use Rattle.pc_operate.proofs.Storing.{all_stores_kept}
-use Rattle.pc_check.specs.ComputedStatements.{at, stored_finds, index_stores}
+use Rattle.pc_labels.specs.ComputedStatements.{at, stored_finds, index_stores}
 use Rattle.pc_check.specs.Internal.StatementWalk.{frame_with}
 use Rattle.pc_check.proofs.Held.{types_kept, frame_kept}
-use Rattle.pc_check.proofs.StoredTypes.{items_stored}
+use Rattle.pc_labels.proofs.StoredTypes.{items_stored}
 use Rattle.pc_check.proofs.FoundStores.{pushed_along}
 use Rattle.pc_check.proofs.stores.find_item_store.Goals as goal
 

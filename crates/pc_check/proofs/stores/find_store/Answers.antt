@@ -3,7 +3,7 @@ use Rattle.std.specs.Prelude.{OnOk}
 use Rattle.pc_tree.specs.Tree.{Target, expr_of, target_of}
 use Rattle.pc_flow.specs.Stored.{env_of}
 use Rattle.pc_notes.specs.Notes.{notes_of}
-use Rattle.pc_check.specs.ComputedStatements.{at, store_finds}
+use Rattle.pc_labels.specs.ComputedStatements.{at, store_finds}
 use Rattle.pc_check.specs.Internal.StatementWalk.{frame_with}
 use Rattle.pc_check.proofs.stores.find_store.Goals as goal
 

@@ -7,7 +7,7 @@ use Rattle.pc_types.specs.Tree.{Tree}
 use Rattle.pc_flow.specs.Stored.{env_of}
 use Rattle.pc_notes.specs.Notes.{notes_of}
 use Rattle.pc_rules.specs.Standing.{IsMark, mark_in, finds_in}
-use Rattle.pc_check.specs.ComputedStatements.{at}
+use Rattle.pc_labels.specs.ComputedStatements.{at}
 use Rattle.pc_check.specs.Internal.StatementWalk.{frame_with, context_in, GivesLabel}
 use Rattle.pc_check.proofs.Held.{declared_is, declared_well_formed, table_well_formed, gives_label, want_well_formed, want_given}
 use Rattle.pc_check.proofs.typing.type_in.Goals as goal

@@ -4,7 +4,7 @@ use Rattle.pc_tree.specs.Tree.{stmt_of_kind}
 use Rattle.pc_tree.specs.Stopping.{bound_by_stmt}
 use Rattle.pc_scope.specs.Internal.WalkViews.{name_seen}
 use Rattle.pc_flow.specs.Stored.{env_of}
-use Rattle.pc_check.specs.ComputedStatements.{Table}
+use Rattle.pc_labels.specs.ComputedStatements.{Table}
 use Rattle.pc_check.specs.Internal.StatementWalk.{frame_with, numbers_of, unreached_numbers, GivesTypes}
 use Rattle.pc_check.proofs.Numbers.{unreached_by}
 use Rattle.pc_check.proofs.unreached.declare_unreached.Goals as goal

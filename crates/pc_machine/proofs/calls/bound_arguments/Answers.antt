@@ -7,7 +7,7 @@ use Rattle.pc_value.specs.Meaning.{value_of}
 use Rattle.pc_value.specs.Internal.Keys.{option_value}
 use Rattle.pc_machine.specs.State.{Local}
 use Rattle.pc_machine.specs.Calls.{filled_parameters, value_taken, and_others}
-use Rattle.pc_machine.specs.Machine.{parameter_of, named_of, local_of}
+use Rattle.pc_machine.specs.Machine.{parameter_of, named_of, value_if_any, local_of}
 use Rattle.pc_machine.proofs.Lists.{before, too_many}
 use Rattle.pc_machine.proofs.Filling.{at_position, next_filled, value_before}
 use Rattle.pc_machine.proofs.calls.bound_arguments.Goals as goal
@@ -22,9 +22,9 @@ returns-in-None c =
     let ls = map local_of c.loop-i.locals.items in
     let rest = filled_parameters (map parameter_of (drop (i + 1) ps)) (map value_of (drop (i + 1) vs)) ns in
     let by_name = ap option_value (c.copied.ensures ∙ c.get-in-loop-i.ensures.value) ∙ c.in_ok-by_name.ensures p.name.now in
-    let by_position = at_position vs i c.get.result c.get.ensures.lookup.1 c.get.ensures.lookup.3 in
+    let by_position = at_position _ vs i c.get.result c.get.ensures.lookup.1 c.get.ensures.lookup.3 in
     let takes = c.in_ok-value.ensures ∙ ap (λ (o : Option Value). value_taken (parameter_of p) o (option_value c.copied.result)) by_position ∙ ap (value_taken (parameter_of p) (option_map value_of (slice_get vs i))) by_name in
-    rw (← c.in_ok-are_parameters.ensures, c.if-not-branch.false) (sym (sym c.loop-i.invariant ∙ ap (before ls) (next_filled ps vs ns i p c.loop-i-test.true c.index-parameters-i.is) ∙ ap (λ (o : Option Value). before ls (and_others (parameter_of p) o rest)) (sym takes ∙ ap item_of c.in-None.is)))
+    rw (← c.in_ok-are_parameters.ensures, c.if-not-branch.false) (sym (sym c.loop-i.invariant ∙ ap (before ls) (next_filled ps vs ns i p c.loop-i-test.true c.index-parameters-i.is) ∙ ap (λ (o : Option Value). before ls (and_others (parameter_of p) o rest)) (sym takes ∙ ap value_if_any c.in-None.is)))
 
 pub loop-i-preserved : goal.loop-i-preserved
 loop-i-preserved c =
@@ -36,11 +36,11 @@ loop-i-preserved c =
     let ls = map local_of c.loop-i.locals.items in
     let rest = filled_parameters (map parameter_of (drop (i + 1) ps)) (map value_of (drop (i + 1) vs)) ns in
     let by_name = ap option_value (c.copied.ensures ∙ c.get-in-loop-i.ensures.value) ∙ c.in_ok-by_name.ensures p.name.now in
-    let by_position = at_position vs i c.get.result c.get.ensures.lookup.1 c.get.ensures.lookup.3 in
+    let by_position = at_position _ vs i c.get.result c.get.ensures.lookup.1 c.get.ensures.lookup.3 in
     let takes = c.in_ok-value.ensures ∙ ap (λ (o : Option Value). value_taken (parameter_of p) o (option_value c.copied.result)) by_position ∙ ap (value_taken (parameter_of p) (option_map value_of (slice_get vs i))) by_name in
     ap (λ (xs : List Local). before xs rest) (ap (map local_of) c.in_ok-push-in-Some.ensures.items ∙ map-append local_of c.loop-i.locals.items _)
     ∙ sym (value_before ls (parameter_of p) (value_of c.in-Some.value) rest)
-    ∙ ap (λ (o : Option Value). before ls (and_others (parameter_of p) o rest)) (sym (ap item_of c.in-Some.is) ∙ takes)
+    ∙ ap (λ (o : Option Value). before ls (and_others (parameter_of p) o rest)) (sym (ap value_if_any c.in-Some.is) ∙ takes)
     ∙ sym (ap (before ls) (next_filled ps vs ns i p c.loop-i-test.true c.index-parameters-i.is))
     ∙ c.loop-i.invariant
 

@@ -1,4 +1,4 @@
-use Rattle.std.proofs.Common.{◌≡◌, ◌++◌, List}
+use Rattle.std.proofs.Common.{◌≡◌, List, take}
 use Rattle.std.specs.List.{AllByRecursion}
 use Rattle.pc_source.specs.Lines.{line_of, column_of}
 use Rattle.pc_report.specs.Report.{row_findings, IsPlaced, ExplainsRows}
@@ -7,7 +7,7 @@ use Rattle.pc_report.proofs.report.rows.Given as goal
 
 abbrev pub invariant-loop-finding : goal.invariant-loop-finding
 invariant-loop-finding l = record {
-  findings : row_findings l.rows.items ++ l.finding-iterator ≡ l.set.keys;
+  findings : row_findings l.rows.items ≡ take l.finding-index l.findings;
   placed : AllByRecursion (IsPlaced l.source) l.rows.items;
   explained : (listed : List FlowEntry) → HasFlows listed l.flows → ExplainsRows listed l.rows.items;
   text : l.text ≡ l.source;

@@ -6,7 +6,7 @@ use Rattle.pc_class.specs.OverrideFindings.{override_findings}
 use Rattle.pc_class.proofs.ClassOverrides.{entries_keep}
 use Rattle.pc_notes.specs.declared.notes.Entry.{Entry}
 use Rattle.pc_notes.specs.Notes.{plain_note, notes_of}
-use Rattle.pc_check.specs.ComputedModules.{module_finds}
+use Rattle.pc_labels.specs.ComputedModules.{module_finds}
 use Rattle.pc_top.proofs.ModuleFindings.{exactly, same_flows}
 use Rattle.pc_top.proofs.checking.findings_by.Goals as goal
 

@@ -1,5 +1,0 @@
-use Rattle.pc_check.proofs.LabelledStatements.{stmt_labelled, suite_labelled}
-use Rattle.pc_check.proofs.laws.suites_have_labels.Goals as goal
-
-pub returns : goal.returns
-returns c = record { statement = stmt_labelled; suite = suite_labelled }

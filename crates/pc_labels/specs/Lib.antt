@@ -1,0 +1,10 @@
+pub mod Agreement
+pub mod ComputedModules
+pub mod ComputedStatements
+pub mod DynamicFlows
+pub mod LabellingLaws
+pub mod ModuleLaw
+pub mod Modules
+pub mod StatementLabels
+pub mod Statements
+pub mod WalkLaw

@@ -1,0 +1,70 @@
+//! The laws on lawful labellings of statements and modules.
+
+ghost use Rattle.pc_tree.specs.declared.code.Finding.{Finding};
+ghost use Rattle.pc_tree.specs.Tree.{Module};
+ghost use Rattle.pc_scope.specs.Findings.{ScopeFinds};
+ghost use Rattle.pc_labels.specs.Agreement.{AgreesWithScopes};
+ghost use Rattle.pc_labels.specs.LabellingLaws.{StatementsAreLabelled, SuitesAreLabelled, FunctionsAreLabelled, ClassesAreLabelled};
+ghost use Rattle.pc_labels.specs.WalkLaw.{WalksOfStatementsSayWhatLabelsSay, WalksOfSuitesSayWhatLabelsSay, BodiesFindWhatLabelsSay};
+ghost use Rattle.pc_labels.specs.ModuleLaw.{ConstantsHaveTheTypesOfLabels, ModulesFindWhatLabelsSay, ModulesFindWhatLabelsFind, FindingsOfModulesAreComputed};
+ghost use Rattle.pc_labels.specs.Modules.{Labelling, IsLawful, IsFinding, HasLabelling, HasOneLabelling, HasExactlyOneLabelling};
+
+/// The law that a module has at most one lawful labelling.
+pub fn one_labelling()
+    ensures { (m : Module) → HasOneLabelling m }
+{}
+
+/// The law that each statement and each suite has lawful labels, from a table of declared types and an environment that go by
+/// the names bound so far, of types in normal form, without absorbed members and of at most 256 nodes; and behind it the
+/// table and the environment are so again.
+pub fn suites_have_labels()
+    ensures statement { StatementsAreLabelled }
+    ensures suite { SuitesAreLabelled }
+{}
+
+/// The law that each function, and the members of each class, have lawful labels, where the types of the constants are in
+/// normal form, without absorbed members and of at most 256 nodes.
+pub fn functions_have_labels()
+    ensures function { FunctionsAreLabelled }
+    ensures members { ClassesAreLabelled }
+{}
+
+/// The law that each module has a lawful labelling.
+pub fn every_module_has_a_labelling()
+    ensures { (m : Module) → HasLabelling m }
+{}
+
+/// The law that each module has exactly one lawful labelling.
+pub fn every_module_has_exactly_one_labelling()
+    ensures { (m : Module) → HasExactlyOneLabelling m }
+{}
+
+/// The law that the findings of scopes are findings of a module.
+pub fn findings_of_scopes()
+    ensures { (m : Module) (f : Finding) → ScopeFinds m f → IsFinding m f }
+{}
+
+/// The law that a lawful labelling says E02 and E03 where scopes find them, and nowhere else. So each is found of scopes
+/// alone, and labels have them for their types.
+pub fn labels_agree_with_scopes()
+    ensures { (m : Module) (marks : Labelling m) → IsLawful m marks → AgreesWithScopes m marks }
+{}
+
+/// The law that a walk over a statement, and over a suite, comes to what any lawful labels of it say: from a table of declared
+/// types and an environment that fit them, to the environments of the labels; and that it finds just what stands under them,
+/// but for what is found of scopes. So does the walk over the body of a function, with E21 at its name.
+pub fn walks_say_what_labels_say()
+    ensures statement { WalksOfStatementsSayWhatLabelsSay }
+    ensures suite { WalksOfSuitesSayWhatLabelsSay }
+    ensures body { BodiesFindWhatLabelsSay }
+{}
+
+/// The law that what is computed of a module is what its lawful labelling says: the types of its constants are those of the
+/// labels; and the walks over its signatures, its constants and its bodies find just what stands under the labels, but for
+/// what is found of scopes. So the findings of a module are those of scopes, those of classes, and what these walks find.
+pub fn modules_find_what_labels_say()
+    ensures constants { ConstantsHaveTheTypesOfLabels }
+    ensures adds { ModulesFindWhatLabelsSay }
+    ensures found { ModulesFindWhatLabelsFind }
+    ensures all { FindingsOfModulesAreComputed }
+{}

@@ -1,0 +1,10 @@
+//! The labelling of statements, functions, classes and modules: definitions and laws.
+#![tactic(auto)]
+
+mod laws;
+
+pub use laws::{
+    every_module_has_a_labelling, every_module_has_exactly_one_labelling, findings_of_scopes,
+    functions_have_labels, labels_agree_with_scopes, modules_find_what_labels_say, one_labelling,
+    suites_have_labels, walks_say_what_labels_say,
+};
