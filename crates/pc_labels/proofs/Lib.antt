@@ -13,11 +13,13 @@ pub mod LocalNames
 pub mod Marked
 pub mod OneModule
 pub mod OneStatement
+pub mod ReturnedValues
 pub mod SaidByStatements
 pub mod SaidInStatements
 pub mod Scopes
 pub mod StoredTypes
 pub mod Tables
+pub mod UnassignedBehind
 pub mod WalkedBindings
 pub mod WalkedEnvironments
 pub mod WalkedExpressions

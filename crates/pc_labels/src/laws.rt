@@ -1,8 +1,17 @@
 //! The laws on lawful labellings of statements and modules.
 
+ghost use Rattle.std.specs.Prelude.{◌≡◌, ℕ, List, None, Option, Some};
+ghost use Rattle.pc_source.specs.declared.place.Place.{Place};
 ghost use Rattle.pc_tree.specs.declared.code.Finding.{Finding};
-ghost use Rattle.pc_tree.specs.Tree.{Module};
+ghost use Rattle.pc_tree.specs.Tree.{Expr, Module, Name, Stmts, for_loop, returns};
 ghost use Rattle.pc_scope.specs.Findings.{ScopeFinds};
+ghost use Rattle.pc_types.specs.Tree.{Tree};
+ghost use Rattle.pc_types.specs.Below.{Static};
+ghost use Rattle.pc_flow.specs.Environment.{Env, current};
+ghost use Rattle.pc_rules.specs.Context.{Context};
+ghost use Rattle.pc_rules.specs.Labels.{type_of};
+ghost use Rattle.pc_labels.specs.StatementLabels.{StmtMarks};
+ghost use Rattle.pc_labels.specs.Statements.{LawfulStmt, NamesBound, StmtFinds};
 ghost use Rattle.pc_labels.specs.Agreement.{AgreesWithScopes};
 ghost use Rattle.pc_labels.specs.LabellingLaws.{StatementsAreLabelled, SuitesAreLabelled, FunctionsAreLabelled, ClassesAreLabelled};
 ghost use Rattle.pc_labels.specs.WalkLaw.{WalksOfStatementsSayWhatLabelsSay, WalksOfSuitesSayWhatLabelsSay, BodiesFindWhatLabelsSay};
@@ -48,6 +57,20 @@ pub fn findings_of_scopes()
 /// alone, and labels have them for their types.
 pub fn labels_agree_with_scopes()
     ensures { (m : Module) (marks : Labelling m) → IsLawful m marks → AgreesWithScopes m marks }
+{}
+
+/// The law that a local that is not assigned before a `for` is not assigned behind it, its target among them: the loop may
+/// take no turn.
+pub fn loops_may_take_no_turn()
+    ensures { (m : Module) (ctx : Context) (declared : List Tree) (returned : Tree) (seen : NamesBound) (env after : Env) (p : Place) (n : Name) (e : Expr) (b : Stmts) (marks : StmtMarks (for_loop p n e b)) (x : ℕ)
+        → LawfulStmt m ctx declared returned seen env (for_loop p n e b) marks (Some after) → current env x ≡ None → current after x ≡ None }
+{}
+
+/// The law that where nothing is found at a `return`, the type of its value is static to the return type.
+pub fn returned_values_flow()
+    ensures { (m : Module) (ctx : Context) (declared : List Tree) (returned : Tree) (seen : NamesBound) (env : Env) (out : Option Env) (p : Place) (e : Expr) (marks : StmtMarks (returns p (Some e)))
+        → LawfulStmt m ctx declared returned seen env (returns p (Some e)) marks out → ((f : Finding) → ¬ (StmtFinds m ctx seen (returns p (Some e)) marks f))
+        → Static ctx.bases (type_of e marks.value) returned }
 {}
 
 /// The law that a walk over a statement, and over a suite, comes to what any lawful labels of it say: from a table of declared

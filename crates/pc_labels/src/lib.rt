@@ -5,6 +5,7 @@ mod laws;
 
 pub use laws::{
     every_module_has_a_labelling, every_module_has_exactly_one_labelling, findings_of_scopes,
-    functions_have_labels, labels_agree_with_scopes, modules_find_what_labels_say, one_labelling,
-    suites_have_labels, walks_say_what_labels_say,
+    functions_have_labels, labels_agree_with_scopes, loops_may_take_no_turn,
+    modules_find_what_labels_say, one_labelling, returned_values_flow, suites_have_labels,
+    walks_say_what_labels_say,
 };

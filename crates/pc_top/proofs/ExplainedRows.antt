@@ -1,6 +1,6 @@
 -- The rows of a report, whose flows are those of the notes of a module, are explained.
-use Rattle.std.proofs.Common.{◌≡◌, List, [], ◌∷◌, refl, sym, ap, ◌∙◌, subst, inl, inr, Contains, Option, Some, None}
-use Rattle.std.specs.Prelude.{MatchOption, IsSome, string_bytes, map}
+use Rattle.std.proofs.Common.{◌≡◌, zero, suc, List, [], ◌∷◌, refl, sym, ap, ◌∙◌, subst, inl, inr, arith, Contains, Option, Some, None}
+use Rattle.std.specs.Prelude.{◌⊎◌, MatchOption, IsSome, string_bytes, map}
 use Rattle.std.specs.List.{AllByRecursion}
 use Rattle.pc_source.specs.declared.place.Place.{Place}
 use Rattle.pc_tree.specs.declared.code.Code.TheVariants.{A1}
@@ -18,8 +18,22 @@ use Rattle.pc_report.specs.declared.flow.FlowTexts.{FlowTexts}
 use Rattle.pc_report.specs.declared.report.Row.{Row}
 use Rattle.pc_report.specs.Flows.{FlowEntry, IsListed, IsExplained}
 use Rattle.pc_report.specs.Report.{ExplainsRows, row_findings}
-use Rattle.pc_report.proofs.Members.{contains_here, contains_later, contains_cases, contains_none}
 use Rattle.pc_top.specs.Headline.{AreTextsOf, IsExplainedRow}
+
+-- membership in lists
+module _ {X : Type 0} where
+  contains_here : (y : X) (ys : List X) (x : X) → y ≡ x → Contains (y ∷ ys) x
+  contains_here y ys x e = (0, omega arith, e)
+
+  contains_later : (y : X) (ys : List X) (x : X) → Contains ys x → Contains (y ∷ ys) x
+  contains_later y ys x (k, h, e) = (suc k, omega arith, e)
+
+  contains_cases : (y : X) (ys : List X) (x : X) → Contains (y ∷ ys) x → (y ≡ x) ⊎ Contains ys x
+  contains_cases y ys x (zero, h, e) = inl e
+  contains_cases y ys x (suc k, h, e) = inr (k, omega arith, e)
+
+  contains_none : (x : X) → Contains [] x → ⊥
+  contains_none x (k, h, e) = absurd (omega arith)
 
 -- what holds of each holds of one of them
 holds_of : {X : Type 0} (P : X → Type 0) (xs : List X) (x : X) → AllByRecursion P xs → Contains xs x → P x
