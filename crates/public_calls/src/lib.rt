@@ -32,6 +32,4 @@ mod token_list_tests;
 #[cfg(test)]
 mod traces;
 #[cfg(test)]
-mod type_tests;
-#[cfg(test)]
 mod words;
