@@ -1,5 +1,5 @@
--- The findings of an annotation as a list: the computed twin of AnnFinds, in the order in which a reader comes upon them.
--- Own rule of the profile.
+-- The findings of an annotation as a list: the computed twin of AnnFinds, in the order in which a reader comes upon
+-- them. Own rule of the profile.
 use Rattle.std.specs.Prelude.{◌↔◌, List, [], ◌∷◌, ◌++◌, if◌then◌else◌, nat_le, Option, Some, None, Contains}
 use Rattle.pc_source.specs.declared.place.Place.{Place}
 use Rattle.pc_tree.specs.declared.code.Code.{Code}
@@ -14,7 +14,8 @@ use Rattle.pc_scope.specs.Resolution.{resolve_in_module}
 use Rattle.pc_types.specs.Tree.{Tree}
 use Rattle.pc_types.specs.Below.{Bases}
 use Rattle.pc_types.specs.Shape.{nodes, node_limit}
-use Rattle.pc_types.specs.Annotations.{named_type, applied_type, empty_type, union_type, reading, readings, AnnFinds, OptionAnnFinds}
+use Rattle.pc_types.specs.Annotations.{named_type, applied_type, empty_type, union_type, reading, readings, AnnFinds}
+use Rattle.pc_types.specs.Annotations.{OptionAnnFinds}
 
 -- annotations of the program, as trees
 abbrev pub anns_of_list : List RustAnn → Anns
@@ -38,9 +39,12 @@ module _ (m : Module) (bases : Bases) where
     pub part_findings : Ann → List Finding
     part_findings (named n) = without_type (named_type m.imports_any (resolve_in_module m n.text)) n.place E09
     part_findings (none_type p) = []
-    part_findings (applied p head arguments) = inside_type (applied_type (resolve_in_module m head.text) (readings m bases arguments)) p (parts_findings arguments)
+    part_findings (applied p head arguments) =
+        inside_type (applied_type (resolve_in_module m head.text) (readings m bases arguments)) p
+        (parts_findings arguments)
     part_findings (applied_empty p head) = without_type (empty_type (resolve_in_module m head.text)) p E09
-    part_findings (tree.union p parts) = parts_findings parts ++ without_type (union_type bases (readings m bases parts)) p E10
+    part_findings (tree.union p parts) = parts_findings parts
+        ++ without_type (union_type bases (readings m bases parts)) p E10
 
     -- E09 and E10 in several parts, in their order
     pub parts_findings : Anns → List Finding
@@ -49,7 +53,8 @@ module _ (m : Module) (bases : Bases) where
 
   -- the findings of an annotation
   abbrev pub ann_findings : Ann → List Finding
-  ann_findings a = part_findings a ++ (if nat_le (nodes (reading m bases a)) node_limit then [] else finding (place_of_ann a) E26 ∷ [])
+  ann_findings a = part_findings a
+      ++ (if nat_le (nodes (reading m bases a)) node_limit then [] else finding (place_of_ann a) E26 ∷ [])
 
   -- the findings of an annotation, none where there is none
   abbrev pub option_findings : Option Ann → List Finding
@@ -58,8 +63,10 @@ module _ (m : Module) (bases : Bases) where
 
 -- the list of the findings of an annotation has exactly those
 abbrev pub AnnFindingsAreListed : Type 0
-AnnFindingsAreListed = (m : Module) (bases : Bases) (a : Ann) (f : Finding) → Contains (ann_findings m bases a) f ↔ AnnFinds m bases a f
+AnnFindingsAreListed = (m : Module) (bases : Bases) (a : Ann) (f : Finding)
+    → Contains (ann_findings m bases a) f ↔ AnnFinds m bases a f
 
 -- and so where an annotation may be left out
 abbrev pub OptionalFindingsAreListed : Type 0
-OptionalFindingsAreListed = (m : Module) (bases : Bases) (a : Option Ann) (f : Finding) → Contains (option_findings m bases a) f ↔ OptionAnnFinds m bases a f
+OptionalFindingsAreListed = (m : Module) (bases : Bases) (a : Option Ann) (f : Finding)
+    → Contains (option_findings m bases a) f ↔ OptionAnnFinds m bases a f

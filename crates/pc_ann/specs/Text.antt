@@ -3,7 +3,8 @@
 use Rattle.std.specs.Prelude.{ℕ, zero, suc, List, [], ◌∷◌, ◌++◌, map, Option, Some, None, codes, slice_get}
 use Rattle.pc_tree.specs.Tree.{ClassDef, Module}
 use Rattle.pc_scope.specs.Bindings.{classes_in}
-use Rattle.pc_types.specs.Tree.{Tree, Trees, Any, Object, Never, Int, Bool, Str, NoneType, Class, ListOf, DictOf, TupleOf, Union, end, more}
+use Rattle.pc_types.specs.Tree.{Tree, Trees, Any, Object, Never, Int, Bool, Str, NoneType, Class, ListOf, DictOf}
+use Rattle.pc_types.specs.Tree.{TupleOf, Union, end, more}
 use Rattle.pc_types.specs.Shape.{parts}
 use Rattle.pc_types.specs.declared.head.Head.{Head}
 use Rattle.pc_types.specs.declared.head.Head.TheVariants as heads

@@ -65,7 +65,8 @@ pub(crate) fn empty_tuple<S: TypeStore>(
     alloc: Global,
     meaning: Res,
 ) -> Result<Option<Reading<S::Ty>>, OutOfMemory>
-    ensures value { IfOk result (λ r. IsReadAny S.has S.tree store.new (option_map (λ x. (x.head, x.ty)) r) (empty_type meaning)) }
+    ensures value { IfOk result
+        (λ r. IsReadAny S.has S.tree store.new (option_map (λ x. (x.head, x.ty)) r) (empty_type meaning)) }
     ensures kept { KeepsTypes S.has store.old store.new }
 {
     match meaning {
@@ -88,8 +89,12 @@ fn list_of<S: TypeStore>(
     parts: &[Ann],
     arguments: &Readings<S::Ty>,
 ) -> Result<Option<Reading<S::Ty>>, OutOfMemory>
-    requires { AreRead S.has S.tree store.old arguments.now.heads.items arguments.now.types (readings (module_of setting.now.tree.now) setting.now.parents.now (anns_of_list parts.now)) }
-    ensures value { IfOk result (λ r. IsReadAny S.has S.tree store.new (option_map (λ x. (x.head, x.ty)) r) (built_type builtin.List (readings (module_of setting.now.tree.now) setting.now.parents.now (anns_of_list parts.now)))) }
+    requires { AreRead S.has S.tree store.old arguments.now.heads.items arguments.now.types
+        (readings (module_of setting.now.tree.now) setting.now.parents.now (anns_of_list parts.now)) }
+    ensures value { IfOk result
+        (λ r. IsReadAny S.has S.tree store.new (option_map (λ x. (x.head, x.ty)) r)
+        (built_type builtin.List
+        (readings (module_of setting.now.tree.now) setting.now.parents.now (anns_of_list parts.now)))) }
     ensures kept { KeepsTypes S.has store.old store.new }
 {
     if arguments.heads.len() != 1 {
@@ -113,8 +118,12 @@ fn dict_of<S: TypeStore>(
     parts: &[Ann],
     arguments: &Readings<S::Ty>,
 ) -> Result<Option<Reading<S::Ty>>, OutOfMemory>
-    requires { AreRead S.has S.tree store.old arguments.now.heads.items arguments.now.types (readings (module_of setting.now.tree.now) setting.now.parents.now (anns_of_list parts.now)) }
-    ensures value { IfOk result (λ r. IsReadAny S.has S.tree store.new (option_map (λ x. (x.head, x.ty)) r) (built_type builtin.Dict (readings (module_of setting.now.tree.now) setting.now.parents.now (anns_of_list parts.now)))) }
+    requires { AreRead S.has S.tree store.old arguments.now.heads.items arguments.now.types
+        (readings (module_of setting.now.tree.now) setting.now.parents.now (anns_of_list parts.now)) }
+    ensures value { IfOk result
+        (λ r. IsReadAny S.has S.tree store.new (option_map (λ x. (x.head, x.ty)) r)
+        (built_type builtin.Dict
+        (readings (module_of setting.now.tree.now) setting.now.parents.now (anns_of_list parts.now)))) }
     ensures kept { KeepsTypes S.has store.old store.new }
 {
     if arguments.heads.len() != 2 {
@@ -141,8 +150,12 @@ fn tuple_of<S: TypeStore>(
     parts: &[Ann],
     arguments: &Readings<S::Ty>,
 ) -> Result<Option<Reading<S::Ty>>, OutOfMemory>
-    requires { AreRead S.has S.tree store.old arguments.now.heads.items arguments.now.types (readings (module_of setting.now.tree.now) setting.now.parents.now (anns_of_list parts.now)) }
-    ensures value { IfOk result (λ r. IsReadAny S.has S.tree store.new (option_map (λ x. (x.head, x.ty)) r) (built_type builtin.Tuple (readings (module_of setting.now.tree.now) setting.now.parents.now (anns_of_list parts.now)))) }
+    requires { AreRead S.has S.tree store.old arguments.now.heads.items arguments.now.types
+        (readings (module_of setting.now.tree.now) setting.now.parents.now (anns_of_list parts.now)) }
+    ensures value { IfOk result
+        (λ r. IsReadAny S.has S.tree store.new (option_map (λ x. (x.head, x.ty)) r)
+        (built_type builtin.Tuple
+        (readings (module_of setting.now.tree.now) setting.now.parents.now (anns_of_list parts.now)))) }
     ensures kept { KeepsTypes S.has store.old store.new }
 {
     let count = arguments.heads.len();
@@ -169,8 +182,12 @@ pub(crate) fn apply<S: TypeStore>(
     parts: &[Ann],
     arguments: &Readings<S::Ty>,
 ) -> Result<Option<Reading<S::Ty>>, OutOfMemory>
-    requires { AreRead S.has S.tree store.old arguments.now.heads.items arguments.now.types (readings (module_of setting.now.tree.now) setting.now.parents.now (anns_of_list parts.now)) }
-    ensures value { IfOk result (λ r. IsReadAny S.has S.tree store.new (option_map (λ x. (x.head, x.ty)) r) (applied_type meaning (readings (module_of setting.now.tree.now) setting.now.parents.now (anns_of_list parts.now)))) }
+    requires { AreRead S.has S.tree store.old arguments.now.heads.items arguments.now.types
+        (readings (module_of setting.now.tree.now) setting.now.parents.now (anns_of_list parts.now)) }
+    ensures value { IfOk result
+        (λ r. IsReadAny S.has S.tree store.new (option_map (λ x. (x.head, x.ty)) r)
+        (applied_type meaning (readings (module_of setting.now.tree.now) setting.now.parents.now
+        (anns_of_list parts.now)))) }
     ensures kept { KeepsTypes S.has store.old store.new }
 {
     match meaning {

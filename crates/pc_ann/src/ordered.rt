@@ -42,7 +42,8 @@ fn place<S: TypeStore>(store: &S, types: &[S::Ty], ty: &S::Ty) -> usize
     requires types { All (S.has store.now) types.now }
     requires ty { S.has store.now ty.now }
     ensures within { result ≤ length types.now }
-    ensures placed { insert_member (S.tree ty.now) (map S.tree types.now) ≡ map S.tree (take result types.now) ++ (S.tree ty.now ∷ map S.tree (drop result types.now)) }
+    ensures placed { insert_member (S.tree ty.now) (map S.tree types.now)
+        ≡ map S.tree (take result types.now) ++ (S.tree ty.now ∷ map S.tree (drop result types.now)) }
 {
     for i in 0..types.len() {
         if stands_before(store, ty, &types[i]) {

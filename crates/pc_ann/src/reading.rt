@@ -91,8 +91,12 @@ pub(crate) fn read<S: TypeStore>(
     ann: &Ann,
 ) -> Result<Reading<S::Ty>, OutOfMemory>
     requires { AreScopes (module_of setting.now.tree.now) setting.now.scopes.now }
-    ensures typed { IfOk result (λ r. IsRead S.has S.tree store.new r.head r.ty (reading (module_of setting.now.tree.now) setting.now.parents.now (ann_of ann.now))) }
-    ensures pushed { OnOk result (found.new.items ≡ found.old.items ++ part_findings (module_of setting.now.tree.now) setting.now.parents.now (ann_of ann.now)) }
+    ensures typed { IfOk result
+        (λ r. IsRead S.has S.tree store.new r.head r.ty
+        (reading (module_of setting.now.tree.now) setting.now.parents.now (ann_of ann.now))) }
+    ensures pushed { OnOk result
+        (found.new.items ≡ found.old.items
+        ++ part_findings (module_of setting.now.tree.now) setting.now.parents.now (ann_of ann.now)) }
     ensures kept { KeepsTypes S.has store.old store.new }
 {
     match ann {
@@ -146,8 +150,12 @@ fn read_each<S: TypeStore>(
     parts: &[Ann],
 ) -> Result<Readings<S::Ty>, OutOfMemory>
     requires { AreScopes (module_of setting.now.tree.now) setting.now.scopes.now }
-    ensures typed { IfOk result (λ r. AreRead S.has S.tree store.new r.heads.items r.types (readings (module_of setting.now.tree.now) setting.now.parents.now (anns_of_list parts.now))) }
-    ensures pushed { OnOk result (found.new.items ≡ found.old.items ++ parts_findings (module_of setting.now.tree.now) setting.now.parents.now (anns_of_list parts.now)) }
+    ensures typed { IfOk result
+        (λ r. AreRead S.has S.tree store.new r.heads.items r.types
+        (readings (module_of setting.now.tree.now) setting.now.parents.now (anns_of_list parts.now))) }
+    ensures pushed { OnOk result
+        (found.new.items ≡ found.old.items
+        ++ parts_findings (module_of setting.now.tree.now) setting.now.parents.now (anns_of_list parts.now)) }
     ensures kept { KeepsTypes S.has store.old store.new }
 {
     let mut heads = Vec::new(alloc);

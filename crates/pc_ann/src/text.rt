@@ -63,7 +63,8 @@ fn write_type<S: TypeStore>(
     out: &mut String,
 ) -> Result<(), OutOfMemory>
     requires { S.has store.now ty.now }
-    ensures { OnOk result (string_bytes out.new ≡ string_bytes out.old ++ type_text (module_of tree.now) (S.tree ty.now)) }
+    ensures { OnOk result (string_bytes out.new
+        ≡ string_bytes out.old ++ type_text (module_of tree.now) (S.tree ty.now)) }
 {
     let head = store.head(ty);
     if let Some(text) = plain_text(tree, head) {
@@ -108,7 +109,8 @@ fn write_parts<S: TypeStore>(
     out: &mut String,
 ) -> Result<(), OutOfMemory>
     requires { S.has store.now ty.now }
-    ensures { OnOk result (string_bytes out.new ≡ string_bytes out.old ++ texts_with separator.now (part_texts (module_of tree.now) (S.tree ty.now))) }
+    ensures { OnOk result (string_bytes out.new
+        ≡ string_bytes out.old ++ texts_with separator.now (part_texts (module_of tree.now) (S.tree ty.now))) }
 {
     let parts = store.parts(alloc, ty)?;
     if parts.is_empty() {

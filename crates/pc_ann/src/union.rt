@@ -7,7 +7,8 @@ ghost use Rattle.pc_tree.specs.Tree.{module_of};
 ghost use Rattle.pc_types.specs.Store.{KeepsTypes};
 ghost use Rattle.pc_types.specs.Annotations.{union_type, readings};
 ghost use Rattle.pc_ann.specs.Listed.{anns_of_list};
-ghost use Rattle.pc_ann.specs.Internal.TypesRead.{AreRead, IsReadAny, is_member_head, head_absorbs, heads_apart, heads_make_union, united_head};
+ghost use Rattle.pc_ann.specs.Internal.TypesRead.{AreRead, IsReadAny, is_member_head, head_absorbs, heads_apart};
+ghost use Rattle.pc_ann.specs.Internal.TypesRead.{heads_make_union, united_head};
 
 use crate::ordered::{in_order, rank};
 use crate::reading::{Reading, Readings, Setting};
@@ -91,8 +92,12 @@ pub(crate) fn unite<S: TypeStore>(
     parts: &[Ann],
     types: Readings<S::Ty>,
 ) -> Result<Option<Reading<S::Ty>>, OutOfMemory>
-    requires { AreRead S.has S.tree store.old types.heads.items types.types (readings (module_of setting.now.tree.now) setting.now.parents.now (anns_of_list parts.now)) }
-    ensures value { IfOk result (λ r. IsReadAny S.has S.tree store.new (option_map (λ x. (x.head, x.ty)) r) (union_type setting.now.parents.now (readings (module_of setting.now.tree.now) setting.now.parents.now (anns_of_list parts.now)))) }
+    requires { AreRead S.has S.tree store.old types.heads.items types.types
+        (readings (module_of setting.now.tree.now) setting.now.parents.now (anns_of_list parts.now)) }
+    ensures value { IfOk result
+        (λ r. IsReadAny S.has S.tree store.new (option_map (λ x. (x.head, x.ty)) r)
+        (union_type setting.now.parents.now
+        (readings (module_of setting.now.tree.now) setting.now.parents.now (anns_of_list parts.now)))) }
     ensures kept { KeepsTypes S.has store.old store.new }
 {
     setting.parents.ordered();

@@ -24,8 +24,12 @@ fn read_whole<S: TypeStore>(
     ann: &Ann,
 ) -> Result<S::Ty, OutOfMemory>
     requires { AreScopes (module_of setting.now.tree.now) setting.now.scopes.now }
-    ensures typed { IfOk result (λ t. Means S.has S.tree store.new t (read_ann (module_of setting.now.tree.now) setting.now.parents.now (ann_of ann.now))) }
-    ensures pushed { OnOk result (found.new.items ≡ found.old.items ++ ann_findings (module_of setting.now.tree.now) setting.now.parents.now (ann_of ann.now)) }
+    ensures typed { IfOk result
+        (λ t. Means S.has S.tree store.new t
+        (read_ann (module_of setting.now.tree.now) setting.now.parents.now (ann_of ann.now))) }
+    ensures pushed { OnOk result
+        (found.new.items ≡ found.old.items
+        ++ ann_findings (module_of setting.now.tree.now) setting.now.parents.now (ann_of ann.now)) }
     ensures kept { KeepsTypes S.has store.old store.new }
 {
     let reading = read(setting, store, alloc, found, ann)?;
@@ -55,9 +59,13 @@ pub fn read_ann<S: TypeStore>(
     ann: &Ann,
 ) -> Result<S::Ty, OutOfMemory>
     requires { AreScopes (module_of tree.now) scopes.now }
-    ensures typed { IfOk result (λ t. Means S.has S.tree store.new t (read_ann (module_of tree.now) parents.now (ann_of ann.now))) }
-    ensures pushed { OnOk result (found.new.items ≡ found.old.items ++ ann_findings (module_of tree.now) parents.now (ann_of ann.now)) }
-    ensures found { OnOk result ((f : FindingOf) → Contains found.new.items f ↔ (Contains found.old.items f ⊎ AnnFinds (module_of tree.now) parents.now (ann_of ann.now) f)) }
+    ensures typed { IfOk result
+        (λ t. Means S.has S.tree store.new t (read_ann (module_of tree.now) parents.now (ann_of ann.now))) }
+    ensures pushed { OnOk result
+        (found.new.items ≡ found.old.items ++ ann_findings (module_of tree.now) parents.now (ann_of ann.now)) }
+    ensures found { OnOk result
+        ((f : FindingOf) → Contains found.new.items f
+        ↔ (Contains found.old.items f ⊎ AnnFinds (module_of tree.now) parents.now (ann_of ann.now) f)) }
     ensures kept { KeepsTypes S.has store.old store.new }
 {
     let setting = Setting {
@@ -80,9 +88,13 @@ pub fn read_option<S: TypeStore>(
     ann: &Option<Ann>,
 ) -> Result<S::Ty, OutOfMemory>
     requires { AreScopes (module_of tree.now) scopes.now }
-    ensures typed { IfOk result (λ t. Means S.has S.tree store.new t (read_option (module_of tree.now) parents.now (option_ann_of ann.now))) }
-    ensures pushed { OnOk result (found.new.items ≡ found.old.items ++ option_findings (module_of tree.now) parents.now (option_ann_of ann.now)) }
-    ensures found { OnOk result ((f : FindingOf) → Contains found.new.items f ↔ (Contains found.old.items f ⊎ OptionAnnFinds (module_of tree.now) parents.now (option_ann_of ann.now) f)) }
+    ensures typed { IfOk result
+        (λ t. Means S.has S.tree store.new t (read_option (module_of tree.now) parents.now (option_ann_of ann.now))) }
+    ensures pushed { OnOk result
+        (found.new.items ≡ found.old.items ++ option_findings (module_of tree.now) parents.now (option_ann_of ann.now)) }
+    ensures found { OnOk result
+        ((f : FindingOf) → Contains found.new.items f
+        ↔ (Contains found.old.items f ⊎ OptionAnnFinds (module_of tree.now) parents.now (option_ann_of ann.now) f)) }
     ensures kept { KeepsTypes S.has store.old store.new }
 {
     match ann {

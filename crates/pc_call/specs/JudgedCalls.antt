@@ -1,6 +1,7 @@
 -- What the programs that judge calls hold and answer, in terms of the definitions.
 -- Own rule of the profile.
-use Rattle.std.specs.Prelude.{◌≡◌, ◌||◌, ◌&&◌, not, ℕ, List, [], ◌∷◌, if◌then◌else◌, map, flat_map, Bool as Test, true, false, nat_eq, Option, Some, None, All, option_to_list, slice_get, bytes_eq}
+use Rattle.std.specs.Prelude.{◌≡◌, ◌||◌, ◌&&◌, not, ℕ, List, [], ◌∷◌, if◌then◌else◌, map, flat_map, Bool as Test, true}
+use Rattle.std.specs.Prelude.{false, nat_eq, Option, Some, None, All, option_to_list, slice_get, bytes_eq}
 use Rattle.std.specs.Option.{option_map}
 use Rattle.std.specs.Borrow.{Bor}
 use Rattle.indexmap.specs.IndexMap.{IndexMap, get_by}
@@ -19,7 +20,9 @@ use Rattle.pc_class.specs.declared.table.Parameter.{Parameter as RustParameter}
 use Rattle.pc_class.specs.Tables.{HasParameter}
 use Rattle.pc_flow.specs.Narrowing.{second_argument, test_of_argument}
 use Rattle.pc_rules.specs.Context.{Signature}
-use Rattle.pc_rules.specs.Calls.{GivenArguments, CallOffer, CallRule, member_rule, length_rule, test_rule, CalleeLabel, Seat, positional_seat, named_seat, builtin_signature, type_at, list_offers, dict_offers, fails_at_callee, second_code}
+use Rattle.pc_rules.specs.Calls.{GivenArguments, CallOffer, CallRule, member_rule, length_rule, test_rule, CalleeLabel}
+use Rattle.pc_rules.specs.Calls.{Seat, positional_seat, named_seat, builtin_signature, type_at, list_offers}
+use Rattle.pc_rules.specs.Calls.{dict_offers, fails_at_callee, second_code}
 use Rattle.pc_rules.specs.Found.{brief}
 use Rattle.pc_rules.specs.Standing.{mark_with, HasIfAny}
 use Rattle.pc_call.specs.declared.arguments.Given.{Given as RustGiven}
@@ -52,7 +55,9 @@ names_called ps = map (λ p. p.name.now) ps
 -- each parameter of what is called has a default, or an argument by name, which the first of a name takes
 abbrev pub filled_called : {Ty : Type 0} → List (List ℕ) → List (List ℕ) → List (Param Ty) → Test
 filled_called named before [] = true
-filled_called named before (p ∷ ps) = (p.has_default || (is_one_of p.name.now named && not (is_one_of p.name.now before))) && filled_called named (p.name.now ∷ before) ps
+filled_called named before (p ∷ ps) =
+    (p.has_default || (is_one_of p.name.now named && not (is_one_of p.name.now before)))
+    && filled_called named (p.name.now ∷ before) ps
 
 -- a place that was found is this one
 abbrev pub is_place : Option ℕ → ℕ → Test
@@ -211,7 +216,8 @@ other_offers bases g word _ = fails_at_callee E15 ∷ []
 
 -- the code at the second argument of a call of a rule, which only a test of an instance has
 abbrev pub second_code_of : (List ℕ → Res) → CallRule → Exprs → (early : Test) → Option Code
-second_code_of resolve test_rule arguments early = second_code (test_of_argument resolve (second_argument arguments)) early
+second_code_of resolve test_rule arguments early =
+    second_code (test_of_argument resolve (second_argument arguments)) early
 second_code_of resolve _ arguments early = None
 
 -- the seat of an argument by position or by name

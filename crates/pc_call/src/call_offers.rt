@@ -3,8 +3,10 @@
 ghost use Rattle.std.specs.Prelude.{◌≡◌, ◌++◌, ◌∷◌, [], None, map, All, IfOk, OnOk};
 ghost use Rattle.pc_types.specs.Tree.{Tree};
 ghost use Rattle.pc_types.specs.Store.{KeepsTypes};
-ghost use Rattle.pc_rules.specs.Calls.{signature_offer, plain_call, fails_at_call, fails_at_callee, value_offer, value_offers, builtin_signature};
-ghost use Rattle.pc_call.specs.JudgedCalls.{given_with, params_called, offer_called, HasParam, HasCallOffer, IsCallOffer, AreCallOffers};
+ghost use Rattle.pc_rules.specs.Calls.{signature_offer, plain_call, fails_at_call, fails_at_callee, value_offer};
+ghost use Rattle.pc_rules.specs.Calls.{value_offers, builtin_signature};
+ghost use Rattle.pc_call.specs.JudgedCalls.{given_with, params_called, offer_called, HasParam, HasCallOffer};
+ghost use Rattle.pc_call.specs.JudgedCalls.{IsCallOffer, AreCallOffers};
 
 use crate::arguments::Given;
 use crate::params::{Param, Params, is_suited, is_suited_by};
@@ -20,8 +22,8 @@ pub enum Called<'t, Ty: Drop> {
     Builtin(Vec<Ty>),
 }
 
-/// What a call comes to on one member: what is found at the callee and at the call, what it gives, and what it calls, if
-/// anything.
+/// What a call comes to on one member: what is found at the callee and at the call, what it gives, and what it calls,
+/// if anything.
 #[derive(Drop)]
 pub struct CallOffer<'t, Ty: Drop> {
     pub at_callee: Option<Code>,
@@ -88,7 +90,8 @@ pub fn fails_at_callee<'t, S: TypeStore>(
     })
 }
 
-/// A call of what has these parameters and returns this type: E14 where it does not suit. Language Reference 6.3.4 "Calls".
+/// A call of what has these parameters and returns this type: E14 where it does not suit. Language Reference 6.3.4
+/// "Calls".
 pub fn call_of<'t, S: TypeStore>(
     store: &mut S,
     alloc: Global,
@@ -98,7 +101,9 @@ pub fn call_of<'t, S: TypeStore>(
 ) -> Result<CallOffer<'t, S::Ty>, OutOfMemory>
     requires params { All (HasParam (S.has store.old)) params.items }
     requires returns { S.has store.old returns }
-    ensures offer { IfOk result (λ o. IsCallOffer S.has S.tree store.new o (signature_offer (given_with given.now) (params_called S.tree (S.tree returns) params.entry.items))) }
+    ensures offer { IfOk result
+        (λ o. IsCallOffer S.has S.tree store.new o
+        (signature_offer (given_with given.now) (params_called S.tree (S.tree returns) params.entry.items))) }
     ensures kept { KeepsTypes S.has store.old store.new }
 {
     let params = Params::new(alloc, given, params)?;
@@ -123,7 +128,9 @@ pub fn call_of_builtin<'t, S: TypeStore>(
 ) -> Result<CallOffer<'t, S::Ty>, OutOfMemory>
     requires types { All (S.has store.old) types.items }
     requires returns { S.has store.old returns }
-    ensures offer { IfOk result (λ o. IsCallOffer S.has S.tree store.new o (signature_offer (given_with given.now) (builtin_signature (map S.tree types.items) (S.tree returns)))) }
+    ensures offer { IfOk result
+        (λ o. IsCallOffer S.has S.tree store.new o
+        (signature_offer (given_with given.now) (builtin_signature (map S.tree types.items) (S.tree returns)))) }
     ensures kept { KeepsTypes S.has store.old store.new }
 {
     if !is_suited_by(given, types.len()) {
@@ -175,7 +182,9 @@ pub fn push_value_offers<'t, S: TypeStore>(
 ) -> Result<(), OutOfMemory>
     requires ty { S.has store.old ty.now }
     requires offers { All (HasCallOffer (S.has store.old)) offers.old.items }
-    ensures offers { OnOk result (AreCallOffers S.has S.tree store.new offers.new.items (map (offer_called S.tree) offers.old.items ++ value_offers (S.tree ty.now))) }
+    ensures offers { OnOk result
+        (AreCallOffers S.has S.tree store.new offers.new.items
+        (map (offer_called S.tree) offers.old.items ++ value_offers (S.tree ty.now))) }
     ensures kept { KeepsTypes S.has store.old store.new }
 {
     let members = store.members(alloc, ty)?;

@@ -5,7 +5,8 @@ ghost use Rattle.pc_tree.specs.declared.code.Code.TheVariants.{E14};
 ghost use Rattle.pc_types.specs.Store.{KeepsTypes};
 ghost use Rattle.pc_rules.specs.Operations.{Mark, in_error};
 ghost use Rattle.pc_rules.specs.Found.{brief};
-ghost use Rattle.pc_rules.specs.Calls.{plain_call, fails_at_call, value_callee, good_callee, own_callee, builtin_callee};
+ghost use Rattle.pc_rules.specs.Calls.{plain_call, fails_at_call, value_callee, good_callee, own_callee};
+ghost use Rattle.pc_rules.specs.Calls.{builtin_callee};
 ghost use Rattle.pc_rules.specs.Standing.{mark_with};
 ghost use Rattle.pc_call.specs.JudgedCalls.{given_with, offer_called, rule_of, HasCallOffer, IsCallee};
 
@@ -20,7 +21,8 @@ use pc_tree::Code;
 use pc_types::TypeStore;
 use std::alloc::Global;
 
-/// A callee: its label, the rule of its call, and what the call comes to on each member, none where the rule is another one.
+/// A callee: its label, the rule of its call, and what the call comes to on each member, none where the rule is another
+/// one.
 #[derive(Drop)]
 pub struct Callee<'t, Ty: Drop> {
     pub label: Label<Ty>,
@@ -35,7 +37,8 @@ pub fn callee_of_value<'t, S: TypeStore>(
     label: Label<S::Ty>,
 ) -> Result<Callee<'t, S::Ty>, OutOfMemory>
     requires { S.has store.old label.ty }
-    ensures callee { (m : Mark) → mark_with S.tree label ≡ brief m → IfOk result (λ c. IsCallee S.has S.tree store.new c (value_callee m)) }
+    ensures callee { (m : Mark) → mark_with S.tree label ≡ brief m
+        → IfOk result (λ c. IsCallee S.has S.tree store.new c (value_callee m)) }
     ensures kept { KeepsTypes S.has store.old store.new }
 {
     let mut offers = Vec::new(alloc);
@@ -67,7 +70,8 @@ pub fn good_callee<'t, S: TypeStore>(
     offer: CallOffer<'t, S::Ty>,
 ) -> Result<Callee<'t, S::Ty>, OutOfMemory>
     requires { HasCallOffer (S.has store.old) offer }
-    ensures callee { IfOk result (λ c. IsCallee S.has S.tree store.new c (good_callee (offer_called S.tree offer.entry ∷ []))) }
+    ensures callee { IfOk result
+        (λ c. IsCallee S.has S.tree store.new c (good_callee (offer_called S.tree offer.entry ∷ []))) }
     ensures kept { KeepsTypes S.has store.old store.new }
 {
     let any = store.any(alloc)?;
@@ -111,7 +115,9 @@ fn plain_callee<'t, S: TypeStore>(
     gives: S::Ty,
 ) -> Result<Callee<'t, S::Ty>, OutOfMemory>
     requires { S.has store.old gives }
-    ensures callee { IfOk result (λ c. IsCallee S.has S.tree store.new c (good_callee ((if suits then plain_call (S.tree gives) else fails_at_call E14) ∷ []))) }
+    ensures callee { IfOk result
+        (λ c. IsCallee S.has S.tree store.new c
+        (good_callee ((if suits then plain_call (S.tree gives) else fails_at_call E14) ∷ []))) }
     ensures kept { KeepsTypes S.has store.old store.new }
 {
     if suits {
@@ -141,7 +147,8 @@ pub fn callee_of_builtin<'t, S: TypeStore>(
     given: &Given,
     builtin: Builtin,
 ) -> Result<Callee<'t, S::Ty>, OutOfMemory>
-    ensures callee { IfOk result (λ c. IsCallee S.has S.tree store.new c (builtin_callee (given_with given.now) builtin)) }
+    ensures callee { IfOk result
+        (λ c. IsCallee S.has S.tree store.new c (builtin_callee (given_with given.now) builtin)) }
     ensures kept { KeepsTypes S.has store.old store.new }
 {
     match builtin {

@@ -64,7 +64,8 @@ pub fn call_codes<Ty: Drop>(
     alloc: Global,
     offers: &[CallOffer<'_, Ty>],
 ) -> Result<Vec<Code>, OutOfMemory>
-    ensures { (tree : Ty → Tree) → IfOk result (λ codes. codes.items ≡ once (call_codes (map (offer_called tree) offers.now))) }
+    ensures { (tree : Ty → Tree)
+        → IfOk result (λ codes. codes.items ≡ once (call_codes (map (offer_called tree) offers.now))) }
 {
     let at_callee = codes_at_callee(alloc, offers)?;
     if !are_none(&at_callee) {
@@ -82,7 +83,9 @@ fn join_given<S: TypeStore>(
     offers: &[CallOffer<'_, S::Ty>],
 ) -> Result<S::Ty, OutOfMemory>
     requires { All (HasCallOffer (S.has store.old)) offers.now }
-    ensures value { IfOk result (λ t. Means S.has S.tree store.new t (join_all parents.now (map (λ o. o.gives) (map (offer_called S.tree) offers.now)))) }
+    ensures value { IfOk result
+        (λ t. Means S.has S.tree store.new t
+        (join_all parents.now (map (λ o. o.gives) (map (offer_called S.tree) offers.now)))) }
     ensures kept { KeepsTypes S.has store.old store.new }
 {
     let mut joined = store.never(alloc)?;
@@ -101,7 +104,8 @@ pub fn members_label<S: TypeStore>(
     offers: &[CallOffer<'_, S::Ty>],
 ) -> Result<Label<S::Ty>, OutOfMemory>
     requires { All (HasCallOffer (S.has store.old)) offers.now }
-    ensures label { IfOk result (λ l. IsMark S.has S.tree store.new l (call_mark parents.now (map (offer_called S.tree) offers.now))) }
+    ensures label { IfOk result
+        (λ l. IsMark S.has S.tree store.new l (call_mark parents.now (map (offer_called S.tree) offers.now))) }
     ensures kept { KeepsTypes S.has store.old store.new }
 {
     let codes = call_codes(alloc, offers)?;

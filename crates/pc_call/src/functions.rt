@@ -26,7 +26,9 @@ pub fn function_offer<'t, S: TypeStore>(
     function: usize,
 ) -> Result<CallOffer<'t, S::Ty>, OutOfMemory>
     requires { All (HasSignature (S.has store.old)) functions.now }
-    ensures offer { IfOk result (λ o. IsCallOffer S.has S.tree store.new o (function_offer (given_with given.now) (slice_get (map (signature_with S.tree) functions.now) function))) }
+    ensures offer { IfOk result
+        (λ o. IsCallOffer S.has S.tree store.new o
+        (function_offer (given_with given.now) (slice_get (map (signature_with S.tree) functions.now) function))) }
     ensures kept { KeepsTypes S.has store.old store.new }
 {
     if function >= functions.len() {
@@ -48,7 +50,9 @@ pub fn class_offer<'t, S: TypeStore>(
     class: usize,
 ) -> Result<CallOffer<'t, S::Ty>, OutOfMemory>
     requires { HasEntries (S.has store.old) classes.now }
-    ensures offer { IfOk result (λ o. IsCallOffer S.has S.tree store.new o (signature_offer (given_with given.now) (class_signature (classes_with S.tree classes.now) class))) }
+    ensures offer { IfOk result
+        (λ o. IsCallOffer S.has S.tree store.new o
+        (signature_offer (given_with given.now) (class_signature (classes_with S.tree classes.now) class))) }
     ensures kept { KeepsTypes S.has store.old store.new }
 {
     let fields = classes.fields(alloc, class)?;

@@ -17,7 +17,8 @@ pub fn given<'e>(
     arguments: &'e [Expr],
     by_name: &'e [KeywordArgument],
 ) -> Result<Given<'e>, OutOfMemory>
-    ensures { IfOk result (λ g. given_with g ≡ arguments_given (exprs_of_list arguments.now) (keywords_of_list by_name.now)) }
+    ensures { IfOk result (λ g. given_with g
+        ≡ arguments_given (exprs_of_list arguments.now) (keywords_of_list by_name.now)) }
 {
     let mut named = IndexSet::new(alloc);
     for argument in by_name {

@@ -22,7 +22,8 @@ use std::alloc::Global;
 
 /// What the second argument of a test of an instance tests for.
 fn tested<R: Resolver>(names: &R, arguments: &[Expr]) -> Option<Test>
-    ensures { option_tested result ≡ test_of_argument (R.meaning names.now) (second_argument (exprs_of_list arguments.now)) }
+    ensures { option_tested result
+        ≡ test_of_argument (R.meaning names.now) (second_argument (exprs_of_list arguments.now)) }
 {
     match arguments {
         [] => None,
@@ -50,7 +51,10 @@ fn is_unsure_test<S: TypeStore, R: Resolver>(
     arguments: &[Expr],
 ) -> Result<bool, OutOfMemory>
     requires { HasEach (S.has store.now) env.now }
-    ensures { IfOk result (λ b. (if b then A7 ∷ [] else []) ≡ test_codes (env_of S.tree env.now) (local_of_argument (R.meaning names.now) (first_argument (exprs_of_list arguments.now))) (test_of_argument (R.meaning names.now) (second_argument (exprs_of_list arguments.now)))) }
+    ensures { IfOk result (λ b. (if b then A7 ∷ [] else [])
+        ≡ test_codes (env_of S.tree env.now)
+        (local_of_argument (R.meaning names.now) (first_argument (exprs_of_list arguments.now)))
+        (test_of_argument (R.meaning names.now) (second_argument (exprs_of_list arguments.now)))) }
 {
     match tested(names, arguments) {
         Some(Test::List) => {}
@@ -74,7 +78,9 @@ pub fn test_label<S: TypeStore, R: Resolver>(
     arguments: &[Expr],
 ) -> Result<Label<S::Ty>, OutOfMemory>
     requires { HasEach (S.has store.old) env.now }
-    ensures label { IfOk result (λ l. IsMark S.has S.tree store.new l (test_mark (context_with S.tree R.meaning setting.now) (env_of S.tree env.now) (exprs_of_list arguments.now))) }
+    ensures label { IfOk result
+        (λ l. IsMark S.has S.tree store.new l
+        (test_mark (context_with S.tree R.meaning setting.now) (env_of S.tree env.now) (exprs_of_list arguments.now))) }
     ensures kept { KeepsTypes S.has store.old store.new }
 {
     let mut codes = Vec::new(alloc);
@@ -85,8 +91,8 @@ pub fn test_label<S: TypeStore, R: Resolver>(
     Ok(Label { ty, codes })
 }
 
-/// The code at the second argument of a call, which only a test of an instance has: E25 where it tests for nothing, none where
-/// E03 stands there. Own rule of the profile.
+/// The code at the second argument of a call, which only a test of an instance has: E25 where it tests for nothing,
+/// none where E03 stands there. Own rule of the profile.
 pub fn second_code<R: Resolver>(
     names: &R,
     rule: CallRule,

@@ -5,9 +5,11 @@ ghost use Rattle.pc_types.specs.Store.{KeepsTypes};
 ghost use Rattle.pc_tree.specs.Tree.{name_of};
 ghost use Rattle.pc_class.specs.Facts.{field_by_name, method_by_name, class_facts_at};
 ghost use Rattle.pc_class.specs.Tables.{HasEntries, HasMethod, classes_with, method_with};
-ghost use Rattle.pc_rules.specs.Calls.{GivenArguments as GivenOf, signature_offer, method_signature, class_offers, list_offers, dict_offers, method_offers, method_callee};
+ghost use Rattle.pc_rules.specs.Calls.{GivenArguments as GivenOf, signature_offer, method_signature, class_offers};
+ghost use Rattle.pc_rules.specs.Calls.{list_offers, dict_offers, method_offers, method_callee};
 ghost use Rattle.pc_rules.specs.Standing.{context_with};
-ghost use Rattle.pc_call.specs.JudgedCalls.{given_with, class_in_head, offer_called, HasCallOffer, IsCallOffer, IsOnlyOffer, AreCallOffers, IsCallee, other_offers};
+ghost use Rattle.pc_call.specs.JudgedCalls.{given_with, class_in_head, offer_called, HasCallOffer, IsCallOffer};
+ghost use Rattle.pc_call.specs.JudgedCalls.{IsOnlyOffer, AreCallOffers, IsCallee, other_offers};
 
 use crate::arguments::Given;
 use crate::call_offers::{
@@ -32,7 +34,9 @@ fn method_offer<'t, S: TypeStore>(
     method: &'t Method<S::Ty>,
 ) -> Result<CallOffer<'t, S::Ty>, OutOfMemory>
     requires { HasMethod (S.has store.old) method.now }
-    ensures offer { IfOk result (λ o. IsCallOffer S.has S.tree store.new o (signature_offer (given_with given.now) (method_signature (method_with S.tree method.now)))) }
+    ensures offer { IfOk result
+        (λ o. IsCallOffer S.has S.tree store.new o
+        (signature_offer (given_with given.now) (method_signature (method_with S.tree method.now)))) }
     ensures kept { KeepsTypes S.has store.old store.new }
 {
     let params = copies(store, alloc, &method.params)?;
@@ -52,7 +56,11 @@ fn push_field_offers<'t, S: TypeStore>(
 ) -> Result<(), OutOfMemory>
     requires classes { HasEntries (S.has store.old) classes.now }
     requires offers { All (HasCallOffer (S.has store.old)) offers.old.items }
-    ensures offers { (g : GivenOf) → OnOk result (AreCallOffers S.has S.tree store.new offers.new.items (map (offer_called S.tree) offers.old.items ++ class_offers g None (field_by_name (class_facts_at (classes_with S.tree classes.now) class).fields word.now))) }
+    ensures offers { (g : GivenOf)
+        → OnOk result (AreCallOffers S.has S.tree store.new offers.new.items
+        (map (offer_called S.tree) offers.old.items
+        ++ class_offers g None (field_by_name
+        (class_facts_at (classes_with S.tree classes.now) class).fields word.now))) }
     ensures kept { KeepsTypes S.has store.old store.new }
 {
     match classes.field(class, word) {
@@ -80,7 +88,12 @@ fn push_class_offers<'t, S: TypeStore>(
 ) -> Result<(), OutOfMemory>
     requires classes { HasEntries (S.has store.old) classes.now }
     requires offers { All (HasCallOffer (S.has store.old)) offers.old.items }
-    ensures offers { OnOk result (AreCallOffers S.has S.tree store.new offers.new.items (map (offer_called S.tree) offers.old.items ++ class_offers (given_with given.now) (method_by_name (class_facts_at (classes_with S.tree classes.now) class).methods word.now) (field_by_name (class_facts_at (classes_with S.tree classes.now) class).fields word.now))) }
+    ensures offers { OnOk result
+        (AreCallOffers S.has S.tree store.new offers.new.items
+        (map (offer_called S.tree) offers.old.items
+        ++ class_offers (given_with given.now)
+        (method_by_name (class_facts_at (classes_with S.tree classes.now) class).methods word.now)
+        (field_by_name (class_facts_at (classes_with S.tree classes.now) class).fields word.now))) }
     ensures kept { KeepsTypes S.has store.old store.new }
 {
     match classes.method(class, word) {
@@ -105,7 +118,8 @@ fn list_offer<'t, S: TypeStore>(
     item: S::Ty,
 ) -> Result<CallOffer<'t, S::Ty>, OutOfMemory>
     requires { S.has store.old item }
-    ensures offer { IfOk result (λ o. IsOnlyOffer S.has S.tree store.new o (list_offers (given_with given.now) word.now (S.tree item))) }
+    ensures offer { IfOk result
+        (λ o. IsOnlyOffer S.has S.tree store.new o (list_offers (given_with given.now) word.now (S.tree item))) }
     ensures kept { KeepsTypes S.has store.old store.new }
 {
     let mut types = Vec::new(alloc);
@@ -120,7 +134,8 @@ fn list_offer<'t, S: TypeStore>(
     fails_at_callee(store, alloc, Code::E15)
 }
 
-/// A call of a method of a dict of these keys and values: `get(K)` gives the join of V and None. Own rule of the profile.
+/// A call of a method of a dict of these keys and values: `get(K)` gives the join of V and None. Own rule of the
+/// profile.
 fn dict_offer<'t, S: TypeStore>(
     store: &mut S,
     alloc: Global,
@@ -132,7 +147,9 @@ fn dict_offer<'t, S: TypeStore>(
 ) -> Result<CallOffer<'t, S::Ty>, OutOfMemory>
     requires key { S.has store.old key }
     requires value { S.has store.old value }
-    ensures offer { IfOk result (λ o. IsOnlyOffer S.has S.tree store.new o (dict_offers parents.now (given_with given.now) word.now (S.tree key) (S.tree value))) }
+    ensures offer { IfOk result
+        (λ o. IsOnlyOffer S.has S.tree store.new o
+        (dict_offers parents.now (given_with given.now) word.now (S.tree key) (S.tree value))) }
     ensures kept { KeepsTypes S.has store.old store.new }
 {
     if word != "get" {
@@ -155,7 +172,9 @@ fn other_offer<'t, S: TypeStore>(
     member: &S::Ty,
 ) -> Result<CallOffer<'t, S::Ty>, OutOfMemory>
     requires member { S.has store.old member.now }
-    ensures offer { IfOk result (λ o. IsOnlyOffer S.has S.tree store.new o (other_offers parents.now (given_with given.now) word.now (S.tree member.now))) }
+    ensures offer { IfOk result
+        (λ o. IsOnlyOffer S.has S.tree store.new o
+        (other_offers parents.now (given_with given.now) word.now (S.tree member.now))) }
     ensures kept { KeepsTypes S.has store.old store.new }
 {
     match store.head(member) {
@@ -196,7 +215,11 @@ pub fn push_method_offers<'t, S: TypeStore, R: Resolver>(
     requires classes { HasEntries (S.has store.old) setting.now.classes.now }
     requires member { S.has store.old member.now }
     requires offers { All (HasCallOffer (S.has store.old)) offers.old.items }
-    ensures offers { OnOk result (AreCallOffers S.has S.tree store.new offers.new.items (map (offer_called S.tree) offers.old.items ++ method_offers (context_with S.tree R.meaning setting.now) (given_with given.now) word.now (S.tree member.now))) }
+    ensures offers { OnOk result
+        (AreCallOffers S.has S.tree store.new offers.new.items
+        (map (offer_called S.tree) offers.old.items
+        ++ method_offers (context_with S.tree R.meaning setting.now) (given_with given.now) word.now
+        (S.tree member.now))) }
     ensures kept { KeepsTypes S.has store.old store.new }
 {
     match class_of(store.head(member)) {
@@ -223,7 +246,10 @@ pub fn callee_of_method<'t, S: TypeStore, R: Resolver>(
 ) -> Result<Callee<'t, S::Ty>, OutOfMemory>
     requires classes { HasEntries (S.has store.old) setting.now.classes.now }
     requires object { S.has store.old object.now }
-    ensures callee { IfOk result (λ c. IsCallee S.has S.tree store.new c (method_callee (context_with S.tree R.meaning setting.now) (given_with given.now) (name_of field.now).text (S.tree object.now))) }
+    ensures callee { IfOk result
+        (λ c. IsCallee S.has S.tree store.new c
+        (method_callee (context_with S.tree R.meaning setting.now) (given_with given.now) (name_of field.now).text
+        (S.tree object.now))) }
     ensures kept { KeepsTypes S.has store.old store.new }
 {
     let members = store.members(alloc, object)?;

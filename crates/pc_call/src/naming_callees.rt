@@ -19,7 +19,8 @@ use pc_tree::{Code, Name};
 use pc_types::TypeStore;
 use std::alloc::Global;
 
-/// A name as a callee: a function, a class or a built-in, and else what it is as a value. Language Reference 6.3.4 "Calls".
+/// A name as a callee: a function, a class or a built-in, and else what it is as a value. Language Reference 6.3.4
+/// "Calls".
 pub fn callee_of_name<'t, S: TypeStore, R: Resolver>(
     store: &mut S,
     alloc: Global,
@@ -29,7 +30,10 @@ pub fn callee_of_name<'t, S: TypeStore, R: Resolver>(
     name: &Name,
 ) -> Result<Callee<'t, S::Ty>, OutOfMemory>
     requires { HasGivenAll (S.has store.old) S.tree setting.now env.now }
-    ensures callee { IfOk result (λ c. IsCallee S.has S.tree store.new c (name_callee (context_with S.tree R.meaning setting.now) (env_of S.tree env.now) (given_with given.now) (R.meaning setting.now.names.now (name_of name.now).text))) }
+    ensures callee { IfOk result
+        (λ c. IsCallee S.has S.tree store.new c
+        (name_callee (context_with S.tree R.meaning setting.now) (env_of S.tree env.now) (given_with given.now)
+        (R.meaning setting.now.names.now (name_of name.now).text))) }
     ensures kept { KeepsTypes S.has store.old store.new }
 {
     match setting.names.resolve(name.text.as_str()) {

@@ -6,7 +6,8 @@ ghost use Rattle.pc_scope.specs.Resolution.{is_one_of, index_of};
 ghost use Rattle.pc_types.specs.Tree.{Tree};
 ghost use Rattle.pc_class.specs.Tables.{HasParameter, parameter_with, parameter_lent, parameters_with};
 ghost use Rattle.pc_rules.specs.Calls.{is_suited, is_free, builtin_signature};
-ghost use Rattle.pc_call.specs.JudgedCalls.{HasLent, HasParam, names_in, given_with, param_called, names_called, filled_called, is_place, AreNumbers, AreNumbered, params_called};
+ghost use Rattle.pc_call.specs.JudgedCalls.{HasLent, HasParam, names_in, given_with, param_called, names_called};
+ghost use Rattle.pc_call.specs.JudgedCalls.{filled_called, is_place, AreNumbers, AreNumbered, params_called};
 
 use crate::arguments::{Given, is_among};
 use indexmap::IndexMap;
@@ -149,7 +150,8 @@ impl<'t, Ty: Drop> Params<'t, Ty> {
 /// Whether an argument by name is for the parameter of this number, the first of its name.
 fn takes_name<Ty: Drop>(given: &Given, params: &Params<'_, Ty>, i: usize, name: &str) -> bool
     requires { AreNumbered params.now }
-    ensures { result ≡ (is_one_of name.now (names_in given.now.named) && is_place (index_of name.now (names_called params.now.all.items)) i) }
+    ensures { result ≡ (is_one_of name.now (names_in given.now.named)
+        && is_place (index_of name.now (names_called params.now.all.items)) i) }
 {
     if !is_among(&given.named, name) {
         return false;
@@ -163,7 +165,9 @@ fn takes_name<Ty: Drop>(given: &Given, params: &Params<'_, Ty>, i: usize, name: 
 /// Whether each parameter that no argument by position fills has a default, or an argument by name.
 fn are_filled<Ty: Drop>(given: &Given, params: &Params<'_, Ty>) -> bool
     requires { AreNumbered params.now }
-    ensures { result ≡ filled_called (names_in given.now.named) (names_called (take given.now.positional params.now.all.items)) (drop given.now.positional params.now.all.items) }
+    ensures { result ≡ filled_called (names_in given.now.named)
+        (names_called (take given.now.positional params.now.all.items))
+        (drop given.now.positional params.now.all.items) }
 {
     for i in given.positional..params.all.len() {
         let param = &params.all[i];
@@ -187,7 +191,9 @@ fn is_free(positional: usize, number: Option<usize>) -> bool
 /// Whether each argument by name is for a parameter that no argument by position fills.
 fn are_free<Ty: Drop>(given: &Given, params: &Params<'_, Ty>) -> bool
     requires { AreNumbered params.now }
-    ensures { result ≡ list_all (λ word. is_free given.now.positional (index_of word (names_called params.now.all.items))) (names_in given.now.named) }
+    ensures { result ≡ list_all
+        (λ word. is_free given.now.positional (index_of word (names_called params.now.all.items)))
+        (names_in given.now.named) }
 {
     let names = given.named.as_slice();
     for i in 0..names.len() {
@@ -198,18 +204,20 @@ fn are_free<Ty: Drop>(given: &Given, params: &Params<'_, Ty>) -> bool
     true
 }
 
-/// Whether a call suits parameters: not too many arguments by position, each by name for a free parameter, and no parameter
-/// without an argument or a default. Language Reference 6.3.4 "Calls".
+/// Whether a call suits parameters: not too many arguments by position, each by name for a free parameter, and no
+/// parameter without an argument or a default. Language Reference 6.3.4 "Calls".
 pub fn is_suited<Ty: Drop>(given: &Given, params: &Params<'_, Ty>) -> bool
     requires { AreNumbered params.now }
-    ensures { (tree : Ty → Tree) (returns : Tree) → result ≡ is_suited (given_with given.now) (params_called tree returns params.now.all.items) }
+    ensures { (tree : Ty → Tree) (returns : Tree)
+        → result ≡ is_suited (given_with given.now) (params_called tree returns params.now.all.items) }
 {
     given.positional <= params.all.len() && (are_free(given, params) && are_filled(given, params))
 }
 
 /// Whether a call suits so many parameters of a built-in, which no name can fill.
 pub fn is_suited_by(given: &Given, count: usize) -> bool
-    ensures { (types : List Tree) (returns : Tree) → length types ≡ count → result ≡ is_suited (given_with given.now) (builtin_signature types returns) }
+    ensures { (types : List Tree) (returns : Tree) → length types ≡ count
+        → result ≡ is_suited (given_with given.now) (builtin_signature types returns) }
 {
     given.positional == count && given.named.is_empty()
 }

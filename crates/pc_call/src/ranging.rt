@@ -25,13 +25,15 @@ pub fn is_range(meaning: Res) -> bool
     matches!(meaning, Res::Builtin(Builtin::Range))
 }
 
-/// What a call of `range` comes to as what a `for` goes over: it takes an `int`. Library reference, "Built-in Functions".
+/// What a call of `range` comes to as what a `for` goes over: it takes an `int`. Library reference, "Built-in
+/// Functions".
 pub fn range_offers<'t, S: TypeStore>(
     store: &mut S,
     alloc: Global,
     given: &Given,
 ) -> Result<Vec<CallOffer<'t, S::Ty>>, OutOfMemory>
-    ensures offers { IfOk result (λ os. AreCallOffers S.has S.tree store.new os.items (range_offers (given_with given.now))) }
+    ensures offers { IfOk result
+        (λ os. AreCallOffers S.has S.tree store.new os.items (range_offers (given_with given.now))) }
     ensures kept { KeepsTypes S.has store.old store.new }
 {
     let mut types = Vec::new(alloc);
@@ -43,14 +45,17 @@ pub fn range_offers<'t, S: TypeStore>(
     Ok(offers)
 }
 
-/// What a `for` over a call of `range` with these arguments binds: an `int`, or A5 where they do not suit. Own rule of the profile.
+/// What a `for` over a call of `range` with these arguments binds: an `int`, or A5 where they do not suit. Own rule of
+/// the profile.
 pub fn range_item<S: TypeStore>(
     store: &mut S,
     alloc: Global,
     arguments: &[Expr],
     by_name: &[KeywordArgument],
 ) -> Result<Label<S::Ty>, OutOfMemory>
-    ensures label { IfOk result (λ l. IsMark S.has S.tree store.new l (range_item (arguments_given (exprs_of_list arguments.now) (keywords_of_list by_name.now)))) }
+    ensures label { IfOk result
+        (λ l. IsMark S.has S.tree store.new l
+        (range_item (arguments_given (exprs_of_list arguments.now) (keywords_of_list by_name.now)))) }
     ensures kept { KeepsTypes S.has store.old store.new }
 {
     let given = given(alloc, arguments, by_name)?;

@@ -8,7 +8,9 @@ ghost use Rattle.pc_rules.specs.Operations.{has_error};
 ghost use Rattle.pc_rules.specs.Calls.{all_codes, expected_type, positional_seat, named_seat, builtin_signature};
 ghost use Rattle.pc_rules.specs.Lawful.{keyword_seat};
 ghost use Rattle.pc_rules.specs.Standing.{HasIfAny};
-ghost use Rattle.pc_call.specs.JudgedCalls.{names_in, names_called, number_for, builtin_number, offer_called, params_called, signature_called, AreNumbered, HasParams, HasCalled, HasCallOffer, types_at, seat_of, IsSeat};
+ghost use Rattle.pc_call.specs.JudgedCalls.{names_in, names_called, number_for, builtin_number, offer_called};
+ghost use Rattle.pc_call.specs.JudgedCalls.{params_called, signature_called, AreNumbered, HasParams, HasCalled};
+ghost use Rattle.pc_call.specs.JudgedCalls.{HasCallOffer, types_at, seat_of, IsSeat};
 
 use crate::arguments::{Names, is_among};
 use crate::call_offers::{CallOffer, Called};
@@ -52,7 +54,9 @@ fn param_type<S: TypeStore>(
 ) -> Result<Option<S::Ty>, OutOfMemory>
     requires { HasParams (S.has store.now) params.now }
     ensures held { IfOk result (λ t. HasIfAny (S.has store.now) t) }
-    ensures value { IfOk result (λ t. (returns : Tree) → option_to_list (option_map S.tree t) ≡ types_at argument.entry (params_called S.tree returns params.now.all.items)) }
+    ensures value { IfOk result
+        (λ t. (returns : Tree) → option_to_list (option_map S.tree t)
+        ≡ types_at argument.entry (params_called S.tree returns params.now.all.items)) }
 {
     match param_number(params, argument) {
         None => Ok(None),
@@ -85,7 +89,9 @@ fn builtin_type<S: TypeStore>(
 ) -> Result<Option<S::Ty>, OutOfMemory>
     requires { All (S.has store.now) types.now }
     ensures held { IfOk result (λ t. HasIfAny (S.has store.now) t) }
-    ensures value { IfOk result (λ t. (returns : Tree) → option_to_list (option_map S.tree t) ≡ types_at argument.entry (builtin_signature (map S.tree types.now) returns)) }
+    ensures value { IfOk result
+        (λ t. (returns : Tree) → option_to_list (option_map S.tree t)
+        ≡ types_at argument.entry (builtin_signature (map S.tree types.now) returns)) }
 {
     match builtin_number(argument) {
         None => Ok(None),
@@ -108,7 +114,9 @@ fn type_for<S: TypeStore>(
 ) -> Result<Option<S::Ty>, OutOfMemory>
     requires { HasCalled (S.has store.now) called.now }
     ensures held { IfOk result (λ t. HasIfAny (S.has store.now) t) }
-    ensures value { IfOk result (λ t. (returns : Tree) → option_to_list (option_map S.tree t) ≡ types_at argument.entry (signature_called S.tree returns called.now)) }
+    ensures value { IfOk result
+        (λ t. (returns : Tree) → option_to_list (option_map S.tree t)
+        ≡ types_at argument.entry (signature_called S.tree returns called.now)) }
 {
     match called {
         Called::Named(params) => param_type(store, alloc, params, argument),
@@ -125,7 +133,9 @@ fn offered_type<S: TypeStore>(
 ) -> Result<Option<S::Ty>, OutOfMemory>
     requires { HasCallOffer (S.has store.now) offer.now }
     ensures held { IfOk result (λ t. HasIfAny (S.has store.now) t) }
-    ensures value { IfOk result (λ t. option_to_list (option_map S.tree t) ≡ flat_map (types_at argument.entry) (offer_called S.tree offer.now).calls) }
+    ensures value { IfOk result
+        (λ t. option_to_list (option_map S.tree t)
+        ≡ flat_map (types_at argument.entry) (offer_called S.tree offer.now).calls) }
 {
     match &offer.calls {
         Some(called) => type_for(store, alloc, called, argument),
@@ -152,7 +162,9 @@ fn types_for<S: TypeStore>(
 ) -> Result<Vec<S::Ty>, OutOfMemory>
     requires { All (HasCallOffer (S.has store.now)) offers.now }
     ensures held { IfOk result (λ ts. All (S.has store.now) ts.items) }
-    ensures value { IfOk result (λ ts. map S.tree ts.items ≡ flat_map (types_at argument.entry) (flat_map (λ o. o.calls) (map (offer_called S.tree) offers.now))) }
+    ensures value { IfOk result
+        (λ ts. map S.tree ts.items
+        ≡ flat_map (types_at argument.entry) (flat_map (λ o. o.calls) (map (offer_called S.tree) offers.now))) }
 {
     let mut types = Vec::new(alloc);
     for i in 0..offers.len() {
@@ -193,7 +205,8 @@ fn flow_types<S: TypeStore>(
 ) -> Result<Vec<S::Ty>, OutOfMemory>
     requires { All (HasCallOffer (S.has store.now)) offers.now }
     ensures held { IfOk result (λ ts. All (S.has store.now) ts.items) }
-    ensures value { IfOk result (λ ts. map S.tree ts.items ≡ (seat_of (map (offer_called S.tree) offers.now) argument.entry).into) }
+    ensures value { IfOk result
+        (λ ts. map S.tree ts.items ≡ (seat_of (map (offer_called S.tree) offers.now) argument.entry).into) }
 {
     if is_in_error(offers) {
         return Ok(Vec::new(alloc));
@@ -219,8 +232,8 @@ fn wanted<S: TypeStore>(
     Ok(None)
 }
 
-/// The seat of an argument: it flows into the parameter there of each member that is called, and is expected of its type where
-/// one member is called. Language Reference 6.3.4 "Calls".
+/// The seat of an argument: it flows into the parameter there of each member that is called, and is expected of its
+/// type where one member is called. Language Reference 6.3.4 "Calls".
 fn seat_of<S: TypeStore>(
     store: &S,
     alloc: Global,
@@ -228,7 +241,8 @@ fn seat_of<S: TypeStore>(
     argument: Argument,
 ) -> Result<Seat<S::Ty>, OutOfMemory>
     requires { All (HasCallOffer (S.has store.now)) offers.now }
-    ensures { IfOk result (λ s. IsSeat S.has S.tree store.now s (seat_of (map (offer_called S.tree) offers.now) argument.entry)) }
+    ensures { IfOk result (λ s.
+        IsSeat S.has S.tree store.now s (seat_of (map (offer_called S.tree) offers.now) argument.entry)) }
 {
     let into = flow_types(store, alloc, offers, argument)?;
     let want = wanted(store, alloc, offers.len() == 1, &into)?;
@@ -243,7 +257,8 @@ pub fn positional_seat<S: TypeStore>(
     position: usize,
 ) -> Result<Seat<S::Ty>, OutOfMemory>
     requires { All (HasCallOffer (S.has store.now)) offers.now }
-    ensures { IfOk result (λ s. IsSeat S.has S.tree store.now s (positional_seat (map (offer_called S.tree) offers.now) position)) }
+    ensures { IfOk result (λ s.
+        IsSeat S.has S.tree store.now s (positional_seat (map (offer_called S.tree) offers.now) position)) }
 {
     seat_of(store, alloc, offers, Argument::Position(position))
 }
@@ -256,13 +271,14 @@ pub fn named_seat<S: TypeStore>(
     name: &str,
 ) -> Result<Seat<S::Ty>, OutOfMemory>
     requires { All (HasCallOffer (S.has store.now)) offers.now }
-    ensures { IfOk result (λ s. IsSeat S.has S.tree store.now s (named_seat (map (offer_called S.tree) offers.now) name.now)) }
+    ensures { IfOk result (λ s.
+        IsSeat S.has S.tree store.now s (named_seat (map (offer_called S.tree) offers.now) name.now)) }
 {
     seat_of(store, alloc, offers, Argument::Name(name))
 }
 
-/// The seat of an argument by name behind arguments of these names: of a name given twice the later argument flows nowhere.
-/// Own rule of the profile.
+/// The seat of an argument by name behind arguments of these names: of a name given twice the later argument flows
+/// nowhere. Own rule of the profile.
 pub fn keyword_seat<S: TypeStore>(
     store: &S,
     alloc: Global,
@@ -271,7 +287,9 @@ pub fn keyword_seat<S: TypeStore>(
     name: &Name,
 ) -> Result<Seat<S::Ty>, OutOfMemory>
     requires { All (HasCallOffer (S.has store.now)) offers.now }
-    ensures { IfOk result (λ s. IsSeat S.has S.tree store.now s (keyword_seat (named_seat (map (offer_called S.tree) offers.now)) (names_in before.now) (name_of name.now))) }
+    ensures { IfOk result (λ s.
+        IsSeat S.has S.tree store.now s
+        (keyword_seat (named_seat (map (offer_called S.tree) offers.now)) (names_in before.now) (name_of name.now))) }
 {
     if is_among(before, name.text.as_str()) {
         return Ok(Seat {

@@ -1,6 +1,7 @@
 //! Names that are bound: their declared types, the flows into them, and their current types.
 
-ghost use Rattle.std.specs.Prelude.{◌≡◌, ◌++◌, ◌∷◌, [], IfOk, OnOk, Option, None, Some, slice_index_or, unwrap_or, is_some};
+ghost use Rattle.std.specs.Prelude.{◌≡◌, ◌++◌, ◌∷◌, [], IfOk, OnOk, Option, None, Some, slice_index_or, unwrap_or};
+ghost use Rattle.std.specs.Prelude.{is_some};
 ghost use Rattle.std.specs.Option.{option_map};
 ghost use Rattle.pc_tree.specs.Tree.{expr_of, ann_of, name_of, option_expr_of, module_of};
 ghost use Rattle.pc_types.specs.Tree.{Tree};
@@ -11,8 +12,11 @@ ghost use Rattle.pc_notes.specs.Notes.{notes_of};
 ghost use Rattle.pc_rules.specs.Operations.{Mark};
 ghost use Rattle.pc_rules.specs.Found.{brief};
 ghost use Rattle.pc_rules.specs.Standing.{mark_with};
-ghost use Rattle.pc_labels.specs.ComputedStatements.{BodyFrame as FrameOf, with_declared, known_declared, bound_type, bound_name, bind_label, bind_value, annotation_finds, declared_alone, bind_annotated};
-ghost use Rattle.pc_check.specs.Internal.StatementWalk.{frame_with, HoldsFrame, HoldsTypes, HoldsTypeIfAny, HoldsType, GivesBound, annotation_unless, declared_by};
+ghost use Rattle.pc_labels.specs.ComputedStatements.{BodyFrame as FrameOf, with_declared, known_declared, bound_type};
+ghost use Rattle.pc_labels.specs.ComputedStatements.{bound_name, bind_label, bind_value, annotation_finds};
+ghost use Rattle.pc_labels.specs.ComputedStatements.{declared_alone, bind_annotated};
+ghost use Rattle.pc_check.specs.Internal.StatementWalk.{frame_with, HoldsFrame, HoldsTypes, HoldsTypeIfAny, HoldsType};
+ghost use Rattle.pc_check.specs.Internal.StatementWalk.{GivesBound, annotation_unless, declared_by};
 
 use crate::frame::Frame;
 use crate::typing::{flow_in, type_in};
@@ -46,7 +50,9 @@ pub(crate) fn known_type<S: TypeStore>(
 ) -> Result<Option<S::Ty>, OutOfMemory>
     requires declared { HasEach (S.has store.now) declared.now }
     requires annotation { HasOne (S.has store.now) annotation }
-    ensures { IfOk result (λ o. GivesOne S.has S.tree store.now o (known_declared (bound_type (env_of S.tree declared.now) local) (option_map S.tree annotation))) }
+    ensures { IfOk result (λ o.
+        GivesOne S.has S.tree store.now o
+        (known_declared (bound_type (env_of S.tree declared.now) local) (option_map S.tree annotation))) }
 {
     match declared.declared(local) {
         Some(ty) => Ok(Some(store.copy(alloc, ty)?)),
@@ -88,7 +94,10 @@ pub(crate) fn bind_label<S: TypeStore, R: Resolver>(
     requires env { HoldsTypes (S.has store.old) S.tree frame.now.parents.now env }
     requires want { HoldsTypeIfAny (S.has store.old) S.tree frame.now.parents.now want }
     requires label { HoldsType (S.has store.old) S.tree frame.now.parents.now label.now.ty }
-    ensures bound { (m : Mark) → mark_with S.tree label.now ≡ brief m → IfOk result (λ e. GivesBound S.has S.tree frame.now.parents.now store.new declared.new e (notes_of found.new) (bind_label (frame_with S.tree R.meaning frame.now) (env_of S.tree declared.old) (env_of S.tree env) local (option_map S.tree want) place m (notes_of found.old))) }
+    ensures bound { (m : Mark) → mark_with S.tree label.now ≡ brief m
+        → IfOk result (λ e. GivesBound S.has S.tree frame.now.parents.now store.new declared.new e (notes_of found.new)
+        (bind_label (frame_with S.tree R.meaning frame.now) (env_of S.tree declared.old) (env_of S.tree env) local
+        (option_map S.tree want) place m (notes_of found.old))) }
     ensures kept { KeepsTypes S.has store.old store.new }
 {
     let ty = type_or(store, alloc, want, &label.ty)?;
@@ -116,7 +125,10 @@ pub(crate) fn bind_value<S: TypeStore, R: Resolver>(
     requires declared { HoldsTypes (S.has store.old) S.tree frame.now.parents.now declared.old }
     requires env { HoldsTypes (S.has store.old) S.tree frame.now.parents.now env }
     requires annotation { HoldsTypeIfAny (S.has store.old) S.tree frame.now.parents.now annotation }
-    ensures bound { IfOk result (λ b. GivesBound S.has S.tree frame.now.parents.now store.new declared.new b (notes_of found.new) (bind_value (frame_with S.tree R.meaning frame.now) (env_of S.tree declared.old) (env_of S.tree env) meaning (option_map S.tree annotation) (expr_of e.now) (notes_of found.old))) }
+    ensures bound { IfOk result
+        (λ b. GivesBound S.has S.tree frame.now.parents.now store.new declared.new b (notes_of found.new)
+        (bind_value (frame_with S.tree R.meaning frame.now) (env_of S.tree declared.old) (env_of S.tree env) meaning
+        (option_map S.tree annotation) (expr_of e.now) (notes_of found.old))) }
     ensures kept { KeepsTypes S.has store.old store.new }
 {
     match meaning {
@@ -153,8 +165,8 @@ fn is_bound<Ty: Drop>(declared: &DeclaredTypes<Ty>, meaning: Res) -> bool
     }
 }
 
-/// The type that the annotation of a name is read as, with what is found in it; none with E24 where the name means a local
-/// that is bound already.
+/// The type that the annotation of a name is read as, with what is found in it; none with E24 where the name means a
+/// local that is bound already.
 fn annotated_type<S: TypeStore, R: Resolver>(
     store: &mut S,
     alloc: Global,
@@ -166,8 +178,16 @@ fn annotated_type<S: TypeStore, R: Resolver>(
     found: &mut Notes,
 ) -> Result<Option<S::Ty>, OutOfMemory>
     requires frame { HoldsFrame (S.has store.old) S.tree R.meaning frame.now }
-    ensures typed { IfOk result (λ t. HoldsTypeIfAny (S.has store.new) S.tree frame.now.parents.now t × (option_map S.tree t ≡ annotation_unless (bound_name (frame_with S.tree R.meaning frame.now) (env_of S.tree declared.now) meaning) (read_ann (module_of frame.now.tree.now) frame.now.parents.now (ann_of annotation.now)))) }
-    ensures pushed { OnOk result (notes_of found.new ≡ notes_of found.old ++ annotation_finds (frame_with S.tree R.meaning frame.now) (bound_name (frame_with S.tree R.meaning frame.now) (env_of S.tree declared.now) meaning) (name_of name.now) (ann_of annotation.now)) }
+    ensures typed { IfOk result
+        (λ t. HoldsTypeIfAny (S.has store.new) S.tree frame.now.parents.now t
+        × (option_map S.tree t ≡ annotation_unless
+        (bound_name (frame_with S.tree R.meaning frame.now) (env_of S.tree declared.now) meaning)
+        (read_ann (module_of frame.now.tree.now) frame.now.parents.now (ann_of annotation.now)))) }
+    ensures pushed { OnOk result
+        (notes_of found.new ≡ notes_of found.old
+        ++ annotation_finds (frame_with S.tree R.meaning frame.now)
+        (bound_name (frame_with S.tree R.meaning frame.now) (env_of S.tree declared.now) meaning) (name_of name.now)
+        (ann_of annotation.now)) }
     ensures kept { KeepsTypes S.has store.old store.new }
 {
     if is_bound(declared, meaning) {
@@ -203,8 +223,8 @@ fn declare_alone<Ty: Drop>(declared: &mut DeclaredTypes<Ty>, meaning: Res, annot
 
 /// Binds a name that is annotated, with a value or without one.
 ///
-/// Language Reference 7.2.2 "Annotated assignment statements"; that a name that is bound already keeps its declared type is an
-/// own rule of the profile.
+/// Language Reference 7.2.2 "Annotated assignment statements"; that a name that is bound already keeps its declared
+/// type is an own rule of the profile.
 pub(crate) fn bind_annotated<S: TypeStore, R: Resolver>(
     store: &mut S,
     alloc: Global,
@@ -219,7 +239,10 @@ pub(crate) fn bind_annotated<S: TypeStore, R: Resolver>(
     requires frame { HoldsFrame (S.has store.old) S.tree R.meaning frame.now }
     requires declared { HoldsTypes (S.has store.old) S.tree frame.now.parents.now declared.old }
     requires env { HoldsTypes (S.has store.old) S.tree frame.now.parents.now env }
-    ensures bound { IfOk result (λ b. GivesBound S.has S.tree frame.now.parents.now store.new declared.new b (notes_of found.new) (bind_annotated (frame_with S.tree R.meaning frame.now) (env_of S.tree declared.old) (env_of S.tree env) (name_of name.now) (ann_of annotation.now) (option_expr_of value.now) (notes_of found.old))) }
+    ensures bound { IfOk result
+        (λ b. GivesBound S.has S.tree frame.now.parents.now store.new declared.new b (notes_of found.new)
+        (bind_annotated (frame_with S.tree R.meaning frame.now) (env_of S.tree declared.old) (env_of S.tree env)
+        (name_of name.now) (ann_of annotation.now) (option_expr_of value.now) (notes_of found.old))) }
     ensures kept { KeepsTypes S.has store.old store.new }
 {
     let meaning = frame.names.resolve(name.text.as_str());

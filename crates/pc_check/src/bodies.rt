@@ -25,8 +25,8 @@ use pc_tree::{FuncDef, Module};
 use pc_types::{Parents, TypeStore};
 use std::alloc::Global;
 
-/// What the bodies of a module stand in: the module with its scopes, the bases of its classes, its classes and how many they
-/// are, the types of its constants, and what its functions and methods take and return.
+/// What the bodies of a module stand in: the module with its scopes, the bases of its classes, its classes and how many
+/// they are, the types of its constants, and what its functions and methods take and return.
 #[derive(Drop)]
 pub struct ModuleSetting<'m, Ty: Drop> {
     pub tree: &'m Module,
@@ -63,7 +63,9 @@ fn check_body<S: TypeStore>(
     requires owner { function_of (module_in setting.now) owner ≡ Some (func_of def.now) }
     requires given { HasSignature (S.has store.old) signature.now }
     requires signature { signature_with S.tree signature.now ≡ signature_of (module_in setting.now) (func_of def.now) }
-    ensures pushed { OnOk result (notes_of found.new ≡ function_finds (module_in setting.now) (constants_of (module_in setting.now)) owner (func_of def.now) (notes_of found.old)) }
+    ensures pushed { OnOk result
+        (notes_of found.new ≡ function_finds (module_in setting.now) (constants_of (module_in setting.now)) owner
+        (func_of def.now) (notes_of found.old)) }
     ensures kept { KeepsTypes S.has store.old store.new }
 {
     let names = OwnerNames {
@@ -106,7 +108,9 @@ pub(crate) fn check_owned<S: TypeStore>(
 ) -> Result<(), OutOfMemory>
     requires setting { IsModuleSetting (S.has store.old) S.tree setting.now }
     requires owner { function_of (module_in setting.now) owner ≡ Some (func_of def.now) }
-    ensures pushed { OnOk result (notes_of found.new ≡ function_finds (module_in setting.now) (constants_of (module_in setting.now)) owner (func_of def.now) (notes_of found.old)) }
+    ensures pushed { OnOk result
+        (notes_of found.new ≡ function_finds (module_in setting.now) (constants_of (module_in setting.now)) owner
+        (func_of def.now) (notes_of found.old)) }
     ensures kept { KeepsTypes S.has store.old store.new }
 {
     match signature_for(setting.signatures, owner) {

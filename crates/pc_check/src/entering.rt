@@ -10,7 +10,8 @@ ghost use Rattle.pc_class.specs.Facts.{parameters_of};
 ghost use Rattle.pc_flow.specs.Stored.{env_of};
 ghost use Rattle.pc_notes.specs.Notes.{notes_of};
 ghost use Rattle.pc_labels.specs.Modules.{receiver_parameter};
-ghost use Rattle.pc_labels.specs.ComputedStatements.{body_frame_of, function_finds, enter_parameters, enter_name, end_finds};
+ghost use Rattle.pc_labels.specs.ComputedStatements.{body_frame_of, function_finds, enter_parameters, enter_name};
+ghost use Rattle.pc_labels.specs.ComputedStatements.{end_finds};
 ghost use Rattle.pc_check.specs.Internal.StatementWalk.{frame_with, HoldsFrame, HoldsType, HoldsTypes};
 ghost use Rattle.pc_check.specs.Internal.Entry.{HoldsParameter, GivesEntry};
 
@@ -40,7 +41,9 @@ fn enter_name<S: TypeStore, R: Resolver>(
     requires declared { HoldsTypes (S.has store.now) S.tree parents.now declared.old }
     requires env { HoldsTypes (S.has store.now) S.tree parents.now env.old }
     requires ty { HoldsType (S.has store.now) S.tree parents.now ty.now }
-    ensures { OnOk result (GivesEntry (S.has store.now) S.tree parents.now declared.new env.new (enter_name (env_of S.tree declared.old) (env_of S.tree env.old) (R.meaning names.now name.now) (S.tree ty.now))) }
+    ensures { OnOk result (GivesEntry (S.has store.now) S.tree parents.now declared.new env.new
+        (enter_name (env_of S.tree declared.old) (env_of S.tree env.old) (R.meaning names.now name.now)
+        (S.tree ty.now))) }
 {
     let Res::Local(local) = names.resolve(name) else {
         return Ok(());
@@ -68,7 +71,9 @@ fn enter<S: TypeStore, R: Resolver>(
     requires declared { HoldsTypes (S.has store.now) S.tree parents.now declared.old }
     requires env { HoldsTypes (S.has store.now) S.tree parents.now env.old }
     requires params { All (HoldsParameter (S.has store.now) S.tree parents.now) params.now }
-    ensures { OnOk result (GivesEntry (S.has store.now) S.tree parents.now declared.new env.new (enter_parameters (R.meaning names.now) (env_of S.tree declared.old) (env_of S.tree env.old) (parameters_with S.tree params.now))) }
+    ensures { OnOk result (GivesEntry (S.has store.now) S.tree parents.now declared.new env.new
+        (enter_parameters (R.meaning names.now) (env_of S.tree declared.old) (env_of S.tree env.old)
+        (parameters_with S.tree params.now))) }
 {
     for param in params {
         enter_name(
@@ -97,7 +102,10 @@ fn enter_receiver<S: TypeStore, R: Resolver>(
 ) -> Result<(), OutOfMemory>
     requires declared { HoldsTypes (S.has store.old) S.tree parents.now declared.old }
     requires env { HoldsTypes (S.has store.old) S.tree parents.now env.old }
-    ensures entered { OnOk result (GivesEntry (S.has store.new) S.tree parents.now declared.new env.new (enter_parameters (R.meaning names.now) (env_of S.tree declared.old) (env_of S.tree env.old) (receiver_parameter owner))) }
+    ensures entered { OnOk result
+        (GivesEntry (S.has store.new) S.tree parents.now declared.new env.new
+        (enter_parameters (R.meaning names.now) (env_of S.tree declared.old) (env_of S.tree env.old)
+        (receiver_parameter owner))) }
     ensures kept { KeepsTypes S.has store.old store.new }
 {
     match owner {
@@ -122,7 +130,9 @@ fn find_end<S: TypeStore>(
     found: &mut Notes,
 ) -> Result<(), OutOfMemory>
     requires { S.has store.old returned.now }
-    ensures pushed { OnOk result (notes_of found.new ≡ notes_of found.old ++ end_finds parents.now (S.tree returned.now) name (option_map (env_of S.tree) out.now)) }
+    ensures pushed { OnOk result
+        (notes_of found.new ≡ notes_of found.old
+        ++ end_finds parents.now (S.tree returned.now) name (option_map (env_of S.tree) out.now)) }
     ensures kept { KeepsTypes S.has store.old store.new }
 {
     if out.is_none() {
@@ -136,8 +146,8 @@ fn find_end<S: TypeStore>(
     Ok(())
 }
 
-/// Finds what stands in the body of a function, which has so many locals, and that its end can be reached where it doesn't
-/// return `None`. Language Reference 8.7 "Function definitions"; own rules of the profile.
+/// Finds what stands in the body of a function, which has so many locals, and that its end can be reached where it
+/// doesn't return `None`. Language Reference 8.7 "Function definitions"; own rules of the profile.
 pub(crate) fn check_function<S: TypeStore, R: Resolver>(
     store: &mut S,
     alloc: Global,
@@ -149,11 +159,15 @@ pub(crate) fn check_function<S: TypeStore, R: Resolver>(
     found: &mut Notes,
 ) -> Result<(), OutOfMemory>
     requires frame { HoldsFrame (S.has store.old) S.tree R.meaning frame.now }
-    requires body { frame_with S.tree R.meaning frame.now ≡ body_frame_of (module_of frame.now.tree.now) (map S.tree frame.now.constants.now) owner (func_of def.now) }
+    requires body { frame_with S.tree R.meaning frame.now
+        ≡ body_frame_of (module_of frame.now.tree.now) (map S.tree frame.now.constants.now) owner (func_of def.now) }
     requires count { count ≡ length (locals owner (func_of def.now)) }
     requires given { All (HasParameter (S.has store.old)) params.now }
-    requires params { parameters_with S.tree params.now ≡ parameters_of (module_of frame.now.tree.now) (func_of def.now).params }
-    ensures pushed { OnOk result (notes_of found.new ≡ function_finds (module_of frame.now.tree.now) (map S.tree frame.now.constants.now) owner (func_of def.now) (notes_of found.old)) }
+    requires params { parameters_with S.tree params.now
+        ≡ parameters_of (module_of frame.now.tree.now) (func_of def.now).params }
+    ensures pushed { OnOk result
+        (notes_of found.new ≡ function_finds (module_of frame.now.tree.now) (map S.tree frame.now.constants.now) owner
+        (func_of def.now) (notes_of found.old)) }
     ensures kept { KeepsTypes S.has store.old store.new }
 {
     let mut declared = DeclaredTypes::new(alloc, count)?;

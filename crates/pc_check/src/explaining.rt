@@ -19,8 +19,8 @@ use pc_tree::Module;
 use pc_types::{Parents, TypeStore};
 use std::alloc::Global;
 
-/// The two types of the dynamic flow at a place of a module: the type that flows, and the one that it flows into. Where several flow
-/// dynamically at one place, those of the first; none where none does. It types the whole module anew.
+/// The two types of the dynamic flow at a place of a module: the type that flows, and the one that it flows into. Where
+/// several flow dynamically at one place, those of the first; none where none does. It types the whole module anew.
 ///
 /// Typing specification, "Type system concepts", on gradual types; own rule of the profile.
 ///
@@ -40,7 +40,8 @@ pub fn explain_flow<S: TypeStore>(
     requires parents { parents.now ≡ bases_of (module_of tree.now) }
     requires classes { classes_with S.tree classes.now ≡ classes_of (module_of tree.now) }
     requires entries { HasEntries (S.has store.old) classes.now }
-    ensures explained { IfOk result (λ found. ExplainsFlow S.has S.tree store.new found (dynamic_flow (module_of tree.now) place)) }
+    ensures explained { IfOk result
+        (λ found. ExplainsFlow S.has S.tree store.new found (dynamic_flow (module_of tree.now) place)) }
     ensures kept { KeepsTypes S.has store.old store.new }
 {
     let mut found = Notes::new(alloc);

@@ -38,7 +38,8 @@ struct RangeCall<'e> {
 
 /// Whether an expression is a name that means `range`.
 fn means_range<R: Resolver>(names: &R, e: &Expr) -> bool
-    ensures { (p : PlaceOf) (arguments : Exprs) (keywords : Keywords) → result ≡ over_range (R.meaning names.now) (call p (expr_of e.now) arguments keywords) }
+    ensures { (p : PlaceOf) (arguments : Exprs) (keywords : Keywords)
+        → result ≡ over_range (R.meaning names.now) (call p (expr_of e.now) arguments keywords) }
 {
     let Expr::Name(name) = e else {
         return false;
@@ -48,7 +49,10 @@ fn means_range<R: Resolver>(names: &R, e: &Expr) -> bool
 
 /// The call of `range` that an expression is, if it is one. Library reference, "Built-in Functions".
 fn range_call<'e, R: Resolver>(names: &R, e: &'e Expr) -> Option<RangeCall<'e>>
-    ensures { MatchOption result (over_range (R.meaning names.now) (expr_of e.now) ≡ false) (λ c. (over_range (R.meaning names.now) (expr_of e.now) ≡ true) × (expr_of e.now ≡ call c.place (expr_of c.callee.now) (exprs_of_list c.arguments.now) (keywords_of_list c.by_name.now))) }
+    ensures { MatchOption result (over_range (R.meaning names.now) (expr_of e.now) ≡ false)
+        (λ c. (over_range (R.meaning names.now) (expr_of e.now) ≡ true)
+        × (expr_of e.now ≡ call c.place (expr_of c.callee.now) (exprs_of_list c.arguments.now)
+        (keywords_of_list c.by_name.now))) }
 {
     let Expr::Call(place, callee, arguments, by_name) = e else {
         return None;
@@ -77,8 +81,15 @@ fn label_values<S: TypeStore, R: Resolver>(
     requires frame { HoldsFrame (S.has store.old) S.tree R.meaning frame.now }
     requires declared { HoldsTypes (S.has store.old) S.tree frame.now.parents.now declared.now }
     requires env { HoldsTypes (S.has store.old) S.tree frame.now.parents.now env.now }
-    ensures labelled { IfOk result (λ l. GivesLabel S.has S.tree frame.now.parents.now store.new l (values_item (frame_with S.tree R.meaning frame.now) (at (frame_with S.tree R.meaning frame.now) (env_of S.tree declared.now) (env_of S.tree env.now)) (expr_of iterable.now))) }
-    ensures pushed { OnOk result (notes_of found.new ≡ notes_of found.old ++ finds_in (at (frame_with S.tree R.meaning frame.now) (env_of S.tree declared.now) (env_of S.tree env.now)) None (expr_of iterable.now)) }
+    ensures labelled { IfOk result
+        (λ l. GivesLabel S.has S.tree frame.now.parents.now store.new l
+        (values_item (frame_with S.tree R.meaning frame.now)
+        (at (frame_with S.tree R.meaning frame.now) (env_of S.tree declared.now) (env_of S.tree env.now))
+        (expr_of iterable.now))) }
+    ensures pushed { OnOk result
+        (notes_of found.new ≡ notes_of found.old
+        ++ finds_in (at (frame_with S.tree R.meaning frame.now) (env_of S.tree declared.now) (env_of S.tree env.now))
+        None (expr_of iterable.now)) }
     ensures kept { KeepsTypes S.has store.old store.new }
 {
     let label = type_in(store, alloc, frame, declared, env, &None, iterable, found)?;
@@ -98,9 +109,21 @@ fn label_range<S: TypeStore, R: Resolver>(
     requires frame { HoldsFrame (S.has store.old) S.tree R.meaning frame.now }
     requires declared { HoldsTypes (S.has store.old) S.tree frame.now.parents.now declared.now }
     requires env { HoldsTypes (S.has store.old) S.tree frame.now.parents.now env.now }
-    requires range { over_range (R.meaning frame.now.names.now) (call iterable.now.place (expr_of iterable.now.callee.now) (exprs_of_list iterable.now.arguments.now) (keywords_of_list iterable.now.by_name.now)) ≡ true }
-    ensures labelled { IfOk result (λ l. GivesLabel S.has S.tree frame.now.parents.now store.new l (item_mark_of (frame_with S.tree R.meaning frame.now) (at (frame_with S.tree R.meaning frame.now) (env_of S.tree declared.now) (env_of S.tree env.now)) (call iterable.now.place (expr_of iterable.now.callee.now) (exprs_of_list iterable.now.arguments.now) (keywords_of_list iterable.now.by_name.now)))) }
-    ensures pushed { OnOk result (notes_of found.new ≡ notes_of found.old ++ iterable_finds (frame_with S.tree R.meaning frame.now) (at (frame_with S.tree R.meaning frame.now) (env_of S.tree declared.now) (env_of S.tree env.now)) (call iterable.now.place (expr_of iterable.now.callee.now) (exprs_of_list iterable.now.arguments.now) (keywords_of_list iterable.now.by_name.now))) }
+    requires range { over_range (R.meaning frame.now.names.now)
+        (call iterable.now.place (expr_of iterable.now.callee.now) (exprs_of_list iterable.now.arguments.now)
+        (keywords_of_list iterable.now.by_name.now)) ≡ true }
+    ensures labelled { IfOk result
+        (λ l. GivesLabel S.has S.tree frame.now.parents.now store.new l
+        (item_mark_of (frame_with S.tree R.meaning frame.now)
+        (at (frame_with S.tree R.meaning frame.now) (env_of S.tree declared.now) (env_of S.tree env.now))
+        (call iterable.now.place (expr_of iterable.now.callee.now) (exprs_of_list iterable.now.arguments.now)
+        (keywords_of_list iterable.now.by_name.now)))) }
+    ensures pushed { OnOk result
+        (notes_of found.new ≡ notes_of found.old
+        ++ iterable_finds (frame_with S.tree R.meaning frame.now)
+        (at (frame_with S.tree R.meaning frame.now) (env_of S.tree declared.now) (env_of S.tree env.now))
+        (call iterable.now.place (expr_of iterable.now.callee.now) (exprs_of_list iterable.now.arguments.now)
+        (keywords_of_list iterable.now.by_name.now))) }
     ensures kept { KeepsTypes S.has store.old store.new }
 {
     let setting = Setting {
@@ -139,8 +162,16 @@ fn label_item<S: TypeStore, R: Resolver>(
     requires frame { HoldsFrame (S.has store.old) S.tree R.meaning frame.now }
     requires declared { HoldsTypes (S.has store.old) S.tree frame.now.parents.now declared.now }
     requires env { HoldsTypes (S.has store.old) S.tree frame.now.parents.now env.now }
-    ensures labelled { IfOk result (λ l. GivesLabel S.has S.tree frame.now.parents.now store.new l (item_mark_of (frame_with S.tree R.meaning frame.now) (at (frame_with S.tree R.meaning frame.now) (env_of S.tree declared.now) (env_of S.tree env.now)) (expr_of iterable.now))) }
-    ensures pushed { OnOk result (notes_of found.new ≡ notes_of found.old ++ iterable_finds (frame_with S.tree R.meaning frame.now) (at (frame_with S.tree R.meaning frame.now) (env_of S.tree declared.now) (env_of S.tree env.now)) (expr_of iterable.now)) }
+    ensures labelled { IfOk result
+        (λ l. GivesLabel S.has S.tree frame.now.parents.now store.new l
+        (item_mark_of (frame_with S.tree R.meaning frame.now)
+        (at (frame_with S.tree R.meaning frame.now) (env_of S.tree declared.now) (env_of S.tree env.now))
+        (expr_of iterable.now))) }
+    ensures pushed { OnOk result
+        (notes_of found.new ≡ notes_of found.old
+        ++ iterable_finds (frame_with S.tree R.meaning frame.now)
+        (at (frame_with S.tree R.meaning frame.now) (env_of S.tree declared.now) (env_of S.tree env.now))
+        (expr_of iterable.now)) }
     ensures kept { KeepsTypes S.has store.old store.new }
 {
     match range_call(frame.names, iterable) {
@@ -162,8 +193,19 @@ pub(crate) fn item_type<S: TypeStore, R: Resolver>(
     requires frame { HoldsFrame (S.has store.old) S.tree R.meaning frame.now }
     requires declared { HoldsTypes (S.has store.old) S.tree frame.now.parents.now declared.now }
     requires env { HoldsTypes (S.has store.old) S.tree frame.now.parents.now env.now }
-    ensures typed { IfOk result (λ t. HoldsType (S.has store.new) S.tree frame.now.parents.now t × (S.tree t ≡ (item_mark_of (frame_with S.tree R.meaning frame.now) (at (frame_with S.tree R.meaning frame.now) (env_of S.tree declared.now) (env_of S.tree env.now)) (expr_of iterable.now)).type)) }
-    ensures pushed { OnOk result (notes_of found.new ≡ (notes_of found.old ++ iterable_finds (frame_with S.tree R.meaning frame.now) (at (frame_with S.tree R.meaning frame.now) (env_of S.tree declared.now) (env_of S.tree env.now)) (expr_of iterable.now)) ++ codes_at (place_of (expr_of iterable.now)) (item_mark_of (frame_with S.tree R.meaning frame.now) (at (frame_with S.tree R.meaning frame.now) (env_of S.tree declared.now) (env_of S.tree env.now)) (expr_of iterable.now)).codes) }
+    ensures typed { IfOk result
+        (λ t. HoldsType (S.has store.new) S.tree frame.now.parents.now t
+        × (S.tree t ≡ (item_mark_of (frame_with S.tree R.meaning frame.now)
+        (at (frame_with S.tree R.meaning frame.now) (env_of S.tree declared.now) (env_of S.tree env.now))
+        (expr_of iterable.now)).type)) }
+    ensures pushed { OnOk result
+        (notes_of found.new ≡ (notes_of found.old
+        ++ iterable_finds (frame_with S.tree R.meaning frame.now)
+        (at (frame_with S.tree R.meaning frame.now) (env_of S.tree declared.now) (env_of S.tree env.now))
+        (expr_of iterable.now)) ++ codes_at (place_of (expr_of iterable.now))
+        (item_mark_of (frame_with S.tree R.meaning frame.now)
+        (at (frame_with S.tree R.meaning frame.now) (env_of S.tree declared.now) (env_of S.tree env.now))
+        (expr_of iterable.now)).codes) }
     ensures kept { KeepsTypes S.has store.old store.new }
 {
     let label = label_item(store, alloc, frame, declared, env, iterable, found)?;

@@ -7,8 +7,10 @@ ghost use Rattle.pc_types.specs.Store.{KeepsTypes};
 ghost use Rattle.pc_flow.specs.Stored.{env_of};
 ghost use Rattle.pc_notes.specs.Notes.{notes_of};
 ghost use Rattle.pc_rules.specs.Standing.{finds_in};
-ghost use Rattle.pc_labels.specs.ComputedStatements.{at, narrowed_at, join_onto_way, with_way, return_finds, option_finds};
-ghost use Rattle.pc_check.specs.Internal.StatementWalk.{frame_with, HoldsFrame, HoldsTypes, HoldsTypesIfAny, GivesTypes, GivesTypesIfAny};
+ghost use Rattle.pc_labels.specs.ComputedStatements.{at, narrowed_at, join_onto_way, with_way, return_finds};
+ghost use Rattle.pc_labels.specs.ComputedStatements.{option_finds};
+ghost use Rattle.pc_check.specs.Internal.StatementWalk.{frame_with, HoldsFrame, HoldsTypes, HoldsTypesIfAny};
+ghost use Rattle.pc_check.specs.Internal.StatementWalk.{GivesTypes, GivesTypesIfAny};
 
 use crate::frame::Frame;
 use crate::typing::{flow_in, join_in, narrow_in, type_in};
@@ -33,7 +35,10 @@ pub(crate) fn break_out<S: TypeStore, R: Resolver>(
     requires declared { HoldsTypes (S.has store.old) S.tree frame.now.parents.now declared.now }
     requires env { HoldsTypes (S.has store.old) S.tree frame.now.parents.now env.now }
     requires broken { HoldsTypesIfAny (S.has store.old) S.tree frame.now.parents.now broken.old }
-    ensures joined { OnOk result (GivesTypesIfAny S.has S.tree frame.now.parents.now store.new broken.new (join_onto_way frame.now.parents.now (env_of S.tree declared.now) (option_map (env_of S.tree) broken.old) (env_of S.tree env.now))) }
+    ensures joined { OnOk result
+        (GivesTypesIfAny S.has S.tree frame.now.parents.now store.new broken.new
+        (join_onto_way frame.now.parents.now (env_of S.tree declared.now) (option_map (env_of S.tree) broken.old)
+        (env_of S.tree env.now))) }
     ensures kept { KeepsTypes S.has store.old store.new }
 {
     let joined = match broken {
@@ -56,7 +61,10 @@ pub(crate) fn meet<S: TypeStore, R: Resolver>(
     requires declared { HoldsTypes (S.has store.old) S.tree frame.now.parents.now declared.now }
     requires ways { HoldsTypesIfAny (S.has store.old) S.tree frame.now.parents.now ways }
     requires out { HoldsTypesIfAny (S.has store.old) S.tree frame.now.parents.now out }
-    ensures joined { IfOk result (λ w. GivesTypesIfAny S.has S.tree frame.now.parents.now store.new w (with_way frame.now.parents.now (env_of S.tree declared.now) (option_map (env_of S.tree) ways) (option_map (env_of S.tree) out))) }
+    ensures joined { IfOk result
+        (λ w. GivesTypesIfAny S.has S.tree frame.now.parents.now store.new w
+        (with_way frame.now.parents.now (env_of S.tree declared.now) (option_map (env_of S.tree) ways)
+        (option_map (env_of S.tree) out))) }
     ensures kept { KeepsTypes S.has store.old store.new }
 {
     match out {
@@ -83,7 +91,11 @@ pub(crate) fn find_return<S: TypeStore, R: Resolver>(
     requires frame { HoldsFrame (S.has store.old) S.tree R.meaning frame.now }
     requires declared { HoldsTypes (S.has store.old) S.tree frame.now.parents.now declared.now }
     requires env { HoldsTypes (S.has store.old) S.tree frame.now.parents.now env.now }
-    ensures pushed { OnOk result (notes_of found.new ≡ notes_of found.old ++ return_finds (frame_with S.tree R.meaning frame.now) (at (frame_with S.tree R.meaning frame.now) (env_of S.tree declared.now) (env_of S.tree env.now)) first (option_expr_of value.now)) }
+    ensures pushed { OnOk result
+        (notes_of found.new ≡ notes_of found.old
+        ++ return_finds (frame_with S.tree R.meaning frame.now)
+        (at (frame_with S.tree R.meaning frame.now) (env_of S.tree declared.now) (env_of S.tree env.now)) first
+        (option_expr_of value.now)) }
     ensures kept { KeepsTypes S.has store.old store.new }
 {
     match value {
@@ -134,7 +146,11 @@ fn find_option<S: TypeStore, R: Resolver>(
     requires frame { HoldsFrame (S.has store.old) S.tree R.meaning frame.now }
     requires declared { HoldsTypes (S.has store.old) S.tree frame.now.parents.now declared.now }
     requires env { HoldsTypes (S.has store.old) S.tree frame.now.parents.now env.now }
-    ensures pushed { OnOk result (notes_of found.new ≡ notes_of found.old ++ option_finds (frame_with S.tree R.meaning frame.now) (at (frame_with S.tree R.meaning frame.now) (env_of S.tree declared.now) (env_of S.tree env.now)) None (option_expr_of e.now)) }
+    ensures pushed { OnOk result
+        (notes_of found.new ≡ notes_of found.old
+        ++ option_finds (frame_with S.tree R.meaning frame.now)
+        (at (frame_with S.tree R.meaning frame.now) (env_of S.tree declared.now) (env_of S.tree env.now)) None
+        (option_expr_of e.now)) }
     ensures kept { KeepsTypes S.has store.old store.new }
 {
     match e {
@@ -146,8 +162,8 @@ fn find_option<S: TypeStore, R: Resolver>(
     }
 }
 
-/// The environment behind an `assert`, with what is found in its condition and in its message, which is checked where the
-/// condition is false. Language Reference 7.3 "The assert statement".
+/// The environment behind an `assert`, with what is found in its condition and in its message, which is checked where
+/// the condition is false. Language Reference 7.3 "The assert statement".
 pub(crate) fn check_assert<S: TypeStore, R: Resolver>(
     store: &mut S,
     alloc: Global,
@@ -161,8 +177,18 @@ pub(crate) fn check_assert<S: TypeStore, R: Resolver>(
     requires frame { HoldsFrame (S.has store.old) S.tree R.meaning frame.now }
     requires declared { HoldsTypes (S.has store.old) S.tree frame.now.parents.now declared.now }
     requires env { HoldsTypes (S.has store.old) S.tree frame.now.parents.now env }
-    ensures behind { IfOk result (λ e. GivesTypes S.has S.tree frame.now.parents.now store.new e (narrowed_at (frame_with S.tree R.meaning frame.now) (env_of S.tree declared.now) true (expr_of condition.now) (env_of S.tree env))) }
-    ensures pushed { OnOk result (notes_of found.new ≡ (notes_of found.old ++ finds_in (at (frame_with S.tree R.meaning frame.now) (env_of S.tree declared.now) (env_of S.tree env)) None (expr_of condition.now)) ++ option_finds (frame_with S.tree R.meaning frame.now) (at (frame_with S.tree R.meaning frame.now) (env_of S.tree declared.now) (narrowed_at (frame_with S.tree R.meaning frame.now) (env_of S.tree declared.now) false (expr_of condition.now) (env_of S.tree env))) None (option_expr_of message.now)) }
+    ensures behind { IfOk result
+        (λ e. GivesTypes S.has S.tree frame.now.parents.now store.new e
+        (narrowed_at (frame_with S.tree R.meaning frame.now) (env_of S.tree declared.now) true (expr_of condition.now)
+        (env_of S.tree env))) }
+    ensures pushed { OnOk result
+        (notes_of found.new ≡ (notes_of found.old
+        ++ finds_in (at (frame_with S.tree R.meaning frame.now) (env_of S.tree declared.now) (env_of S.tree env)) None
+        (expr_of condition.now))
+        ++ option_finds (frame_with S.tree R.meaning frame.now)
+        (at (frame_with S.tree R.meaning frame.now) (env_of S.tree declared.now)
+        (narrowed_at (frame_with S.tree R.meaning frame.now) (env_of S.tree declared.now) false (expr_of condition.now)
+        (env_of S.tree env))) None (option_expr_of message.now)) }
     ensures kept { KeepsTypes S.has store.old store.new }
 {
     type_in(store, alloc, frame, declared, &env, &None, condition, found)?;

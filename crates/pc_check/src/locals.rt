@@ -18,7 +18,8 @@ use std::alloc::Global;
 /// Adds the names that statements bind, in text order. Language Reference 4.2.1 "Binding of names".
 #[cycle(bound)]
 pub(crate) fn add_bound<'m>(names: &mut Vec<&'m Name>, body: &'m [Stmt]) -> Result<(), OutOfMemory>
-    ensures { OnOk result (map name_seen names.new.items ≡ map name_seen names.old.items ++ bound_by (stmts_of_list body.now)) }
+    ensures { OnOk result (map name_seen names.new.items
+        ≡ map name_seen names.old.items ++ bound_by (stmts_of_list body.now)) }
 {
     for statement in body {
         add_bound_by(names, &statement.kind)?;
@@ -32,7 +33,8 @@ pub(crate) fn add_bound_by<'m>(
     names: &mut Vec<&'m Name>,
     kind: &'m StmtKind,
 ) -> Result<(), OutOfMemory>
-    ensures { (p : PlaceOf) → OnOk result (map name_seen names.new.items ≡ map name_seen names.old.items ++ bound_by_stmt (stmt_of_kind p kind.now)) }
+    ensures { (p : PlaceOf) → OnOk result
+        (map name_seen names.new.items ≡ map name_seen names.old.items ++ bound_by_stmt (stmt_of_kind p kind.now)) }
 {
     match kind {
         StmtKind::Pass => Ok(()),
@@ -58,7 +60,8 @@ pub(crate) fn add_bound_by<'m>(
 /// Adds those that the suites of conditions bind.
 #[cycle(bound)]
 fn add_bound_in<'m>(names: &mut Vec<&'m Name>, branches: &'m [Branch]) -> Result<(), OutOfMemory>
-    ensures { OnOk result (map name_seen names.new.items ≡ map name_seen names.old.items ++ bound_by_branches (branches_of_list branches.now)) }
+    ensures { OnOk result (map name_seen names.new.items
+        ≡ map name_seen names.old.items ++ bound_by_branches (branches_of_list branches.now)) }
 {
     for branch in branches {
         add_bound(names, &branch.body)?;
@@ -68,7 +71,8 @@ fn add_bound_in<'m>(names: &mut Vec<&'m Name>, branches: &'m [Branch]) -> Result
 
 /// Adds the name that a target is, if it is one.
 fn add_target<'m>(names: &mut Vec<&'m Name>, target: &'m Target) -> Result<(), OutOfMemory>
-    ensures { OnOk result (map name_seen names.new.items ≡ map name_seen names.old.items ++ name_of_target (target_of target.now)) }
+    ensures { OnOk result (map name_seen names.new.items
+        ≡ map name_seen names.old.items ++ name_of_target (target_of target.now)) }
 {
     match target {
         Target::Name(name) => add_name(names, name),
@@ -91,7 +95,8 @@ fn add_local<R: Resolver>(
     names: &R,
     name: &Name,
 ) -> Result<(), OutOfMemory>
-    ensures { OnOk result (locals.new.items ≡ locals.old.items ++ numbers_of (R.meaning names.now) (name_of name.now ∷ [])) }
+    ensures { OnOk result (locals.new.items
+        ≡ locals.old.items ++ numbers_of (R.meaning names.now) (name_of name.now ∷ [])) }
 {
     match names.resolve(name.text.as_str()) {
         Res::Local(local) => {
@@ -119,7 +124,8 @@ pub(crate) fn locals_of<R: Resolver>(
 
 /// Marks a local, and those with no mark before it as not marked.
 fn mark(marks: &mut Vec<bool>, local: usize) -> Result<(), OutOfMemory>
-    ensures { OnOk result ((x : ℕ) → slice_index_or marks.new.items x false ≡ (nat_eq x local || slice_index_or marks.old.items x false)) }
+    ensures { OnOk result ((x : ℕ)
+        → slice_index_or marks.new.items x false ≡ (nat_eq x local || slice_index_or marks.old.items x false)) }
 {
     while marks.len() <= local {
         marks.push(false)?;

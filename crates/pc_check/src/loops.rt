@@ -9,7 +9,8 @@ ghost use Rattle.pc_flow.specs.Stored.{env_of};
 ghost use Rattle.pc_notes.specs.Notes.{notes_of};
 ghost use Rattle.pc_rules.specs.Found.{codes_at};
 ghost use Rattle.pc_labels.specs.ComputedStatements.{at, head_at, bind_item, item_mark_of, iterable_finds};
-ghost use Rattle.pc_check.specs.Internal.StatementWalk.{frame_with, HoldsFrame, HoldsType, HoldsTypes, GivesTypes, GivesBound, numbers_of};
+ghost use Rattle.pc_check.specs.Internal.StatementWalk.{frame_with, HoldsFrame, HoldsType, HoldsTypes, GivesTypes};
+ghost use Rattle.pc_check.specs.Internal.StatementWalk.{GivesBound, numbers_of};
 
 use crate::binding::{bind_label, known_type};
 use crate::frame::Frame;
@@ -24,8 +25,8 @@ use pc_tree::{Name, Stmt};
 use pc_types::TypeStore;
 use std::alloc::Global;
 
-/// The environment at the head of a loop that binds these locals, from the one before it: each of them that is assigned has its
-/// declared type there. Own rule of the profile.
+/// The environment at the head of a loop that binds these locals, from the one before it: each of them that is assigned
+/// has its declared type there. Own rule of the profile.
 fn loop_start<S: TypeStore, R: Resolver>(
     store: &mut S,
     alloc: Global,
@@ -36,7 +37,9 @@ fn loop_start<S: TypeStore, R: Resolver>(
 ) -> Result<Env<S::Ty>, OutOfMemory>
     requires declared { HoldsTypes (S.has store.old) S.tree frame.now.parents.now declared.now }
     requires env { HoldsTypes (S.has store.old) S.tree frame.now.parents.now env.now }
-    ensures value { (names : List NameOf) → locals.now ≡ numbers_of (R.meaning frame.now.names.now) names → IfOk result (λ e. GivesTypes S.has S.tree frame.now.parents.now store.new e (head_at (frame_with S.tree R.meaning frame.now) (env_of S.tree declared.now) names (env_of S.tree env.now))) }
+    ensures value { (names : List NameOf) → locals.now ≡ numbers_of (R.meaning frame.now.names.now) names
+        → IfOk result (λ e. GivesTypes S.has S.tree frame.now.parents.now store.new e
+        (head_at (frame_with S.tree R.meaning frame.now) (env_of S.tree declared.now) names (env_of S.tree env.now))) }
     ensures kept { KeepsTypes S.has store.old store.new }
 {
     let marks = marks_of(alloc, locals)?;
@@ -54,7 +57,10 @@ pub(crate) fn while_start<S: TypeStore, R: Resolver>(
 ) -> Result<Env<S::Ty>, OutOfMemory>
     requires declared { HoldsTypes (S.has store.old) S.tree frame.now.parents.now declared.now }
     requires env { HoldsTypes (S.has store.old) S.tree frame.now.parents.now env.now }
-    ensures value { IfOk result (λ e. GivesTypes S.has S.tree frame.now.parents.now store.new e (head_at (frame_with S.tree R.meaning frame.now) (env_of S.tree declared.now) (bound_by (stmts_of_list body.now)) (env_of S.tree env.now))) }
+    ensures value { IfOk result
+        (λ e. GivesTypes S.has S.tree frame.now.parents.now store.new e
+        (head_at (frame_with S.tree R.meaning frame.now) (env_of S.tree declared.now)
+        (bound_by (stmts_of_list body.now)) (env_of S.tree env.now))) }
     ensures kept { KeepsTypes S.has store.old store.new }
 {
     let mut bound = Vec::new(alloc);
@@ -75,7 +81,10 @@ pub(crate) fn for_start<S: TypeStore, R: Resolver>(
 ) -> Result<Env<S::Ty>, OutOfMemory>
     requires declared { HoldsTypes (S.has store.old) S.tree frame.now.parents.now declared.now }
     requires env { HoldsTypes (S.has store.old) S.tree frame.now.parents.now env.now }
-    ensures value { IfOk result (λ e. GivesTypes S.has S.tree frame.now.parents.now store.new e (head_at (frame_with S.tree R.meaning frame.now) (env_of S.tree declared.now) (name_of target.now ∷ bound_by (stmts_of_list body.now)) (env_of S.tree env.now))) }
+    ensures value { IfOk result
+        (λ e. GivesTypes S.has S.tree frame.now.parents.now store.new e
+        (head_at (frame_with S.tree R.meaning frame.now) (env_of S.tree declared.now)
+        (name_of target.now ∷ bound_by (stmts_of_list body.now)) (env_of S.tree env.now))) }
     ensures kept { KeepsTypes S.has store.old store.new }
 {
     let mut bound = Vec::new(alloc);
@@ -100,7 +109,10 @@ pub(crate) fn bind_item<S: TypeStore, R: Resolver>(
     requires declared { HoldsTypes (S.has store.old) S.tree frame.now.parents.now declared.old }
     requires head { HoldsTypes (S.has store.old) S.tree frame.now.parents.now head }
     requires item { HoldsType (S.has store.old) S.tree frame.now.parents.now item }
-    ensures bound { IfOk result (λ e. GivesBound S.has S.tree frame.now.parents.now store.new declared.new e (notes_of found.new) (bind_item (frame_with S.tree R.meaning frame.now) (env_of S.tree declared.old) (env_of S.tree head) (R.meaning frame.now.names.now (name_of target.now).text) place (S.tree item) (notes_of found.old))) }
+    ensures bound { IfOk result
+        (λ e. GivesBound S.has S.tree frame.now.parents.now store.new declared.new e (notes_of found.new)
+        (bind_item (frame_with S.tree R.meaning frame.now) (env_of S.tree declared.old) (env_of S.tree head)
+        (R.meaning frame.now.names.now (name_of target.now).text) place (S.tree item) (notes_of found.old))) }
     ensures kept { KeepsTypes S.has store.old store.new }
 {
     match frame.names.resolve(target.text.as_str()) {

@@ -50,7 +50,9 @@ fn check_methods<S: TypeStore>(
 ) -> Result<(), OutOfMemory>
     requires setting { IsModuleSetting (S.has store.old) S.tree setting.now }
     requires class { slice_get (classes_in (module_in setting.now).items) class ≡ Some (class_of def.now) }
-    ensures pushed { OnOk result (notes_of found.new ≡ methods_find (module_in setting.now) (constants_of (module_in setting.now)) class 0 (class_of def.now).members (notes_of found.old)) }
+    ensures pushed { OnOk result
+        (notes_of found.new ≡ methods_find (module_in setting.now) (constants_of (module_in setting.now)) class 0
+        (class_of def.now).members (notes_of found.old)) }
     ensures kept { KeepsTypes S.has store.old store.new }
 {
     let mut methods = 0;
@@ -76,7 +78,9 @@ fn check_bodies<S: TypeStore>(
     found: &mut Notes,
 ) -> Result<(), OutOfMemory>
     requires { IsModuleSetting (S.has store.old) S.tree setting.now }
-    ensures pushed { OnOk result (notes_of found.new ≡ bodies_find (module_in setting.now) (constants_of (module_in setting.now)) 0 0 (module_in setting.now).items (notes_of found.old)) }
+    ensures pushed { OnOk result
+        (notes_of found.new ≡ bodies_find (module_in setting.now) (constants_of (module_in setting.now)) 0 0
+        (module_in setting.now).items (notes_of found.old)) }
     ensures kept { KeepsTypes S.has store.old store.new }
 {
     let mut classes = 0;
@@ -98,8 +102,8 @@ fn check_bodies<S: TypeStore>(
     Ok(())
 }
 
-/// Finds what stands under the labels of a module, put behind `found`: first what is found of its signatures and its constants,
-/// then in the bodies of its functions and methods, in text order.
+/// Finds what stands under the labels of a module, put behind `found`: first what is found of its signatures and its
+/// constants, then in the bodies of its functions and methods, in text order.
 ///
 /// Language Reference 3.12, 7 "Simple statements" and 8 "Compound statements"; the codes are own rules of the profile.
 #[tactic(auto, unfolding(pc_labels::specs::ComputedModules::module_finds))]

@@ -3,13 +3,15 @@
 ghost use Rattle.std.specs.Prelude.{IfOk, List, Option, None, Some};
 ghost use Rattle.std.specs.Option.{option_map};
 ghost use Rattle.pc_source.specs.declared.place.Place.{Place as PlaceOf};
-ghost use Rattle.pc_tree.specs.Tree.{expr_of, name_of, stmt_of, stmt_of_kind, stmts_of_list, while_loop, for_loop, no_branches};
+ghost use Rattle.pc_tree.specs.Tree.{expr_of, name_of, stmt_of, stmt_of_kind, stmts_of_list, while_loop, for_loop};
+ghost use Rattle.pc_tree.specs.Tree.{no_branches};
 ghost use Rattle.pc_tree.specs.Lists.{branches_of_list, with_branch};
 ghost use Rattle.pc_types.specs.Store.{KeepsTypes};
 ghost use Rattle.pc_flow.specs.Stored.{env_of};
 ghost use Rattle.pc_notes.specs.Notes.{notes_of};
 ghost use Rattle.pc_labels.specs.ComputedStatements.{step, walk_suite, walk_branches, behind_branches};
-ghost use Rattle.pc_check.specs.Internal.StatementWalk.{frame_with, walk_with, forked_with, HoldsFrame, HoldsTypes, HoldsTypesIfAny, GivesWalk, GivesForked};
+ghost use Rattle.pc_check.specs.Internal.StatementWalk.{frame_with, walk_with, forked_with, HoldsFrame, HoldsTypes};
+ghost use Rattle.pc_check.specs.Internal.StatementWalk.{HoldsTypesIfAny, GivesWalk, GivesForked};
 
 use crate::binding::bind_annotated;
 use crate::frame::Frame;
@@ -26,8 +28,8 @@ use pc_tree::{Branch, Expr, Name, Stmt, StmtKind};
 use pc_types::TypeStore;
 use std::alloc::Global;
 
-/// Where a walk over the branches of an `if` stands: the environment where all conditions so far are false, and the ways out of
-/// their suites joined, if a run comes out of one.
+/// Where a walk over the branches of an `if` stands: the environment where all conditions so far are false, and the
+/// ways out of their suites joined, if a run comes out of one.
 #[derive(Drop)]
 struct Fork<Ty: Drop> {
     last: Env<Ty>,
@@ -50,7 +52,10 @@ pub(crate) fn check_suite<S: TypeStore, R: Resolver>(
     requires declared { HoldsTypes (S.has store.old) S.tree frame.now.parents.now declared.old }
     requires env { HoldsTypesIfAny (S.has store.old) S.tree frame.now.parents.now env }
     requires broken { HoldsTypesIfAny (S.has store.old) S.tree frame.now.parents.now broken.old }
-    ensures walked { IfOk result (λ out. GivesWalk S.has S.tree frame.now.parents.now store.new declared.new out broken.new (notes_of found.new) (walk_suite (frame_with S.tree R.meaning frame.now) (walk_with S.tree declared.old env broken.old (notes_of found.old)) (stmts_of_list body.now))) }
+    ensures walked { IfOk result
+        (λ out. GivesWalk S.has S.tree frame.now.parents.now store.new declared.new out broken.new (notes_of found.new)
+        (walk_suite (frame_with S.tree R.meaning frame.now)
+        (walk_with S.tree declared.old env broken.old (notes_of found.old)) (stmts_of_list body.now))) }
     ensures kept { KeepsTypes S.has store.old store.new }
 {
     let mut env = env;
@@ -76,7 +81,10 @@ fn check_next<S: TypeStore, R: Resolver>(
     requires declared { HoldsTypes (S.has store.old) S.tree frame.now.parents.now declared.old }
     requires env { HoldsTypesIfAny (S.has store.old) S.tree frame.now.parents.now env }
     requires broken { HoldsTypesIfAny (S.has store.old) S.tree frame.now.parents.now broken.old }
-    ensures walked { IfOk result (λ out. GivesWalk S.has S.tree frame.now.parents.now store.new declared.new out broken.new (notes_of found.new) (step (frame_with S.tree R.meaning frame.now) (env_of S.tree declared.old) (option_map (env_of S.tree) env) (option_map (env_of S.tree) broken.old) (notes_of found.old) (stmt_of statement.now))) }
+    ensures walked { IfOk result
+        (λ out. GivesWalk S.has S.tree frame.now.parents.now store.new declared.new out broken.new (notes_of found.new)
+        (step (frame_with S.tree R.meaning frame.now) (env_of S.tree declared.old) (option_map (env_of S.tree) env)
+        (option_map (env_of S.tree) broken.old) (notes_of found.old) (stmt_of statement.now))) }
     ensures kept { KeepsTypes S.has store.old store.new }
 {
     match env {
@@ -115,7 +123,10 @@ fn check_stmt<S: TypeStore, R: Resolver>(
     requires declared { HoldsTypes (S.has store.old) S.tree frame.now.parents.now declared.old }
     requires env { HoldsTypes (S.has store.old) S.tree frame.now.parents.now env }
     requires broken { HoldsTypesIfAny (S.has store.old) S.tree frame.now.parents.now broken.old }
-    ensures walked { IfOk result (λ out. GivesWalk S.has S.tree frame.now.parents.now store.new declared.new out broken.new (notes_of found.new) (step (frame_with S.tree R.meaning frame.now) (env_of S.tree declared.old) (Some (env_of S.tree env)) (option_map (env_of S.tree) broken.old) (notes_of found.old) (stmt_of_kind first kind.now))) }
+    ensures walked { IfOk result
+        (λ out. GivesWalk S.has S.tree frame.now.parents.now store.new declared.new out broken.new (notes_of found.new)
+        (step (frame_with S.tree R.meaning frame.now) (env_of S.tree declared.old) (Some (env_of S.tree env))
+        (option_map (env_of S.tree) broken.old) (notes_of found.old) (stmt_of_kind first kind.now))) }
     ensures kept { KeepsTypes S.has store.old store.new }
 {
     match kind {
@@ -182,7 +193,12 @@ fn check_while<S: TypeStore, R: Resolver>(
     requires frame { HoldsFrame (S.has store.old) S.tree R.meaning frame.now }
     requires declared { HoldsTypes (S.has store.old) S.tree frame.now.parents.now declared.old }
     requires env { HoldsTypes (S.has store.old) S.tree frame.now.parents.now env.now }
-    ensures walked { (p : PlaceOf) (broken : Option (List (Option S.Ty))) → HoldsTypesIfAny (S.has store.new) S.tree frame.now.parents.now broken → IfOk result (λ out. GivesWalk S.has S.tree frame.now.parents.now store.new declared.new out broken (notes_of found.new) (step (frame_with S.tree R.meaning frame.now) (env_of S.tree declared.old) (Some (env_of S.tree env.now)) (option_map (env_of S.tree) broken) (notes_of found.old) (while_loop p (expr_of condition.now) (stmts_of_list body.now)))) }
+    ensures walked { (p : PlaceOf) (broken : Option (List (Option S.Ty)))
+        → HoldsTypesIfAny (S.has store.new) S.tree frame.now.parents.now broken
+        → IfOk result (λ out. GivesWalk S.has S.tree frame.now.parents.now store.new declared.new out broken
+        (notes_of found.new) (step (frame_with S.tree R.meaning frame.now) (env_of S.tree declared.old)
+        (Some (env_of S.tree env.now)) (option_map (env_of S.tree) broken) (notes_of found.old)
+        (while_loop p (expr_of condition.now) (stmts_of_list body.now)))) }
     ensures kept { KeepsTypes S.has store.old store.new }
 {
     let head = while_start(store, alloc, frame, declared, env, body)?;
@@ -224,7 +240,12 @@ fn check_for<S: TypeStore, R: Resolver>(
     requires frame { HoldsFrame (S.has store.old) S.tree R.meaning frame.now }
     requires declared { HoldsTypes (S.has store.old) S.tree frame.now.parents.now declared.old }
     requires env { HoldsTypes (S.has store.old) S.tree frame.now.parents.now env.now }
-    ensures walked { (p : PlaceOf) (broken : Option (List (Option S.Ty))) → HoldsTypesIfAny (S.has store.new) S.tree frame.now.parents.now broken → IfOk result (λ out. GivesWalk S.has S.tree frame.now.parents.now store.new declared.new out broken (notes_of found.new) (step (frame_with S.tree R.meaning frame.now) (env_of S.tree declared.old) (Some (env_of S.tree env.now)) (option_map (env_of S.tree) broken) (notes_of found.old) (for_loop p (name_of name.now) (expr_of iterable.now) (stmts_of_list body.now)))) }
+    ensures walked { (p : PlaceOf) (broken : Option (List (Option S.Ty)))
+        → HoldsTypesIfAny (S.has store.new) S.tree frame.now.parents.now broken
+        → IfOk result (λ out. GivesWalk S.has S.tree frame.now.parents.now store.new declared.new out broken
+        (notes_of found.new) (step (frame_with S.tree R.meaning frame.now) (env_of S.tree declared.old)
+        (Some (env_of S.tree env.now)) (option_map (env_of S.tree) broken) (notes_of found.old)
+        (for_loop p (name_of name.now) (expr_of iterable.now) (stmts_of_list body.now)))) }
     ensures kept { KeepsTypes S.has store.old store.new }
 {
     let item = item_type(store, alloc, frame, declared, env, iterable, found)?;
@@ -272,7 +293,12 @@ fn check_otherwise<S: TypeStore, R: Resolver>(
     requires last { HoldsTypes (S.has store.old) S.tree frame.now.parents.now fork.last }
     requires ways { HoldsTypesIfAny (S.has store.old) S.tree frame.now.parents.now fork.ways }
     requires broken { HoldsTypesIfAny (S.has store.old) S.tree frame.now.parents.now broken.old }
-    ensures walked { IfOk result (λ out. GivesWalk S.has S.tree frame.now.parents.now store.new declared.new out broken.new (notes_of found.new) (behind_branches (frame_with S.tree R.meaning frame.now) (option_map (env_of S.tree) fork.ways) (walk_suite (frame_with S.tree R.meaning frame.now) (walk_with S.tree declared.old (Some fork.last) broken.old (notes_of found.old)) (stmts_of_list otherwise.now)))) }
+    ensures walked { IfOk result
+        (λ out. GivesWalk S.has S.tree frame.now.parents.now store.new declared.new out broken.new (notes_of found.new)
+        (behind_branches (frame_with S.tree R.meaning frame.now) (option_map (env_of S.tree) fork.ways)
+        (walk_suite (frame_with S.tree R.meaning frame.now)
+        (walk_with S.tree declared.old (Some fork.last) broken.old (notes_of found.old))
+        (stmts_of_list otherwise.now)))) }
     ensures kept { KeepsTypes S.has store.old store.new }
 {
     let Fork { last, ways } = fork;
@@ -305,7 +331,10 @@ fn check_branches<S: TypeStore, R: Resolver>(
     requires declared { HoldsTypes (S.has store.old) S.tree frame.now.parents.now declared.old }
     requires env { HoldsTypes (S.has store.old) S.tree frame.now.parents.now env }
     requires broken { HoldsTypesIfAny (S.has store.old) S.tree frame.now.parents.now broken.old }
-    ensures walked { IfOk result (λ f. GivesForked S.has S.tree frame.now.parents.now store.new declared.new f.last f.ways broken.new (notes_of found.new) (walk_branches (frame_with S.tree R.meaning frame.now) (forked_with S.tree declared.old env None broken.old (notes_of found.old)) (branches_of_list branches.now))) }
+    ensures walked { IfOk result
+        (λ f. GivesForked S.has S.tree frame.now.parents.now store.new declared.new f.last f.ways broken.new
+        (notes_of found.new) (walk_branches (frame_with S.tree R.meaning frame.now)
+        (forked_with S.tree declared.old env None broken.old (notes_of found.old)) (branches_of_list branches.now))) }
     ensures kept { KeepsTypes S.has store.old store.new }
 {
     let mut fork = Fork {
@@ -335,7 +364,11 @@ fn check_branch<S: TypeStore, R: Resolver>(
     requires last { HoldsTypes (S.has store.old) S.tree frame.now.parents.now fork.last }
     requires ways { HoldsTypesIfAny (S.has store.old) S.tree frame.now.parents.now fork.ways }
     requires broken { HoldsTypesIfAny (S.has store.old) S.tree frame.now.parents.now broken.old }
-    ensures walked { IfOk result (λ f. GivesForked S.has S.tree frame.now.parents.now store.new declared.new f.last f.ways broken.new (notes_of found.new) (walk_branches (frame_with S.tree R.meaning frame.now) (forked_with S.tree declared.old fork.last fork.ways broken.old (notes_of found.old)) (with_branch branch.now no_branches))) }
+    ensures walked { IfOk result
+        (λ f. GivesForked S.has S.tree frame.now.parents.now store.new declared.new f.last f.ways broken.new
+        (notes_of found.new) (walk_branches (frame_with S.tree R.meaning frame.now)
+        (forked_with S.tree declared.old fork.last fork.ways broken.old (notes_of found.old))
+        (with_branch branch.now no_branches))) }
     ensures kept { KeepsTypes S.has store.old store.new }
 {
     let Fork { last, ways } = fork;

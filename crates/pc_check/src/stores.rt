@@ -40,8 +40,13 @@ fn find_stored<S: TypeStore, R: Resolver>(
     requires declared { HoldsTypes (S.has store.old) S.tree frame.now.parents.now declared.now }
     requires env { HoldsTypes (S.has store.old) S.tree frame.now.parents.now env.now }
     requires offers { All (HasStoreOffer (S.has store.old)) offers.now }
-    requires well_formed { AreWellFormed frame.now.parents.now (stored_types (map (store_offer_with S.tree) offers.now)) }
-    ensures pushed { OnOk result (notes_of found.new ≡ notes_of found.old ++ stored_finds (frame_with S.tree R.meaning frame.now) (at (frame_with S.tree R.meaning frame.now) (env_of S.tree declared.now) (env_of S.tree env.now)) (map (store_offer_with S.tree) offers.now) place (expr_of value.now)) }
+    requires well_formed { AreWellFormed frame.now.parents.now
+        (stored_types (map (store_offer_with S.tree) offers.now)) }
+    ensures pushed { OnOk result
+        (notes_of found.new ≡ notes_of found.old
+        ++ stored_finds (frame_with S.tree R.meaning frame.now)
+        (at (frame_with S.tree R.meaning frame.now) (env_of S.tree declared.now) (env_of S.tree env.now))
+        (map (store_offer_with S.tree) offers.now) place (expr_of value.now)) }
     ensures kept { KeepsTypes S.has store.old store.new }
 {
     let codes = store_codes(alloc, offers)?;
@@ -76,7 +81,11 @@ fn find_attribute_store<S: TypeStore, R: Resolver>(
     requires frame { HoldsFrame (S.has store.old) S.tree R.meaning frame.now }
     requires declared { HoldsTypes (S.has store.old) S.tree frame.now.parents.now declared.now }
     requires env { HoldsTypes (S.has store.old) S.tree frame.now.parents.now env.now }
-    ensures pushed { OnOk result (notes_of found.new ≡ notes_of found.old ++ store_finds (frame_with S.tree R.meaning frame.now) (at (frame_with S.tree R.meaning frame.now) (env_of S.tree declared.now) (env_of S.tree env.now)) (to_attribute place (expr_of object.now) (name_of field.now)) (expr_of value.now)) }
+    ensures pushed { OnOk result
+        (notes_of found.new ≡ notes_of found.old
+        ++ store_finds (frame_with S.tree R.meaning frame.now)
+        (at (frame_with S.tree R.meaning frame.now) (env_of S.tree declared.now) (env_of S.tree env.now))
+        (to_attribute place (expr_of object.now) (name_of field.now)) (expr_of value.now)) }
     ensures kept { KeepsTypes S.has store.old store.new }
 {
     let label = type_in(store, alloc, frame, declared, env, &None, object, found)?;
@@ -103,7 +112,11 @@ fn find_item_store<S: TypeStore, R: Resolver>(
     requires frame { HoldsFrame (S.has store.old) S.tree R.meaning frame.now }
     requires declared { HoldsTypes (S.has store.old) S.tree frame.now.parents.now declared.now }
     requires env { HoldsTypes (S.has store.old) S.tree frame.now.parents.now env.now }
-    ensures pushed { OnOk result (notes_of found.new ≡ notes_of found.old ++ store_finds (frame_with S.tree R.meaning frame.now) (at (frame_with S.tree R.meaning frame.now) (env_of S.tree declared.now) (env_of S.tree env.now)) (to_index place (expr_of object.now) (expr_of index.now)) (expr_of value.now)) }
+    ensures pushed { OnOk result
+        (notes_of found.new ≡ notes_of found.old
+        ++ store_finds (frame_with S.tree R.meaning frame.now)
+        (at (frame_with S.tree R.meaning frame.now) (env_of S.tree declared.now) (env_of S.tree env.now))
+        (to_index place (expr_of object.now) (expr_of index.now)) (expr_of value.now)) }
     ensures kept { KeepsTypes S.has store.old store.new }
 {
     let label = type_in(store, alloc, frame, declared, env, &None, object, found)?;
@@ -138,7 +151,11 @@ pub(crate) fn find_store<S: TypeStore, R: Resolver>(
     requires frame { HoldsFrame (S.has store.old) S.tree R.meaning frame.now }
     requires declared { HoldsTypes (S.has store.old) S.tree frame.now.parents.now declared.now }
     requires env { HoldsTypes (S.has store.old) S.tree frame.now.parents.now env.now }
-    ensures pushed { OnOk result (notes_of found.new ≡ notes_of found.old ++ store_finds (frame_with S.tree R.meaning frame.now) (at (frame_with S.tree R.meaning frame.now) (env_of S.tree declared.now) (env_of S.tree env.now)) (target_of target.now) (expr_of value.now)) }
+    ensures pushed { OnOk result
+        (notes_of found.new ≡ notes_of found.old
+        ++ store_finds (frame_with S.tree R.meaning frame.now)
+        (at (frame_with S.tree R.meaning frame.now) (env_of S.tree declared.now) (env_of S.tree env.now))
+        (target_of target.now) (expr_of value.now)) }
     ensures kept { KeepsTypes S.has store.old store.new }
 {
     match target {

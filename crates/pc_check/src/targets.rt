@@ -32,7 +32,10 @@ pub(crate) fn assign_target<S: TypeStore, R: Resolver>(
     requires frame { HoldsFrame (S.has store.old) S.tree R.meaning frame.now }
     requires declared { HoldsTypes (S.has store.old) S.tree frame.now.parents.now declared.old }
     requires env { HoldsTypes (S.has store.old) S.tree frame.now.parents.now env }
-    ensures bound { IfOk result (λ b. GivesBound S.has S.tree frame.now.parents.now store.new declared.new b (notes_of found.new) (assign_target (frame_with S.tree R.meaning frame.now) (env_of S.tree declared.old) (env_of S.tree env) (target_of target.now) (expr_of value.now) (notes_of found.old))) }
+    ensures bound { IfOk result
+        (λ b. GivesBound S.has S.tree frame.now.parents.now store.new declared.new b (notes_of found.new)
+        (assign_target (frame_with S.tree R.meaning frame.now) (env_of S.tree declared.old) (env_of S.tree env)
+        (target_of target.now) (expr_of value.now) (notes_of found.old))) }
     ensures kept { KeepsTypes S.has store.old store.new }
 {
     match target {

@@ -14,7 +14,8 @@ ghost use Rattle.pc_rules.specs.Computed.{code_unless, flows_of};
 ghost use Rattle.pc_rules.specs.Found.{brief, flows_at};
 ghost use Rattle.pc_rules.specs.Standing.{mark_in, mark_with, finds_in};
 ghost use Rattle.pc_labels.specs.ComputedStatements.{type_table, at, narrowed_at};
-ghost use Rattle.pc_check.specs.Internal.StatementWalk.{frame_with, HoldsFrame, HoldsTypes, HoldsTypeIfAny, GivesLabel, GivesTypes};
+ghost use Rattle.pc_check.specs.Internal.StatementWalk.{frame_with, HoldsFrame, HoldsTypes, HoldsTypeIfAny, GivesLabel};
+ghost use Rattle.pc_check.specs.Internal.StatementWalk.{GivesTypes};
 
 use crate::frame::Frame;
 use pc_expr::type_expr;
@@ -41,8 +42,14 @@ pub(crate) fn type_in<S: TypeStore, R: Resolver>(
     requires declared { HoldsTypes (S.has store.old) S.tree frame.now.parents.now declared.now }
     requires env { HoldsTypes (S.has store.old) S.tree frame.now.parents.now env.now }
     requires want { HoldsTypeIfAny (S.has store.old) S.tree frame.now.parents.now want.now }
-    ensures labelled { IfOk result (λ l. GivesLabel S.has S.tree frame.now.parents.now store.new l (mark_in (at (frame_with S.tree R.meaning frame.now) (env_of S.tree declared.now) (env_of S.tree env.now)) (option_map S.tree want.now) (expr_of e.now))) }
-    ensures pushed { OnOk result (notes_of found.new ≡ notes_of found.old ++ finds_in (at (frame_with S.tree R.meaning frame.now) (env_of S.tree declared.now) (env_of S.tree env.now)) (option_map S.tree want.now) (expr_of e.now)) }
+    ensures labelled { IfOk result
+        (λ l. GivesLabel S.has S.tree frame.now.parents.now store.new l
+        (mark_in (at (frame_with S.tree R.meaning frame.now) (env_of S.tree declared.now) (env_of S.tree env.now))
+        (option_map S.tree want.now) (expr_of e.now))) }
+    ensures pushed { OnOk result
+        (notes_of found.new ≡ notes_of found.old
+        ++ finds_in (at (frame_with S.tree R.meaning frame.now) (env_of S.tree declared.now) (env_of S.tree env.now))
+        (option_map S.tree want.now) (expr_of e.now)) }
     ensures kept { KeepsTypes S.has store.old store.new }
 {
     let setting = Setting {
@@ -70,8 +77,12 @@ pub(crate) fn flow_in<S: TypeStore>(
 ) -> Result<Option<Code>, OutOfMemory>
     requires label { S.has store.old label.now.ty }
     requires into { S.has store.old into.now }
-    ensures code { IfOk result (λ c. c ≡ code_unless (static_test parents.now) (assignable_test parents.now) (is_early label.now.codes.items) (S.tree label.now.ty) (S.tree into.now)) }
-    ensures pushed { (m : Mark) → mark_with S.tree label.now ≡ brief m → OnOk result (notes_of found.new ≡ notes_of found.old ++ flows_at place (flows_of parents.now m (S.tree into.now ∷ []))) }
+    ensures code { IfOk result
+        (λ c. c ≡ code_unless (static_test parents.now) (assignable_test parents.now) (is_early label.now.codes.items)
+        (S.tree label.now.ty) (S.tree into.now)) }
+    ensures pushed { (m : Mark) → mark_with S.tree label.now ≡ brief m
+        → OnOk result (notes_of found.new
+        ≡ notes_of found.old ++ flows_at place (flows_of parents.now m (S.tree into.now ∷ []))) }
     ensures kept { KeepsTypes S.has store.old store.new }
 {
     let code = find_flow(store, alloc, parents, place, label, into, found)?;
@@ -89,8 +100,14 @@ pub(crate) fn narrow_in<S: TypeStore, R: Resolver>(
 ) -> Result<BothWays<S::Ty>, OutOfMemory>
     requires declared { HoldsTypes (S.has store.old) S.tree frame.now.parents.now declared.now }
     requires env { HoldsTypes (S.has store.old) S.tree frame.now.parents.now env }
-    ensures where_true { IfOk result (λ n. GivesTypes S.has S.tree frame.now.parents.now store.new n.where_true (narrowed_at (frame_with S.tree R.meaning frame.now) (env_of S.tree declared.now) true (expr_of condition.now) (env_of S.tree env))) }
-    ensures where_false { IfOk result (λ n. GivesTypes S.has S.tree frame.now.parents.now store.new n.where_false (narrowed_at (frame_with S.tree R.meaning frame.now) (env_of S.tree declared.now) false (expr_of condition.now) (env_of S.tree env))) }
+    ensures where_true { IfOk result
+        (λ n. GivesTypes S.has S.tree frame.now.parents.now store.new n.where_true
+        (narrowed_at (frame_with S.tree R.meaning frame.now) (env_of S.tree declared.now) true (expr_of condition.now)
+        (env_of S.tree env))) }
+    ensures where_false { IfOk result
+        (λ n. GivesTypes S.has S.tree frame.now.parents.now store.new n.where_false
+        (narrowed_at (frame_with S.tree R.meaning frame.now) (env_of S.tree declared.now) false (expr_of condition.now)
+        (env_of S.tree env))) }
     ensures kept { KeepsTypes S.has store.old store.new }
 {
     narrow(
@@ -116,7 +133,10 @@ pub(crate) fn join_in<S: TypeStore, R: Resolver>(
     requires declared { HoldsTypes (S.has store.old) S.tree frame.now.parents.now declared.now }
     requires left { HoldsTypes (S.has store.old) S.tree frame.now.parents.now a.now }
     requires right { HoldsTypes (S.has store.old) S.tree frame.now.parents.now b.now }
-    ensures value { IfOk result (λ e. GivesTypes S.has S.tree frame.now.parents.now store.new e (join_env frame.now.parents.now (type_table (env_of S.tree declared.now)) (env_of S.tree a.now) (env_of S.tree b.now))) }
+    ensures value { IfOk result
+        (λ e. GivesTypes S.has S.tree frame.now.parents.now store.new e
+        (join_env frame.now.parents.now (type_table (env_of S.tree declared.now)) (env_of S.tree a.now)
+        (env_of S.tree b.now))) }
     ensures kept { KeepsTypes S.has store.old store.new }
 {
     frame.parents.ordered();
@@ -134,7 +154,10 @@ pub(crate) fn head_in<S: TypeStore, R: Resolver>(
 ) -> Result<Env<S::Ty>, OutOfMemory>
     requires declared { HoldsTypes (S.has store.old) S.tree frame.now.parents.now declared.now }
     requires env { HoldsTypes (S.has store.old) S.tree frame.now.parents.now env.now }
-    ensures value { IfOk result (λ e. GivesTypes S.has S.tree frame.now.parents.now store.new e (loop_head (λ x. slice_index_or bound.now x false) (type_table (env_of S.tree declared.now)) (env_of S.tree env.now))) }
+    ensures value { IfOk result
+        (λ e. GivesTypes S.has S.tree frame.now.parents.now store.new e
+        (loop_head (λ x. slice_index_or bound.now x false) (type_table (env_of S.tree declared.now))
+        (env_of S.tree env.now))) }
     ensures kept { KeepsTypes S.has store.old store.new }
 {
     loop_head(store, alloc, bound, declared, env)

@@ -28,7 +28,9 @@ fn declare_any<S: TypeStore>(
     local: usize,
 ) -> Result<(), OutOfMemory>
     requires { HoldsTypes (S.has store.old) S.tree parents.now declared.old }
-    ensures declared { OnOk result (GivesTypes S.has S.tree parents.now store.new declared.new (with_declared (bound_type (env_of S.tree declared.old) local) (env_of S.tree declared.old) local Any)) }
+    ensures declared { OnOk result
+        (GivesTypes S.has S.tree parents.now store.new declared.new
+        (with_declared (bound_type (env_of S.tree declared.old) local) (env_of S.tree declared.old) local Any)) }
     ensures kept { KeepsTypes S.has store.old store.new }
 {
     let any = store.any(alloc)?;
@@ -45,7 +47,9 @@ fn declare_each<S: TypeStore>(
     locals: &[usize],
 ) -> Result<(), OutOfMemory>
     requires { HoldsTypes (S.has store.old) S.tree parents.now declared.old }
-    ensures declared { OnOk result (GivesTypes S.has S.tree parents.now store.new declared.new (unreached_numbers (env_of S.tree declared.old) locals.now)) }
+    ensures declared { OnOk result
+        (GivesTypes S.has S.tree parents.now store.new declared.new
+        (unreached_numbers (env_of S.tree declared.old) locals.now)) }
     ensures kept { KeepsTypes S.has store.old store.new }
 {
     for local in locals {
@@ -63,7 +67,10 @@ pub(crate) fn declare_unreached<S: TypeStore, R: Resolver>(
     kind: &StmtKind,
 ) -> Result<(), OutOfMemory>
     requires { HoldsTypes (S.has store.old) S.tree frame.now.parents.now declared.old }
-    ensures declared { (p : PlaceOf) → OnOk result (GivesTypes S.has S.tree frame.now.parents.now store.new declared.new (unreached_names (frame_with S.tree R.meaning frame.now) (env_of S.tree declared.old) (bound_by_stmt (stmt_of_kind p kind.now)))) }
+    ensures declared { (p : PlaceOf)
+        → OnOk result (GivesTypes S.has S.tree frame.now.parents.now store.new declared.new
+        (unreached_names (frame_with S.tree R.meaning frame.now) (env_of S.tree declared.old)
+        (bound_by_stmt (stmt_of_kind p kind.now)))) }
     ensures kept { KeepsTypes S.has store.old store.new }
 {
     let mut bound = Vec::new(alloc);

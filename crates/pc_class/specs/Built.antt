@@ -23,8 +23,10 @@ pub record IsSetting (s : Setting) : Type 0 where
   pub scopes : AreScopes (module_in s) s.scopes.now
   pub parents : s.parents.now ≡ bases_of (module_in s)
 
--- what was added to a list means these, each with what is asked of it; a map tells it by names, between what it told in front and behind
-pub record Added {X Y : Type 0} (name : X → List ℕ) (has : X → Type 0) (meaning : X → Y) (d : NameMaps) (old new : List X) (at : ℕ) (front back : List X) (own : List Y) : Type 0 where
+-- what was added to a list means these, each with what is asked of it; a map tells it by names, between what it told in
+-- front and behind
+pub record Added {X Y : Type 0} (name : X → List ℕ) (has : X → Type 0) (meaning : X → Y) (d : NameMaps)
+    (old new : List X) (at : ℕ) (front back : List X) (own : List Y) : Type 0 where
   pub these : List X
   pub all : new ≡ old ++ these
   pub means : map meaning these ≡ own
@@ -38,8 +40,10 @@ IsClassAt m c class = slice_get (classes_in m.items) c ≡ Some class
 -- what is found of the members of classes by their names, given the classes before them, each of them in turn: E06, E08
 abbrev pub found_behind : Module → List ClassFacts → ℕ → List ClassDef → List Finding
 found_behind m earlier c [] = []
-found_behind m earlier c (class ∷ rest) = found_over (base_facts earlier (base_named m c class.base)) class ++ found_behind m (earlier ++ class_facts_behind m earlier c class ∷ []) (suc c) rest
+found_behind m earlier c (class ∷ rest) = found_over (base_facts earlier (base_named m c class.base)) class
+    ++ found_behind m (earlier ++ class_facts_behind m earlier c class ∷ []) (suc c) rest
 
 -- the findings of classes by names alone as a list: E07, then of each class E06 and E08
 unfoldable pub class_findings : Module → List Finding
-class_findings m = at_code E07 (missing_bases (bases_of m) 0 (classes_in m.items)) ++ classes_found m 0 (classes_in m.items)
+class_findings m = at_code E07 (missing_bases (bases_of m) 0 (classes_in m.items))
+    ++ classes_found m 0 (classes_in m.items)

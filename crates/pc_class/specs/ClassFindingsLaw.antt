@@ -14,12 +14,15 @@ use Rattle.pc_class.specs.OverrideFindings.{override_findings}
 -- the names of members that clash in classes from this number on, by what the class of each base's number has
 abbrev pub clashes_from : Module → ℕ → List ClassDef → List Place
 clashes_from m c [] = []
-clashes_from m c (class ∷ rest) = clash_places (class_entries (inherited_by (base_class m c class)) class) ++ clashes_from m (suc c) rest
+clashes_from m c (class ∷ rest) = clash_places (class_entries (inherited_by (base_class m c class)) class)
+    ++ clashes_from m (suc c) rest
 
--- the law that those are, in the same order, the clashing members that stop a run, which go by the names of bases among the items before
+-- the law that those are, in the same order, the clashing members that stop a run, which go by the names of bases among
+-- the items before
 abbrev pub ClashesStop : Type 0
 ClashesStop = (m : Module) → clashing_members m ≡ clashes_from m 0 (classes_in m.items)
 
 -- the law that the two lists together hold just the findings of classes
 abbrev pub ClassesFindJustTheirLists : Type 0
-ClassesFindJustTheirLists = (m : Module) (f : Finding) → (Contains (class_findings m) f ⊎ Contains (override_findings m) f) ↔ ClassFinds m f
+ClassesFindJustTheirLists = (m : Module) (f : Finding)
+    → (Contains (class_findings m) f ⊎ Contains (override_findings m) f) ↔ ClassFinds m f

@@ -1,7 +1,8 @@
--- The members of a class one after another: whether each binds its name, and whether that clashes. The computed twin of the rules on
--- members and of the findings of names, which proofs/ ties to them.
+-- The members of a class one after another: whether each binds its name, and whether that clashes. The computed twin of
+-- the rules on members and of the findings of names, which proofs/ ties to them.
 -- Own rules of the profile; library reference, `dataclasses`, order of fields.
-use Rattle.std.specs.Prelude.{ℕ, suc, List, [], ◌∷◌, ◌++◌, Bool, false, ◌&&◌, ◌||◌, not, if◌then◌else◌, Option, Some, None, is_some, codes, bytes_eq}
+use Rattle.std.specs.Prelude.{ℕ, suc, List, [], ◌∷◌, ◌++◌, Bool, false, ◌&&◌, ◌||◌, not, if◌then◌else◌, Option, Some}
+use Rattle.std.specs.Prelude.{None, is_some, codes, bytes_eq}
 use Rattle.pc_source.specs.declared.place.Place.{Place}
 use Rattle.pc_tree.specs.Tree.{Name, Field, Member, field_member, method_member, ClassDef, member_of, Module}
 use Rattle.pc_tree.specs.Stopping.{one_if, name_of_member}
@@ -22,11 +23,17 @@ pub record Inherited : Type 0 where
 
 -- those of a base
 abbrev pub inherited_by : ClassFacts → Inherited
-inherited_by base = record { has_field = λ n. is_some (field_by_name base.fields n); has_method = λ n. is_some (method_by_name base.methods n) }
+inherited_by base = record {
+  has_field = λ n. is_some (field_by_name base.fields n);
+  has_method = λ n. is_some (method_by_name base.methods n);
+}
 
 -- those that two maps have
 abbrev pub inherited_in : NameMaps → Held → Inherited
-inherited_in d held = record { has_field = λ n. is_some (named_at d held.fields n); has_method = λ n. is_some (named_at d held.methods n) }
+inherited_in d held = record {
+  has_field = λ n. is_some (named_at d held.fields n);
+  has_method = λ n. is_some (named_at d held.methods n);
+}
 
 -- there are maps of these numbers
 pub record HasMaps (d : NameMaps) (held : Held) : Type 0 where
@@ -43,17 +50,25 @@ pub record MemberEntry : Type 0 where
 -- a member binds its name, behind members of these names
 abbrev pub member_binds : Inherited → List (List ℕ) → Member → Bool
 member_binds h before (field_member f) =
-    not (is_builtin_name f.name.text || bytes_eq f.name.text (codes "mro")) && (not (is_one_of f.name.text before) && not (h.has_field f.name.text || h.has_method f.name.text))
-member_binds h before (method_member f) = not (is_builtin_name f.name.text) && (not (is_one_of f.name.text before) && not (h.has_field f.name.text))
+    not (is_builtin_name f.name.text || bytes_eq f.name.text (codes "mro"))
+    && (not (is_one_of f.name.text before) && not (h.has_field f.name.text || h.has_method f.name.text))
+member_binds h before (method_member f) = not (is_builtin_name f.name.text)
+    && (not (is_one_of f.name.text before) && not (h.has_field f.name.text))
 
 -- a member's name is that of an earlier one, or it clashes with an ancestor's
 abbrev pub member_clashes : Inherited → List (List ℕ) → Member → Bool
-member_clashes h before (field_member f) = is_one_of f.name.text before || (h.has_field f.name.text || h.has_method f.name.text)
+member_clashes h before (field_member f) = is_one_of f.name.text before
+    || (h.has_field f.name.text || h.has_method f.name.text)
 member_clashes h before (method_member f) = is_one_of f.name.text before || h.has_field f.name.text
 
 -- a member as an entry
 abbrev pub entry_of : Inherited → List (List ℕ) → ℕ → Member → MemberEntry
-entry_of h before number x = record { member = x; number = number; binds = member_binds h before x; clashes = member_clashes h before x }
+entry_of h before number x = record {
+  member = x;
+  number = number;
+  binds = member_binds h before x;
+  clashes = member_clashes h before x;
+}
 
 -- so many methods and a member
 abbrev pub number_after : ℕ → Member → ℕ
@@ -63,7 +78,8 @@ number_after n (method_member f) = suc n
 -- the entries of members, behind members of these names and so many methods
 abbrev pub entries_of : Inherited → List (List ℕ) → ℕ → List Member → List MemberEntry
 entries_of h before number [] = []
-entries_of h before number (x ∷ rest) = entry_of h before number x ∷ entries_of h ((name_of_member x).text ∷ before) (number_after number x) rest
+entries_of h before number (x ∷ rest) =
+    entry_of h before number x ∷ entries_of h ((name_of_member x).text ∷ before) (number_after number x) rest
 
 -- the entries of a class whose ancestors have these names
 abbrev pub class_entries : Inherited → ClassDef → List MemberEntry
@@ -77,7 +93,11 @@ entry_seen e = record { member = member_of e.member.now; number = e.number; bind
 
 -- a field as a parameter of its class
 abbrev pub parameter_made : Module → Field → TypedParameter
-parameter_made m f = record { name = f.name.text; type = read_ann m (bases_of m) f.annotation; has_default = is_some f.default }
+parameter_made m f = record {
+  name = f.name.text;
+  type = read_ann m (bases_of m) f.annotation;
+  has_default = is_some f.default;
+}
 
 -- the field that a member is, as a parameter of its class
 abbrev pub field_made : Module → Member → List TypedParameter
@@ -128,7 +148,8 @@ is_late d (Some b) = d && not b
 -- the names of fields without default behind one with default
 abbrev pub late_places : Bool → List MemberEntry → List Place
 late_places d [] = []
-late_places d (e ∷ es) = one_if (is_late d (entry_default e)) (name_of_member e.member).place ++ late_places (defaulted_after d (entry_default e)) es
+late_places d (e ∷ es) = one_if (is_late d (entry_default e)) (name_of_member e.member).place
+    ++ late_places (defaulted_after d (entry_default e)) es
 
 -- whether there was a default, after these entries
 abbrev pub defaulted_in : Bool → List MemberEntry → Bool

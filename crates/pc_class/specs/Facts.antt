@@ -1,6 +1,8 @@
--- What a class has: the fields of its base, then its own; and of each name the method of the nearest class on the way to the root.
--- Language Reference 3.12, 8.8 "Class definitions"; library reference, `dataclasses`; typing specification, "Dataclasses".
-use Rattle.std.specs.Prelude.{ℕ, suc, List, [], ◌∷◌, ◌++◌, map, Bool, ◌&&◌, ◌||◌, not, if◌then◌else◌, Option, Some, None, is_some, slice_get, find, codes, bytes_eq}
+-- What a class has: the fields of its base, then its own; and of each name the method of the nearest class on the way
+-- to the root. Language Reference 3.12, 8.8 "Class definitions"; library reference, `dataclasses`; typing
+-- specification, "Dataclasses".
+use Rattle.std.specs.Prelude.{ℕ, suc, List, [], ◌∷◌, ◌++◌, map, Bool, ◌&&◌, ◌||◌, not, if◌then◌else◌, Option, Some}
+use Rattle.std.specs.Prelude.{None, is_some, slice_get, find, codes, bytes_eq}
 use Rattle.pc_source.specs.declared.place.Place.{Place}
 use Rattle.pc_tree.specs.Tree.{Param, FuncDef, Member, field_member, method_member, ClassDef, Module}
 use Rattle.pc_scope.specs.Reserved.{is_builtin_name}
@@ -60,15 +62,22 @@ base_facts earlier (Some b) = class_facts_at earlier b
 -- a field binds its name: not reserved, not `mro`, no earlier member's, no field's or method's of an ancestor
 abbrev pub binds_field : ClassFacts → List (List ℕ) → List ℕ → Bool
 binds_field base before name =
-    not (is_builtin_name name || bytes_eq name (codes "mro")) && (not (is_one_of name before) && not (is_some (field_by_name base.fields name) || is_some (method_by_name base.methods name)))
+    not (is_builtin_name name || bytes_eq name (codes "mro"))
+    && (not (is_one_of name before)
+    && not (is_some (field_by_name base.fields name) || is_some (method_by_name base.methods name)))
 
 -- a method binds its name: not reserved, no earlier member's, no field's of an ancestor
 abbrev pub binds_method : ClassFacts → List (List ℕ) → List ℕ → Bool
-binds_method base before name = not (is_builtin_name name) && (not (is_one_of name before) && not (is_some (field_by_name base.fields name)))
+binds_method base before name = not (is_builtin_name name)
+    && (not (is_one_of name before) && not (is_some (field_by_name base.fields name)))
 
 -- a parameter with the type that its annotation says, Any without one
 abbrev pub typed_parameter : Module → Param → TypedParameter
-typed_parameter m p = record { name = p.name.text; type = read_option m (bases_of m) p.annotation; has_default = is_some p.default }
+typed_parameter m p = record {
+  name = p.name.text;
+  type = read_option m (bases_of m) p.annotation;
+  has_default = is_some p.default;
+}
 
 -- parameters with the types that their annotations say
 abbrev pub parameters_of : Module → List Param → List TypedParameter
@@ -80,14 +89,25 @@ return_type m f = read_option m (bases_of m) f.returns
 
 -- a method of a class, with its number there, its parameters and what it returns
 abbrev pub method_made : Module → ℕ → ℕ → FuncDef → Method
-method_made m c number f = record { name = f.name.text; owner = c; number = number; place = f.name.place; parameters = parameters_of m f.params; returns = return_type m f }
+method_made m c number f = record {
+  name = f.name.text;
+  owner = c;
+  number = number;
+  place = f.name.place;
+  parameters = parameters_of m f.params;
+  returns = return_type m f;
+}
 
 module _ (m : Module) (base : ClassFacts) where
   -- the fields that members bind, behind members of these names
   abbrev pub own_fields : List (List ℕ) → List Member → List TypedParameter
   own_fields before [] = []
   own_fields before (field_member f ∷ rest) =
-      (if binds_field base before f.name.text then record { name = f.name.text; type = read_ann m (bases_of m) f.annotation; has_default = is_some f.default } ∷ [] else [])
+      (if binds_field base before f.name.text then record {
+        name = f.name.text;
+        type = read_ann m (bases_of m) f.annotation;
+        has_default = is_some f.default;
+      } ∷ [] else [])
       ++ own_fields (f.name.text ∷ before) rest
   own_fields before (method_member f ∷ rest) = own_fields (f.name.text ∷ before) rest
 
@@ -96,7 +116,8 @@ module _ (m : Module) (base : ClassFacts) where
   own_methods c number before [] = []
   own_methods c number before (field_member f ∷ rest) = own_methods c number (f.name.text ∷ before) rest
   own_methods c number before (method_member f ∷ rest) =
-      (if binds_method base before f.name.text then method_made m c number f ∷ [] else []) ++ own_methods c (suc number) (f.name.text ∷ before) rest
+      (if binds_method base before f.name.text then method_made m c number f ∷ [] else [])
+      ++ own_methods c (suc number) (f.name.text ∷ before) rest
 
 -- a class of this number, behind earlier ones
 abbrev pub class_facts_behind : Module → List ClassFacts → ℕ → ClassDef → ClassFacts
@@ -111,7 +132,8 @@ class_facts_behind m earlier c class =
 -- the earlier classes and then these, the first of them of this number, each built on those before it
 abbrev pub classes_behind : Module → List ClassFacts → ℕ → List ClassDef → List ClassFacts
 classes_behind m earlier c [] = earlier
-classes_behind m earlier c (class ∷ rest) = classes_behind m (earlier ++ class_facts_behind m earlier c class ∷ []) (suc c) rest
+classes_behind m earlier c (class ∷ rest) =
+    classes_behind m (earlier ++ class_facts_behind m earlier c class ∷ []) (suc c) rest
 
 -- the classes of a module
 unfoldable pub classes_of : Module → List ClassFacts

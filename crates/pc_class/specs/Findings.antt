@@ -1,6 +1,7 @@
 -- The findings of classes: E06, E07, E08, E11, A8.
 -- Own rules of the profile; library reference, `dataclasses`, order of fields.
-use Rattle.std.specs.Prelude.{◌≡◌, ℕ, List, [], map, take, length, Bool, ◌||◌, IsTrue, IsFalse, Some, None, is_some, slice_get}
+use Rattle.std.specs.Prelude.{◌≡◌, ℕ, List, [], map, take, length, Bool, ◌||◌, IsTrue, IsFalse, Some, None, is_some}
+use Rattle.std.specs.Prelude.{slice_get}
 use Rattle.std.specs.List.{list_any}
 use Rattle.pc_tree.specs.declared.code.Code.{Code}
 use Rattle.pc_tree.specs.declared.code.Code.TheVariants.{E06, E07, E08}
@@ -39,7 +40,8 @@ pub record IsTwiceMember (m : Module) (f : Finding) : Type 0 where
 
 -- a field before another one has a default
 abbrev pub has_default_before : Module → ClassFacts → List Member → Bool
-has_default_before m base members = list_any (λ p. p.has_default) base.fields || list_any (λ p. p.has_default) (own_fields m base [] members)
+has_default_before m base members = list_any (λ p. p.has_default) base.fields
+    || list_any (λ p. p.has_default) (own_fields m base [] members)
 
 -- E08: a field without default stands behind one with default
 pub record IsFieldBehind (m : Module) (class : ClassDef) (c : ℕ) (f : Finding) : Type 0 where
@@ -51,14 +53,16 @@ pub record IsFieldBehind (m : Module) (class : ClassDef) (c : ℕ) (f : Finding)
   pub behind : IsTrue (has_default_before m (base_class m c class) (take at class.members))
   pub is : f ≡ finding field.name.place E08
 
--- E11, A8: at the name of a method that overrides, where it binds its name; its number is that of the methods before it in its class
+-- E11, A8: at the name of a method that overrides, where it binds its name; its number is that of the methods before it
+-- in its class
 pub record IsOverride (m : Module) (class : ClassDef) (c : ℕ) (f : Finding) : Type 0 where
   pub at : ℕ
   pub method : FuncDef
   pub code : Code
   pub here : slice_get class.members at ≡ Some (method_member method)
   pub binds : IsTrue (binds_method (base_class m c class) (member_texts (take at class.members)) method.name.text)
-  pub judged : Judges (bases_of m) (overridden (base_class m c class).methods method.name.text) (method_made m c (length (methods_in (take at class.members))) method) (Some code)
+  pub judged : Judges (bases_of m) (overridden (base_class m c class).methods method.name.text)
+      (method_made m c (length (methods_in (take at class.members))) method) (Some code)
   pub is : f ≡ finding method.name.place code
 
 -- the findings of classes

@@ -22,16 +22,22 @@ pub record FindsBase (m : Module) (f : Finding) : Type 0 where
 
 -- the law that the missing bases of a module are just those that the rule finds
 abbrev pub BasesAreFound : Type 0
-BasesAreFound = (m : Module) (f : Finding) → Contains (at_code E07 (missing_bases (bases_of m) 0 (classes_in m.items))) f ↔ FindsBase m f
+BasesAreFound = (m : Module) (f : Finding)
+    → Contains (at_code E07 (missing_bases (bases_of m) 0 (classes_in m.items))) f ↔ FindsBase m f
 
 -- the law that the late fields of a class are just those that the rule finds
 abbrev pub LateFieldsAreFound : Type 0
-LateFieldsAreFound = (m : Module) (c : ℕ) (class : ClassDef) (f : Finding) → Contains (at_code E08 (late_places (list_any (λ (p : TypedParameter). p.has_default) (base_class m c class).fields) (class_entries (inherited_by (base_class m c class)) class))) f ↔ IsFieldBehind m class c f
+LateFieldsAreFound = (m : Module) (c : ℕ) (class : ClassDef) (f : Finding)
+    → Contains (at_code E08 (late_places
+    (list_any (λ (p : TypedParameter). p.has_default) (base_class m c class).fields)
+    (class_entries (inherited_by (base_class m c class)) class))) f ↔ IsFieldBehind m class c f
 
 -- what is found of the classes of a module by names alone: E07, E06 as the entries of the classes say it, E08
 pub data NamesFind (m : Module) (f : Finding) : Type 0 where
   base : FindsBase m f → NamesFind m f
-  clash : (c : ℕ) (class : ClassDef) → ClassNumbered m c class → Contains (at_code E06 (clash_places (class_entries (inherited_by (base_class m c class)) class))) f → NamesFind m f
+  clash : (c : ℕ) (class : ClassDef) → ClassNumbered m c class
+      → Contains (at_code E06 (clash_places (class_entries (inherited_by (base_class m c class)) class))) f
+      → NamesFind m f
   order : (c : ℕ) (class : ClassDef) → ClassNumbered m c class → IsFieldBehind m class c f → NamesFind m f
 
 -- the law that the findings which a class table is built with are just those

@@ -1,6 +1,7 @@
 -- What a map of names holds, what the entries of a class bind, and what is found of a class's members by their names.
 -- Own rule of the profile.
-use Rattle.std.specs.Prelude.{◌≡◌, ◌<◌, ℕ, suc, List, [], ◌∷◌, ◌++◌, find, length, if◌then◌else◌, Option, Some, None, slice_get, bytes_eq}
+use Rattle.std.specs.Prelude.{◌≡◌, ◌<◌, ℕ, suc, List, [], ◌∷◌, ◌++◌, find, length, if◌then◌else◌, Option, Some, None}
+use Rattle.std.specs.Prelude.{slice_get, bytes_eq}
 use Rattle.std.specs.Borrow.{Bor}
 use Rattle.std.specs.List.{list_any}
 use Rattle.pc_tree.specs.declared.tree.Field.{Field as RustField}
@@ -13,7 +14,8 @@ use Rattle.pc_scope.specs.Bindings.{as_class, classes_in}
 use Rattle.pc_scope.specs.Internal.FindingLists.{at_code}
 use Rattle.pc_class.specs.Facts.{TypedParameter, Method, ClassFacts, method_made, base_facts, classes_of}
 use Rattle.pc_class.specs.NameMaps.{NameMaps, IsMap, named_at}
-use Rattle.pc_class.specs.Entries.{MemberEntry, parameter_made, field_made, methods_made, inherited_by, class_entries, clash_places, late_places}
+use Rattle.pc_class.specs.Entries.{MemberEntry, parameter_made, field_made, methods_made, inherited_by, class_entries}
+use Rattle.pc_class.specs.Entries.{clash_places, late_places}
 
 -- the field that there is, if there is one, as a parameter of its class
 abbrev pub fields_seen : Module → Option (Bor RustField) → List TypedParameter
@@ -73,7 +75,8 @@ AreOther name those [] = Unit {0}
 AreOther name those (x ∷ xs) = (first_named name those (name x) ≡ None) × AreOther name those xs
 
 -- what each entry binds has another name than those, and than what earlier entries bind
-abbrev pub AreNew : {X : Type 0} → (name : X → List ℕ) → (own : MemberEntry → List X) → (those : List X) → List MemberEntry → Type 0
+abbrev pub AreNew : {X : Type 0} → (name : X → List ℕ) → (own : MemberEntry → List X) → (those : List X)
+    → List MemberEntry → Type 0
 AreNew name own those [] = Unit {0}
 AreNew name own those (e ∷ es) = AreOther name those (own e) × AreNew name own (those ++ own e) es
 
@@ -81,7 +84,8 @@ AreNew name own those (e ∷ es) = AreOther name those (own e) × AreNew name ow
 abbrev pub found_over : ClassFacts → ClassDef → List Finding
 found_over base class =
     at_code E06 (clash_places (class_entries (inherited_by base) class))
-    ++ at_code E08 (late_places (list_any (λ (p : TypedParameter). p.has_default) base.fields) (class_entries (inherited_by base) class))
+    ++ at_code E08 (late_places (list_any (λ (p : TypedParameter). p.has_default) base.fields)
+    (class_entries (inherited_by base) class))
 
 -- so of the class of a number
 abbrev pub class_found : Module → ℕ → ClassDef → List Finding
@@ -94,4 +98,5 @@ classes_found m c (class ∷ rest) = class_found m c class ++ classes_found m (s
 
 -- an item that is a class is the one of this number
 abbrev pub IsClassNumbered : Module → ℕ → Item → Type 0
-IsClassNumbered m c item = (class : ClassDef) → as_class item ≡ Some class → slice_get (classes_in m.items) c ≡ Some class
+IsClassNumbered m c item = (class : ClassDef) → as_class item ≡ Some class
+    → slice_get (classes_in m.items) c ≡ Some class

@@ -1,6 +1,6 @@
--- What overriding finds, computed: of each method that a class binds its code against the ancestors' methods of its name, E11, A8 or
--- none. The computed twin of the rule on overrides, which the law `overrides_are_found` ties to it; it is to be believed for that law
--- alone.
+-- What overriding finds, computed: of each method that a class binds its code against the ancestors' methods of its
+-- name, E11, A8 or none. The computed twin of the rule on overrides, which the law `overrides_are_found` ties to it; it
+-- is to be believed for that law alone.
 -- Typing specification, "Type system concepts", assignability of callables; own rule of the profile.
 use Rattle.std.specs.Prelude.{◌↔◌, ℕ, suc, List, [], ◌∷◌, ◌++◌, Bool, true, false, ◌&&◌, Option, Some, None, Contains}
 use Rattle.std.specs.List.{list_all}
@@ -28,11 +28,13 @@ flow_is_good bases f = assignable_test bases f.from f.into
 
 -- whether a method is static to the one that it overrides
 abbrev pub is_static_to : Bases → Method → Method → Bool
-is_static_to bases new old = has_shape_of old.parameters new.parameters && list_all (flow_is_static bases) (override_flows old new)
+is_static_to bases new old = has_shape_of old.parameters new.parameters
+    && list_all (flow_is_static bases) (override_flows old new)
 
 -- whether a method is good against the one that it overrides
 abbrev pub is_good_to : Bases → Method → Method → Bool
-is_good_to bases new old = has_shape_of old.parameters new.parameters && list_all (flow_is_good bases) (override_flows old new)
+is_good_to bases new old = has_shape_of old.parameters new.parameters
+    && list_all (flow_is_good bases) (override_flows old new)
 
 -- E11 where not all is good; else A8 where not all is static; else nothing
 abbrev pub code_where : (good static : Bool) → Option Code
@@ -42,7 +44,8 @@ code_where true true = None
 
 -- what is found of a method, judged against every ancestor's of its name
 abbrev pub override_code : Bases → List Method → Method → Option Code
-override_code bases olds new = code_where (list_all (is_good_to bases new) olds) (list_all (is_static_to bases new) olds)
+override_code bases olds new =
+    code_where (list_all (is_good_to bases new) olds) (list_all (is_static_to bases new) olds)
 
 -- a code at a place, if there is one
 abbrev pub override_finding : Option Code → Place → List Finding
@@ -60,7 +63,9 @@ found_at_methods bases inherited (x ∷ xs) = found_at_method bases inherited x 
 
 -- what is found of the methods that a class binds
 abbrev pub class_overrides : Module → ℕ → ClassDef → List Finding
-class_overrides m c class = found_at_methods (bases_of m) (base_class m c class).methods (own_methods m (base_class m c class) c 0 [] class.members)
+class_overrides m c class =
+    found_at_methods (bases_of m) (base_class m c class).methods
+    (own_methods m (base_class m c class) c 0 [] class.members)
 
 -- so of classes from this number on
 abbrev pub overrides_from : Module → ℕ → List ClassDef → List Finding

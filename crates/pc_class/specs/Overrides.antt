@@ -1,6 +1,7 @@
 -- Overrides: a method against those of its name that its class's ancestors have.
 -- Typing specification, "Type system concepts", assignability of callables; own rule of the profile.
-use Rattle.std.specs.Prelude.{◌≡◌, ℕ, List, [], ◌∷◌, Bool, true, false, ◌&&◌, ◌||◌, not, IsTrue, Option, Some, None, All, filter, bytes_eq}
+use Rattle.std.specs.Prelude.{◌≡◌, ℕ, List, [], ◌∷◌, Bool, true, false, ◌&&◌, ◌||◌, not, IsTrue, Option, Some, None}
+use Rattle.std.specs.Prelude.{All, filter, bytes_eq}
 use Rattle.pc_tree.specs.declared.code.Code.{Code}
 use Rattle.pc_tree.specs.declared.code.Code.TheVariants.{E11, A8}
 use Rattle.pc_types.specs.Tree.{Tree}
@@ -26,7 +27,10 @@ parameter_flows _ _ = []
 
 -- the method's return flows into the ancestor's
 abbrev pub override_flows : Method → Method → List TypeFlow
-override_flows old new = record { from = new.returns; into = old.returns } ∷ parameter_flows old.parameters new.parameters
+override_flows old new = record {
+  from = new.returns;
+  into = old.returns;
+} ∷ parameter_flows old.parameters new.parameters
 
 -- the override is good against the ancestor's method
 pub record IsGood (bases : Bases) (new old : Method) : Type 0 where
@@ -38,7 +42,8 @@ pub record IsStatic (bases : Bases) (new old : Method) : Type 0 where
   pub shape : IsTrue (has_shape_of old.parameters new.parameters)
   pub flows : All (λ f. Static bases f.from f.into) (override_flows old new)
 
--- what is found at a method's name, judged against every ancestor that has the method: E11, A8 where no E11 is there, or nothing
+-- what is found at a method's name, judged against every ancestor that has the method: E11, A8 where no E11 is there,
+-- or nothing
 pub data Judges (bases : Bases) (olds : List Method) (new : Method) : Option Code → Type 0 where
   static : All (IsStatic bases new) olds → Judges bases olds new None
   dynamic : All (IsGood bases new) olds → ¬ (All (IsStatic bases new) olds) → Judges bases olds new (Some A8)

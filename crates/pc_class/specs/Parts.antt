@@ -1,7 +1,8 @@
--- What a class table is made of, and the classes that it means by it: all fields and all methods that the classes bind, one after
--- another, and of each class which of them it binds itself.
+-- What a class table is made of, and the classes that it means by it: all fields and all methods that the classes bind,
+-- one after another, and of each class which of them it binds itself.
 -- Own rule of the profile.
-use Rattle.std.specs.Prelude.{◌≡◌, ◌<◌, ◌≤◌, ◌-◌, ℕ, List, [], ◌∷◌, ◌++◌, take, drop, length, map, false, Option, Some, None, All, slice_get, slice_index_or, string_bytes}
+use Rattle.std.specs.Prelude.{◌≡◌, ◌<◌, ◌≤◌, ◌-◌, ℕ, List, [], ◌∷◌, ◌++◌, take, drop, length, map, false, Option, Some}
+use Rattle.std.specs.Prelude.{None, All, slice_get, slice_index_or, string_bytes}
 use Rattle.std.specs.Borrow.{Bor}
 use Rattle.std.specs.List.{list_any}
 use Rattle.pc_class.specs.declared.table.Parameter.{Parameter as RustParameter}
@@ -24,7 +25,13 @@ pub record IsSpan (n : ℕ) (s : Span) : Type 0 where
 
 -- nothing, as a base of classes without base
 abbrev pub empty_class_node : ClassNode
-empty_class_node = record { base = None; held = record { fields = 0; methods = 0 }; defaulted = false; fields = record { start = 0; end = 0 }; methods = record { start = 0; end = 0 } }
+empty_class_node = record {
+  base = None;
+  held = record { fields = 0; methods = 0 };
+  defaulted = false;
+  fields = record { start = 0; end = 0 };
+  methods = record { start = 0; end = 0 };
+}
 
 -- the base among the classes before, or nothing where there is no base
 abbrev pub inherited_node : List ClassNode → Option ℕ → ClassNode
@@ -67,17 +74,20 @@ module _ {Ty : Type 0} where
   bases_in es = map (λ (e : ClassEntry Ty). e.base) es
 
   -- a class of a table has its base before it, and its maps tell just what the class has by each name
-  pub record IsClassNode (d : NameMaps) (fields : List (RustParameter Ty)) (methods : List (RustMethod Ty)) (es : List (ClassEntry Ty)) (c : ℕ) (n : ClassNode) : Type 0 where
+  pub record IsClassNode (d : NameMaps) (fields : List (RustParameter Ty)) (methods : List (RustMethod Ty))
+      (es : List (ClassEntry Ty)) (c : ℕ) (n : ClassNode) : Type 0 where
     pub before : (b : ℕ) → n.base ≡ Some b → b < c
     pub own_fields : IsSpan (length fields) n.fields
     pub own_methods : IsSpan (length methods) n.methods
     pub is : slice_get es c ≡ Some (entry_over fields methods es n)
     pub fields_held : IsMapOf parameter_name d fields n.held.fields (entry_over fields methods es n).fields
     pub methods_held : IsMapOf stored_method_name d methods n.held.methods (entry_over fields methods es n).methods
-    pub defaulted : n.defaulted ≡ list_any (λ (p : RustParameter Ty). p.has_default) (entry_over fields methods es n).fields
+    pub defaulted : n.defaulted
+        ≡ list_any (λ (p : RustParameter Ty). p.has_default) (entry_over fields methods es n).fields
 
   -- so of each class, and the map 0 is empty
-  pub record AreNodes (d : NameMaps) (fields : List (RustParameter Ty)) (methods : List (RustMethod Ty)) (ns : List ClassNode) (es : List (ClassEntry Ty)) : Type 0 where
+  pub record AreNodes (d : NameMaps) (fields : List (RustParameter Ty)) (methods : List (RustMethod Ty))
+      (ns : List ClassNode) (es : List (ClassEntry Ty)) : Type 0 where
     pub no_fields : IsMapOf parameter_name d fields 0 []
     pub no_methods : IsMapOf stored_method_name d methods 0 []
     pub many : length es ≡ length ns

@@ -1,6 +1,7 @@
 -- Maps of numbers to numbers that share their parts: what a map has at a number.
 -- Own rule of the profile.
-use Rattle.std.specs.Prelude.{◌≡◌, ◌<◌, ◌≤◌, ◌/◌, ◌%◌, ◌==◌, ℕ, zero, suc, List, [], ◌∷◌, length, Bool, if◌then◌else◌, Option, None, slice_index_or}
+use Rattle.std.specs.Prelude.{◌≡◌, ◌<◌, ◌≤◌, ◌/◌, ◌%◌, ◌==◌, ℕ, zero, suc, List, [], ◌∷◌, length, Bool, if◌then◌else◌}
+use Rattle.std.specs.Prelude.{Option, None, slice_index_or}
 use Rattle.pc_class.specs.declared.shared.Node.{Node}
 
 -- a part of the empty map
@@ -11,7 +12,8 @@ empty_node = record { held = None; odd = 0; even = 0 }
 abbrev pub node_at : List Node → ℕ → Node
 node_at nodes i = slice_index_or nodes i empty_node
 
--- the way to a number: through the odd numbers from 1 on or through the even ones, and on to half of what is left, at most so many steps
+-- the way to a number: through the odd numbers from 1 on or through the even ones, and on to half of what is left, at
+-- most so many steps
 abbrev pub way_in : ℕ → ℕ → List Bool
 way_in zero key = []
 way_in (suc n) zero = []

@@ -1,5 +1,5 @@
--- What a class table holds: of each class its base, its fields and its methods, with types of a store; and the classes that it means.
--- Own rule of the profile.
+-- What a class table holds: of each class its base, its fields and its methods, with types of a store; and the classes
+-- that it means. Own rule of the profile.
 use Rattle.std.specs.Prelude.{ℕ, List, [], map, Option, Some, None, All, Contains, slice_index_or, string_bytes}
 use Rattle.std.specs.Borrow.{Bor}
 use Rattle.pc_types.specs.Tree.{Tree}
@@ -7,7 +7,8 @@ use Rattle.pc_class.specs.Facts.{TypedParameter, Method, ClassFacts}
 use Rattle.pc_class.specs.declared.table.Parameter.{Parameter as RustParameter}
 use Rattle.pc_class.specs.declared.table.Method.{Method as RustMethod}
 
--- a class of a table: its base, its fields with those of its base first, and its methods with those of its base behind them
+-- a class of a table: its base, its fields with those of its base first, and its methods with those of its base behind
+-- them
 pub record ClassEntry (Ty : Type 0) : Type 0 where
   pub base : Option ℕ
   pub fields : List (RustParameter Ty)
@@ -33,7 +34,14 @@ module _ {Ty : Type 0} (tree : Ty → Tree) where
 
   -- a method with the types that it means
   abbrev pub method_with : RustMethod Ty → Method
-  method_with x = record { name = string_bytes x.name; owner = x.owner; number = x.number; place = x.place; parameters = parameters_with x.params.items; returns = tree x.ret }
+  method_with x = record {
+    name = string_bytes x.name;
+    owner = x.owner;
+    number = x.number;
+    place = x.place;
+    parameters = parameters_with x.params.items;
+    returns = tree x.ret;
+  }
 
   -- a class with the types that it means
   abbrev pub class_with : ClassEntry Ty → ClassFacts

@@ -1,5 +1,5 @@
--- Well-formed classes: the types of their fields and methods are in normal form, without absorbed members and of at most 256 nodes.
--- Own rule of the profile.
+-- Well-formed classes: the types of their fields and methods are in normal form, without absorbed members and of at
+-- most 256 nodes. Own rule of the profile.
 use Rattle.std.specs.Prelude.{List, [], ◌∷◌}
 use Rattle.pc_tree.specs.Tree.{Module}
 use Rattle.pc_types.specs.Below.{Bases}

@@ -9,9 +9,12 @@ ghost use Rattle.pc_class.specs.declared.table.Method.{Method as MethodOf};
 ghost use Rattle.pc_class.specs.Facts.{class_facts_behind, base_facts};
 ghost use Rattle.pc_class.specs.NameMaps.{IsMap, KeepsNamed};
 ghost use Rattle.pc_class.specs.Entries.{entry_seen};
-ghost use Rattle.pc_class.specs.Outlines.{IsMapOf, first_named, field_name, method_name as class_method_name, fields_seen, methods_seen, own_field, own_method, all_own, AreOther, AreNew, found_over};
+ghost use Rattle.pc_class.specs.Outlines.{IsMapOf, first_named, field_name, method_name as class_method_name};
+ghost use Rattle.pc_class.specs.Outlines.{fields_seen, methods_seen, own_field, own_method, all_own, AreOther, AreNew};
+ghost use Rattle.pc_class.specs.Outlines.{found_over};
 ghost use Rattle.pc_class.specs.Tables.{HasParameter, HasMethod, parameter_with, method_with, classes_with};
-ghost use Rattle.pc_class.specs.Parts.{parameter_name, stored_method_name, inherited_node, entries_in, IsClassTable, HasParts};
+ghost use Rattle.pc_class.specs.Parts.{parameter_name, stored_method_name, inherited_node, entries_in, IsClassTable};
+ghost use Rattle.pc_class.specs.Parts.{HasParts};
 ghost use Rattle.pc_class.specs.Built.{IsSetting, module_in, Added, IsClassAt};
 
 use crate::entries::{Entry, Held, entries, find_clashes, find_late_fields};
@@ -39,7 +42,8 @@ fn own_field<'m>(entry: &Entry<'m>) -> Option<&'m Field>
 
 /// The method that an entry of a class binds, if it binds one.
 fn own_method<'m>(entry: &Entry<'m>) -> Option<&'m FuncDef>
-    ensures { (m : Tree) (class : ℕ) → methods_seen m class entry.now.number result ≡ own_method m class (entry_seen entry.now) }
+    ensures { (m : Tree) (class : ℕ)
+        → methods_seen m class entry.now.number result ≡ own_method m class (entry_seen entry.now) }
 {
     if !entry.binds {
         return None;
@@ -62,7 +66,10 @@ fn add_field<Ty: Drop>(
     ensures within { IfOk result (λ new. IsMap named.new new) }
     ensures kept { OnOk result (KeepsNamed named.old named.new) }
     ensures fields { OnOk result (fields.new.items ≡ fields.old.items ++ field ∷ []) }
-    ensures held { (front back : List (ParameterOf Ty)) → IsMapOf parameter_name named.old fields.old.items at (front ++ back) → first_named parameter_name front (parameter_name field) ≡ None → IfOk result (λ new. IsMapOf parameter_name named.new fields.new.items new ((front ++ field ∷ []) ++ back)) }
+    ensures held { (front back : List (ParameterOf Ty))
+        → IsMapOf parameter_name named.old fields.old.items at (front ++ back)
+        → first_named parameter_name front (parameter_name field) ≡ None
+        → IfOk result (λ new. IsMapOf parameter_name named.new fields.new.items new ((front ++ field ∷ []) ++ back)) }
 {
     let number = fields.len();
     let new = named.put(alloc, at, field.name.as_str(), number)?;
@@ -82,7 +89,11 @@ fn add_method<Ty: Drop>(
     ensures within { IfOk result (λ new. IsMap named.new new) }
     ensures kept { OnOk result (KeepsNamed named.old named.new) }
     ensures methods { OnOk result (methods.new.items ≡ methods.old.items ++ method ∷ []) }
-    ensures held { (front back : List (MethodOf Ty)) → IsMapOf stored_method_name named.old methods.old.items at (front ++ back) → first_named stored_method_name front (stored_method_name method) ≡ None → IfOk result (λ new. IsMapOf stored_method_name named.new methods.new.items new ((front ++ method ∷ []) ++ back)) }
+    ensures held { (front back : List (MethodOf Ty))
+        → IsMapOf stored_method_name named.old methods.old.items at (front ++ back)
+        → first_named stored_method_name front (stored_method_name method) ≡ None
+        → IfOk result (λ new. IsMapOf stored_method_name named.new methods.new.items new
+        ((front ++ method ∷ []) ++ back)) }
 {
     let number = methods.len();
     let new = named.put(alloc, at, method.name.as_str(), number)?;
@@ -105,7 +116,13 @@ fn add_own_field<S: TypeStore>(
     ensures within { IfOk result (λ new. IsMap named.new new) }
     ensures kept { OnOk result (KeepsNamed named.old named.new) }
     ensures store { KeepsTypes S.has store.old store.new }
-    ensures added { (front back : List (ParameterOf S.Ty)) → IsMapOf parameter_name named.old fields.old.items at (front ++ back) → AreOther field_name (map (parameter_with S.tree) front) (own_field (module_in setting.now) (entry_seen entry.now)) → IfOk result (λ new. Added parameter_name (HasParameter (S.has store.new)) (parameter_with S.tree) named.new fields.old.items fields.new.items new front back (own_field (module_in setting.now) (entry_seen entry.now))) }
+    ensures added { (front back : List (ParameterOf S.Ty))
+        → IsMapOf parameter_name named.old fields.old.items at (front ++ back)
+        → AreOther field_name (map (parameter_with S.tree) front)
+        (own_field (module_in setting.now) (entry_seen entry.now))
+        → IfOk result (λ new. Added parameter_name (HasParameter (S.has store.new))
+        (parameter_with S.tree) named.new fields.old.items fields.new.items new front back
+        (own_field (module_in setting.now) (entry_seen entry.now))) }
 {
     match own_field(entry) {
         Some(field) => {
@@ -133,7 +150,13 @@ fn add_own_method<S: TypeStore>(
     ensures within { IfOk result (λ new. IsMap named.new new) }
     ensures kept { OnOk result (KeepsNamed named.old named.new) }
     ensures store { KeepsTypes S.has store.old store.new }
-    ensures added { (front back : List (MethodOf S.Ty)) → IsMapOf stored_method_name named.old methods.old.items at (front ++ back) → AreOther class_method_name (map (method_with S.tree) front) (own_method (module_in setting.now) class (entry_seen entry.now)) → IfOk result (λ new. Added stored_method_name (HasMethod (S.has store.new)) (method_with S.tree) named.new methods.old.items methods.new.items new front back (own_method (module_in setting.now) class (entry_seen entry.now))) }
+    ensures added { (front back : List (MethodOf S.Ty))
+        → IsMapOf stored_method_name named.old methods.old.items at (front ++ back)
+        → AreOther class_method_name (map (method_with S.tree) front)
+        (own_method (module_in setting.now) class (entry_seen entry.now))
+        → IfOk result (λ new. Added stored_method_name (HasMethod (S.has store.new))
+        (method_with S.tree) named.new methods.old.items methods.new.items new front back
+        (own_method (module_in setting.now) class (entry_seen entry.now))) }
 {
     match own_method(entry) {
         Some(def) => {
@@ -160,7 +183,13 @@ fn add_fields<S: TypeStore>(
     ensures within { IfOk result (λ new. IsMap named.new new) }
     ensures kept { OnOk result (KeepsNamed named.old named.new) }
     ensures store { KeepsTypes S.has store.old store.new }
-    ensures added { (front back : List (ParameterOf S.Ty)) → IsMapOf parameter_name named.old fields.old.items inherited (front ++ back) → AreNew field_name (own_field (module_in setting.now)) (map (parameter_with S.tree) front) (map entry_seen entries.now) → IfOk result (λ new. Added parameter_name (HasParameter (S.has store.new)) (parameter_with S.tree) named.new fields.old.items fields.new.items new front back (all_own (own_field (module_in setting.now)) (map entry_seen entries.now))) }
+    ensures added { (front back : List (ParameterOf S.Ty))
+        → IsMapOf parameter_name named.old fields.old.items inherited (front ++ back)
+        → AreNew field_name (own_field (module_in setting.now)) (map (parameter_with S.tree) front)
+        (map entry_seen entries.now)
+        → IfOk result (λ new. Added parameter_name (HasParameter (S.has store.new))
+        (parameter_with S.tree) named.new fields.old.items fields.new.items new front back
+        (all_own (own_field (module_in setting.now)) (map entry_seen entries.now))) }
 {
     let mut at = inherited;
     for entry in entries {
@@ -185,7 +214,13 @@ fn add_methods<S: TypeStore>(
     ensures within { IfOk result (λ new. IsMap named.new new) }
     ensures kept { OnOk result (KeepsNamed named.old named.new) }
     ensures store { KeepsTypes S.has store.old store.new }
-    ensures added { (front back : List (MethodOf S.Ty)) → IsMapOf stored_method_name named.old methods.old.items inherited (front ++ back) → AreNew class_method_name (own_method (module_in setting.now) class) (map (method_with S.tree) front) (map entry_seen entries.now) → IfOk result (λ new. Added stored_method_name (HasMethod (S.has store.new)) (method_with S.tree) named.new methods.old.items methods.new.items new front back (all_own (own_method (module_in setting.now) class) (map entry_seen entries.now))) }
+    ensures added { (front back : List (MethodOf S.Ty))
+        → IsMapOf stored_method_name named.old methods.old.items inherited (front ++ back)
+        → AreNew class_method_name (own_method (module_in setting.now) class) (map (method_with S.tree) front)
+        (map entry_seen entries.now)
+        → IfOk result (λ new. Added stored_method_name (HasMethod (S.has store.new))
+        (method_with S.tree) named.new methods.old.items methods.new.items new front back
+        (all_own (own_method (module_in setting.now) class) (map entry_seen entries.now))) }
 {
     let mut at = inherited;
     for entry in entries {
@@ -240,8 +275,16 @@ pub(crate) fn add_class<S: TypeStore>(
     ensures table { OnOk result (IsClassTable parts.new) }
     ensures given { OnOk result (HasParts (S.has store.new) parts.new) }
     ensures more { OnOk result (length parts.new.classes.items ≡ length parts.old.classes.items + 1) }
-    ensures classes { OnOk result (classes_with S.tree (entries_in parts.new) ≡ classes_with S.tree (entries_in parts.old) ++ class_facts_behind (module_in setting.now) (classes_with S.tree (entries_in parts.old)) (length parts.old.classes.items) (class_of definition.now) ∷ []) }
-    ensures found { OnOk result (found.new.items ≡ found.old.items ++ found_over (base_facts (classes_with S.tree (entries_in parts.old)) (base_named (module_in setting.now) (length parts.old.classes.items) (class_of definition.now).base)) (class_of definition.now)) }
+    ensures classes { OnOk result
+        (classes_with S.tree (entries_in parts.new)
+        ≡ classes_with S.tree (entries_in parts.old)
+        ++ class_facts_behind (module_in setting.now) (classes_with S.tree (entries_in parts.old))
+        (length parts.old.classes.items) (class_of definition.now) ∷ []) }
+    ensures found { OnOk result
+        (found.new.items ≡ found.old.items
+        ++ found_over (base_facts (classes_with S.tree (entries_in parts.old))
+        (base_named (module_in setting.now) (length parts.old.classes.items) (class_of definition.now).base))
+        (class_of definition.now)) }
 {
     let class = parts.classes.len();
     let base = setting.parents.base(class);

@@ -18,7 +18,8 @@ fn find_missing_base(
     base: Option<usize>,
     name: &Option<Name>,
 ) -> Result<(), OutOfMemory>
-    ensures { OnOk result (found.new.items ≡ found.old.items ++ at_code E07 (missing_base base (option_name_of name.now))) }
+    ensures { OnOk result (found.new.items
+        ≡ found.old.items ++ at_code E07 (missing_base base (option_name_of name.now))) }
 {
     if base.is_some() {
         return Ok(());
@@ -41,7 +42,8 @@ pub fn find_missing_bases(
     parents: &Parents,
     items: &[Item],
 ) -> Result<(), OutOfMemory>
-    ensures { OnOk result (found.new.items ≡ found.old.items ++ at_code E07 (missing_bases parents.now 0 (classes_in (map item_of items.now)))) }
+    ensures { OnOk result (found.new.items
+        ≡ found.old.items ++ at_code E07 (missing_bases parents.now 0 (classes_in (map item_of items.now)))) }
 {
     let mut class = 0;
     for item in items {

@@ -56,9 +56,16 @@ fn add_item<S: TypeStore>(
     ensures store { KeepsTypes S.has store.old store.new }
     ensures table { OnOk result (IsClassTable parts.new) }
     ensures given { OnOk result (HasParts (S.has store.new) parts.new) }
-    ensures more { OnOk result (length parts.new.classes.items ≡ length parts.old.classes.items + length (classes_in (item_of item.now ∷ []))) }
-    ensures classes { OnOk result (classes_with S.tree (entries_in parts.new) ≡ classes_behind (module_in setting.now) (classes_with S.tree (entries_in parts.old)) (length parts.old.classes.items) (classes_in (item_of item.now ∷ []))) }
-    ensures found { OnOk result (found.new.items ≡ found.old.items ++ found_behind (module_in setting.now) (classes_with S.tree (entries_in parts.old)) (length parts.old.classes.items) (classes_in (item_of item.now ∷ []))) }
+    ensures more { OnOk result
+        (length parts.new.classes.items ≡ length parts.old.classes.items + length (classes_in (item_of item.now ∷ []))) }
+    ensures classes { OnOk result
+        (classes_with S.tree (entries_in parts.new)
+        ≡ classes_behind (module_in setting.now) (classes_with S.tree (entries_in parts.old))
+        (length parts.old.classes.items) (classes_in (item_of item.now ∷ []))) }
+    ensures found { OnOk result
+        (found.new.items ≡ found.old.items
+        ++ found_behind (module_in setting.now) (classes_with S.tree (entries_in parts.old))
+        (length parts.old.classes.items) (classes_in (item_of item.now ∷ []))) }
 {
     match &item.kind {
         ItemKind::Constant(_) => Ok(()),
@@ -82,7 +89,9 @@ fn all_classes<S: TypeStore>(
     ensures table { IfOk result IsClassTable }
     ensures given { IfOk result (HasParts (S.has store.new)) }
     ensures classes { IfOk result (λ p. classes_with S.tree (entries_in p) ≡ classes_of (module_in setting.now)) }
-    ensures found { OnOk result (found.new.items ≡ found.old.items ++ found_behind (module_in setting.now) [] 0 (classes_in (module_in setting.now).items)) }
+    ensures found { OnOk result
+        (found.new.items ≡ found.old.items
+        ++ found_behind (module_in setting.now) [] 0 (classes_in (module_in setting.now).items)) }
 {
     let items = setting.tree.items.as_slice();
     let mut parts = no_classes(alloc)?;
@@ -92,10 +101,11 @@ fn all_classes<S: TypeStore>(
     Ok(parts)
 }
 
-/// The class table of a module, with what is found of its classes put behind `found`: E06, E07 and E08. The annotations of the
-/// members are read for their types alone.
+/// The class table of a module, with what is found of its classes put behind `found`: E06, E07 and E08. The annotations
+/// of the members are read for their types alone.
 ///
-/// Library reference, `dataclasses`; Language Reference 3.12, 8.8 "Class definitions"; the codes are own rules of the profile.
+/// Library reference, `dataclasses`; Language Reference 3.12, 8.8 "Class definitions"; the codes are own rules of the
+/// profile.
 pub fn class_table<S: TypeStore>(
     store: &mut S,
     alloc: Allocator,

@@ -9,7 +9,8 @@ ghost use Rattle.pc_scope.specs.Reserved.{is_builtin_name};
 ghost use Rattle.pc_scope.specs.Resolution.{is_one_of};
 ghost use Rattle.pc_scope.specs.Internal.FindingLists.{at_code};
 ghost use Rattle.pc_scope.specs.Internal.WalkViews.{texts_in};
-ghost use Rattle.pc_class.specs.Entries.{HasMaps, inherited_in, member_binds, member_clashes, entry_of, entries_of, entry_seen, entry_default, clash_places, late_places, defaulted_in};
+ghost use Rattle.pc_class.specs.Entries.{HasMaps, inherited_in, member_binds, member_clashes, entry_of, entries_of};
+ghost use Rattle.pc_class.specs.Entries.{entry_seen, entry_default, clash_places, late_places, defaulted_in};
 
 use crate::found::find_if;
 use crate::named::{NamedMaps, Texts, number};
@@ -58,8 +59,8 @@ fn is_among(before: &Texts, name: &str) -> bool
     before.contains(name)
 }
 
-/// A member binds its name: that is not reserved, no earlier member's and, of ancestors, no field's; and that of a field no
-/// method's, and not `mro`. Own rule of the profile.
+/// A member binds its name: that is not reserved, no earlier member's and, of ancestors, no field's; and that of a
+/// field no method's, and not `mro`. Own rule of the profile.
 fn binds(named: &NamedMaps, base: Held, before: &Texts, member: &Member) -> bool
     requires { HasMaps named.now base }
     ensures { result ≡ member_binds (inherited_in named.now base) (texts_in before.now) (member_of member.now) }
@@ -105,7 +106,8 @@ fn judge<'m>(
     member: &'m Member,
 ) -> Entry<'m>
     requires { HasMaps named.now base }
-    ensures { entry_seen result ≡ entry_of (inherited_in named.now base) (texts_in before.now) number (member_of member.now) }
+    ensures { entry_seen result
+        ≡ entry_of (inherited_in named.now base) (texts_in before.now) number (member_of member.now) }
 {
     Entry {
         member,
@@ -123,7 +125,8 @@ pub fn entries<'m>(
     members: &'m [Member],
 ) -> Result<Vec<Entry<'m>>, OutOfMemory>
     requires { HasMaps named.now base }
-    ensures { IfOk result (λ es. map entry_seen es.items ≡ entries_of (inherited_in named.now base) [] 0 (map member_of members.now)) }
+    ensures { IfOk result (λ es. map entry_seen es.items
+        ≡ entries_of (inherited_in named.now base) [] 0 (map member_of members.now)) }
 {
     let mut all = Vec::new(alloc);
     let mut before = IndexSet::new(alloc);
@@ -169,7 +172,8 @@ pub fn find_late_fields(
     defaulted: bool,
     entries: &[Entry],
 ) -> Result<bool, OutOfMemory>
-    ensures found { OnOk result (found.new.items ≡ found.old.items ++ at_code E08 (late_places defaulted (map entry_seen entries.now))) }
+    ensures found { OnOk result
+        (found.new.items ≡ found.old.items ++ at_code E08 (late_places defaulted (map entry_seen entries.now))) }
     ensures defaulted { IfOk result (λ d. d ≡ defaulted_in defaulted (map entry_seen entries.now)) }
 {
     let mut defaulted = defaulted;

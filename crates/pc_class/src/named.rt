@@ -1,6 +1,7 @@
 //! Maps from names to numbers that share what they have in common.
 
-ghost use Rattle.std.specs.Prelude.{◌≡◌, ◌≤◌, List, ℕ, Some, None, if◌then◌else◌, is_some, bytes_eq, length, IfOk, OnOk};
+ghost use Rattle.std.specs.Prelude.{◌≡◌, ◌≤◌, List, ℕ, Some, None, if◌then◌else◌, is_some, bytes_eq, length, IfOk};
+ghost use Rattle.std.specs.Prelude.{OnOk};
 ghost use Rattle.pc_scope.specs.Resolution.{index_of};
 ghost use Rattle.pc_scope.specs.Internal.WalkViews.{texts_in};
 ghost use Rattle.pc_class.specs.NameMaps.{NameMaps, IsMap, named_at, with_text, IsNumbered, KeepsNamed};
@@ -30,7 +31,8 @@ pub fn number(texts: &mut Texts, alloc: Allocator, name: &str) -> Result<usize, 
     }
 }
 
-/// Maps from names to numbers, each built on an earlier one, which stays as it was. A map is told by a number; 0 is the empty map.
+/// Maps from names to numbers, each built on an earlier one, which stays as it was. A map is told by a number; 0 is the
+/// empty map.
 #[derive(Drop)]
 pub struct NamedMaps {
     texts: Texts,
@@ -85,7 +87,9 @@ impl NamedMaps {
     ) -> Result<usize, OutOfMemory>
         requires { IsMap self.old map }
         ensures within { IfOk result (λ new. IsMap self.new new) }
-        ensures value { IfOk result (λ new. (t : List ℕ) → named_at self.new new t ≡ (if bytes_eq t name.now then Some value else named_at self.old map t)) }
+        ensures value { IfOk result
+            (λ new. (t : List ℕ) → named_at self.new new t
+            ≡ (if bytes_eq t name.now then Some value else named_at self.old map t)) }
         ensures kept { OnOk result (KeepsNamed self.old self.new) }
     {
         let number = number(&mut self.texts, alloc, name)?;

@@ -1,6 +1,7 @@
 //! Overrides: each method that a class binds against those of its name that the class's ancestors have.
 
-ghost use Rattle.std.specs.Prelude.{◌≡◌, ◌++◌, ◌&&◌, ◌||◌, ◌<◌, not, length, slice_get, All, Some, IsTrue, OnOk, bytes_eq};
+ghost use Rattle.std.specs.Prelude.{◌≡◌, ◌++◌, ◌&&◌, ◌||◌, ◌<◌, not, length, slice_get, All, Some, IsTrue, OnOk};
+ghost use Rattle.std.specs.Prelude.{bytes_eq};
 ghost use Rattle.std.specs.List.{list_all};
 ghost use Rattle.pc_tree.specs.Tree.{ClassDef as ClassTree, module_of};
 ghost use Rattle.pc_scope.specs.Bindings.{classes_in};
@@ -10,8 +11,10 @@ ghost use Rattle.pc_types.specs.Store.{KeepsTypes};
 ghost use Rattle.pc_class.specs.Facts.{classes_of};
 ghost use Rattle.pc_class.specs.Overrides.{has_shape_of, TypeFlow, parameter_flows, overridden};
 ghost use Rattle.pc_class.specs.OverrideFindings.{override_code, found_at_method, class_overrides, override_findings};
-ghost use Rattle.pc_class.specs.Internal.OverrideTests.{flow_fits, overrides_by, IsJudging, module_judged, methods_above};
-ghost use Rattle.pc_class.specs.Tables.{HasParameter, HasMethod, HasEntries, parameters_with, method_with, classes_with};
+ghost use Rattle.pc_class.specs.Internal.OverrideTests.{flow_fits, overrides_by, IsJudging, module_judged};
+ghost use Rattle.pc_class.specs.Internal.OverrideTests.{methods_above};
+ghost use Rattle.pc_class.specs.Tables.{HasParameter, HasMethod, HasEntries, parameters_with, method_with};
+ghost use Rattle.pc_class.specs.Tables.{classes_with};
 ghost use Rattle.pc_class.specs.Parts.{parameter_name};
 
 use crate::table::{ClassTable, Method, Parameter};
@@ -38,14 +41,16 @@ pub struct Judging<'a, Ty: Drop> {
 
 /// A parameter has the name of the ancestor's and, where that one has a default, a default too.
 fn suits<Ty: Drop>(old: &Parameter<Ty>, new: &Parameter<Ty>) -> bool
-    ensures { result ≡ (bytes_eq (parameter_name old.now) (parameter_name new.now) && (not old.now.has_default || new.now.has_default)) }
+    ensures { result ≡ (bytes_eq (parameter_name old.now) (parameter_name new.now)
+        && (not old.now.has_default || new.now.has_default)) }
 {
     old.name.as_str() == new.name.as_str() && (!old.has_default || new.has_default)
 }
 
 /// The numbers of parameters agree, the names at each position, and there is a default wherever the ancestor's has one.
 fn has_shape<Ty: Drop>(old: &[Parameter<Ty>], new: &[Parameter<Ty>]) -> bool
-    ensures shape { (tree : Ty → Tree) → result ≡ has_shape_of (parameters_with tree old.now) (parameters_with tree new.now) }
+    ensures shape { (tree : Ty → Tree)
+        → result ≡ has_shape_of (parameters_with tree old.now) (parameters_with tree new.now) }
     ensures many { IsTrue result → length old.now ≡ length new.now }
 {
     if old.len() != new.len() {
@@ -69,7 +74,8 @@ fn fits<S: TypeStore>(
 ) -> bool
     requires from { S.has store.old from.now }
     requires into { S.has store.old into.now }
-    ensures value { result ≡ flow_fits relation parents.now (let flow : TypeFlow = record { from = S.tree from.now; into = S.tree into.now } in flow) }
+    ensures value { result ≡ flow_fits relation parents.now
+        (let flow : TypeFlow = record { from = S.tree from.now; into = S.tree into.now } in flow) }
     ensures kept { KeepsTypes S.has store.old store.new }
 {
     match relation {
@@ -89,7 +95,8 @@ fn parameters_fit<S: TypeStore>(
     requires old { All (HasParameter (S.has store.old)) old.now }
     requires new { All (HasParameter (S.has store.old)) new.now }
     requires many { length old.now ≡ length new.now }
-    ensures value { result ≡ list_all (flow_fits relation parents.now) (parameter_flows (parameters_with S.tree old.now) (parameters_with S.tree new.now)) }
+    ensures value { result ≡ list_all (flow_fits relation parents.now)
+        (parameter_flows (parameters_with S.tree old.now) (parameters_with S.tree new.now)) }
     ensures kept { KeepsTypes S.has store.old store.new }
 {
     for number in 0..old.len() {
@@ -111,7 +118,8 @@ fn overrides<S: TypeStore>(
 ) -> bool
     requires new { HasMethod (S.has store.old) new.now }
     requires old { HasMethod (S.has store.old) old.now }
-    ensures value { result ≡ overrides_by relation parents.now (method_with S.tree new.now) (method_with S.tree old.now) }
+    ensures value { result ≡ overrides_by relation parents.now (method_with S.tree new.now)
+        (method_with S.tree old.now) }
     ensures kept { KeepsTypes S.has store.old store.new }
 {
     if !has_shape(&old.params, &new.params) {
@@ -123,8 +131,8 @@ fn overrides<S: TypeStore>(
     parameters_fit(store, parents, relation, &old.params, &new.params)
 }
 
-/// The code of a method of a class of this base, against every ancestor's of its name: `E11` where it is not good against one, else
-/// `A8` where it is not static to one. Own rule of the profile.
+/// The code of a method of a class of this base, against every ancestor's of its name: `E11` where it is not good
+/// against one, else `A8` where it is not static to one. Own rule of the profile.
 fn code_of<S: TypeStore>(
     judging: &Judging<S::Ty>,
     store: &mut S,
@@ -134,7 +142,9 @@ fn code_of<S: TypeStore>(
     requires judging { IsJudging S.tree judging.now }
     requires table { HasEntries (S.has store.old) judging.now.classes.now }
     requires method { HasMethod (S.has store.old) method.now }
-    ensures value { result ≡ override_code judging.now.parents.now (overridden (methods_above judging.now base) (method_with S.tree method.now).name) (method_with S.tree method.now) }
+    ensures value { result ≡ override_code judging.now.parents.now
+        (overridden (methods_above judging.now base) (method_with S.tree method.now).name)
+        (method_with S.tree method.now) }
     ensures kept { KeepsTypes S.has store.old store.new }
 {
     let mut is_static = true;
@@ -168,7 +178,9 @@ fn find_override<S: TypeStore>(
     requires judging { IsJudging S.tree judging.now }
     requires table { HasEntries (S.has store.old) judging.now.classes.now }
     requires method { HasMethod (S.has store.old) method.now }
-    ensures found { OnOk result (found.new.items ≡ found.old.items ++ found_at_method judging.now.parents.now (methods_above judging.now base) (method_with S.tree method.now)) }
+    ensures found { OnOk result
+        (found.new.items ≡ found.old.items
+        ++ found_at_method judging.now.parents.now (methods_above judging.now base) (method_with S.tree method.now)) }
     ensures kept { KeepsTypes S.has store.old store.new }
 {
     match code_of(judging, store, base, method) {
@@ -193,7 +205,10 @@ fn find_class_overrides<S: TypeStore>(
     requires judging { IsJudging S.tree judging.now }
     requires table { HasEntries (S.has store.old) judging.now.classes.now }
     requires class { class < length judging.now.classes.now }
-    ensures found { (definition : ClassTree) → slice_get (classes_in (module_judged judging.now).items) class ≡ Some definition → OnOk result (found.new.items ≡ found.old.items ++ class_overrides (module_judged judging.now) class definition) }
+    ensures found { (definition : ClassTree)
+        → slice_get (classes_in (module_judged judging.now).items) class ≡ Some definition
+        → OnOk result (found.new.items
+        ≡ found.old.items ++ class_overrides (module_judged judging.now) class definition) }
     ensures kept { KeepsTypes S.has store.old store.new }
 {
     let base = judging.parents.base(class);
@@ -204,8 +219,8 @@ fn find_class_overrides<S: TypeStore>(
     Ok(())
 }
 
-/// Puts what overriding finds in a module behind `found`: `E11` at a method that is not good against each of its name that its class
-/// inherits, `A8` at one that is, but is not static to each.
+/// Puts what overriding finds in a module behind `found`: `E11` at a method that is not good against each of its name
+/// that its class inherits, `A8` at one that is, but is not static to each.
 ///
 /// Typing specification, "Type system concepts", assignability of callables; the codes are own rules of the profile.
 pub fn override_findings<S: TypeStore>(

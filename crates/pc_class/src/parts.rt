@@ -11,8 +11,8 @@ pub(crate) struct Span {
     pub end: usize,
 }
 
-/// A class among those of a table: its base, the maps of its fields and of its methods, whether a field of it has a default, and
-/// which fields and methods it binds itself.
+/// A class among those of a table: its base, the maps of its fields and of its methods, whether a field of it has a
+/// default, and which fields and methods it binds itself.
 #[derive(Clone, Copy)]
 pub(crate) struct ClassNode {
     pub base: Option<usize>,
@@ -22,7 +22,8 @@ pub(crate) struct ClassNode {
     pub methods: Span,
 }
 
-/// What a class table is made of: the maps of names, the classes in text order, and all fields and methods that they bind.
+/// What a class table is made of: the maps of names, the classes in text order, and all fields and methods that they
+/// bind.
 #[derive(Drop)]
 pub(crate) struct TableParts<Ty: Drop> {
     pub named: NamedMaps,

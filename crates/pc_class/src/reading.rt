@@ -1,4 +1,5 @@
-//! The types of members, as their annotations say. What is found in the annotations belongs to the signatures and is not asked for here.
+//! The types of members, as their annotations say. What is found in the annotations belongs to the signatures and is
+//! not asked for here.
 
 ghost use Rattle.std.specs.Prelude.{◌≡◌, map, All, IfOk};
 ghost use Rattle.pc_tree.specs.Tree.{param_of, func_of, field_of};
@@ -33,7 +34,8 @@ fn read_param<S: TypeStore>(
 ) -> Result<Parameter<S::Ty>, OutOfMemory>
     requires { IsSetting setting.now }
     ensures given { IfOk result (λ p. HasParameter (S.has store.new) p) }
-    ensures means { IfOk result (λ p. parameter_with S.tree p ≡ typed_parameter (module_in setting.now) (param_of param.now)) }
+    ensures means { IfOk result
+        (λ p. parameter_with S.tree p ≡ typed_parameter (module_in setting.now) (param_of param.now)) }
     ensures kept { KeepsTypes S.has store.old store.new }
 {
     let mut aside = Vec::new(alloc);
@@ -63,7 +65,8 @@ fn read_params<S: TypeStore>(
 ) -> Result<Vec<Parameter<S::Ty>>, OutOfMemory>
     requires { IsSetting setting.now }
     ensures given { IfOk result (λ ps. All (HasParameter (S.has store.new)) ps.items) }
-    ensures means { IfOk result (λ ps. parameters_with S.tree ps.items ≡ parameters_of (module_in setting.now) (map param_of params.now)) }
+    ensures means { IfOk result
+        (λ ps. parameters_with S.tree ps.items ≡ parameters_of (module_in setting.now) (map param_of params.now)) }
     ensures kept { KeepsTypes S.has store.old store.new }
 {
     let mut all = Vec::new(alloc);
@@ -83,7 +86,8 @@ pub(crate) fn read_field<S: TypeStore>(
 ) -> Result<Parameter<S::Ty>, OutOfMemory>
     requires { IsSetting setting.now }
     ensures given { IfOk result (λ p. HasParameter (S.has store.new) p) }
-    ensures means { IfOk result (λ p. parameter_with S.tree p ≡ parameter_made (module_in setting.now) (field_of field.now)) }
+    ensures means { IfOk result
+        (λ p. parameter_with S.tree p ≡ parameter_made (module_in setting.now) (field_of field.now)) }
     ensures kept { KeepsTypes S.has store.old store.new }
 {
     let mut aside = Vec::new(alloc);
@@ -115,7 +119,8 @@ pub(crate) fn read_method<S: TypeStore>(
 ) -> Result<Method<S::Ty>, OutOfMemory>
     requires { IsSetting setting.now }
     ensures given { IfOk result (λ x. HasMethod (S.has store.new) x) }
-    ensures means { IfOk result (λ x. method_with S.tree x ≡ method_made (module_in setting.now) class number (func_of def.now)) }
+    ensures means { IfOk result
+        (λ x. method_with S.tree x ≡ method_made (module_in setting.now) class number (func_of def.now)) }
     ensures kept { KeepsTypes S.has store.old store.new }
 {
     let params = read_params(setting, store, alloc, &def.params)?;

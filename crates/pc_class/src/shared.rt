@@ -1,6 +1,7 @@
 //! Maps of numbers to numbers that share their parts.
 
-ghost use Rattle.std.specs.Prelude.{◌≡◌, ◌++◌, ◌∷◌, [], OnOk, OnErr, ◌<◌, ◌≤◌, ℕ, List, length, if◌then◌else◌, ◌==◌, Some, None, IfOk};
+ghost use Rattle.std.specs.Prelude.{◌≡◌, ◌++◌, ◌∷◌, [], OnOk, OnErr, ◌<◌, ◌≤◌, ℕ, List, length, if◌then◌else◌, ◌==◌};
+ghost use Rattle.std.specs.Prelude.{Some, None, IfOk};
 ghost use Rattle.pc_class.specs.declared.shared.Node.{Node as NodeOf};
 ghost use Rattle.pc_class.specs.SharedMaps.{held_at, node_at, IsWithin, IsClosed, KeepsMaps, HasBelow};
 
@@ -8,7 +9,8 @@ use pc_source::OutOfMemory;
 use std::alloc::Global as Allocator;
 use std::marker::Model;
 
-/// A part of a map: what stands at the number 0, and where the parts with the odd and with the even numbers from 1 on begin.
+/// A part of a map: what stands at the number 0, and where the parts with the odd and with the even numbers from 1 on
+/// begin.
 #[derive(Clone, Copy)]
 pub struct Node {
     held: Option<usize>,
@@ -16,8 +18,8 @@ pub struct Node {
     even: usize,
 }
 
-/// Maps of numbers to numbers, each built on an earlier one, which stays as it was: they share all parts but those on the way to
-/// what was put in. A map is told by the number of its first part; the part 0 is the empty map.
+/// Maps of numbers to numbers, each built on an earlier one, which stays as it was: they share all parts but those on
+/// the way to what was put in. A map is told by the number of its first part; the part 0 is the empty map.
 #[derive(Drop)]
 pub struct SharedMaps {
     nodes: Vec<Node>,
@@ -90,7 +92,8 @@ impl SharedMaps {
     pub fn put(&mut self, map: usize, key: usize, value: usize) -> Result<usize, OutOfMemory>
         requires { map < length self.old }
         ensures within { IfOk result (λ new. new < length self.new) }
-        ensures value { IfOk result (λ new. (k : ℕ) → held_at self.new new k ≡ (if k == key then Some value else held_at self.old map k)) }
+        ensures value { IfOk result
+            (λ new. (k : ℕ) → held_at self.new new k ≡ (if k == key then Some value else held_at self.old map k)) }
         ensures kept { KeepsMaps self.old self.new }
         ensures below { (limit : ℕ) → key < limit → HasBelow limit self.old → HasBelow limit self.new }
     {

@@ -1,12 +1,14 @@
 //! The class table, its fields and its methods.
 
-ghost use Rattle.std.specs.Prelude.{◌≡◌, ◌↔◌, ◌<◌, ◌≤◌, ◌-◌, ◌++◌, List, take, drop, length, map, reverse, slice_index_or, Some, All, IsTrue, IfOk, OnOk};
+ghost use Rattle.std.specs.Prelude.{◌≡◌, ◌↔◌, ◌<◌, ◌≤◌, ◌-◌, ◌++◌, List, take, drop, length, map, reverse};
+ghost use Rattle.std.specs.Prelude.{slice_index_or, Some, All, IsTrue, IfOk, OnOk};
 ghost use Rattle.std.specs.Option.{option_map};
 ghost use Rattle.pc_types.specs.Below.{Below};
 ghost use Rattle.pc_types.specs.Tree.{Tree, Class};
 ghost use Rattle.pc_class.specs.Facts.{field_by_name, method_by_name, class_facts_at};
 ghost use Rattle.pc_class.specs.Parts.{part, lent_parameter, IsSpan, bases_in, entries_in, IsClassTable};
-ghost use Rattle.pc_class.specs.Tables.{ClassEntry, empty_entry, inherited_entry, classes_with, parameter_lent, method_lent, IsLent, IsFieldIfAny, IsMethodIfAny};
+ghost use Rattle.pc_class.specs.Tables.{ClassEntry, empty_entry, inherited_entry, classes_with, parameter_lent};
+ghost use Rattle.pc_class.specs.Tables.{method_lent, IsLent, IsFieldIfAny, IsMethodIfAny};
 
 use crate::parts::{Span, TableParts};
 use pc_source::{OutOfMemory, Place};
@@ -43,7 +45,8 @@ fn push_backwards<'t, Ty: Drop>(
     span: Span,
 ) -> Result<(), OutOfMemory>
     requires { IsSpan (length fields.now) span }
-    ensures { OnOk result (map lent_parameter all.new.items ≡ map lent_parameter all.old.items ++ reverse (part fields.entry.now span)) }
+    ensures { OnOk result (map lent_parameter all.new.items
+        ≡ map lent_parameter all.old.items ++ reverse (part fields.entry.now span)) }
 {
     let mut end = span.end;
     while end > span.start {
@@ -61,7 +64,8 @@ fn fields_of<Ty: Drop>(
 ) -> Result<Vec<&Parameter<Ty>>, OutOfMemory>
     requires table { IsClassTable parts.now }
     requires class { class < length parts.now.classes.items }
-    ensures { IfOk result (λ ps. map lent_parameter ps.items ≡ (inherited_entry (entries_in parts.entry.now) (Some class)).fields) }
+    ensures { IfOk result (λ ps. map lent_parameter ps.items
+        ≡ (inherited_entry (entries_in parts.entry.now) (Some class)).fields) }
 {
     let mut all = Vec::new(alloc);
     let mut at = Some(class);
@@ -83,7 +87,8 @@ fn items_within<X>(items: &[X], start: usize, end: usize) -> &[X]
     &items[start..end]
 }
 
-/// The classes of a module, each with its fields and methods and those of its ancestors. Contracts see it as the list of these.
+/// The classes of a module, each with its fields and methods and those of its ancestors. Contracts see it as the list
+/// of these.
 ///
 /// Library reference, `dataclasses`; Language Reference 3.12, 8.8 "Class definitions".
 #[derive(Drop)]
@@ -126,7 +131,9 @@ impl<Ty: Drop> ClassTable<Ty> {
 
     /// The field of a name, which the class or an ancestor of it has, if one has.
     pub fn field(&self, class: usize, name: &str) -> Option<&Parameter<Ty>>
-        ensures value { (tree : Ty → Tree) → option_map (parameter_lent tree) result ≡ field_by_name (class_facts_at (classes_with tree self.now) class).fields name.now }
+        ensures value { (tree : Ty → Tree)
+            → option_map (parameter_lent tree) result
+            ≡ field_by_name (class_facts_at (classes_with tree self.now) class).fields name.now }
         ensures listed { IsFieldIfAny self.now result }
     {
         let parts = &self.parts;
@@ -141,7 +148,9 @@ impl<Ty: Drop> ClassTable<Ty> {
 
     /// The nearest method of a name, on the way from the class to its ancestors, if there is one.
     pub fn method(&self, class: usize, name: &str) -> Option<&Method<Ty>>
-        ensures value { (tree : Ty → Tree) → option_map (method_lent tree) result ≡ method_by_name (class_facts_at (classes_with tree self.now) class).methods name.now }
+        ensures value { (tree : Ty → Tree)
+            → option_map (method_lent tree) result
+            ≡ method_by_name (class_facts_at (classes_with tree self.now) class).methods name.now }
         ensures listed { IsMethodIfAny self.now result }
     {
         let parts = &self.parts;
@@ -164,7 +173,8 @@ impl<Ty: Drop> ClassTable<Ty> {
     /// The methods that a class binds itself, in text order.
     pub(crate) fn own_methods(&self, class: usize) -> &[Method<Ty>]
         requires { class < length self.now }
-        ensures over { (slice_index_or self.now class empty_entry).methods ≡ result.now ++ (inherited_entry self.now (slice_index_or self.now class empty_entry).base).methods }
+        ensures over { (slice_index_or self.now class empty_entry).methods
+            ≡ result.now ++ (inherited_entry self.now (slice_index_or self.now class empty_entry).base).methods }
     {
         let node = self.parts.classes[class];
         items_within(&self.parts.methods, node.methods.start, node.methods.end)
@@ -172,7 +182,9 @@ impl<Ty: Drop> ClassTable<Ty> {
 
     /// The fields of a class, those of its ancestors first: the parameters of a call of it.
     pub fn fields(&self, alloc: Global, class: usize) -> Result<Vec<&Parameter<Ty>>, OutOfMemory>
-        ensures value { (tree : Ty → Tree) → IfOk result (λ ps. map (parameter_lent tree) ps.items ≡ (class_facts_at (classes_with tree self.now) class).fields) }
+        ensures value { (tree : Ty → Tree)
+            → IfOk result (λ ps. map (parameter_lent tree) ps.items
+            ≡ (class_facts_at (classes_with tree self.now) class).fields) }
         ensures listed { IfOk result (λ ps. All (IsLent self.now) ps.items) }
     {
         if class >= self.parts.classes.len() {

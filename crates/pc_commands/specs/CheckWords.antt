@@ -1,5 +1,6 @@
 -- The words of the command line of `pycheck`, as `clap` reads them. Own rule of the profile.
-use Rattle.std.specs.Prelude.{Bool, true, false, not, ◌&&◌, List, [], ◌∷◌, find, if◌then◌else◌, Option, Some, None, option_and_then, unwrap_or, codes}
+use Rattle.std.specs.Prelude.{Bool, true, false, not, ◌&&◌, List, [], ◌∷◌, find, if◌then◌else◌, Option, Some, None}
+use Rattle.std.specs.Prelude.{option_and_then, unwrap_or, codes}
 use Rattle.std.specs.List.{list_any}
 use Rattle.std.specs.Str.{bytes_eq}
 use Rattle.clap.specs.Words.{App, Kinds, Rule, Text, fault_of, first_of, matches_of, new_rule}
@@ -60,11 +61,12 @@ abbrev pub in_format : Bool → Option Format → Text → Option Asked
 in_format json (Some format) file = Some (record { json = json; format = format; file = file })
 in_format json None file = None
 
--- what the words ask for: `clap` finds no fault in them, and the value of `--format` names a format; the value of a flag that is
--- given is `true`
+-- what the words ask for: `clap` finds no fault in them, and the value of `--format` names a format; the value of a
+-- flag that is given is `true`
 abbrev pub asked : List Text → Option Asked
 asked words = without_faults (faults words)
-    (in_format (bytes_eq (value_of (codes "json") words) (codes "true")) (format_in (value_of (codes "format") words)) (value_of (codes "file") words))
+    (in_format (bytes_eq (value_of (codes "json") words) (codes "true")) (format_in (value_of (codes "format") words))
+    (value_of (codes "file") words))
 
 -- a word is the flag `--json`
 abbrev pub is_flag : Text → Bool

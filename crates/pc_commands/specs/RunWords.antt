@@ -1,5 +1,6 @@
 -- The words of the command line of `pyrun`, as `clap` reads them. Own rule of the profile.
-use Rattle.std.specs.Prelude.{ℕ, ◌^◌, Bool, true, false, not, ◌&&◌, List, [], ◌∷◌, length, nat_lt, if◌then◌else◌, Option, Some, None, option_and_then, codes}
+use Rattle.std.specs.Prelude.{ℕ, ◌^◌, Bool, true, false, not, ◌&&◌, List, [], ◌∷◌, length, nat_lt, if◌then◌else◌}
+use Rattle.std.specs.Prelude.{Option, Some, None, option_and_then, codes}
 use Rattle.std.specs.List.{list_any}
 use Rattle.std.specs.Str.{all_ascii_digits, bytes_eq}
 use Rattle.std.specs.Str.Parse.{digits_value}
@@ -51,11 +52,13 @@ with_file fuel file = None
 
 -- what the words ask for: `clap` finds no fault in them, and the value of `--fuel` is a number
 abbrev pub asked : List Text → Option Asked
-asked words = without_faults (faults words) (with_file (option_and_then fuel_in (value_of (codes "fuel") words)) (value_of (codes "file") words))
+asked words = without_faults (faults words)
+    (with_file (option_and_then fuel_in (value_of (codes "fuel") words)) (value_of (codes "file") words))
 
 -- the words are plain: `--fuel` and two more, of which neither begins with a dash
 abbrev pub are_plain : List Text → Bool
-are_plain (flag ∷ number ∷ file ∷ []) = bytes_eq flag (codes "--fuel") && (not (begins_with_dash number) && not (begins_with_dash file))
+are_plain (flag ∷ number ∷ file ∷ []) = bytes_eq flag (codes "--fuel")
+    && (not (begins_with_dash number) && not (begins_with_dash file))
 are_plain words = false
 
 -- what plain words ask for, said without `clap`

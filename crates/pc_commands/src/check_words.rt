@@ -2,7 +2,8 @@
 ghost use Rattle.std.specs.Prelude.{◌≡◌, IfOk, IfErr, Some, None, true, false, map, string_bytes};
 ghost use Rattle.clap.specs.Words.{app_of, rule_of};
 ghost use Rattle.pc_commands.specs.Faults.{OnFault};
-ghost use Rattle.pc_commands.specs.CheckWords.{are_plain, asked, asks_for_help, command_line, file_rule, format_in, format_rule, is_mistaken, json_rule, plainly_asked};
+ghost use Rattle.pc_commands.specs.CheckWords.{are_plain, asked, asks_for_help, command_line, file_rule, format_in};
+ghost use Rattle.pc_commands.specs.CheckWords.{format_rule, is_mistaken, json_rule, plainly_asked};
 
 use crate::faults::{OptionFault, fault_of};
 use clap::{Arg, ArgAction, Command};
@@ -90,17 +91,23 @@ fn format_fault(alloc: Global, word: &str) -> OptionFault
     }
 }
 
-/// What the words of the command line ask for: they are a file, and `--json` and `--format N` or nothing more, as `clap` reads
-/// them, and N is `1` or `2`; without `--format N` the format is two. Own rule of the profile.
+/// What the words of the command line ask for: they are a file, and `--json` and `--format N` or nothing more, as
+/// `clap` reads them, and N is `1` or `2`; without `--format N` the format is two. Own rule of the profile.
 ///
 /// # Errors
 ///
-/// `Usage` where they are other words; `Help` where they ask for help or the version; `OutOfMemory` only when an allocation failed.
+/// `Usage` where they are other words; `Help` where they ask for help or the version; `OutOfMemory` only when an
+/// allocation failed.
 pub fn check_options(alloc: Global, words: &[&str]) -> Result<CheckOptions, OptionFault>
-    ensures read { IfOk result (λ o. asked (map (λ w. w.now) words.now) ≡ Some (record { json = o.json; format = o.format; file = string_bytes o.file })) }
-    ensures plain { are_plain (map (λ w. w.now) words.now) ≡ true → asked (map (λ w. w.now) words.now) ≡ plainly_asked (map (λ w. w.now) words.now) }
-    ensures none { IfErr result (OnFault (asked (map (λ w. w.now) words.now) ≡ None) (asked (map (λ w. w.now) words.now) ≡ None)) }
-    ensures which { IfErr result (OnFault (is_mistaken (map (λ w. w.now) words.now) ≡ true) (asks_for_help (map (λ w. w.now) words.now) ≡ true)) }
+    ensures read { IfOk result
+        (λ o. asked (map (λ w. w.now) words.now)
+        ≡ Some (record { json = o.json; format = o.format; file = string_bytes o.file })) }
+    ensures plain { are_plain (map (λ w. w.now) words.now) ≡ true
+        → asked (map (λ w. w.now) words.now) ≡ plainly_asked (map (λ w. w.now) words.now) }
+    ensures none { IfErr result
+        (OnFault (asked (map (λ w. w.now) words.now) ≡ None) (asked (map (λ w. w.now) words.now) ≡ None)) }
+    ensures which { IfErr result
+        (OnFault (is_mistaken (map (λ w. w.now) words.now) ≡ true) (asks_for_help (map (λ w. w.now) words.now) ≡ true)) }
 {
     let matches = match command(alloc)?.try_get_matches_from(words) {
         Ok(matches) => matches,

@@ -1,4 +1,5 @@
-//! What the programs do but for reading and printing: what the words of their command lines ask for, and the run of a file's bytes.
+//! What the programs do but for reading and printing: what the words of their command lines ask for, and the run of a
+//! file's bytes.
 #![tactic(auto)]
 
 mod check_words;

@@ -3,7 +3,8 @@ ghost use Rattle.std.specs.Prelude.{◌≡◌, IfOk, IfErr, Some, None, true, co
 ghost use Rattle.std.specs.Str.{all_ascii_digits};
 ghost use Rattle.clap.specs.Words.{app_of, first_value, found_of};
 ghost use Rattle.pc_commands.specs.Faults.{OnFault};
-ghost use Rattle.pc_commands.specs.RunWords.{are_plain, asked, asks_for_help, command_line, fuel_in, is_mistaken, plainly_asked};
+ghost use Rattle.pc_commands.specs.RunWords.{are_plain, asked, asks_for_help, command_line, fuel_in, is_mistaken};
+ghost use Rattle.pc_commands.specs.RunWords.{plainly_asked};
 
 use crate::faults::{OptionFault, fault_of};
 use clap::{Arg, ArgAction, ArgMatches, Command};
@@ -86,17 +87,22 @@ fn fuel_given(matches: &ArgMatches) -> Option<u64>
     fuel_of(matches.get_str("fuel")?)
 }
 
-/// What the words of the command line ask for: they are `--fuel N` and a file, as `clap` reads them, and N is a whole number
-/// in decimal from 0 to 18446744073709551615. Own rule of the profile.
+/// What the words of the command line ask for: they are `--fuel N` and a file, as `clap` reads them, and N is a whole
+/// number in decimal from 0 to 18446744073709551615. Own rule of the profile.
 ///
 /// # Errors
 ///
-/// `Usage` where they are other words; `Help` where they ask for help or the version; `OutOfMemory` only when an allocation failed.
+/// `Usage` where they are other words; `Help` where they ask for help or the version; `OutOfMemory` only when an
+/// allocation failed.
 pub fn run_options(alloc: Global, words: &[&str]) -> Result<RunOptions, OptionFault>
-    ensures read { IfOk result (λ o. asked (map (λ w. w.now) words.now) ≡ Some (record { fuel = o.fuel; file = string_bytes o.file })) }
-    ensures plain { are_plain (map (λ w. w.now) words.now) ≡ true → asked (map (λ w. w.now) words.now) ≡ plainly_asked (map (λ w. w.now) words.now) }
-    ensures none { IfErr result (OnFault (asked (map (λ w. w.now) words.now) ≡ None) (asked (map (λ w. w.now) words.now) ≡ None)) }
-    ensures which { IfErr result (OnFault (is_mistaken (map (λ w. w.now) words.now) ≡ true) (asks_for_help (map (λ w. w.now) words.now) ≡ true)) }
+    ensures read { IfOk result
+        (λ o. asked (map (λ w. w.now) words.now) ≡ Some (record { fuel = o.fuel; file = string_bytes o.file })) }
+    ensures plain { are_plain (map (λ w. w.now) words.now) ≡ true
+        → asked (map (λ w. w.now) words.now) ≡ plainly_asked (map (λ w. w.now) words.now) }
+    ensures none { IfErr result
+        (OnFault (asked (map (λ w. w.now) words.now) ≡ None) (asked (map (λ w. w.now) words.now) ≡ None)) }
+    ensures which { IfErr result
+        (OnFault (is_mistaken (map (λ w. w.now) words.now) ≡ true) (asks_for_help (map (λ w. w.now) words.now) ≡ true)) }
 {
     let matches = match command(alloc)?.try_get_matches_from(words) {
         Ok(matches) => matches,

@@ -1,10 +1,13 @@
--- The dynamic flows that stand under the labels of an expression: of each value that flows in it, the first flow with A1.
--- Own rule of the profile.
+-- The dynamic flows that stand under the labels of an expression: of each value that flows in it, the first flow with
+-- A1. Own rule of the profile.
 use Rattle.std.specs.Prelude.{◌≡◌, ◌⊎◌, ◌∷◌, ◌++◌, Bool as Test, true, false, Some, Contains}
 use Rattle.pc_source.specs.declared.place.Place.{Place}
 use Rattle.pc_tree.specs.declared.code.Code.TheVariants.{A1}
 use Rattle.pc_tree.specs.Depth.{place_of}
-use Rattle.pc_tree.specs.Tree.{Expr, Exprs, Entries, Keywords, name, number, text, truth, nothing, tuple, list, dict, negative, negation, binary, compare, is_none, is_not_none, conjunction, disjunction, attribute, index, call, no_exprs, more_exprs, no_entries, more_entries, no_keywords, more_keywords}
+use Rattle.pc_tree.specs.Tree.{Expr, Exprs, Entries, Keywords, name, number, text, truth, nothing, tuple, list, dict}
+use Rattle.pc_tree.specs.Tree.{negative, negation, binary, compare, is_none, is_not_none, conjunction, disjunction}
+use Rattle.pc_tree.specs.Tree.{attribute, index, call, no_exprs, more_exprs, no_entries, more_entries, no_keywords}
+use Rattle.pc_tree.specs.Tree.{more_keywords}
 use Rattle.pc_scope.specs.Expressions.{is_instance_test}
 use Rattle.pc_types.specs.Tree.{Tree}
 use Rattle.pc_rules.specs.Operations.{FlowMark}
@@ -43,7 +46,8 @@ abbrev mutual
   DynamicIn (negative p e) m d = DynamicIn e m.operand d
   DynamicIn (negation p e) m d = DynamicIn e m.operand d
   DynamicIn (binary p operator l r) m d = DynamicIn l m.left d ⊎ DynamicIn r m.right d
-  DynamicIn (compare p operator l r) m d = IsDynamicAt (place_of l) m.flows d ⊎ (DynamicIn l m.left d ⊎ DynamicIn r m.right d)
+  DynamicIn (compare p operator l r) m d = IsDynamicAt (place_of l) m.flows d
+      ⊎ (DynamicIn l m.left d ⊎ DynamicIn r m.right d)
   DynamicIn (is_none p e) m d = DynamicIn e m.operand d
   DynamicIn (is_not_none p e) m d = DynamicIn e m.operand d
   DynamicIn (conjunction p l r) m d = DynamicIn l m.left d ⊎ DynamicIn r m.right d
@@ -51,26 +55,33 @@ abbrev mutual
   DynamicIn (attribute p e field) m d = DynamicIn e m.object d
   DynamicIn (index p e i) m d = IsDynamicAt (place_of i) m.flows d ⊎ (DynamicIn e m.object d ⊎ DynamicIn i m.key d)
   DynamicIn (call p callee arguments keywords) m d =
-      DynamicIn callee m.callee d ⊎ (DynamicInArguments (is_instance_test callee arguments keywords) arguments m.arguments d ⊎ DynamicInKeywords keywords m.keywords d)
+      DynamicIn callee m.callee d
+      ⊎ (DynamicInArguments (is_instance_test callee arguments keywords) arguments m.arguments d
+      ⊎ DynamicInKeywords keywords m.keywords d)
 
   -- in items: each item itself, and what is in it
   pub DynamicInExprs : (es : Exprs) → ItemsMarks es → DynamicFlow → Type 0
   DynamicInExprs no_exprs m d = ⊥
-  DynamicInExprs (more_exprs e rest) m d = IsDynamicAt (place_of e) m.flows d ⊎ (DynamicIn e m.first d ⊎ DynamicInExprs rest m.rest d)
+  DynamicInExprs (more_exprs e rest) m d = IsDynamicAt (place_of e) m.flows d
+      ⊎ (DynamicIn e m.first d ⊎ DynamicInExprs rest m.rest d)
 
   -- so in arguments; of a test of an instance what stands second is not looked at
   pub DynamicInArguments : (is_test : Test) → (es : Exprs) → ItemsMarks es → DynamicFlow → Type 0
   DynamicInArguments is_test no_exprs m d = ⊥
   DynamicInArguments true (more_exprs e rest) m d = DynamicIn e m.first d
-  DynamicInArguments false (more_exprs e rest) m d = IsDynamicAt (place_of e) m.flows d ⊎ (DynamicIn e m.first d ⊎ DynamicInArguments false rest m.rest d)
+  DynamicInArguments false (more_exprs e rest) m d = IsDynamicAt (place_of e) m.flows d
+      ⊎ (DynamicIn e m.first d ⊎ DynamicInArguments false rest m.rest d)
 
   -- so in the entries of a dict, of each its key and its value
   pub DynamicInEntries : (es : Entries) → EntriesMarks es → DynamicFlow → Type 0
   DynamicInEntries no_entries m d = ⊥
   DynamicInEntries (more_entries key value rest) m d =
-      (IsDynamicAt (place_of key) m.key_flows d ⊎ DynamicIn key m.key d) ⊎ ((IsDynamicAt (place_of value) m.value_flows d ⊎ DynamicIn value m.value d) ⊎ DynamicInEntries rest m.rest d)
+      (IsDynamicAt (place_of key) m.key_flows d ⊎ DynamicIn key m.key d)
+      ⊎ ((IsDynamicAt (place_of value) m.value_flows d ⊎ DynamicIn value m.value d)
+      ⊎ DynamicInEntries rest m.rest d)
 
   -- so in arguments by name
   pub DynamicInKeywords : (es : Keywords) → KeywordsMarks es → DynamicFlow → Type 0
   DynamicInKeywords no_keywords m d = ⊥
-  DynamicInKeywords (more_keywords parameter value rest) m d = IsDynamicAt (place_of value) m.flows d ⊎ (DynamicIn value m.first d ⊎ DynamicInKeywords rest m.rest d)
+  DynamicInKeywords (more_keywords parameter value rest) m d = IsDynamicAt (place_of value) m.flows d
+      ⊎ (DynamicIn value m.first d ⊎ DynamicInKeywords rest m.rest d)

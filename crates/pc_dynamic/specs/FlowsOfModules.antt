@@ -2,7 +2,8 @@
 -- Own rule of the profile.
 use Rattle.std.specs.Prelude.{◌⊎◌, List, [], ◌∷◌, Option, Some, None}
 use Rattle.pc_tree.specs.Depth.{place_of}
-use Rattle.pc_tree.specs.Tree.{Literal, Param, FuncDef, Member, field_member, method_member, Item, constant_item, class_item, def_item, Module}
+use Rattle.pc_tree.specs.Tree.{Literal, Param, FuncDef, Member, field_member, method_member, Item, constant_item}
+use Rattle.pc_tree.specs.Tree.{class_item, def_item, Module}
 use Rattle.pc_rules.specs.Labels.{FlowMarks}
 use Rattle.pc_rules.specs.Signatures.{literal_place, ParamsMarks}
 use Rattle.pc_labels.specs.Modules.{FunctionMarks, MembersMarks, ItemMarks, ItemsMarks, Labelling}
@@ -26,12 +27,15 @@ DynamicInFunction f marks d = DynamicInParams f.params marks.params d ⊎ Dynami
 -- in members: the defaults of fields, and in methods
 abbrev pub DynamicInMembers : (ms : List Member) → MembersMarks ms → DynamicFlow → Type 0
 DynamicInMembers [] marks d = ⊥
-DynamicInMembers (field_member x ∷ rest) marks d = DynamicAtDefault x.default marks.default d ⊎ DynamicInMembers rest marks.rest d
-DynamicInMembers (method_member f ∷ rest) marks d = DynamicInFunction f marks.method d ⊎ DynamicInMembers rest marks.rest d
+DynamicInMembers (field_member x ∷ rest) marks d = DynamicAtDefault x.default marks.default d
+    ⊎ DynamicInMembers rest marks.rest d
+DynamicInMembers (method_member f ∷ rest) marks d = DynamicInFunction f marks.method d
+    ⊎ DynamicInMembers rest marks.rest d
 
 -- in an item: an initializer and what is in it, in members, in a function
 abbrev pub DynamicInItem : (i : Item) → ItemMarks i → DynamicFlow → Type 0
-DynamicInItem (constant_item p c) marks d = IsDynamicAt (place_of c.value) marks.flows d ⊎ DynamicIn c.value marks.value d
+DynamicInItem (constant_item p c) marks d = IsDynamicAt (place_of c.value) marks.flows d
+    ⊎ DynamicIn c.value marks.value d
 DynamicInItem (class_item p c) marks d = DynamicInMembers c.members marks d
 DynamicInItem (def_item p f) marks d = DynamicInFunction f marks d
 

@@ -7,7 +7,8 @@ use Rattle.pc_rules.specs.declared.setting.Signature.{Signature as RustSignature
 use Rattle.pc_rules.specs.Context.{Signature}
 use Rattle.pc_rules.specs.Standing.{HasSignature, signature_with}
 
--- the types of the constants, what the functions take and return, and what the methods of each class do, each in text order
+-- the types of the constants, what the functions take and return, and what the methods of each class do, each in text
+-- order
 pub record HeldSignatures (Ty : Type 0) : Type 0 where
   pub constants : List Ty
   pub functions : List (RustSignature Ty)
@@ -33,5 +34,6 @@ pub record HasSigned {Ty : Type 0} (has : Ty → Type 0) (s : HeldSignatures Ty)
   pub methods : All (λ ms. All (HasSignature has) ms) s.methods
 
 -- the signatures of the methods of each class
-abbrev pub all_signatures_with : {Ty : Type 0} → (tree : Ty → Tree) → List (List (RustSignature Ty)) → List (List Signature)
+abbrev pub all_signatures_with : {Ty : Type 0} → (tree : Ty → Tree) → List (List (RustSignature Ty))
+    → List (List Signature)
 all_signatures_with tree methods = map (λ ms. map (signature_with tree) ms) methods

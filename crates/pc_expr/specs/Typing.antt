@@ -1,5 +1,5 @@
--- What the program that types expressions answers of callees and of several expressions, in terms of the computed labels.
--- Own rule of the profile.
+-- What the program that types expressions answers of callees and of several expressions, in terms of the computed
+-- labels. Own rule of the profile.
 use Rattle.std.specs.Prelude.{ℕ, List, Bool as Test, true, false, None}
 use Rattle.pc_tree.specs.declared.code.Code.TheVariants.{E03}
 use Rattle.pc_tree.specs.Tree.{Expr, Exprs, name, attribute}

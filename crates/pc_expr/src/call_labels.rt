@@ -30,7 +30,8 @@ use pc_tree::{Code, Expr, KeywordArgument};
 use pc_types::TypeStore;
 use std::alloc::Global;
 
-/// A callee that is neither a name nor, in a body, an attribute: a value with this label, and in an initializer in error.
+/// A callee that is neither a name nor, in a body, an attribute: a value with this label, and in an initializer in
+/// error.
 pub(crate) fn callee_of_other<'t, S: TypeStore, R: Resolver>(
     store: &mut S,
     alloc: Global,
@@ -38,7 +39,8 @@ pub(crate) fn callee_of_other<'t, S: TypeStore, R: Resolver>(
     label: Label<S::Ty>,
 ) -> Result<Callee<'t, S::Ty>, OutOfMemory>
     requires { S.has store.old label.ty }
-    ensures callee { (m : Mark) → mark_with S.tree label ≡ brief m → IfOk result (λ c. IsCallee S.has S.tree store.new c (unnamed_callee setting.now.in_body m)) }
+    ensures callee { (m : Mark) → mark_with S.tree label ≡ brief m
+        → IfOk result (λ c. IsCallee S.has S.tree store.new c (unnamed_callee setting.now.in_body m)) }
     ensures kept { KeepsTypes S.has store.old store.new }
 {
     if setting.in_body {
@@ -84,8 +86,16 @@ pub(crate) fn label_call<S: TypeStore, R: Resolver>(
     requires env { HasEach (S.has store.old) env.now }
     requires offers { All (HasCallOffer (S.has store.old)) callee.now.offers.items }
     requires types { All (S.has store.old) typed.now.types.items }
-    ensures value { IfOk result (λ l. IsMark S.has S.tree store.new l (whole_call_mark (context_with S.tree R.meaning setting.now) (env_of S.tree env.now) (rule_of callee.now.rule) (map (offer_called S.tree) callee.now.offers.items) (exprs_of_list arguments.now) (map S.tree typed.now.types.items))) }
-    ensures pushed { OnOk result (notes_of found.new ≡ notes_of found.old ++ notes_of_code (second_place (exprs_of_list arguments.now) place) (second_code_of (R.meaning setting.now.names.now) (rule_of callee.now.rule) (exprs_of_list arguments.now) typed.now.early)) }
+    ensures value { IfOk result
+        (λ l. IsMark S.has S.tree store.new l
+        (whole_call_mark (context_with S.tree R.meaning setting.now) (env_of S.tree env.now) (rule_of callee.now.rule)
+        (map (offer_called S.tree) callee.now.offers.items) (exprs_of_list arguments.now)
+        (map S.tree typed.now.types.items))) }
+    ensures pushed { OnOk result
+        (notes_of found.new ≡ notes_of found.old
+        ++ notes_of_code (second_place (exprs_of_list arguments.now) place)
+        (second_code_of (R.meaning setting.now.names.now) (rule_of callee.now.rule)
+        (exprs_of_list arguments.now) typed.now.early)) }
     ensures kept { KeepsTypes S.has store.old store.new }
 {
     let code = second_code(setting.names, callee.rule, arguments, typed.early);
@@ -95,13 +105,15 @@ pub(crate) fn label_call<S: TypeStore, R: Resolver>(
 
 /// Whether a call is a test of an instance; then it has two arguments by position.
 pub(crate) fn is_test(callee: &Expr, arguments: &[Expr], by_name: &[KeywordArgument]) -> bool
-    ensures value { result ≡ is_instance_test (expr_of callee.now) (exprs_of_list arguments.now) (keywords_of_list by_name.now) }
+    ensures value { result ≡ is_instance_test (expr_of callee.now) (exprs_of_list arguments.now)
+        (keywords_of_list by_name.now) }
     ensures two { result ≡ true → length arguments.now ≡ 2 }
 {
     is_instance_test(callee, arguments, by_name)
 }
 
-/// Does nothing: it says again that a setting, an environment and offers hold types of the store, for a call that needs it next.
+/// Does nothing: it says again that a setting, an environment and offers hold types of the store, for a call that needs
+/// it next.
 pub(crate) fn still_called<S: TypeStore, R: Resolver>(
     _store: &S,
     _setting: &Setting<'_, S::Ty, R>,

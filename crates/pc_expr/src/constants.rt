@@ -3,7 +3,8 @@
 ghost use Rattle.std.specs.Prelude.{◌≡◌, ◌++◌, ◌∷◌, [], if◌then◌else◌, map, length, codes, IfOk, OnOk, All};
 ghost use Rattle.std.specs.Option.{option_map};
 ghost use Rattle.pc_source.specs.declared.place.Place.{Place};
-ghost use Rattle.pc_tree.specs.Tree.{name_of, expr_of, func_of, field_of, member_of, class_of, constant_of, item_of, constant_item, class_item};
+ghost use Rattle.pc_tree.specs.Tree.{name_of, expr_of, func_of, field_of, member_of, class_of, constant_of, item_of};
+ghost use Rattle.pc_tree.specs.Tree.{constant_item, class_item};
 ghost use Rattle.pc_tree.specs.Stopping.{name_of_member};
 ghost use Rattle.pc_scope.specs.Bindings.{classes_in, methods_in};
 ghost use Rattle.pc_types.specs.Tree.{Tree as TypeTree};
@@ -12,8 +13,14 @@ ghost use Rattle.pc_class.specs.Facts.{base_facts, classes_of};
 ghost use Rattle.pc_class.specs.Tables.{classes_with};
 ghost use Rattle.pc_notes.specs.Notes.{notes_of};
 ghost use Rattle.pc_rules.specs.Signatures.{signature_of};
-ghost use Rattle.pc_rules.specs.SignaturesFound.{bound_in, base_has_member, binds_as_field, member_findings, members_findings, class_methods, signatures_of_methods, initial, type_of_constant, constant_findings, behind, item_findings, items_findings, constants_of, method_signatures, no_name, with_name, def_findings, field_findings, class_notes, value_findings, nothing_reached};
-ghost use Rattle.pc_expr.specs.Internal.SignaturesRead.{module_in, IsFrame, AreGlobals, AreSignatures, HasSignatures, HasReached, signatures_with, methods_with, reached_with};
+ghost use Rattle.pc_rules.specs.SignaturesFound.{bound_in, base_has_member, binds_as_field, member_findings};
+ghost use Rattle.pc_rules.specs.SignaturesFound.{members_findings, class_methods, signatures_of_methods, initial};
+ghost use Rattle.pc_rules.specs.SignaturesFound.{type_of_constant, constant_findings, behind, item_findings};
+ghost use Rattle.pc_rules.specs.SignaturesFound.{items_findings, constants_of, method_signatures, no_name, with_name};
+ghost use Rattle.pc_rules.specs.SignaturesFound.{def_findings, field_findings, class_notes, value_findings};
+ghost use Rattle.pc_rules.specs.SignaturesFound.{nothing_reached};
+ghost use Rattle.pc_expr.specs.Internal.SignaturesRead.{module_in, IsFrame, AreGlobals, AreSignatures, HasSignatures};
+ghost use Rattle.pc_expr.specs.Internal.SignaturesRead.{HasReached, signatures_with, methods_with, reached_with};
 ghost use Rattle.pc_rules.specs.Standing.{IsMark, HasIfAny, mark_in, finds_in};
 
 use crate::bound::{Texts, bind, is_bound};
@@ -49,7 +56,8 @@ pub(crate) struct Walk<Ty: Drop> {
 
 /// Whether a base has a field or a method of a name.
 fn has_member<Ty: Drop>(classes: &ClassTable<Ty>, base: Option<usize>, name: &str) -> bool
-    ensures { (tree : Ty → TypeTree) → result ≡ base_has_member (base_facts (classes_with tree classes.now) base) name.now }
+    ensures { (tree : Ty → TypeTree)
+        → result ≡ base_has_member (base_facts (classes_with tree classes.now) base) name.now }
 {
     match base {
         None => false,
@@ -57,15 +65,16 @@ fn has_member<Ty: Drop>(classes: &ClassTable<Ty>, base: Option<usize>, name: &st
     }
 }
 
-/// A field binds its name: it is not reserved, not `mro`, not bound already, and no field's or method's of an ancestor. Own
-/// rule of the profile.
+/// A field binds its name: it is not reserved, not `mro`, not bound already, and no field's or method's of an ancestor.
+/// Own rule of the profile.
 fn binds_as_field<Ty: Drop>(
     classes: &ClassTable<Ty>,
     base: Option<usize>,
     bound: &Texts,
     name: &str,
 ) -> bool
-    ensures { (tree : Ty → TypeTree) → result ≡ binds_as_field (base_facts (classes_with tree classes.now) base) (bound_in bound.now) name.now }
+    ensures { (tree : Ty → TypeTree)
+        → result ≡ binds_as_field (base_facts (classes_with tree classes.now) base) (bound_in bound.now) name.now }
 {
     !(is_reserved(name) || name == "mro")
         && (!is_bound(bound, name) && !has_member(classes, base, name))
@@ -82,7 +91,10 @@ fn read_field<S: TypeStore>(
     found: &mut Notes,
 ) -> Result<(), OutOfMemory>
     requires { AreGlobals S.has S.tree store.old globals.now }
-    ensures pushed { OnOk result (notes_of found.new ≡ notes_of found.old ++ field_findings (module_in globals.now.frame.now) (base_facts (classes_of (module_in globals.now.frame.now)) base) (bound_in bound.now) (field_of field.now)) }
+    ensures pushed { OnOk result
+        (notes_of found.new ≡ notes_of found.old
+        ++ field_findings (module_in globals.now.frame.now)
+        (base_facts (classes_of (module_in globals.now.frame.now)) base) (bound_in bound.now) (field_of field.now)) }
     ensures kept { KeepsTypes S.has store.old store.new }
 {
     let frame = globals.frame;
@@ -111,7 +123,9 @@ fn add_method<S: TypeStore>(
     requires frame { IsFrame frame.now }
     requires held { HasSignatures (S.has store.old) methods.old.items }
     ensures held { OnOk result (HasSignatures (S.has store.new) methods.new.items) }
-    ensures typed { OnOk result (signatures_with S.tree methods.new.items ≡ signatures_with S.tree methods.old.items ++ signature_of (module_in frame.now) (func_of def.now) ∷ []) }
+    ensures typed { OnOk result
+        (signatures_with S.tree methods.new.items
+        ≡ signatures_with S.tree methods.old.items ++ signature_of (module_in frame.now) (func_of def.now) ∷ []) }
     ensures pushed { OnOk result (notes_of found.new ≡ notes_of found.old ++ def_findings (module_in frame.now) (with_name no_name (codes "self")) (func_of def.now)) }
     ensures kept { KeepsTypes S.has store.old store.new }
 {
@@ -136,8 +150,14 @@ fn add_member<S: TypeStore>(
     requires globals { AreGlobals S.has S.tree store.old globals.now }
     requires held { HasSignatures (S.has store.old) methods.old.items }
     ensures held { OnOk result (HasSignatures (S.has store.new) methods.new.items) }
-    ensures typed { OnOk result (signatures_with S.tree methods.new.items ≡ signatures_with S.tree methods.old.items ++ map (signature_of (module_in globals.now.frame.now)) (methods_in (member_of member.now ∷ []))) }
-    ensures pushed { OnOk result (notes_of found.new ≡ notes_of found.old ++ member_findings (module_in globals.now.frame.now) (base_facts (classes_of (module_in globals.now.frame.now)) base) (bound_in bound.now) (member_of member.now)) }
+    ensures typed { OnOk result
+        (signatures_with S.tree methods.new.items
+        ≡ signatures_with S.tree methods.old.items
+        ++ map (signature_of (module_in globals.now.frame.now)) (methods_in (member_of member.now ∷ []))) }
+    ensures pushed { OnOk result
+        (notes_of found.new ≡ notes_of found.old
+        ++ member_findings (module_in globals.now.frame.now)
+        (base_facts (classes_of (module_in globals.now.frame.now)) base) (bound_in bound.now) (member_of member.now)) }
     ensures kept { KeepsTypes S.has store.old store.new }
 {
     match member {
@@ -156,8 +176,8 @@ fn name_of(member: &Member) -> &Name
     }
 }
 
-/// What the methods of a class over this base take and return; what is found in annotations and at defaults of its members.
-/// Language Reference 3.12, 8.8 "Class definitions"; library reference, `dataclasses`.
+/// What the methods of a class over this base take and return; what is found in annotations and at defaults of its
+/// members. Language Reference 3.12, 8.8 "Class definitions"; library reference, `dataclasses`.
 fn read_members<S: TypeStore>(
     store: &mut S,
     alloc: Global,
@@ -167,8 +187,13 @@ fn read_members<S: TypeStore>(
     found: &mut Notes,
 ) -> Result<Vec<Signature<S::Ty>>, OutOfMemory>
     requires { AreGlobals S.has S.tree store.old globals.now }
-    ensures typed { IfOk result (λ ss. AreSignatures S.has S.tree store.new ss.items (map (signature_of (module_in globals.now.frame.now)) (methods_in (map member_of members.now)))) }
-    ensures pushed { OnOk result (notes_of found.new ≡ notes_of found.old ++ members_findings (module_in globals.now.frame.now) (base_facts (classes_of (module_in globals.now.frame.now)) base) no_name (map member_of members.now)) }
+    ensures typed { IfOk result
+        (λ ss. AreSignatures S.has S.tree store.new ss.items
+        (map (signature_of (module_in globals.now.frame.now)) (methods_in (map member_of members.now)))) }
+    ensures pushed { OnOk result
+        (notes_of found.new ≡ notes_of found.old
+        ++ members_findings (module_in globals.now.frame.now)
+        (base_facts (classes_of (module_in globals.now.frame.now)) base) no_name (map member_of members.now)) }
     ensures kept { KeepsTypes S.has store.old store.new }
 {
     let mut methods = Vec::new(alloc);
@@ -202,8 +227,14 @@ fn type_initializer<S: TypeStore>(
     requires globals { AreGlobals S.has S.tree store.old globals.now }
     requires constants { All (S.has store.old) walk.now.constants.items }
     requires want { HasIfAny (S.has store.old) want.now }
-    ensures marked { IfOk result (λ l. IsMark S.has S.tree store.new l (mark_in (initial (module_in globals.now.frame.now) (map S.tree walk.now.constants.items) (length walk.now.methods.items)) (option_map S.tree want.now) (expr_of value.now))) }
-    ensures pushed { OnOk result (notes_of found.new ≡ notes_of found.old ++ finds_in (initial (module_in globals.now.frame.now) (map S.tree walk.now.constants.items) (length walk.now.methods.items)) (option_map S.tree want.now) (expr_of value.now)) }
+    ensures marked { IfOk result
+        (λ l. IsMark S.has S.tree store.new l
+        (mark_in (initial (module_in globals.now.frame.now) (map S.tree walk.now.constants.items)
+        (length walk.now.methods.items)) (option_map S.tree want.now) (expr_of value.now))) }
+    ensures pushed { OnOk result
+        (notes_of found.new ≡ notes_of found.old
+        ++ finds_in (initial (module_in globals.now.frame.now) (map S.tree walk.now.constants.items)
+        (length walk.now.methods.items)) (option_map S.tree want.now) (expr_of value.now)) }
     ensures kept { KeepsTypes S.has store.old store.new }
 {
     let names = OwnerNames {
@@ -239,7 +270,10 @@ fn check_annotated<S: TypeStore>(
     requires globals { AreGlobals S.has S.tree store.old globals.now }
     requires constants { All (S.has store.old) walk.now.constants.items }
     requires ty { S.has store.old ty.now }
-    ensures pushed { OnOk result (notes_of found.new ≡ notes_of found.old ++ value_findings (module_in globals.now.frame.now) (reached_with S.tree walk.now) (if binds then S.tree ty.now ∷ [] else []) (expr_of value.now)) }
+    ensures pushed { OnOk result
+        (notes_of found.new ≡ notes_of found.old
+        ++ value_findings (module_in globals.now.frame.now) (reached_with S.tree walk.now)
+        (if binds then S.tree ty.now ∷ [] else []) (expr_of value.now)) }
     ensures kept { KeepsTypes S.has store.old store.new }
 {
     if !binds {
@@ -271,8 +305,13 @@ fn read_constant<S: TypeStore>(
 ) -> Result<S::Ty, OutOfMemory>
     requires globals { AreGlobals S.has S.tree store.old globals.now }
     requires constants { All (S.has store.old) walk.now.constants.items }
-    ensures typed { IfOk result (λ t. Means S.has S.tree store.new t (type_of_constant (module_in globals.now.frame.now) (reached_with S.tree walk.now) (constant_of constant.now))) }
-    ensures pushed { OnOk result (notes_of found.new ≡ notes_of found.old ++ constant_findings (module_in globals.now.frame.now) (reached_with S.tree walk.now) (constant_of constant.now)) }
+    ensures typed { IfOk result
+        (λ t. Means S.has S.tree store.new t
+        (type_of_constant (module_in globals.now.frame.now) (reached_with S.tree walk.now) (constant_of constant.now))) }
+    ensures pushed { OnOk result
+        (notes_of found.new ≡ notes_of found.old
+        ++ constant_findings (module_in globals.now.frame.now) (reached_with S.tree walk.now)
+        (constant_of constant.now)) }
     ensures kept { KeepsTypes S.has store.old store.new }
 {
     let value = &constant.value;
@@ -303,8 +342,14 @@ fn add_constant<S: TypeStore>(
     requires held { HasReached (S.has store.old) walk.old }
     ensures held { OnOk result (HasReached (S.has store.new) walk.new) }
     ensures methods { OnOk result (walk.new.methods ≡ walk.old.methods) }
-    ensures reached { (p : Place) → OnOk result (reached_with S.tree walk.new ≡ behind (module_in globals.now.frame.now) (reached_with S.tree walk.old) (constant_item p (constant_of constant.now))) }
-    ensures pushed { OnOk result (notes_of found.new ≡ notes_of found.old ++ constant_findings (module_in globals.now.frame.now) (reached_with S.tree walk.old) (constant_of constant.now)) }
+    ensures reached { (p : Place)
+        → OnOk result (reached_with S.tree walk.new
+        ≡ behind (module_in globals.now.frame.now) (reached_with S.tree walk.old)
+        (constant_item p (constant_of constant.now))) }
+    ensures pushed { OnOk result
+        (notes_of found.new ≡ notes_of found.old
+        ++ constant_findings (module_in globals.now.frame.now) (reached_with S.tree walk.old)
+        (constant_of constant.now)) }
     ensures kept { KeepsTypes S.has store.old store.new }
 {
     let ty = read_constant(store, alloc, globals, walk, constant, found)?;
@@ -324,9 +369,16 @@ fn add_class<S: TypeStore>(
     requires globals { AreGlobals S.has S.tree store.old globals.now }
     requires held { HasReached (S.has store.old) walk.old }
     ensures held { OnOk result (HasReached (S.has store.new) walk.new) }
-    ensures methods { OnOk result (map (methods_with S.tree) walk.new.methods.items ≡ map (methods_with S.tree) walk.old.methods.items ++ class_methods (module_in globals.now.frame.now) (class_of class.now) ∷ []) }
-    ensures reached { (p : Place) → OnOk result (reached_with S.tree walk.new ≡ behind (module_in globals.now.frame.now) (reached_with S.tree walk.old) (class_item p (class_of class.now))) }
-    ensures pushed { OnOk result (notes_of found.new ≡ notes_of found.old ++ class_notes (module_in globals.now.frame.now) (length walk.old.methods.items) (class_of class.now)) }
+    ensures methods { OnOk result
+        (map (methods_with S.tree) walk.new.methods.items
+        ≡ map (methods_with S.tree) walk.old.methods.items
+        ++ class_methods (module_in globals.now.frame.now) (class_of class.now) ∷ []) }
+    ensures reached { (p : Place)
+        → OnOk result (reached_with S.tree walk.new
+        ≡ behind (module_in globals.now.frame.now) (reached_with S.tree walk.old) (class_item p (class_of class.now))) }
+    ensures pushed { OnOk result
+        (notes_of found.new ≡ notes_of found.old
+        ++ class_notes (module_in globals.now.frame.now) (length walk.old.methods.items) (class_of class.now)) }
     ensures kept { KeepsTypes S.has store.old store.new }
 {
     let base = globals.frame.parents.base(walk.methods.len());
@@ -347,9 +399,16 @@ fn add_item<S: TypeStore>(
     requires globals { AreGlobals S.has S.tree store.old globals.now }
     requires held { HasReached (S.has store.old) walk.old }
     ensures held { OnOk result (HasReached (S.has store.new) walk.new) }
-    ensures methods { OnOk result (map (methods_with S.tree) walk.new.methods.items ≡ map (methods_with S.tree) walk.old.methods.items ++ signatures_of_methods (module_in globals.now.frame.now) (classes_in (item_of item.now ∷ []))) }
-    ensures reached { OnOk result (reached_with S.tree walk.new ≡ behind (module_in globals.now.frame.now) (reached_with S.tree walk.old) (item_of item.now)) }
-    ensures pushed { OnOk result (notes_of found.new ≡ notes_of found.old ++ item_findings (module_in globals.now.frame.now) (reached_with S.tree walk.old) (item_of item.now)) }
+    ensures methods { OnOk result
+        (map (methods_with S.tree) walk.new.methods.items
+        ≡ map (methods_with S.tree) walk.old.methods.items
+        ++ signatures_of_methods (module_in globals.now.frame.now) (classes_in (item_of item.now ∷ []))) }
+    ensures reached { OnOk result
+        (reached_with S.tree walk.new
+        ≡ behind (module_in globals.now.frame.now) (reached_with S.tree walk.old) (item_of item.now)) }
+    ensures pushed { OnOk result
+        (notes_of found.new ≡ notes_of found.old
+        ++ item_findings (module_in globals.now.frame.now) (reached_with S.tree walk.old) (item_of item.now)) }
     ensures kept { KeepsTypes S.has store.old store.new }
 {
     match &item.kind {
@@ -370,9 +429,13 @@ pub(crate) fn read_items<S: TypeStore>(
 ) -> Result<Walk<S::Ty>, OutOfMemory>
     requires { AreGlobals S.has S.tree store.old globals.now }
     ensures held { IfOk result (HasReached (S.has store.new)) }
-    ensures constants { IfOk result (λ w. map S.tree w.constants.items ≡ constants_of (module_in globals.now.frame.now)) }
-    ensures methods { IfOk result (λ w. map (methods_with S.tree) w.methods.items ≡ method_signatures (module_in globals.now.frame.now)) }
-    ensures pushed { OnOk result (notes_of found.new ≡ notes_of found.old ++ items_findings (module_in globals.now.frame.now) nothing_reached (module_in globals.now.frame.now).items) }
+    ensures constants { IfOk result
+        (λ w. map S.tree w.constants.items ≡ constants_of (module_in globals.now.frame.now)) }
+    ensures methods { IfOk result
+        (λ w. map (methods_with S.tree) w.methods.items ≡ method_signatures (module_in globals.now.frame.now)) }
+    ensures pushed { OnOk result
+        (notes_of found.new ≡ notes_of found.old
+        ++ items_findings (module_in globals.now.frame.now) nothing_reached (module_in globals.now.frame.now).items) }
     ensures kept { KeepsTypes S.has store.old store.new }
 {
     let mut walk = Walk {

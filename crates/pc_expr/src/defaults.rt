@@ -59,7 +59,8 @@ fn literal_label<S: TypeStore>(
     alloc: Global,
     literal: &Literal,
 ) -> Result<Label<S::Ty>, OutOfMemory>
-    ensures marked { IfOk result (λ l. IsMark S.has S.tree store.new l (clean (literal_type (literal_of literal.now)))) }
+    ensures marked { IfOk result
+        (λ l. IsMark S.has S.tree store.new l (clean (literal_type (literal_of literal.now)))) }
     ensures kept { KeepsTypes S.has store.old store.new }
 {
     let ty = literal_type(store, alloc, literal)?;
@@ -81,7 +82,9 @@ pub(crate) fn find_into<S: TypeStore>(
 ) -> Result<(), OutOfMemory>
     requires label { S.has store.old label.now.ty }
     requires into { S.has store.old into.now }
-    ensures pushed { (m : Mark) → mark_with S.tree label.now ≡ brief m → OnOk result (notes_of found.new ≡ notes_of found.old ++ flows_at place (flows_of parents.now m (S.tree into.now ∷ []))) }
+    ensures pushed { (m : Mark) → mark_with S.tree label.now ≡ brief m
+        → OnOk result (notes_of found.new
+        ≡ notes_of found.old ++ flows_at place (flows_of parents.now m (S.tree into.now ∷ []))) }
     ensures kept { KeepsTypes S.has store.old store.new }
 {
     find_flow(store, alloc, parents, place, label, into, found)?;
@@ -98,7 +101,9 @@ fn find_literal<S: TypeStore>(
     found: &mut Notes,
 ) -> Result<(), OutOfMemory>
     requires { S.has store.old into.now }
-    ensures pushed { OnOk result (notes_of found.new ≡ notes_of found.old ++ literal_findings parents.now (literal_of literal.now) (S.tree into.now)) }
+    ensures pushed { OnOk result
+        (notes_of found.new ≡ notes_of found.old
+        ++ literal_findings parents.now (literal_of literal.now) (S.tree into.now)) }
     ensures kept { KeepsTypes S.has store.old store.new }
 {
     let label = literal_label(store, alloc, literal)?;
@@ -117,7 +122,9 @@ pub(crate) fn find_default<S: TypeStore>(
     found: &mut Notes,
 ) -> Result<(), OutOfMemory>
     requires { S.has store.old into.now }
-    ensures pushed { OnOk result (notes_of found.new ≡ notes_of found.old ++ default_findings parents.now binds (option_literal_of default.now) (S.tree into.now)) }
+    ensures pushed { OnOk result
+        (notes_of found.new ≡ notes_of found.old
+        ++ default_findings parents.now binds (option_literal_of default.now) (S.tree into.now)) }
     ensures kept { KeepsTypes S.has store.old store.new }
 {
     match default {

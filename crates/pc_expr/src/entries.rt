@@ -41,7 +41,10 @@ pub(crate) fn dict_seats<S: TypeStore>(
     want: &Option<S::Ty>,
 ) -> Result<EntrySeats<S::Ty>, OutOfMemory>
     requires { HasIfAny (S.has store.now) want.now }
-    ensures { IfOk result (λ s. AreEntrySeats S.has S.tree store.now s (key_seat (dict_parts (members_of_expected (option_map S.tree want.now)))) (value_seat (dict_parts (members_of_expected (option_map S.tree want.now))))) }
+    ensures { IfOk result (λ s.
+        AreEntrySeats S.has S.tree store.now s
+        (key_seat (dict_parts (members_of_expected (option_map S.tree want.now))))
+        (value_seat (dict_parts (members_of_expected (option_map S.tree want.now))))) }
 {
     match dict_parts(store, alloc, want)? {
         None => Ok(EntrySeats {
@@ -66,7 +69,12 @@ pub(crate) fn label_dict<S: TypeStore, R: Resolver>(
     requires want { HasIfAny (S.has store.old) want.now }
     requires keys { All (S.has store.old) types.now.keys.items }
     requires values { All (S.has store.old) types.now.values.items }
-    ensures value { IfOk result (λ l. IsMark S.has S.tree store.new l (dict_mark (context_with S.tree R.meaning setting.now) (declared_of S.tree setting.now.declared.now) (static_test setting.now.parents.now) (assignable_test setting.now.parents.now) (dict_parts (members_of_expected (option_map S.tree want.now))) (map S.tree types.now.keys.items) (map S.tree types.now.values.items))) }
+    ensures value { IfOk result
+        (λ l. IsMark S.has S.tree store.new l
+        (dict_mark (context_with S.tree R.meaning setting.now) (declared_of S.tree setting.now.declared.now)
+        (static_test setting.now.parents.now) (assignable_test setting.now.parents.now)
+        (dict_parts (members_of_expected (option_map S.tree want.now))) (map S.tree types.now.keys.items)
+        (map S.tree types.now.values.items))) }
     ensures kept { KeepsTypes S.has store.old store.new }
 {
     let parts = dict_parts(store, alloc, want)?;

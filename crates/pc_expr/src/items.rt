@@ -124,7 +124,8 @@ pub(crate) fn list_seats<S: TypeStore>(
 ) -> Result<Seats<S::Ty>, OutOfMemory>
     requires { HasIfAny (S.has store.now) want.now }
     ensures held { IfOk result (λ s. HasSeats (S.has store.now) s) }
-    ensures value { IfOk result (λ s. seats_of S.tree s ≡ (λ i. item_seat (list_item (members_of_expected (option_map S.tree want.now))))) }
+    ensures value { IfOk result
+        (λ s. seats_of S.tree s ≡ (λ i. item_seat (list_item (members_of_expected (option_map S.tree want.now))))) }
 {
     let item = list_item(store, alloc, want)?;
     Ok(Seats::Same(item))
@@ -139,7 +140,8 @@ pub(crate) fn tuple_seats<S: TypeStore>(
 ) -> Result<Seats<S::Ty>, OutOfMemory>
     requires { HasIfAny (S.has store.now) want.now }
     ensures held { IfOk result (λ s. HasSeats (S.has store.now) s) }
-    ensures value { IfOk result (λ s. seats_of S.tree s ≡ part_seat (tuple_parts count (members_of_expected (option_map S.tree want.now)))) }
+    ensures value { IfOk result
+        (λ s. seats_of S.tree s ≡ part_seat (tuple_parts count (members_of_expected (option_map S.tree want.now)))) }
 {
     let parts = tuple_parts(store, alloc, count, want)?;
     Ok(Seats::Parts(parts))
@@ -155,7 +157,9 @@ pub(crate) fn label_list<S: TypeStore>(
 ) -> Result<Label<S::Ty>, OutOfMemory>
     requires want { HasIfAny (S.has store.old) want.now }
     requires types { All (S.has store.old) types.now }
-    ensures value { IfOk result (λ l. IsMark S.has S.tree store.new l (list_mark parents.now (list_item (members_of_expected (option_map S.tree want.now))) (map S.tree types.now))) }
+    ensures value { IfOk result
+        (λ l. IsMark S.has S.tree store.new l
+        (list_mark parents.now (list_item (members_of_expected (option_map S.tree want.now))) (map S.tree types.now))) }
     ensures kept { KeepsTypes S.has store.old store.new }
 {
     let item = list_item(store, alloc, want)?;

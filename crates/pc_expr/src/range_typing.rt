@@ -21,8 +21,8 @@ use pc_tree::{Expr, KeywordArgument};
 use pc_types::TypeStore;
 use std::alloc::Global;
 
-/// Adds what is found in a call of `range` at this place as what a `for` goes over: in its arguments, which flow into `int`, and
-/// at the call.
+/// Adds what is found in a call of `range` at this place as what a `for` goes over: in its arguments, which flow into
+/// `int`, and at the call.
 fn find_range<S: TypeStore, R: Resolver>(
     store: &mut S,
     alloc: Global,
@@ -35,7 +35,10 @@ fn find_range<S: TypeStore, R: Resolver>(
     found: &mut Notes,
 ) -> Result<(), OutOfMemory>
     requires { HasGivenAll (S.has store.old) S.tree setting.now env.now }
-    ensures pushed { OnOk result (notes_of found.new ≡ notes_of found.old ++ range_finds (standing_of S.tree R.meaning setting.now env.now) place (expr_of callee.now) (exprs_of_list arguments.now) (keywords_of_list by_name.now)) }
+    ensures pushed { OnOk result
+        (notes_of found.new ≡ notes_of found.old
+        ++ range_finds (standing_of S.tree R.meaning setting.now env.now) place (expr_of callee.now)
+        (exprs_of_list arguments.now) (keywords_of_list by_name.now)) }
     ensures kept { KeepsTypes S.has store.old store.new }
 {
     let given = given(alloc, arguments, by_name)?;
@@ -49,8 +52,9 @@ fn find_range<S: TypeStore, R: Resolver>(
     find_codes(place, &codes, found)
 }
 
-/// The label of a turn's item where a `for` goes over a call of `range` at this place, with what is found in the call: in its
-/// arguments, which flow into `int`, and at the call. Library reference, "Built-in Functions"; own rule of the profile.
+/// The label of a turn's item where a `for` goes over a call of `range` at this place, with what is found in the call:
+/// in its arguments, which flow into `int`, and at the call. Library reference, "Built-in Functions"; own rule of the
+/// profile.
 pub fn type_range<S: TypeStore, R: Resolver>(
     store: &mut S,
     alloc: Global,
@@ -63,8 +67,13 @@ pub fn type_range<S: TypeStore, R: Resolver>(
     found: &mut Notes,
 ) -> Result<Label<S::Ty>, OutOfMemory>
     requires { HasGivenAll (S.has store.old) S.tree setting.now env.now }
-    ensures label { IfOk result (λ l. IsMark S.has S.tree store.new l (range_item (arguments_given (exprs_of_list arguments.now) (keywords_of_list by_name.now)))) }
-    ensures pushed { OnOk result (notes_of found.new ≡ notes_of found.old ++ range_finds (standing_of S.tree R.meaning setting.now env.now) place (expr_of callee.now) (exprs_of_list arguments.now) (keywords_of_list by_name.now)) }
+    ensures label { IfOk result
+        (λ l. IsMark S.has S.tree store.new l
+        (range_item (arguments_given (exprs_of_list arguments.now) (keywords_of_list by_name.now)))) }
+    ensures pushed { OnOk result
+        (notes_of found.new ≡ notes_of found.old
+        ++ range_finds (standing_of S.tree R.meaning setting.now env.now) place (expr_of callee.now)
+        (exprs_of_list arguments.now) (keywords_of_list by_name.now)) }
     ensures kept { KeepsTypes S.has store.old store.new }
 {
     find_range(

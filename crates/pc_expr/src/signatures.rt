@@ -10,8 +10,10 @@ ghost use Rattle.pc_class.specs.Bases.{bases_of};
 ghost use Rattle.pc_class.specs.Facts.{typed_parameter, parameters_of};
 ghost use Rattle.pc_notes.specs.Notes.{notes_of, plain_note};
 ghost use Rattle.pc_rules.specs.Signatures.{signature_of, signatures_of};
-ghost use Rattle.pc_rules.specs.SignaturesFound.{bound_in, param_findings, params_findings, def_findings, function_findings, functions_findings};
-ghost use Rattle.pc_expr.specs.Internal.SignaturesRead.{module_in, IsFrame, IsParameter, AreParameters, IsSignature, AreSignatures, HasSignatures, signatures_with};
+ghost use Rattle.pc_rules.specs.SignaturesFound.{bound_in, param_findings, params_findings, def_findings};
+ghost use Rattle.pc_rules.specs.SignaturesFound.{function_findings, functions_findings};
+ghost use Rattle.pc_expr.specs.Internal.SignaturesRead.{module_in, IsFrame, IsParameter, AreParameters, IsSignature};
+ghost use Rattle.pc_expr.specs.Internal.SignaturesRead.{AreSignatures, HasSignatures, signatures_with};
 
 use crate::bound::{Texts, bind};
 use crate::defaults::{binds, find_default};
@@ -42,8 +44,12 @@ pub(crate) fn read_annotation<S: TypeStore>(
     found: &mut Notes,
 ) -> Result<S::Ty, OutOfMemory>
     requires { IsFrame frame.now }
-    ensures typed { IfOk result (λ t. Means S.has S.tree store.new t (read_ann (module_in frame.now) (bases_of (module_in frame.now)) (ann_of ann.now))) }
-    ensures pushed { OnOk result (notes_of found.new ≡ notes_of found.old ++ map plain_note (ann_findings (module_in frame.now) (bases_of (module_in frame.now)) (ann_of ann.now))) }
+    ensures typed { IfOk result
+        (λ t. Means S.has S.tree store.new t
+        (read_ann (module_in frame.now) (bases_of (module_in frame.now)) (ann_of ann.now))) }
+    ensures pushed { OnOk result
+        (notes_of found.new ≡ notes_of found.old
+        ++ map plain_note (ann_findings (module_in frame.now) (bases_of (module_in frame.now)) (ann_of ann.now))) }
     ensures kept { KeepsTypes S.has store.old store.new }
 {
     let mut in_it = Vec::new(alloc);
@@ -69,8 +75,13 @@ pub(crate) fn read_optional<S: TypeStore>(
     found: &mut Notes,
 ) -> Result<S::Ty, OutOfMemory>
     requires { IsFrame frame.now }
-    ensures typed { IfOk result (λ t. Means S.has S.tree store.new t (read_option (module_in frame.now) (bases_of (module_in frame.now)) (option_ann_of ann.now))) }
-    ensures pushed { OnOk result (notes_of found.new ≡ notes_of found.old ++ map plain_note (option_findings (module_in frame.now) (bases_of (module_in frame.now)) (option_ann_of ann.now))) }
+    ensures typed { IfOk result
+        (λ t. Means S.has S.tree store.new t
+        (read_option (module_in frame.now) (bases_of (module_in frame.now)) (option_ann_of ann.now))) }
+    ensures pushed { OnOk result
+        (notes_of found.new ≡ notes_of found.old
+        ++ map plain_note (option_findings (module_in frame.now) (bases_of (module_in frame.now))
+        (option_ann_of ann.now))) }
     ensures kept { KeepsTypes S.has store.old store.new }
 {
     let mut in_it = Vec::new(alloc);
@@ -97,8 +108,11 @@ fn read_param<S: TypeStore>(
     found: &mut Notes,
 ) -> Result<Parameter<S::Ty>, OutOfMemory>
     requires { IsFrame frame.now }
-    ensures typed { IfOk result (λ p. IsParameter S.has S.tree store.new p (typed_parameter (module_in frame.now) (param_of param.now))) }
-    ensures pushed { OnOk result (notes_of found.new ≡ notes_of found.old ++ param_findings (module_in frame.now) (bound_in bound.now) (param_of param.now)) }
+    ensures typed { IfOk result
+        (λ p. IsParameter S.has S.tree store.new p (typed_parameter (module_in frame.now) (param_of param.now))) }
+    ensures pushed { OnOk result
+        (notes_of found.new ≡ notes_of found.old
+        ++ param_findings (module_in frame.now) (bound_in bound.now) (param_of param.now)) }
     ensures kept { KeepsTypes S.has store.old store.new }
 {
     let name = param.name.text.as_str();
@@ -131,8 +145,12 @@ fn read_params<S: TypeStore>(
     found: &mut Notes,
 ) -> Result<Vec<Parameter<S::Ty>>, OutOfMemory>
     requires { IsFrame frame.now }
-    ensures typed { IfOk result (λ ps. AreParameters S.has S.tree store.new ps.items (parameters_of (module_in frame.now) (map param_of params.now))) }
-    ensures pushed { OnOk result (notes_of found.new ≡ notes_of found.old ++ params_findings (module_in frame.now) (bound_in bound.old) (map param_of params.now)) }
+    ensures typed { IfOk result
+        (λ ps. AreParameters S.has S.tree store.new ps.items
+        (parameters_of (module_in frame.now) (map param_of params.now))) }
+    ensures pushed { OnOk result
+        (notes_of found.new ≡ notes_of found.old
+        ++ params_findings (module_in frame.now) (bound_in bound.old) (map param_of params.now)) }
     ensures kept { KeepsTypes S.has store.old store.new }
 {
     let mut all = Vec::new(alloc);
@@ -155,8 +173,11 @@ pub(crate) fn read_signature<S: TypeStore>(
     found: &mut Notes,
 ) -> Result<Signature<S::Ty>, OutOfMemory>
     requires { IsFrame frame.now }
-    ensures typed { IfOk result (λ s. IsSignature S.has S.tree store.new s (signature_of (module_in frame.now) (func_of def.now))) }
-    ensures pushed { OnOk result (notes_of found.new ≡ notes_of found.old ++ def_findings (module_in frame.now) (bound_in bound.old) (func_of def.now)) }
+    ensures typed { IfOk result
+        (λ s. IsSignature S.has S.tree store.new s (signature_of (module_in frame.now) (func_of def.now))) }
+    ensures pushed { OnOk result
+        (notes_of found.new ≡ notes_of found.old
+        ++ def_findings (module_in frame.now) (bound_in bound.old) (func_of def.now)) }
     ensures kept { KeepsTypes S.has store.old store.new }
 {
     let params = read_params(store, alloc, frame, bound, &def.params, found)?;
@@ -176,8 +197,12 @@ fn add_function<S: TypeStore>(
     requires frame { IsFrame frame.now }
     requires held { HasSignatures (S.has store.old) functions.old.items }
     ensures held { OnOk result (HasSignatures (S.has store.new) functions.new.items) }
-    ensures typed { OnOk result (signatures_with S.tree functions.new.items ≡ signatures_with S.tree functions.old.items ++ map (signature_of (module_in frame.now)) (functions_in (item_of item.now ∷ []))) }
-    ensures pushed { OnOk result (notes_of found.new ≡ notes_of found.old ++ function_findings (module_in frame.now) (item_of item.now)) }
+    ensures typed { OnOk result
+        (signatures_with S.tree functions.new.items
+        ≡ signatures_with S.tree functions.old.items
+        ++ map (signature_of (module_in frame.now)) (functions_in (item_of item.now ∷ []))) }
+    ensures pushed { OnOk result
+        (notes_of found.new ≡ notes_of found.old ++ function_findings (module_in frame.now) (item_of item.now)) }
     ensures kept { KeepsTypes S.has store.old store.new }
 {
     match &item.kind {
@@ -201,8 +226,11 @@ pub(crate) fn read_functions<S: TypeStore>(
     found: &mut Notes,
 ) -> Result<Vec<Signature<S::Ty>>, OutOfMemory>
     requires { IsFrame frame.now }
-    ensures typed { IfOk result (λ fs. AreSignatures S.has S.tree store.new fs.items (signatures_of (module_in frame.now))) }
-    ensures pushed { OnOk result (notes_of found.new ≡ notes_of found.old ++ functions_findings (module_in frame.now) (module_in frame.now).items) }
+    ensures typed { IfOk result
+        (λ fs. AreSignatures S.has S.tree store.new fs.items (signatures_of (module_in frame.now))) }
+    ensures pushed { OnOk result
+        (notes_of found.new ≡ notes_of found.old
+        ++ functions_findings (module_in frame.now) (module_in frame.now).items) }
     ensures kept { KeepsTypes S.has store.old store.new }
 {
     let items = frame.tree.items.as_slice();

@@ -11,7 +11,8 @@ ghost use Rattle.pc_class.specs.Tables.{HasEntries, classes_with};
 ghost use Rattle.pc_notes.specs.Notes.{notes_of};
 ghost use Rattle.pc_rules.specs.Signatures.{signatures_of};
 ghost use Rattle.pc_rules.specs.SignaturesFound.{constants_of, method_signatures, signatures_find};
-ghost use Rattle.pc_expr.specs.SignaturesHeld.{HeldSignatures, methods_seen, method_numbered, HasSigned, all_signatures_with};
+ghost use Rattle.pc_expr.specs.SignaturesHeld.{HeldSignatures, methods_seen, method_numbered, HasSigned};
+ghost use Rattle.pc_expr.specs.SignaturesHeld.{all_signatures_with};
 ghost use Rattle.pc_rules.specs.Standing.{signature_with};
 
 use crate::constants::{Globals, read_items};
@@ -26,8 +27,8 @@ use pc_types::{Parents, TypeStore};
 use std::alloc::Global;
 use std::marker::Model;
 
-/// The types of the constants of a module, and what its functions and the methods of its classes take and return, each in
-/// text order. Contracts see it as these lists.
+/// The types of the constants of a module, and what its functions and the methods of its classes take and return, each
+/// in text order. Contracts see it as these lists.
 ///
 /// Language Reference 3.12, 8.7 "Function definitions"; typing specification, "Type annotations".
 #[derive(Drop)]
@@ -40,7 +41,11 @@ pub struct Sigs<Ty: Drop> {
 impl<Ty: Drop> Model for Sigs<Ty> {
     ghost Value = { HeldSignatures Ty };
 
-    ghost view = { λ s. record { constants = s.constants.items; functions = s.functions.items; methods = methods_seen s.methods.items } };
+    ghost view = { λ s. record {
+      constants = s.constants.items;
+      functions = s.functions.items;
+      methods = methods_seen s.methods.items;
+    } };
 }
 
 impl<Ty: Drop> Sigs<Ty> {
@@ -77,11 +82,11 @@ impl<Ty: Drop> Sigs<Ty> {
 }
 
 /// The types of the constants of a module, and what its functions and methods take and return, with what is found in
-/// annotations, in initializers and of their flows, and at defaults, put behind `found`: first what is found of functions,
-/// then of classes and constants in text order.
+/// annotations, in initializers and of their flows, and at defaults, put behind `found`: first what is found of
+/// functions, then of classes and constants in text order.
 ///
-/// Language Reference 3.12, 7.2 "Assignment statements" and 8.7 "Function definitions"; library reference, `dataclasses`;
-/// typing specification, "Type annotations"; own rules of the profile.
+/// Language Reference 3.12, 7.2 "Assignment statements" and 8.7 "Function definitions"; library reference,
+/// `dataclasses`; typing specification, "Type annotations"; own rules of the profile.
 #[tactic(auto, unfolding(pc_rules::specs::SignaturesFound::signatures_find))]
 pub fn read_signatures<S: TypeStore>(
     store: &mut S,
@@ -98,7 +103,8 @@ pub fn read_signatures<S: TypeStore>(
     requires entries { HasEntries (S.has store.old) classes.now }
     ensures held { IfOk result (HasSigned (S.has store.new)) }
     ensures constants { IfOk result (λ s. map S.tree s.constants ≡ constants_of (module_of tree.now)) }
-    ensures functions { IfOk result (λ s. map (signature_with S.tree) s.functions ≡ signatures_of (module_of tree.now)) }
+    ensures functions { IfOk result
+        (λ s. map (signature_with S.tree) s.functions ≡ signatures_of (module_of tree.now)) }
     ensures methods { IfOk result (λ s. all_signatures_with S.tree s.methods ≡ method_signatures (module_of tree.now)) }
     ensures pushed { OnOk result (notes_of found.new ≡ notes_of found.old ++ signatures_find (module_of tree.now)) }
     ensures kept { KeepsTypes S.has store.old store.new }

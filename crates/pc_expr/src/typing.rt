@@ -10,7 +10,8 @@ ghost use Rattle.pc_tree.specs.Lists.{exprs_of_list, entries_of_list, keywords_o
 ghost use Rattle.pc_types.specs.Store.{KeepsTypes};
 ghost use Rattle.pc_notes.specs.Notes.{notes_of};
 ghost use Rattle.pc_rules.specs.Calls.{positional_seat, named_seat};
-ghost use Rattle.pc_rules.specs.Standing.{standing_of, mark_in, finds_in, parts_find, types_in, items_find, arguments_find, entries_find, keywords_find, HasGivenAll, HasIfAny, IsMark};
+ghost use Rattle.pc_rules.specs.Standing.{standing_of, mark_in, finds_in, parts_find, types_in, items_find};
+ghost use Rattle.pc_rules.specs.Standing.{arguments_find, entries_find, keywords_find, HasGivenAll, HasIfAny, IsMark};
 ghost use Rattle.pc_call.specs.JudgedCalls.{given_with, offer_called, HasCallOffer, IsCallee};
 ghost use Rattle.pc_expr.specs.Typing.{callee_in};
 ghost use Rattle.pc_expr.specs.Internal.Seats.{seats_of, seat_with, HasSeats, HasEntrySeats, AreTyped, AreEntryTypes};
@@ -49,8 +50,12 @@ pub fn type_expr<S: TypeStore, R: Resolver>(
 ) -> Result<Label<S::Ty>, OutOfMemory>
     requires given { HasGivenAll (S.has store.old) S.tree setting.now env.now }
     requires want { HasIfAny (S.has store.old) want.now }
-    ensures marked { IfOk result (λ l. IsMark S.has S.tree store.new l (mark_in (standing_of S.tree R.meaning setting.now env.now) (option_map S.tree want.now) (expr_of e.now))) }
-    ensures pushed { OnOk result (notes_of found.new ≡ notes_of found.old ++ finds_in (standing_of S.tree R.meaning setting.now env.now) (option_map S.tree want.now) (expr_of e.now)) }
+    ensures marked { IfOk result
+        (λ l. IsMark S.has S.tree store.new l
+        (mark_in (standing_of S.tree R.meaning setting.now env.now) (option_map S.tree want.now) (expr_of e.now))) }
+    ensures pushed { OnOk result
+        (notes_of found.new ≡ notes_of found.old
+        ++ finds_in (standing_of S.tree R.meaning setting.now env.now) (option_map S.tree want.now) (expr_of e.now)) }
     ensures kept { KeepsTypes S.has store.old store.new }
 {
     let label = label_expr(store, alloc, setting, env, want, e, found)?;
@@ -71,8 +76,12 @@ fn label_expr<S: TypeStore, R: Resolver>(
 ) -> Result<Label<S::Ty>, OutOfMemory>
     requires given { HasGivenAll (S.has store.old) S.tree setting.now env.now }
     requires want { HasIfAny (S.has store.old) want.now }
-    ensures marked { IfOk result (λ l. IsMark S.has S.tree store.new l (mark_in (standing_of S.tree R.meaning setting.now env.now) (option_map S.tree want.now) (expr_of e.now))) }
-    ensures pushed { OnOk result (notes_of found.new ≡ notes_of found.old ++ parts_find (standing_of S.tree R.meaning setting.now env.now) (option_map S.tree want.now) (expr_of e.now)) }
+    ensures marked { IfOk result
+        (λ l. IsMark S.has S.tree store.new l
+        (mark_in (standing_of S.tree R.meaning setting.now env.now) (option_map S.tree want.now) (expr_of e.now))) }
+    ensures pushed { OnOk result
+        (notes_of found.new ≡ notes_of found.old
+        ++ parts_find (standing_of S.tree R.meaning setting.now env.now) (option_map S.tree want.now) (expr_of e.now)) }
     ensures kept { KeepsTypes S.has store.old store.new }
 {
     match e {
@@ -202,8 +211,14 @@ fn type_items<S: TypeStore, R: Resolver>(
     requires given { HasGivenAll (S.has store.old) S.tree setting.now env.now }
     requires seats { HasSeats (S.has store.old) seats.now }
     ensures held { IfOk result (λ ts. All (S.has store.new) ts.items) }
-    ensures typed { IfOk result (λ ts. map S.tree ts.items ≡ types_in (standing_of S.tree R.meaning setting.now env.now) (seats_of S.tree seats.now) (exprs_of_list items.now)) }
-    ensures pushed { OnOk result (notes_of found.new ≡ notes_of found.old ++ items_find (standing_of S.tree R.meaning setting.now env.now) (seats_of S.tree seats.now) (exprs_of_list items.now)) }
+    ensures typed { IfOk result
+        (λ ts. map S.tree ts.items
+        ≡ types_in (standing_of S.tree R.meaning setting.now env.now) (seats_of S.tree seats.now)
+        (exprs_of_list items.now)) }
+    ensures pushed { OnOk result
+        (notes_of found.new ≡ notes_of found.old
+        ++ items_find (standing_of S.tree R.meaning setting.now env.now) (seats_of S.tree seats.now)
+        (exprs_of_list items.now)) }
     ensures kept { KeepsTypes S.has store.old store.new }
 {
     let mut types = Vec::new(alloc);
@@ -237,8 +252,13 @@ fn type_entries<S: TypeStore, R: Resolver>(
 ) -> Result<EntryTypes<S::Ty>, OutOfMemory>
     requires given { HasGivenAll (S.has store.old) S.tree setting.now env.now }
     requires seats { HasEntrySeats (S.has store.old) seats.now }
-    ensures typed { IfOk result (λ t. AreEntryTypes S.has S.tree store.new (standing_of S.tree R.meaning setting.now env.now) t (seat_with S.tree seats.now.key) (seat_with S.tree seats.now.value) (entries_of_list entries.now)) }
-    ensures pushed { OnOk result (notes_of found.new ≡ notes_of found.old ++ entries_find (standing_of S.tree R.meaning setting.now env.now) (seat_with S.tree seats.now.key) (seat_with S.tree seats.now.value) (entries_of_list entries.now)) }
+    ensures typed { IfOk result
+        (λ t. AreEntryTypes S.has S.tree store.new (standing_of S.tree R.meaning setting.now env.now) t
+        (seat_with S.tree seats.now.key) (seat_with S.tree seats.now.value) (entries_of_list entries.now)) }
+    ensures pushed { OnOk result
+        (notes_of found.new ≡ notes_of found.old
+        ++ entries_find (standing_of S.tree R.meaning setting.now env.now) (seat_with S.tree seats.now.key)
+        (seat_with S.tree seats.now.value) (entries_of_list entries.now)) }
     ensures kept { KeepsTypes S.has store.old store.new }
 {
     let mut keys = Vec::new(alloc);
@@ -287,7 +307,8 @@ fn type_entries<S: TypeStore, R: Resolver>(
     Ok(EntryTypes { keys, values })
 }
 
-/// What the callee of a call is, with what is found in its parts. In an initializer a callee that is no name is in error.
+/// What the callee of a call is, with what is found in its parts. In an initializer a callee that is no name is in
+/// error.
 #[cycle(typing)]
 fn label_callee<'t, S: TypeStore, R: Resolver>(
     store: &mut S,
@@ -299,8 +320,12 @@ fn label_callee<'t, S: TypeStore, R: Resolver>(
     found: &mut Notes,
 ) -> Result<Callee<'t, S::Ty>, OutOfMemory>
     requires given { HasGivenAll (S.has store.old) S.tree setting.now env.now }
-    ensures called { IfOk result (λ c. IsCallee S.has S.tree store.new c (callee_in (standing_of S.tree R.meaning setting.now env.now) (given_with given.now) (expr_of callee.now))) }
-    ensures pushed { OnOk result (notes_of found.new ≡ notes_of found.old ++ parts_find (standing_of S.tree R.meaning setting.now env.now) None (expr_of callee.now)) }
+    ensures called { IfOk result
+        (λ c. IsCallee S.has S.tree store.new c
+        (callee_in (standing_of S.tree R.meaning setting.now env.now) (given_with given.now) (expr_of callee.now))) }
+    ensures pushed { OnOk result
+        (notes_of found.new ≡ notes_of found.old
+        ++ parts_find (standing_of S.tree R.meaning setting.now env.now) None (expr_of callee.now)) }
     ensures kept { KeepsTypes S.has store.old store.new }
 {
     match callee {
@@ -337,8 +362,8 @@ fn label_callee<'t, S: TypeStore, R: Resolver>(
     }
 }
 
-/// The types of the two arguments of a test of an instance, with what is found in the first; and whether the second is named
-/// too early.
+/// The types of the two arguments of a test of an instance, with what is found in the first; and whether the second is
+/// named too early.
 #[cycle(typing)]
 fn type_tested<S: TypeStore, R: Resolver>(
     store: &mut S,
@@ -352,8 +377,13 @@ fn type_tested<S: TypeStore, R: Resolver>(
     requires given { HasGivenAll (S.has store.old) S.tree setting.now env.now }
     requires offers { All (HasCallOffer (S.has store.old)) offers.now }
     requires two { length arguments.now ≡ 2 }
-    ensures typed { IfOk result (λ t. AreTyped S.has S.tree store.new (standing_of S.tree R.meaning setting.now env.now) t (positional_seat (map (offer_called S.tree) offers.now)) (exprs_of_list arguments.now)) }
-    ensures pushed { OnOk result (notes_of found.new ≡ notes_of found.old ++ arguments_find (standing_of S.tree R.meaning setting.now env.now) true (positional_seat (map (offer_called S.tree) offers.now)) (exprs_of_list arguments.now)) }
+    ensures typed { IfOk result
+        (λ t. AreTyped S.has S.tree store.new (standing_of S.tree R.meaning setting.now env.now) t
+        (positional_seat (map (offer_called S.tree) offers.now)) (exprs_of_list arguments.now)) }
+    ensures pushed { OnOk result
+        (notes_of found.new ≡ notes_of found.old
+        ++ arguments_find (standing_of S.tree R.meaning setting.now env.now) true
+        (positional_seat (map (offer_called S.tree) offers.now)) (exprs_of_list arguments.now)) }
     ensures kept { KeepsTypes S.has store.old store.new }
 {
     let seat = positional_seat(store, alloc, offers, 0)?;
@@ -377,8 +407,8 @@ fn type_tested<S: TypeStore, R: Resolver>(
     Ok(Typed { types, early })
 }
 
-/// The types of the arguments by position of a call with these offers, with what is found in them and where they flow; and
-/// whether the second is named too early. Of a test of an instance the first alone is looked at.
+/// The types of the arguments by position of a call with these offers, with what is found in them and where they flow;
+/// and whether the second is named too early. Of a test of an instance the first alone is looked at.
 #[cycle(typing)]
 pub(crate) fn type_arguments<S: TypeStore, R: Resolver>(
     store: &mut S,
@@ -393,8 +423,13 @@ pub(crate) fn type_arguments<S: TypeStore, R: Resolver>(
     requires given { HasGivenAll (S.has store.old) S.tree setting.now env.now }
     requires offers { All (HasCallOffer (S.has store.old)) offers.now }
     requires two { is_test ≡ true → length arguments.now ≡ 2 }
-    ensures typed { IfOk result (λ t. AreTyped S.has S.tree store.new (standing_of S.tree R.meaning setting.now env.now) t (positional_seat (map (offer_called S.tree) offers.now)) (exprs_of_list arguments.now)) }
-    ensures pushed { OnOk result (notes_of found.new ≡ notes_of found.old ++ arguments_find (standing_of S.tree R.meaning setting.now env.now) is_test (positional_seat (map (offer_called S.tree) offers.now)) (exprs_of_list arguments.now)) }
+    ensures typed { IfOk result
+        (λ t. AreTyped S.has S.tree store.new (standing_of S.tree R.meaning setting.now env.now) t
+        (positional_seat (map (offer_called S.tree) offers.now)) (exprs_of_list arguments.now)) }
+    ensures pushed { OnOk result
+        (notes_of found.new ≡ notes_of found.old
+        ++ arguments_find (standing_of S.tree R.meaning setting.now env.now) is_test
+        (positional_seat (map (offer_called S.tree) offers.now)) (exprs_of_list arguments.now)) }
     ensures kept { KeepsTypes S.has store.old store.new }
 {
     if is_test {
@@ -433,7 +468,10 @@ pub(crate) fn type_keywords<S: TypeStore, R: Resolver>(
 ) -> Result<(), OutOfMemory>
     requires given { HasGivenAll (S.has store.old) S.tree setting.now env.now }
     requires offers { All (HasCallOffer (S.has store.old)) offers.now }
-    ensures pushed { OnOk result (notes_of found.new ≡ notes_of found.old ++ keywords_find (standing_of S.tree R.meaning setting.now env.now) (named_seat (map (offer_called S.tree) offers.now)) [] (keywords_of_list by_name.now)) }
+    ensures pushed { OnOk result
+        (notes_of found.new ≡ notes_of found.old
+        ++ keywords_find (standing_of S.tree R.meaning setting.now env.now)
+        (named_seat (map (offer_called S.tree) offers.now)) [] (keywords_of_list by_name.now)) }
     ensures kept { KeepsTypes S.has store.old store.new }
 {
     let mut before = IndexSet::new(alloc);

@@ -44,7 +44,8 @@ fn length_label<S: TypeStore, R: Resolver>(
 ) -> Result<Label<S::Ty>, OutOfMemory>
     requires classes { HasEntries (S.has store.old) setting.now.classes.now }
     requires types { All (S.has store.old) types.now }
-    ensures label { IfOk result (λ l. IsMark S.has S.tree store.new l (length_mark setting.now.parents.now (map S.tree types.now))) }
+    ensures label { IfOk result
+        (λ l. IsMark S.has S.tree store.new l (length_mark setting.now.parents.now (map S.tree types.now))) }
     ensures kept { KeepsTypes S.has store.old store.new }
 {
     let ty = first_type(store, alloc, types)?;
@@ -73,7 +74,10 @@ pub fn call_label<S: TypeStore, R: Resolver>(
     requires env { HasEach (S.has store.old) env.now }
     requires offers { All (HasCallOffer (S.has store.old)) callee.now.offers.items }
     requires types { All (S.has store.old) types.now }
-    ensures label { IfOk result (λ l. IsMark S.has S.tree store.new l (whole_call_mark (context_with S.tree R.meaning setting.now) (env_of S.tree env.now) (rule_of callee.now.rule) (map (offer_called S.tree) callee.now.offers.items) (exprs_of_list arguments.now) (map S.tree types.now))) }
+    ensures label { IfOk result
+        (λ l. IsMark S.has S.tree store.new l
+        (whole_call_mark (context_with S.tree R.meaning setting.now) (env_of S.tree env.now) (rule_of callee.now.rule)
+        (map (offer_called S.tree) callee.now.offers.items) (exprs_of_list arguments.now) (map S.tree types.now))) }
     ensures kept { KeepsTypes S.has store.old store.new }
 {
     match callee.rule {

@@ -1,6 +1,7 @@
--- Environments: the assigned locals with their current types, by the locals' numbers; assignment, joins, heads of loops.
--- Own rules of the profile; typing specification, "Type narrowing".
-use Rattle.std.specs.Prelude.{ℕ, zero, suc, List, [], ◌∷◌, replicate, Bool, if◌then◌else◌, Option, Some, None, unwrap_or, slice_set, slice_index_or}
+-- Environments: the assigned locals with their current types, by the locals' numbers; assignment, joins, heads of
+-- loops. Own rules of the profile; typing specification, "Type narrowing".
+use Rattle.std.specs.Prelude.{ℕ, zero, suc, List, [], ◌∷◌, replicate, Bool, if◌then◌else◌, Option, Some, None}
+use Rattle.std.specs.Prelude.{unwrap_or, slice_set, slice_index_or}
 use Rattle.pc_tree.specs.declared.code.Code.{Code}
 use Rattle.pc_types.specs.Tree.{Tree, Any, Object, Never, Union}
 use Rattle.pc_types.specs.Below.{Bases}

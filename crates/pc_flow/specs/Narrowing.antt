@@ -1,7 +1,9 @@
 -- What a condition tells of a local where it is true, and where it is false.
 -- Typing specification, "Type narrowing"; own rules of the profile.
-use Rattle.std.specs.Prelude.{ℕ, List, Bool as Test, true, false, ◌||◌, not, if◌then◌else◌, Option, Some, None, filter_map}
-use Rattle.pc_tree.specs.Tree.{Expr, Exprs, name, negation, is_none, is_not_none, conjunction, disjunction, call, no_exprs, more_exprs}
+use Rattle.std.specs.Prelude.{ℕ, List, Bool as Test, true, false, ◌||◌, not, if◌then◌else◌, Option, Some, None}
+use Rattle.std.specs.Prelude.{filter_map}
+use Rattle.pc_tree.specs.Tree.{Expr, Exprs, name, negation, is_none, is_not_none, conjunction, disjunction, call}
+use Rattle.pc_tree.specs.Tree.{no_exprs, more_exprs}
 use Rattle.pc_scope.specs.declared.resolution.Builtin.TheVariants as builtin
 use Rattle.pc_scope.specs.declared.resolution.Res.{Res}
 use Rattle.pc_scope.specs.declared.resolution.Res.TheVariants as res
@@ -119,7 +121,8 @@ test_of_argument resolve None = None
 test_of_argument resolve (Some e) = test_of resolve e
 
 module _ (bases : Bases) (declared : List Tree) (resolve : List ℕ → Res) where
-  -- an environment as a test of an instance leaves it; a call that is no such test, or tests for nothing, changes nothing
+  -- an environment as a test of an instance leaves it; a call that is no such test, or tests for nothing, changes
+  -- nothing
   abbrev pub narrow_instance : (holds : Test) → (is_test : Test) → Option ℕ → Option Tested → Env → Env
   narrow_instance holds false x test env = env
   narrow_instance holds true x None env = env
@@ -131,9 +134,12 @@ module _ (bases : Bases) (declared : List Tree) (resolve : List ℕ → Res) whe
   narrow holds (is_not_none p e) env = narrow_local bases (not holds) for_none (local_named resolve e) env
   narrow holds (negation p e) env = narrow (not holds) e env
   narrow true (conjunction p a b) env = narrow true b (narrow true a env)
-  narrow false (conjunction p a b) env = join_env bases declared (narrow false a env) (narrow false b (narrow true a env))
+  narrow false (conjunction p a b) env =
+      join_env bases declared (narrow false a env) (narrow false b (narrow true a env))
   narrow true (disjunction p a b) env = join_env bases declared (narrow true a env) (narrow true b (narrow false a env))
   narrow false (disjunction p a b) env = narrow false b (narrow false a env)
   narrow holds (call p callee arguments keywords) env =
-      narrow_instance holds (is_instance_test callee arguments keywords) (local_of_argument resolve (first_argument arguments)) (test_of_argument resolve (second_argument arguments)) env
+      narrow_instance holds (is_instance_test callee arguments keywords)
+      (local_of_argument resolve (first_argument arguments))
+      (test_of_argument resolve (second_argument arguments)) env
   narrow holds _ env = env

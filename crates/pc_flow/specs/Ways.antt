@@ -15,7 +15,8 @@ module _ {Store Ty : Type 0} (has : Store → Ty → Type 0) (tree : Ty → Tree
     pub where_false : GivesEnv has tree store n.where_false (env false)
 
   -- and their types are well-formed
-  pub record GivesWellFormed (bases : Bases) (store : Store) (n : BothWays Ty) (env : (holds : Test) → Env) : Type 0 where
+  pub record GivesWellFormed (bases : Bases) (store : Store) (n : BothWays Ty)
+      (env : (holds : Test) → Env) : Type 0 where
     pub both : GivesBoth store n env
     pub where_true : IsWellFormedEnv bases (env_of tree n.where_true)
     pub where_false : IsWellFormedEnv bases (env_of tree n.where_false)

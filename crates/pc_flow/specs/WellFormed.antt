@@ -36,11 +36,13 @@ AreWellFormed bases (t ∷ ts) = IsWellFormed bases t × AreWellFormed bases ts
 
 -- what is left of a well-formed type where a test of it is true is well-formed
 abbrev pub PassingIsWellFormed : Type 0
-PassingIsWellFormed = (bases : Bases) (test : Tested) (t : Tree) → AreSmaller bases → IsTestable test → IsWellFormed bases t → IsWellFormed bases (type_where_true bases test t)
+PassingIsWellFormed = (bases : Bases) (test : Tested) (t : Tree) → AreSmaller bases → IsTestable test
+    → IsWellFormed bases t → IsWellFormed bases (type_where_true bases test t)
 
 -- and where it is false, whatever is tested for
 abbrev pub FailingIsWellFormed : Type 0
-FailingIsWellFormed = (bases : Bases) (test : Tested) (t : Tree) → AreSmaller bases → IsWellFormed bases t → IsWellFormed bases (type_where_false bases test t)
+FailingIsWellFormed = (bases : Bases) (test : Tested) (t : Tree) → AreSmaller bases → IsWellFormed bases t
+    → IsWellFormed bases (type_where_false bases test t)
 
 -- an assignment from a well-formed type to a local of a well-formed declared type keeps an environment well-formed
 abbrev pub AssignmentsKeepWellFormed : Type 0
@@ -53,13 +55,19 @@ AssignmentsKeepWellFormed =
 
 -- where two ways meet, well-formed environments give a well-formed one, where the declared types are well-formed
 abbrev pub JoinsKeepWellFormed : Type 0
-JoinsKeepWellFormed = (bases : Bases) (declared : List Tree) (a b : Env) → AreSmaller bases → AreWellFormed bases declared → IsWellFormedEnv bases a → IsWellFormedEnv bases b → IsWellFormedEnv bases (join_env bases declared a b)
+JoinsKeepWellFormed = (bases : Bases) (declared : List Tree) (a b : Env) → AreSmaller bases
+    → AreWellFormed bases declared → IsWellFormedEnv bases a → IsWellFormedEnv bases b
+    → IsWellFormedEnv bases (join_env bases declared a b)
 
--- a condition keeps an environment well-formed where it is true and where it is false, where the declared types are well-formed
+-- a condition keeps an environment well-formed where it is true and where it is false, where the declared types are
+-- well-formed
 abbrev pub ConditionsKeepWellFormed : Type 0
 ConditionsKeepWellFormed =
-    (bases : Bases) (declared : List Tree) (resolve : List ℕ → Res) (holds : Test) (e : Expr) (env : Env) → AreSmaller bases → AreWellFormed bases declared → IsWellFormedEnv bases env → IsWellFormedEnv bases (narrow bases declared resolve holds e env)
+    (bases : Bases) (declared : List Tree) (resolve : List ℕ → Res) (holds : Test) (e : Expr) (env : Env)
+    → AreSmaller bases → AreWellFormed bases declared → IsWellFormedEnv bases env
+    → IsWellFormedEnv bases (narrow bases declared resolve holds e env)
 
 -- so does the head of a loop, whatever locals the loop binds
 abbrev pub LoopHeadsKeepWellFormed : Type 0
-LoopHeadsKeepWellFormed = (bases : Bases) (bound : ℕ → Test) (declared : List Tree) (env : Env) → AreWellFormed bases declared → IsWellFormedEnv bases env → IsWellFormedEnv bases (loop_head bound declared env)
+LoopHeadsKeepWellFormed = (bases : Bases) (bound : ℕ → Test) (declared : List Tree) (env : Env)
+    → AreWellFormed bases declared → IsWellFormedEnv bases env → IsWellFormedEnv bases (loop_head bound declared env)

@@ -9,8 +9,8 @@ use pc_tree::Code;
 use pc_types::{Head, TypeStore};
 use std::alloc::Global;
 
-/// The current type of a local after an assignment from a type to its declared one, with what was found of that flow: the
-/// type assigned where the declared one has two members or more and nothing was found, else the declared one.
+/// The current type of a local after an assignment from a type to its declared one, with what was found of that flow:
+/// the type assigned where the declared one has two members or more and nothing was found, else the declared one.
 ///
 /// Typing specification, "Type narrowing"; own rule of the profile.
 pub fn assigned_type<S: TypeStore>(
@@ -22,7 +22,8 @@ pub fn assigned_type<S: TypeStore>(
 ) -> Result<S::Ty, OutOfMemory>
     requires declared { S.has store.now declared.now }
     requires from { S.has store.now from.now }
-    ensures { IfOk result (λ t. Means S.has S.tree store.now t (assigned_type (S.tree declared.now) (S.tree from.now) found)) }
+    ensures { IfOk result (λ t.
+        Means S.has S.tree store.now t (assigned_type (S.tree declared.now) (S.tree from.now) found)) }
 {
     match store.head(declared) {
         Head::Union(_) => match found {

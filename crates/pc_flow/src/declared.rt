@@ -8,8 +8,8 @@ use pc_source::OutOfMemory;
 use std::alloc::Global;
 use std::marker::Model;
 
-/// For each local of a function, by its number, its declared type, or none as long as it isn't known: a table that is filled
-/// as the text is read, beside the environments of its function, which share it. Contracts see it as that list.
+/// For each local of a function, by its number, its declared type, or none as long as it isn't known: a table that is
+/// filled as the text is read, beside the environments of its function, which share it. Contracts see it as that list.
 ///
 /// Own rule of the profile.
 #[derive(Drop)]

@@ -8,8 +8,8 @@ use pc_source::OutOfMemory;
 use std::alloc::Global;
 use std::marker::Model;
 
-/// For each local of a function, by its number, its current type, or none where it is not assigned. Contracts see it as that
-/// list.
+/// For each local of a function, by its number, its current type, or none where it is not assigned. Contracts see it as
+/// that list.
 ///
 /// Typing specification, "Type narrowing"; own rules of the profile.
 #[derive(Drop)]

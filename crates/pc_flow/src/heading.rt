@@ -22,7 +22,9 @@ fn head_local<S: TypeStore>(
 ) -> Result<Option<S::Ty>, OutOfMemory>
     requires declared { HasOne (S.has store.old) declared.now }
     requires current { HasOne (S.has store.old) ty.now }
-    ensures value { IfOk result (λ o. GivesOne S.has S.tree store.new o (head_local is_bound (declared_one S.tree declared.now) (option_map S.tree ty.now))) }
+    ensures value { IfOk result
+        (λ o. GivesOne S.has S.tree store.new o
+        (head_local is_bound (declared_one S.tree declared.now) (option_map S.tree ty.now))) }
     ensures kept { KeepsTypes S.has store.old store.new }
 {
     match ty {
@@ -46,7 +48,9 @@ fn head_types<S: TypeStore>(
 ) -> Result<Vec<Option<S::Ty>>, OutOfMemory>
     requires declared { HasEach (S.has store.old) declared.now }
     requires env { HasEach (S.has store.old) types.now }
-    ensures value { IfOk result (λ v. GivesEnv S.has S.tree store.new v.items (loop_head (λ x. slice_index_or bound.now x false) (declared_of S.tree declared.now) (env_of S.tree types.now))) }
+    ensures value { IfOk result
+        (λ v. GivesEnv S.has S.tree store.new v.items
+        (loop_head (λ x. slice_index_or bound.now x false) (declared_of S.tree declared.now) (env_of S.tree types.now))) }
     ensures kept { KeepsTypes S.has store.old store.new }
 {
     let mut heads = Vec::new(alloc);
@@ -71,8 +75,8 @@ fn is_marked(marks: &[bool], local: usize) -> bool
     }
 }
 
-/// The environment at the head of a loop, from the one before it and a mark for each local that the loop's body binds: each
-/// such local that is assigned has its declared type there, the others their current one. Own rule of the profile.
+/// The environment at the head of a loop, from the one before it and a mark for each local that the loop's body binds:
+/// each such local that is assigned has its declared type there, the others their current one. Own rule of the profile.
 pub fn loop_head<S: TypeStore>(
     store: &mut S,
     alloc: Global,
@@ -82,7 +86,9 @@ pub fn loop_head<S: TypeStore>(
 ) -> Result<Env<S::Ty>, OutOfMemory>
     requires declared { HasEach (S.has store.old) declared.now }
     requires env { HasEach (S.has store.old) env.now }
-    ensures value { IfOk result (λ e. GivesEnv S.has S.tree store.new e (loop_head (λ x. slice_index_or bound.now x false) (declared_of S.tree declared.now) (env_of S.tree env.now))) }
+    ensures value { IfOk result
+        (λ e. GivesEnv S.has S.tree store.new e
+        (loop_head (λ x. slice_index_or bound.now x false) (declared_of S.tree declared.now) (env_of S.tree env.now))) }
     ensures kept { KeepsTypes S.has store.old store.new }
 {
     Ok(Env::of(head_types(store, alloc, bound, declared.types(), env.types())?))

@@ -21,7 +21,8 @@ pub fn join_or_object<S: TypeStore>(
 ) -> Result<S::Ty, OutOfMemory>
     requires left { S.has store.old s.now }
     requires right { S.has store.old t.now }
-    ensures value { IfOk result (λ u. Means S.has S.tree store.new u (join_or_object parents.now (S.tree s.now) (S.tree t.now))) }
+    ensures value { IfOk result
+        (λ u. Means S.has S.tree store.new u (join_or_object parents.now (S.tree s.now) (S.tree t.now))) }
     ensures kept { KeepsTypes S.has store.old store.new }
 {
     match store.join(alloc, parents, s, t)? {
@@ -58,7 +59,9 @@ fn join_assigned<S: TypeStore>(
     requires declared { HasOne (S.has store.old) declared.now }
     requires left { S.has store.old s.now }
     requires right { S.has store.old t.now }
-    ensures value { IfOk result (λ o. GivesOne S.has S.tree store.new o (join_local parents.now (declared_one S.tree declared.now) (Some (S.tree s.now)) (Some (S.tree t.now)))) }
+    ensures value { IfOk result
+        (λ o. GivesOne S.has S.tree store.new o
+        (join_local parents.now (declared_one S.tree declared.now) (Some (S.tree s.now)) (Some (S.tree t.now)))) }
     ensures kept { KeepsTypes S.has store.old store.new }
 {
     match store.join(alloc, parents, s, t)? {
@@ -79,7 +82,9 @@ fn join_local<S: TypeStore>(
     requires declared { HasOne (S.has store.old) declared.now }
     requires left { HasOne (S.has store.old) s.now }
     requires right { HasOne (S.has store.old) t.now }
-    ensures value { IfOk result (λ o. GivesOne S.has S.tree store.new o (join_local parents.now (declared_one S.tree declared.now) (option_map S.tree s.now) (option_map S.tree t.now))) }
+    ensures value { IfOk result
+        (λ o. GivesOne S.has S.tree store.new o
+        (join_local parents.now (declared_one S.tree declared.now) (option_map S.tree s.now) (option_map S.tree t.now))) }
     ensures kept { KeepsTypes S.has store.old store.new }
 {
     match s {
@@ -103,7 +108,9 @@ fn join_types<S: TypeStore>(
     requires declared { HasEach (S.has store.old) declared.now }
     requires left { HasEach (S.has store.old) a.now }
     requires right { HasEach (S.has store.old) b.now }
-    ensures value { IfOk result (λ v. GivesEnv S.has S.tree store.new v.items (join_env parents.now (declared_of S.tree declared.now) (env_of S.tree a.now) (env_of S.tree b.now))) }
+    ensures value { IfOk result
+        (λ v. GivesEnv S.has S.tree store.new v.items
+        (join_env parents.now (declared_of S.tree declared.now) (env_of S.tree a.now) (env_of S.tree b.now))) }
     ensures kept { KeepsTypes S.has store.old store.new }
 {
     let mut types = Vec::new(alloc);
@@ -116,9 +123,9 @@ fn join_types<S: TypeStore>(
     Ok(types)
 }
 
-/// Two environments where their ways meet: a local is assigned that is in both, of the join of its current types, or of its
-/// declared type where there is no join. One whose declared type isn't known counts as declared `Any`. Own rule of the
-/// profile.
+/// Two environments where their ways meet: a local is assigned that is in both, of the join of its current types, or of
+/// its declared type where there is no join. One whose declared type isn't known counts as declared `Any`. Own rule of
+/// the profile.
 pub fn join_env<S: TypeStore>(
     store: &mut S,
     alloc: Global,
@@ -130,7 +137,9 @@ pub fn join_env<S: TypeStore>(
     requires declared { HasEach (S.has store.old) declared.now }
     requires left { HasEach (S.has store.old) a.now }
     requires right { HasEach (S.has store.old) b.now }
-    ensures value { IfOk result (λ e. GivesEnv S.has S.tree store.new e (join_env parents.now (declared_of S.tree declared.now) (env_of S.tree a.now) (env_of S.tree b.now))) }
+    ensures value { IfOk result
+        (λ e. GivesEnv S.has S.tree store.new e
+        (join_env parents.now (declared_of S.tree declared.now) (env_of S.tree a.now) (env_of S.tree b.now))) }
     ensures kept { KeepsTypes S.has store.old store.new }
 {
     Ok(Env::of(join_types(

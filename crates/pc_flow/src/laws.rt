@@ -4,15 +4,17 @@ ghost use Rattle.std.specs.Prelude.{◌≡◌, ℕ, length, List, Bool, true, fa
 ghost use Rattle.pc_types.specs.Tree.{Tree};
 ghost use Rattle.pc_types.specs.Below.{Bases};
 ghost use Rattle.pc_flow.specs.Environment.{Env, current, declared_type, join_env, loop_head};
-ghost use Rattle.pc_flow.specs.WellFormed.{PassingIsWellFormed, FailingIsWellFormed, AssignmentsKeepWellFormed, JoinsKeepWellFormed, ConditionsKeepWellFormed, LoopHeadsKeepWellFormed};
+ghost use Rattle.pc_flow.specs.WellFormed.{PassingIsWellFormed, FailingIsWellFormed, AssignmentsKeepWellFormed};
+ghost use Rattle.pc_flow.specs.WellFormed.{JoinsKeepWellFormed, ConditionsKeepWellFormed, LoopHeadsKeepWellFormed};
 
 /// The law that where two ways meet there are as many locals as before.
 pub fn joins_keep_locals()
-    ensures { (bases : Bases) (declared : List Tree) (a b : Env) → length a ≡ length declared → length b ≡ length declared → length (join_env bases declared a b) ≡ length declared }
+    ensures { (bases : Bases) (declared : List Tree) (a b : Env) → length a ≡ length declared
+        → length b ≡ length declared → length (join_env bases declared a b) ≡ length declared }
 {}
 
-/// The law that what a test leaves of a type is in normal form, without absorbed members and of at most 256 nodes, where
-/// the type is so.
+/// The law that what a test leaves of a type is in normal form, without absorbed members and of at most 256 nodes,
+/// where the type is so.
 pub fn tests_keep_types_well_formed()
     ensures passing { PassingIsWellFormed }
     ensures failing { FailingIsWellFormed }
@@ -30,6 +32,9 @@ pub fn environments_stay_well_formed()
 /// The law that at the head of a loop an assigned local that the loop binds has its declared type, whatever it was
 /// narrowed to before, and that any other local is as it was.
 pub fn loops_begin_with_declared_types()
-    ensures bound { (bound : ℕ → Bool) (declared : List Tree) (env : Env) (x : ℕ) (t : Tree) → length env ≡ length declared → bound x ≡ true → current env x ≡ Some t → current (loop_head bound declared env) x ≡ Some (declared_type declared x) }
-    ensures others { (bound : ℕ → Bool) (declared : List Tree) (env : Env) (x : ℕ) → length env ≡ length declared → bound x ≡ false → current (loop_head bound declared env) x ≡ current env x }
+    ensures bound { (bound : ℕ → Bool) (declared : List Tree) (env : Env) (x : ℕ) (t : Tree)
+        → length env ≡ length declared → bound x ≡ true → current env x ≡ Some t
+        → current (loop_head bound declared env) x ≡ Some (declared_type declared x) }
+    ensures others { (bound : ℕ → Bool) (declared : List Tree) (env : Env) (x : ℕ) → length env ≡ length declared
+        → bound x ≡ false → current (loop_head bound declared env) x ≡ current env x }
 {}

@@ -7,7 +7,8 @@ ghost use Rattle.pc_scope.specs.Expressions.{is_instance_test};
 ghost use Rattle.pc_types.specs.Tree.{Tree};
 ghost use Rattle.pc_types.specs.Store.{KeepsTypes};
 ghost use Rattle.pc_flow.specs.Environment.{assign};
-ghost use Rattle.pc_flow.specs.Narrowing.{first_argument, second_argument, local_of_argument, test_of_argument, narrow_local, narrow_instance, narrow};
+ghost use Rattle.pc_flow.specs.Narrowing.{first_argument, second_argument, local_of_argument, test_of_argument};
+ghost use Rattle.pc_flow.specs.Narrowing.{narrow_local, narrow_instance, narrow};
 ghost use Rattle.pc_flow.specs.WellFormed.{IsWellFormedEnv, AreWellFormed};
 ghost use Rattle.pc_flow.specs.Stored.{env_of, declared_of, HasEach, GivesEnv};
 ghost use Rattle.pc_flow.specs.Tests.{tested_of};
@@ -71,7 +72,9 @@ fn assign_split<S: TypeStore>(
     requires passing { S.has store.now split.passing }
     requires failing { S.has store.now split.failing }
     requires env { HasEach (S.has store.now) env }
-    ensures { IfOk result (λ n. GivesBoth S.has S.tree store.now n (λ holds. assign (env_of S.tree env) local (if holds then S.tree split.passing else S.tree split.failing))) }
+    ensures { IfOk result (λ n.
+        GivesBoth S.has S.tree store.now n
+        (λ holds. assign (env_of S.tree env) local (if holds then S.tree split.passing else S.tree split.failing))) }
 {
     let mut where_false = env;
     let mut where_true = copy_env(store, alloc, &where_false)?;
@@ -94,7 +97,9 @@ fn narrow_at<S: TypeStore>(
 ) -> Result<BothWays<S::Ty>, OutOfMemory>
     requires env { HasEach (S.has store.old) env }
     requires well_formed { IsWellFormedEnv parents.now (env_of S.tree env) }
-    ensures value { IfOk result (λ n. GivesBoth S.has S.tree store.new n (λ holds. narrow_local parents.now holds (tested_of test) (Some local) (env_of S.tree env))) }
+    ensures value { IfOk result
+        (λ n. GivesBoth S.has S.tree store.new n
+        (λ holds. narrow_local parents.now holds (tested_of test) (Some local) (env_of S.tree env))) }
     ensures kept { KeepsTypes S.has store.old store.new }
 {
     match env.current(local) {
@@ -117,7 +122,9 @@ fn narrow_local<S: TypeStore>(
 ) -> Result<BothWays<S::Ty>, OutOfMemory>
     requires env { HasEach (S.has store.old) env }
     requires well_formed { IsWellFormedEnv parents.now (env_of S.tree env) }
-    ensures value { IfOk result (λ n. GivesBoth S.has S.tree store.new n (λ holds. narrow_local parents.now holds (tested_of test) local (env_of S.tree env))) }
+    ensures value { IfOk result
+        (λ n. GivesBoth S.has S.tree store.new n
+        (λ holds. narrow_local parents.now holds (tested_of test) local (env_of S.tree env))) }
     ensures kept { KeepsTypes S.has store.old store.new }
 {
     match local {
@@ -139,7 +146,12 @@ fn narrow_instance<S: TypeStore, R: Resolver>(
 ) -> Result<BothWays<S::Ty>, OutOfMemory>
     requires env { HasEach (S.has store.old) env }
     requires well_formed { IsWellFormedEnv parents.now (env_of S.tree env) }
-    ensures value { (declared : List Tree) → IfOk result (λ n. GivesBoth S.has S.tree store.new n (λ holds. narrow_instance parents.now declared (R.meaning names.now) holds (is_instance_test (expr_of callee.now) (exprs_of_list arguments.now) (keywords_of_list by_name.now)) (local_of_argument (R.meaning names.now) (first_argument (exprs_of_list arguments.now))) (test_of_argument (R.meaning names.now) (second_argument (exprs_of_list arguments.now))) (env_of S.tree env))) }
+    ensures value { (declared : List Tree)
+        → IfOk result (λ n. GivesBoth S.has S.tree store.new n
+        (λ holds. narrow_instance parents.now declared (R.meaning names.now) holds
+        (is_instance_test (expr_of callee.now) (exprs_of_list arguments.now) (keywords_of_list by_name.now))
+        (local_of_argument (R.meaning names.now) (first_argument (exprs_of_list arguments.now)))
+        (test_of_argument (R.meaning names.now) (second_argument (exprs_of_list arguments.now))) (env_of S.tree env))) }
     ensures kept { KeepsTypes S.has store.old store.new }
 {
     if !is_instance_test(callee, arguments, by_name) {
@@ -156,8 +168,8 @@ fn narrow_instance<S: TypeStore, R: Resolver>(
     }
 }
 
-/// An environment where a condition is true, and where it is false, at the cost of one walk over the condition: what is left
-/// of it by the tests of locals against `None` and by `isinstance`, by `not`, `and` and `or`.
+/// An environment where a condition is true, and where it is false, at the cost of one walk over the condition: what is
+/// left of it by the tests of locals against `None` and by `isinstance`, by `not`, `and` and `or`.
 ///
 /// Typing specification, "Type narrowing"; own rules of the profile.
 pub fn narrow<S: TypeStore, R: Resolver>(
@@ -173,7 +185,10 @@ pub fn narrow<S: TypeStore, R: Resolver>(
     requires env { HasEach (S.has store.old) env }
     requires declared_well_formed { AreWellFormed parents.now (declared_of S.tree declared.now) }
     requires env_well_formed { IsWellFormedEnv parents.now (env_of S.tree env) }
-    ensures value { IfOk result (λ n. GivesWellFormed S.has S.tree parents.now store.new n (λ holds. narrow parents.now (declared_of S.tree declared.now) (R.meaning names.now) holds (expr_of condition.now) (env_of S.tree env))) }
+    ensures value { IfOk result
+        (λ n. GivesWellFormed S.has S.tree parents.now store.new n
+        (λ holds. narrow parents.now (declared_of S.tree declared.now) (R.meaning names.now) holds
+        (expr_of condition.now) (env_of S.tree env))) }
     ensures kept { KeepsTypes S.has store.old store.new }
 {
     parents.ordered();
@@ -269,7 +284,10 @@ pub fn narrow_true<S: TypeStore, R: Resolver>(
     requires env { HasEach (S.has store.old) env.now }
     requires declared_well_formed { AreWellFormed parents.now (declared_of S.tree declared.now) }
     requires env_well_formed { IsWellFormedEnv parents.now (env_of S.tree env.now) }
-    ensures value { IfOk result (λ e. GivesEnv S.has S.tree store.new e (narrow parents.now (declared_of S.tree declared.now) (R.meaning names.now) true (expr_of condition.now) (env_of S.tree env.now))) }
+    ensures value { IfOk result
+        (λ e. GivesEnv S.has S.tree store.new e
+        (narrow parents.now (declared_of S.tree declared.now) (R.meaning names.now) true (expr_of condition.now)
+        (env_of S.tree env.now))) }
     ensures well_formed { IfOk result (λ e. IsWellFormedEnv parents.now (env_of S.tree e)) }
     ensures kept { KeepsTypes S.has store.old store.new }
 {
@@ -292,7 +310,10 @@ pub fn narrow_false<S: TypeStore, R: Resolver>(
     requires env { HasEach (S.has store.old) env.now }
     requires declared_well_formed { AreWellFormed parents.now (declared_of S.tree declared.now) }
     requires env_well_formed { IsWellFormedEnv parents.now (env_of S.tree env.now) }
-    ensures value { IfOk result (λ e. GivesEnv S.has S.tree store.new e (narrow parents.now (declared_of S.tree declared.now) (R.meaning names.now) false (expr_of condition.now) (env_of S.tree env.now))) }
+    ensures value { IfOk result
+        (λ e. GivesEnv S.has S.tree store.new e
+        (narrow parents.now (declared_of S.tree declared.now) (R.meaning names.now) false (expr_of condition.now)
+        (env_of S.tree env.now))) }
     ensures well_formed { IfOk result (λ e. IsWellFormedEnv parents.now (env_of S.tree e)) }
     ensures kept { KeepsTypes S.has store.old store.new }
 {

@@ -119,7 +119,9 @@ fn left_of<S: TypeStore>(
 ) -> Result<Left<S::Ty>, OutOfMemory>
     requires has { S.has store.old member.now }
     requires one { IsOne (S.tree member.now) }
-    ensures value { IfOk result (λ l. GivesLeft S.has S.tree store.new l (member_passing parents.now (tested_of test) (S.tree member.now)) (member_failing parents.now (tested_of test) (S.tree member.now))) }
+    ensures value { IfOk result
+        (λ l. GivesLeft S.has S.tree store.new l (member_passing parents.now (tested_of test) (S.tree member.now))
+        (member_failing parents.now (tested_of test) (S.tree member.now))) }
     ensures kept { KeepsTypes S.has store.old store.new }
 {
     let head = store.head(member);
@@ -187,7 +189,9 @@ pub(crate) fn split_type<S: TypeStore>(
 ) -> Result<Split<S::Ty>, OutOfMemory>
     requires has { S.has store.old ty.now }
     requires well_formed { IsWellFormed parents.now (S.tree ty.now) }
-    ensures value { IfOk result (λ s. Splits S.has S.tree store.new s (type_where_true parents.now (tested_of test) (S.tree ty.now)) (type_where_false parents.now (tested_of test) (S.tree ty.now))) }
+    ensures value { IfOk result
+        (λ s. Splits S.has S.tree store.new s (type_where_true parents.now (tested_of test) (S.tree ty.now))
+        (type_where_false parents.now (tested_of test) (S.tree ty.now))) }
     ensures kept { KeepsTypes S.has store.old store.new }
 {
     parents.ordered();

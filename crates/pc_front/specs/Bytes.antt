@@ -1,5 +1,6 @@
 -- The module of bytes, and why bytes spell none: source text, logical lines, layout and grammar, one after another.
--- Language Reference 3.12, 2 "Lexical analysis" and 10 "Full Grammar specification"; the refusals are own rules of the profile.
+-- Language Reference 3.12, 2 "Lexical analysis" and 10 "Full Grammar specification"; the refusals are own rules of the
+-- profile.
 use Rattle.std.specs.Prelude.{◌≡◌, ℕ, ◌≤◌, List, [], ◌∷◌, ◌++◌, length, map, Ok, Err}
 use Rattle.pc_source.specs.declared.fault.Refusal.{Refusal}
 use Rattle.pc_source.specs.Text.{IsText, IsSourceRefusal}
@@ -45,7 +46,8 @@ pub record IsRefusedByGrammar (bytes : List ℕ) (refusal : Refusal) : Type 0 wh
   pub laid_out : IsLaidOut bytes tokens
   pub refused : IsRefusal tokens refusal
 
--- the refusal of the bytes: of the first of source, tokens, layout and grammar that has no answer, the fault of the least byte
+-- the refusal of the bytes: of the first of source, tokens, layout and grammar that has no answer, the fault of the
+-- least byte
 pub data IsRefusalOf (bytes : List ℕ) (refusal : Refusal) : Type 0 where
   of_source : IsSourceRefusal bytes refusal → IsRefusalOf bytes refusal
   of_tokens : IsRefusedAtToken bytes refusal → IsRefusalOf bytes refusal
@@ -62,7 +64,8 @@ ModuleOrRefusal = (bytes : List ℕ) (m : Module) (refusal : Refusal) → IsModu
 
 -- bytes have at most one refusal
 abbrev pub OneRefusalOfBytes : Type 0
-OneRefusalOfBytes = (bytes : List ℕ) (refusal other : Refusal) → IsRefusalOf bytes refusal → IsRefusalOf bytes other → refusal ≡ other
+OneRefusalOfBytes = (bytes : List ℕ) (refusal other : Refusal) → IsRefusalOf bytes refusal → IsRefusalOf bytes other
+    → refusal ≡ other
 
 -- the refusal of bytes stands from 0 to their length
 abbrev pub RefusalsOfBytesWithin : Type 0

@@ -34,4 +34,5 @@ pub record Grows (old new : List BoxType) : Type 0 where
 pub record IsTable (entries : List (Node × BoxType)) : Type 0 where
   pub given : (n : ℕ) (b : BoxType) → slice_get (values_of entries) n ≡ Some b → IsGiven b
   pub told : (n : ℕ) (e : Node × BoxType) → slice_get entries n ≡ Some e → IsNode (values_of entries) e.0 (tree_of e.1)
-  pub once : (m n : ℕ) (t : Tree) → tree_at (values_of entries) m ≡ Some t → tree_at (values_of entries) n ≡ Some t → m ≡ n
+  pub once : (m n : ℕ) (t : Tree) → tree_at (values_of entries) m ≡ Some t → tree_at (values_of entries) n ≡ Some t
+      → m ≡ n

@@ -1,6 +1,7 @@
 //! Answers that a store remembers about pairs of its types.
 
-ghost use Rattle.std.specs.Prelude.{◌≡◌, All, ◌+◌, ◌*◌, ◌%◌, ◌^◌, ◌<◌, Contains, IfOk, IfSome, None, Some, slice_set, vec_len};
+ghost use Rattle.std.specs.Prelude.{◌≡◌, All, ◌+◌, ◌*◌, ◌%◌, ◌^◌, ◌<◌, Contains, IfOk, IfSome, None, Some, slice_set};
+ghost use Rattle.std.specs.Prelude.{vec_len};
 
 use pc_source::OutOfMemory;
 use std::alloc::Global;
@@ -55,7 +56,8 @@ impl Memo {
 
     /// Keeps the answers about a pair, in place of those of another pair of its place.
     pub(crate) fn keep(&mut self, answers: Answers)
-        ensures { self.new.places.items ≡ slice_set self.old.places.items (((31 * answers.s) % 2 ^ 64 + answers.t) % 2 ^ 64 % 4096) (Some answers) }
+        ensures { self.new.places.items
+            ≡ slice_set self.old.places.items (((31 * answers.s) % 2 ^ 64 + answers.t) % 2 ^ 64 % 4096) (Some answers) }
     {
         let place = place_of(answers.s, answers.t);
         self.places[place] = Some(answers);

@@ -122,7 +122,8 @@ impl InternStore {
     fn known(&self, head: Head, numbers: Numbers) -> Option<TypeId>
         ensures held { IfSome result (IsHeld self.now) }
         ensures head { IfSome result (λ t. head_of (meaning t) ≡ head) }
-        ensures parts { (us : List Tree) → map (tree_at self.now) numbers.items ≡ map Some us → IfSome result (λ t. parts (meaning t) ≡ us) }
+        ensures parts { (us : List Tree) → map (tree_at self.now) numbers.items ≡ map Some us
+            → IfSome result (λ t. parts (meaning t) ≡ us) }
     {
         let number = self.table.find(&Node {
             head,
@@ -162,8 +163,10 @@ impl InternStore {
     fn answers(&mut self, parents: &Parents, s: &TypeId, t: &TypeId) -> Option<Answers>
         requires left { IsHeld self.old s.now }
         requires right { IsHeld self.old t.now }
-        ensures static_test { IfSome result (λ a. a.is_static ≡ static_test parents.now (meaning s.now) (meaning t.now)) }
-        ensures assignable_test { IfSome result (λ a. a.is_assignable ≡ assignable_test parents.now (meaning s.now) (meaning t.now)) }
+        ensures static_test { IfSome result
+            (λ a. a.is_static ≡ static_test parents.now (meaning s.now) (meaning t.now)) }
+        ensures assignable_test { IfSome result
+            (λ a. a.is_assignable ≡ assignable_test parents.now (meaning s.now) (meaning t.now)) }
         ensures same { self.new ≡ self.old }
     {
         if self.is_same(s, t) {

@@ -1,6 +1,7 @@
 //! The table of an interned store, in which each type tree stands once.
 
-ghost use Rattle.std.specs.Prelude.{◌≡◌, ◌↔◌, ◌<◌, ◌++◌, ℕ, List, [], All, length, slice_get, map, IfOk, IfSome, IsTrue, OnOk, Some};
+ghost use Rattle.std.specs.Prelude.{◌≡◌, ◌↔◌, ◌<◌, ◌++◌, ℕ, List, [], All, length, slice_get, map, IfOk, IfSome};
+ghost use Rattle.std.specs.Prelude.{IsTrue, OnOk, Some};
 ghost use Rattle.pc_types.specs.Tree.{Tree};
 ghost use Rattle.pc_types.specs.Boxed.{tree_of, IsGiven};
 ghost use Rattle.pc_types.specs.Shape.{members, parts};
@@ -72,7 +73,8 @@ impl Table {
     /// The numbers of a type's parts in order.
     pub(crate) fn parts(&self, number: usize) -> &[usize]
         requires { number < length self.now }
-        ensures { (b : _) → slice_get self.now number ≡ Some b → map (tree_at self.now) result.now ≡ map Some (parts (tree_of b)) }
+        ensures { (b : _) → slice_get self.now number ≡ Some b
+            → map (tree_at self.now) result.now ≡ map Some (parts (tree_of b)) }
     {
         let Some((node, _)) = self.entries.get_index(number) else {
             unreachable!()
@@ -185,7 +187,8 @@ impl Table {
         numbers: &mut Numbers,
     ) -> Result<(), OutOfMemory>
         requires { IsGiven ty.now }
-        ensures value { (us : List Tree) → map (tree_at self.old) numbers.old.items ≡ map Some us → OnOk result (map (tree_at self.new) numbers.new.items ≡ map Some (us ++ members (tree_of ty.now))) }
+        ensures value { (us : List Tree) → map (tree_at self.old) numbers.old.items ≡ map Some us
+            → OnOk result (map (tree_at self.new) numbers.new.items ≡ map Some (us ++ members (tree_of ty.now))) }
         ensures grows { Grows self.old self.new }
     {
         match ty {

@@ -15,13 +15,21 @@ use Rattle.pc_scope.specs.Findings.{IsUnknownIn, IsEarlyMeaning, ScopeFinds}
 use Rattle.pc_rules.specs.Labels.{is_of_scopes}
 use Rattle.pc_labels.specs.Modules.{Labelling, LabelsSay}
 
--- a labelling says E02 and E03 where scopes find them, and nowhere else; of what stands second in a test of an instance it says nothing
+-- a labelling says E02 and E03 where scopes find them, and nowhere else; of what stands second in a test of an instance
+-- it says nothing
 pub record AgreesWithScopes (m : Module) (marks : Labelling m) : Type 0 where
   -- what it says of scopes is found of scopes
   pub found : (f : Finding) → is_of_scopes f.code ≡ true → LabelsSay m marks f → ScopeFinds m f
   -- a name that means nothing is E02, in an initializer and in a body
-  pub unknown_in_constant : (c : Constant) → Contains (constants_in m.items) c → (f : Finding) → IsUnknownIn m owners.Module c.value f → LabelsSay m marks f
-  pub unknown_in_body : (b : Body) → Contains (bodies m) b → (e : Expr) → Contains (exprs_in_all true b.function.body) e → (f : Finding) → IsUnknownIn m b.owner e f → LabelsSay m marks f
+  pub unknown_in_constant : (c : Constant) → Contains (constants_in m.items) c → (f : Finding)
+      → IsUnknownIn m owners.Module c.value f → LabelsSay m marks f
+  pub unknown_in_body : (b : Body) → Contains (bodies m) b → (e : Expr) → Contains (exprs_in_all true b.function.body) e
+      → (f : Finding) → IsUnknownIn m b.owner e f → LabelsSay m marks f
   -- a name that an initializer may not name is E03, and so is a callee in it that is no name
-  pub early_name : (at : ℕ) (first : Place) (c : Constant) → slice_get m.items at ≡ Some (constant_item first c) → (n : Name) → Contains (filter_map name_of_tree (parts_in true c.value)) n → IsEarlyMeaning (length (constants_in (take at m.items))) (length (classes_in (take at m.items))) (resolve_in_module m n.text) → LabelsSay m marks (finding n.place E03)
-  pub early_callee : (at : ℕ) (first : Place) (c : Constant) → slice_get m.items at ≡ Some (constant_item first c) → (callee : Place) → Contains (filter_map other_callee (parts_in true c.value)) callee → LabelsSay m marks (finding callee E03)
+  pub early_name : (at : ℕ) (first : Place) (c : Constant) → slice_get m.items at ≡ Some (constant_item first c)
+      → (n : Name) → Contains (filter_map name_of_tree (parts_in true c.value)) n
+      → IsEarlyMeaning (length (constants_in (take at m.items))) (length (classes_in (take at m.items)))
+      (resolve_in_module m n.text) → LabelsSay m marks (finding n.place E03)
+  pub early_callee : (at : ℕ) (first : Place) (c : Constant) → slice_get m.items at ≡ Some (constant_item first c)
+      → (callee : Place) → Contains (filter_map other_callee (parts_in true c.value)) callee
+      → LabelsSay m marks (finding callee E03)

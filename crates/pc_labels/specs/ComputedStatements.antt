@@ -1,12 +1,16 @@
--- What a walk over statements comes to, computed by recursion on the tree: the computed twin of the lawful labels of statements and of
--- what is found under them. Declared types are settled in text order: a local has none as long as no name was bound that means it, and
--- the first binding gives it one. So a name is bound first where its local has no declared type yet.
--- Own rule of the profile.
-use Rattle.std.specs.Prelude.{ℕ, List, [], ◌∷◌, ◌++◌, map, length, Bool as Test, true, false, if◌then◌else◌, Option, Some, None, unwrap_or, slice_set, slice_index_or}
+-- What a walk over statements comes to, computed by recursion on the tree: the computed twin of the lawful labels of
+-- statements and of what is found under them. Declared types are settled in text order: a local has none as long as no
+-- name was bound that means it, and the first binding gives it one. So a name is bound first where its local has no
+-- declared type yet. Own rule of the profile.
+use Rattle.std.specs.Prelude.{ℕ, List, [], ◌∷◌, ◌++◌, map, length, Bool as Test, true, false, if◌then◌else◌, Option}
+use Rattle.std.specs.Prelude.{Some, None, unwrap_or, slice_set, slice_index_or}
 use Rattle.pc_source.specs.declared.place.Place.{Place}
 use Rattle.pc_tree.specs.declared.code.Code.TheVariants.{E21, E24}
 use Rattle.pc_tree.specs.Code.{finding}
-use Rattle.pc_tree.specs.Tree.{Name, Expr, name, call, Ann, Target, to_name, to_attribute, to_index, Stmt, Stmts, Branches, pass, breaks, continues, returns, asserts, annotated, assigns, evaluates, while_loop, for_loop, conditional, no_stmts, more_stmts, no_branches, more_branches, FuncDef, Module}
+use Rattle.pc_tree.specs.Tree.{Name, Expr, name, call, Ann, Target, to_name, to_attribute, to_index, Stmt, Stmts}
+use Rattle.pc_tree.specs.Tree.{Branches, pass, breaks, continues, returns, asserts, annotated, assigns, evaluates}
+use Rattle.pc_tree.specs.Tree.{while_loop, for_loop, conditional, no_stmts, more_stmts, no_branches, more_branches}
+use Rattle.pc_tree.specs.Tree.{FuncDef, Module}
 use Rattle.pc_tree.specs.Stopping.{bound_by, bound_by_stmt}
 use Rattle.pc_tree.specs.Depth.{place_of}
 use Rattle.pc_scope.specs.declared.resolution.Owner.{Owner}
@@ -24,7 +28,8 @@ use Rattle.pc_class.specs.Facts.{TypedParameter, return_type}
 use Rattle.pc_flow.specs.Environment.{Env, assign, assigned_type, join_env, loop_head, none_assigned}
 use Rattle.pc_flow.specs.Narrowing.{narrow}
 use Rattle.pc_notes.specs.Notes.{Note, plain_note}
-use Rattle.pc_rules.specs.Operations.{Mark, clean, offers_mark, iterate_member, StoreOffer, store_attribute_member, store_index_member, store_codes, store_index_types, stored_types, only_type}
+use Rattle.pc_rules.specs.Operations.{Mark, clean, offers_mark, iterate_member, StoreOffer, store_attribute_member}
+use Rattle.pc_rules.specs.Operations.{store_index_member, store_codes, store_index_types, stored_types, only_type}
 use Rattle.pc_rules.specs.Context.{Context}
 use Rattle.pc_rules.specs.Calls.{arguments_given, is_range, range_item}
 use Rattle.pc_rules.specs.Computed.{flows_of}
@@ -67,8 +72,8 @@ pub record BodyFrame : Type 0 where
   pub context : Context
   pub returned : Tree
 
--- what a walk over statements has come to: declared types, the environment, none where no run comes, inside a loop the way out of it
--- joined with each `break` so far, and what was found
+-- what a walk over statements has come to: declared types, the environment, none where no run comes, inside a loop the
+-- way out of it joined with each `break` so far, and what was found
 pub record Walk : Type 0 where
   pub table : Table
   pub env : Option Env
@@ -81,8 +86,8 @@ pub record BindingResult : Type 0 where
   pub env : Env
   pub found : List Note
 
--- what a walk over branches has come to: declared types, the environment where all conditions so far are false, the ways out of the
--- suites joined, breaks, and what was found
+-- what a walk over branches has come to: declared types, the environment where all conditions so far are false, the
+-- ways out of the suites joined, breaks, and what was found
 pub record BranchesResult : Type 0 where
   pub table : Table
   pub last : Env
@@ -140,7 +145,11 @@ module _ (frame : BodyFrame) where
   bind_value table env (res.Local x) annotation e found =
       let want = known_declared (bound_type table x) annotation in
       bind_label table env x want (place_of e) (mark_in (at table env) want e) (found ++ finds_in (at table env) want e)
-  bind_value table env r annotation e found = record { table = table; env = env; found = found ++ finds_in (at table env) None e }
+  bind_value table env r annotation e found = record {
+    table = table;
+    env = env;
+    found = found ++ finds_in (at table env) None e;
+  }
 
   -- a name annotated alone
   abbrev pub declared_alone : Table → Res → Tree → Table
@@ -165,7 +174,8 @@ module _ (frame : BodyFrame) where
     found = found ++ annotation_finds (bound_name table (frame.context.resolve n.text)) n a;
   }
   bind_annotated table env n a (Some e) found =
-      bind_value table env (frame.context.resolve n.text) (Some (read_ann frame.whole frame.context.bases a)) e (found ++ annotation_finds (bound_name table (frame.context.resolve n.text)) n a)
+      bind_value table env (frame.context.resolve n.text) (Some (read_ann frame.whole frame.context.bases a)) e
+      (found ++ annotation_finds (bound_name table (frame.context.resolve n.text)) n a)
 
   -- ---- stores
 
@@ -181,37 +191,50 @@ module _ (frame : BodyFrame) where
   abbrev pub stored_finds : Standing → List StoreOffer → Place → Expr → List Note
   stored_finds k offers p e =
       let want = only_type offers (stored_types offers) in
-      codes_at p (store_codes offers) ++ (finds_in k want e ++ flows_at (place_of e) (flows_of frame.context.bases (mark_in k want e) (stored_types offers)))
+      codes_at p (store_codes offers)
+      ++ (finds_in k want e ++ flows_at (place_of e)
+      (flows_of frame.context.bases (mark_in k want e) (stored_types offers)))
 
-  -- what is found in a store to a target that is no name: in the object, in the index and of its flow, and then of the value
+  -- what is found in a store to a target that is no name: in the object, in the index and of its flow, and then of the
+  -- value
   abbrev pub store_finds : Standing → Target → Expr → List Note
   store_finds k (to_name n) e = []
-  store_finds k (to_attribute p o field) e = finds_in k None o ++ stored_finds k (attribute_stores field.text (mark_in k None o).type) p e
+  store_finds k (to_attribute p o field) e = finds_in k None o
+      ++ stored_finds k (attribute_stores field.text (mark_in k None o).type) p e
   store_finds k (to_index p o i) e =
       let offers = index_stores (mark_in k None o).type in
-      finds_in k None o ++ (finds_in k None i ++ (flows_at (place_of i) (flows_of frame.context.bases (mark_in k None i) (store_index_types offers)) ++ stored_finds k offers p e))
+      finds_in k None o ++ (finds_in k None i
+      ++ (flows_at (place_of i) (flows_of frame.context.bases (mark_in k None i) (store_index_types offers))
+      ++ stored_finds k offers p e))
 
   -- an assignment: a name is bound, any other target is stored to
   abbrev pub assign_target : Table → Env → Target → Expr → List Note → BindingResult
   assign_target table env (to_name n) e found = bind_value table env (frame.context.resolve n.text) None e found
-  assign_target table env t e found = record { table = table; env = env; found = found ++ store_finds (at table env) t e }
+  assign_target table env t e found = record {
+    table = table;
+    env = env;
+    found = found ++ store_finds (at table env) t e;
+  }
 
   -- ---- what a `for` goes over
 
   -- the label of a turn's item, of any iterable but a call of `range`
   abbrev pub values_item : Standing → Expr → Mark
-  values_item k e = offers_mark frame.context.bases (map (iterate_member frame.context.bases) (members (mark_in k None e).type))
+  values_item k e = offers_mark frame.context.bases
+      (map (iterate_member frame.context.bases) (members (mark_in k None e).type))
 
   -- the label of a turn's item
   abbrev pub item_mark_of : Standing → Expr → Mark
   item_mark_of k (call p (name n) arguments keywords) =
-      if is_range (frame.context.resolve n.text) then range_item (arguments_given arguments keywords) else values_item k (call p (name n) arguments keywords)
+      if is_range (frame.context.resolve n.text) then range_item (arguments_given arguments keywords)
+      else values_item k (call p (name n) arguments keywords)
   item_mark_of k e = values_item k e
 
   -- what is found in an iterable
   abbrev pub iterable_finds : Standing → Expr → List Note
   iterable_finds k (call p (name n) arguments keywords) =
-      if is_range (frame.context.resolve n.text) then range_finds k p (name n) arguments keywords else finds_in k None (call p (name n) arguments keywords)
+      if is_range (frame.context.resolve n.text) then range_finds k p (name n) arguments keywords
+      else finds_in k None (call p (name n) arguments keywords)
   iterable_finds k e = finds_in k None e
 
   -- the target of a `for` bound to an item of this type, in the environment at the head
@@ -233,7 +256,8 @@ module _ (frame : BodyFrame) where
   -- what is found in a `return`: in its value, and of the flow into the return type; without a value None flows
   abbrev pub return_finds : Standing → Place → Option Expr → List Note
   return_finds k p None = flows_at p (flows_of frame.context.bases (clean NoneType) (frame.returned ∷ []))
-  return_finds k p (Some e) = finds_in k (Some frame.returned) e ++ flows_at (place_of e) (flows_of frame.context.bases (mark_in k (Some frame.returned) e) (frame.returned ∷ []))
+  return_finds k p (Some e) = finds_in k (Some frame.returned) e
+      ++ flows_at (place_of e) (flows_of frame.context.bases (mark_in k (Some frame.returned) e) (frame.returned ∷ []))
 
   -- behind a name that is bound
   abbrev pub behind_binding : (broken : Option Env) → BindingResult → Walk
@@ -249,26 +273,63 @@ module _ (frame : BodyFrame) where
 
   -- behind an `if`: the ways out of its branches and of `else` joined
   abbrev pub behind_branches : (ways : Option Env) → Walk → Walk
-  behind_branches ways last = record { table = last.table; env = with_way frame.context.bases last.table ways last.env; broken = last.broken; found = last.found }
+  behind_branches ways last = record {
+    table = last.table;
+    env = with_way frame.context.bases last.table ways last.env;
+    broken = last.broken;
+    found = last.found;
+  }
 
   -- what a walk comes to over a statement from an environment, over a suite, and over branches
   abbrev mutual
     pub step : Table → (env : Option Env) → (broken : Option Env) → List Note → Stmt → Walk
     -- no run comes to it: nothing is found, and what it binds first has Any
-    step table None broken found s = record { table = unreached_names table (bound_by_stmt s); env = None; broken = broken; found = found }
-    step table (Some env) broken found (pass p) = record { table = table; env = Some env; broken = broken; found = found }
-    step table (Some env) broken found (breaks p) = record { table = table; env = None; broken = join_onto_way frame.context.bases table broken env; found = found }
-    step table (Some env) broken found (continues p) = record { table = table; env = None; broken = broken; found = found }
-    step table (Some env) broken found (returns p e) = record { table = table; env = None; broken = broken; found = found ++ return_finds (at table env) p e }
+    step table None broken found s = record {
+      table = unreached_names table (bound_by_stmt s);
+      env = None;
+      broken = broken;
+      found = found;
+    }
+    step table (Some env) broken found (pass p) = record {
+      table = table;
+      env = Some env;
+      broken = broken;
+      found = found;
+    }
+    step table (Some env) broken found (breaks p) = record {
+      table = table;
+      env = None;
+      broken = join_onto_way frame.context.bases table broken env;
+      found = found;
+    }
+    step table (Some env) broken found (continues p) = record {
+      table = table;
+      env = None;
+      broken = broken;
+      found = found;
+    }
+    step table (Some env) broken found (returns p e) = record {
+      table = table;
+      env = None;
+      broken = broken;
+      found = found ++ return_finds (at table env) p e;
+    }
     step table (Some env) broken found (asserts p c e) = record {
       table = table;
       env = Some (narrowed_at table true c env);
       broken = broken;
-      found = (found ++ finds_in (at table env) None c) ++ option_finds (at table (narrowed_at table false c env)) None e;
+      found = (found ++ finds_in (at table env) None c)
+          ++ option_finds (at table (narrowed_at table false c env)) None e;
     }
-    step table (Some env) broken found (annotated p n a e) = behind_binding broken (bind_annotated table env n a e found)
+    step table (Some env) broken found (annotated p n a e) =
+        behind_binding broken (bind_annotated table env n a e found)
     step table (Some env) broken found (assigns p t e) = behind_binding broken (assign_target table env t e found)
-    step table (Some env) broken found (evaluates p e) = record { table = table; env = Some env; broken = broken; found = found ++ finds_in (at table env) None e }
+    step table (Some env) broken found (evaluates p e) = record {
+      table = table;
+      env = Some env;
+      broken = broken;
+      found = found ++ finds_in (at table env) None e;
+    }
     step table (Some env) broken found (while_loop p c b) =
         let head = head_at table (bound_by b) env in
         behind_loop broken (walk_suite (record {
@@ -280,11 +341,15 @@ module _ (frame : BodyFrame) where
     step table (Some env) broken found (for_loop p n e b) =
         let head = head_at table (n ∷ bound_by b) env in
         let item = item_mark_of (at table env) e in
-        behind_loop broken (walk_suite (inside_for head (bind_item table head (frame.context.resolve n.text) (place_of e) item.type
+        behind_loop broken (walk_suite
+        (inside_for head (bind_item table head (frame.context.resolve n.text) (place_of e) item.type
         ((found ++ iterable_finds (at table env) e) ++ codes_at (place_of e) item.codes))) b)
     step table (Some env) broken found (conditional p bs o) =
-        let fork = walk_branches (record { table = table; last = env; ways = None; broken = broken; found = found }) bs in
-        behind_branches fork.ways (walk_suite (record { table = fork.table; env = Some fork.last; broken = fork.broken; found = fork.found }) o)
+        let fork = walk_branches
+        (record { table = table; last = env; ways = None; broken = broken; found = found }) bs in
+        behind_branches fork.ways
+        (walk_suite (record { table = fork.table; env = Some fork.last; broken = fork.broken; found = fork.found })
+        o)
 
     pub walk_suite : Walk → Stmts → Walk
     walk_suite w no_stmts = w
@@ -309,7 +374,8 @@ module _ (frame : BodyFrame) where
 
 -- ---- functions
 
--- what a function is entered with, each parameter declared and assigned; a name that is bound already, or reserved, binds nothing
+-- what a function is entered with, each parameter declared and assigned; a name that is bound already, or reserved,
+-- binds nothing
 abbrev pub enter_local : (bound : Option Tree) → Table → Env → ℕ → Tree → Table × Env
 enter_local (Some d) table env x t = (table, env)
 enter_local None table env x t = (slice_set table x (Some t), assign env x t)
@@ -320,22 +386,29 @@ enter_name table env r t = (table, env)
 
 abbrev pub enter_parameters : (List ℕ → Res) → Table → Env → List TypedParameter → Table × Env
 enter_parameters resolve table env [] = (table, env)
-enter_parameters resolve table env (p ∷ ps) = let r = enter_name table env (resolve p.name) p.type in enter_parameters resolve r.0 r.1 ps
+enter_parameters resolve table env (p ∷ ps) = let r = enter_name table env (resolve p.name) p.type in
+    enter_parameters resolve r.0 r.1 ps
 
 -- E21 at this place: the end of the body can be reached, and None is not static to the return type
 abbrev pub end_finds : Bases → (return_type : Tree) → Place → (out : Option Env) → List Note
 end_finds bases return_type p None = []
-end_finds bases return_type p (Some env) = if static_test bases NoneType return_type then [] else plain_note (finding p E21) ∷ []
+end_finds bases return_type p (Some env) = if static_test bases NoneType return_type then []
+    else plain_note (finding p E21) ∷ []
 
 -- what the statements of a function stand in
 abbrev pub body_frame_of : Module → (constants : List Tree) → Owner → FuncDef → BodyFrame
-body_frame_of m constants owner f = record { whole = m; context = body_context m constants (locals owner f); returned = return_type m f }
+body_frame_of m constants owner f = record {
+  whole = m;
+  context = body_context m constants (locals owner f);
+  returned = return_type m f;
+}
 
 -- the walk over the body of a function, from its entry
 abbrev pub walk_body : Module → (constants : List Tree) → Owner → FuncDef → List Note → Walk
 walk_body m constants owner f found =
     let frame = body_frame_of m constants owner f in
-    let start = enter_parameters frame.context.resolve (none_assigned (length (locals owner f))) (none_assigned (length (locals owner f))) (entry_parameters m owner f) in
+    let start = enter_parameters frame.context.resolve (none_assigned (length (locals owner f)))
+    (none_assigned (length (locals owner f))) (entry_parameters m owner f) in
     walk_suite frame (record { table = start.0; env = Some start.1; broken = None; found = found }) f.body
 
 -- what was found, and then what is found in the body of a function, and E21 at its name

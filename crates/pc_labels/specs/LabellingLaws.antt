@@ -1,8 +1,9 @@
 -- Statements, suites and functions that have lawful labels, and the law that each has.
--- Labels are made in text order, while declared types are still to be settled: so a table of declared types grows with the
--- names that are bound, and labels are lawful with every table that agrees with it on the names bound by then.
+-- Labels are made in text order, while declared types are still to be settled: so a table of declared types grows with
+-- the names that are bound, and labels are lawful with every table that agrees with it on the names bound by then.
 -- Own rule of the profile.
-use Rattle.std.specs.Prelude.{◌≡◌, ◌<◌, ℕ, List, [], ◌∷◌, ◌++◌, length, Bool as Test, true, false, Option, Some, None, is_some}
+use Rattle.std.specs.Prelude.{◌≡◌, ◌<◌, ℕ, List, [], ◌∷◌, ◌++◌, length, Bool as Test, true, false, Option, Some, None}
+use Rattle.std.specs.Prelude.{is_some}
 use Rattle.pc_tree.specs.Tree.{Stmt, Stmts, Branches, FuncDef, Member, Module}
 use Rattle.pc_tree.specs.Stopping.{bound_by, bound_by_stmt, bound_by_branches}
 use Rattle.pc_scope.specs.Bindings.{texts}
@@ -19,7 +20,8 @@ use Rattle.pc_flow.specs.Agreement.{SameWhere}
 use Rattle.pc_flow.specs.WellFormed.{IsWellFormedEnv, AreWellFormed}
 use Rattle.pc_rules.specs.Context.{Context}
 use Rattle.pc_rules.specs.WellFormed.{ContextWellFormed}
-use Rattle.pc_labels.specs.StatementLabels.{StmtMarks, SuiteMarks, BranchesMarks, breaks_in, breaks_in_suite, breaks_in_branches, ways_in}
+use Rattle.pc_labels.specs.StatementLabels.{StmtMarks, SuiteMarks, BranchesMarks, breaks_in, breaks_in_suite}
+use Rattle.pc_labels.specs.StatementLabels.{breaks_in_branches, ways_in}
 use Rattle.pc_labels.specs.Statements.{NamesBound, LawfulStmt, LawfulSuite, LawfulBranches}
 use Rattle.pc_labels.specs.Modules.{FunctionMarks, LawfulFunction, MembersMarks, LawfulMembers}
 
@@ -43,12 +45,15 @@ pub record IsDeclaredTable (setting : Setting) (declared : List Tree) : Type 0 w
 
 -- two tables agree on some names: the locals that they mean have the same declared types
 abbrev pub Agree : Context → (declared others : List Tree) → NamesBound → Type 0
-Agree ctx declared others seen = (word : List ℕ) (x : ℕ) → is_one_of word seen ≡ true → ctx.resolve word ≡ res.Local x → declared_type declared x ≡ declared_type others x
+Agree ctx declared others seen = (word : List ℕ) (x : ℕ) → is_one_of word seen ≡ true → ctx.resolve word ≡ res.Local x
+    → declared_type declared x ≡ declared_type others x
 
--- an environment goes by the names bound so far: its types are well-formed, and it assigns only locals on which each table agrees that agrees on those names
+-- an environment goes by the names bound so far: its types are well-formed, and it assigns only locals on which each
+-- table agrees that agrees on those names
 pub record GoesByNames (setting : Setting) (declared : List Tree) (seen : NamesBound) (env : Env) : Type 0 where
   pub well_formed : IsWellFormedEnv setting.context.bases env
-  pub same : (others : List Tree) → IsDeclaredTable setting others → Agree setting.context declared others seen → SameWhere declared others env
+  pub same : (others : List Tree) → IsDeclaredTable setting others → Agree setting.context declared others seen
+      → SameWhere declared others env
 
 -- so do several environments
 abbrev pub SettledAll : Setting → List Tree → NamesBound → List Env → Type 0
@@ -65,10 +70,11 @@ abbrev pub any_way : List Env → Test
 any_way [] = false
 any_way (e ∷ es) = true
 
--- A statement is labelled, from a table, the names bound so far and an environment: there are a table that agrees on those names,
--- labels, and the environment behind it, that go by the names bound by then; it ends somewhere exactly where it can complete; and
--- the labels are lawful with every table that agrees on the names bound by then.
-pub record StmtLabelled (setting : Setting) (returned : Tree) (declared : List Tree) (seen : NamesBound) (env : Env) (s : Stmt) : Type 0 where
+-- A statement is labelled, from a table, the names bound so far and an environment: there are a table that agrees on
+-- those names, labels, and the environment behind it, that go by the names bound by then; it ends somewhere exactly
+-- where it can complete; and the labels are lawful with every table that agrees on the names bound by then.
+pub record StmtLabelled (setting : Setting) (returned : Tree) (declared : List Tree) (seen : NamesBound) (env : Env)
+    (s : Stmt) : Type 0 where
   pub table : List Tree
   pub is_table : IsDeclaredTable setting table
   pub same : Agree setting.context declared table seen
@@ -77,10 +83,13 @@ pub record StmtLabelled (setting : Setting) (returned : Tree) (declared : List T
   pub ends : OutSettled setting table (texts (bound_by_stmt s) ++ seen) out
   pub broken : SettledAll setting table (texts (bound_by_stmt s) ++ seen) (breaks_in s marks)
   pub reaches : is_some out ≡ completes s
-  pub lawful : (others : List Tree) → IsDeclaredTable setting others → Agree setting.context table others (texts (bound_by_stmt s) ++ seen) → LawfulStmt setting.whole setting.context others returned seen env s marks out
+  pub lawful : (others : List Tree) → IsDeclaredTable setting others
+      → Agree setting.context table others (texts (bound_by_stmt s) ++ seen)
+      → LawfulStmt setting.whole setting.context others returned seen env s marks out
 
 -- so is a suite
-pub record SuiteLabelled (setting : Setting) (returned : Tree) (declared : List Tree) (seen : NamesBound) (env : Env) (b : Stmts) : Type 0 where
+pub record SuiteLabelled (setting : Setting) (returned : Tree) (declared : List Tree) (seen : NamesBound) (env : Env)
+    (b : Stmts) : Type 0 where
   pub table : List Tree
   pub is_table : IsDeclaredTable setting table
   pub same : Agree setting.context declared table seen
@@ -89,10 +98,13 @@ pub record SuiteLabelled (setting : Setting) (returned : Tree) (declared : List 
   pub ends : OutSettled setting table (texts (bound_by b) ++ seen) out
   pub broken : SettledAll setting table (texts (bound_by b) ++ seen) (breaks_in_suite b marks)
   pub reaches : is_some out ≡ completes_all b
-  pub lawful : (others : List Tree) → IsDeclaredTable setting others → Agree setting.context table others (texts (bound_by b) ++ seen) → LawfulSuite setting.whole setting.context others returned seen env b marks out
+  pub lawful : (others : List Tree) → IsDeclaredTable setting others
+      → Agree setting.context table others (texts (bound_by b) ++ seen)
+      → LawfulSuite setting.whole setting.context others returned seen env b marks out
 
 -- and so are the branches of an `if`: the environments at their ends, and the one where no condition was true
-pub record BranchesLabelled (setting : Setting) (returned : Tree) (declared : List Tree) (seen : NamesBound) (env : Env) (bs : Branches) : Type 0 where
+pub record BranchesLabelled (setting : Setting) (returned : Tree) (declared : List Tree) (seen : NamesBound) (env : Env)
+    (bs : Branches) : Type 0 where
   pub table : List Tree
   pub is_table : IsDeclaredTable setting table
   pub same : Agree setting.context declared table seen
@@ -102,17 +114,24 @@ pub record BranchesLabelled (setting : Setting) (returned : Tree) (declared : Li
   pub broken : SettledAll setting table (texts (bound_by_branches bs) ++ seen) (breaks_in_branches bs marks)
   pub ways : SettledAll setting table (texts (bound_by_branches bs) ++ seen) (ways_in bs marks)
   pub reaches : any_way (ways_in bs marks) ≡ some_completes bs
-  pub lawful : (others : List Tree) → IsDeclaredTable setting others → Agree setting.context table others (texts (bound_by_branches bs) ++ seen) → LawfulBranches setting.whole setting.context others returned seen env bs marks last
+  pub lawful : (others : List Tree) → IsDeclaredTable setting others
+      → Agree setting.context table others (texts (bound_by_branches bs) ++ seen)
+      → LawfulBranches setting.whole setting.context others returned seen env bs marks last
 
--- each statement is labelled, from a table and an environment that go by the names bound so far, in a function that returns a well-formed type
+-- each statement is labelled, from a table and an environment that go by the names bound so far, in a function that
+-- returns a well-formed type
 abbrev pub StatementsAreLabelled : Type 0
 StatementsAreLabelled =
-    (setting : Setting) (returned : Tree) → IsWellFormed setting.context.bases returned → (declared : List Tree) (seen : NamesBound) (env : Env) → IsDeclaredTable setting declared → GoesByNames setting declared seen env → (s : Stmt) → StmtLabelled setting returned declared seen env s
+    (setting : Setting) (returned : Tree) → IsWellFormed setting.context.bases returned
+    → (declared : List Tree) (seen : NamesBound) (env : Env) → IsDeclaredTable setting declared
+    → GoesByNames setting declared seen env → (s : Stmt) → StmtLabelled setting returned declared seen env s
 
 -- and each suite
 abbrev pub SuitesAreLabelled : Type 0
 SuitesAreLabelled =
-    (setting : Setting) (returned : Tree) → IsWellFormed setting.context.bases returned → (declared : List Tree) (seen : NamesBound) (env : Env) → IsDeclaredTable setting declared → GoesByNames setting declared seen env → (b : Stmts) → SuiteLabelled setting returned declared seen env b
+    (setting : Setting) (returned : Tree) → IsWellFormed setting.context.bases returned
+    → (declared : List Tree) (seen : NamesBound) (env : Env) → IsDeclaredTable setting declared
+    → GoesByNames setting declared seen env → (b : Stmts) → SuiteLabelled setting returned declared seen env b
 
 -- a function has lawful labels, with these types of constants
 pub record FunctionLabelled (m : Module) (constants : List Tree) (owner : Owner) (f : FuncDef) : Type 0 where
@@ -120,14 +139,18 @@ pub record FunctionLabelled (m : Module) (constants : List Tree) (owner : Owner)
   pub lawful : LawfulFunction m constants owner f marks
 
 -- so have members of a class with this base, behind members of these names and so many methods
-pub record MembersLabelled (m : Module) (constants : List Tree) (base : ClassFacts) (c number : ℕ) (before : List (List ℕ)) (ms : List Member) : Type 0 where
+pub record MembersLabelled (m : Module) (constants : List Tree) (base : ClassFacts) (c number : ℕ)
+    (before : List (List ℕ)) (ms : List Member) : Type 0 where
   pub marks : MembersMarks ms
   pub lawful : LawfulMembers m constants base c number before ms marks
 
 -- each function has lawful labels, where the types of the constants are well-formed
 abbrev pub FunctionsAreLabelled : Type 0
-FunctionsAreLabelled = (m : Module) (constants : List Tree) → AreWellFormed (bases_of m) constants → (owner : Owner) (f : FuncDef) → FunctionLabelled m constants owner f
+FunctionsAreLabelled = (m : Module) (constants : List Tree) → AreWellFormed (bases_of m) constants
+    → (owner : Owner) (f : FuncDef) → FunctionLabelled m constants owner f
 
 -- and so have the members of each class
 abbrev pub ClassesAreLabelled : Type 0
-ClassesAreLabelled = (m : Module) (constants : List Tree) → AreWellFormed (bases_of m) constants → (base : ClassFacts) (c number : ℕ) (before : List (List ℕ)) (ms : List Member) → MembersLabelled m constants base c number before ms
+ClassesAreLabelled = (m : Module) (constants : List Tree) → AreWellFormed (bases_of m) constants
+    → (base : ClassFacts) (c number : ℕ) (before : List (List ℕ)) (ms : List Member)
+    → MembersLabelled m constants base c number before ms

@@ -1,5 +1,5 @@
--- The law that what is computed of a module is just what its lawful labelling says: the types of its constants, and what is found under
--- its labels, but for what is found of scopes.
+-- The law that what is computed of a module is just what its lawful labelling says: the types of its constants, and
+-- what is found under its labels, but for what is found of scopes.
 -- Own rule of the profile.
 use Rattle.std.specs.Prelude.{◌≡◌, ◌⊎◌, ◌↔◌, List, [], Contains}
 use Rattle.pc_tree.specs.declared.code.Finding.{Finding}
@@ -14,16 +14,20 @@ use Rattle.pc_labels.specs.WalkLaw.{Adds}
 
 -- the types of the constants are those under any lawful labelling
 abbrev pub ConstantsHaveTheTypesOfLabels : Type 0
-ConstantsHaveTheTypesOfLabels = (m : Module) (marks : Labelling m) → IsLawful m marks → constants_of m ≡ constant_types m m.items marks
+ConstantsHaveTheTypesOfLabels = (m : Module) (marks : Labelling m) → IsLawful m marks
+    → constants_of m ≡ constant_types m m.items marks
 
 -- behind what was found, just what any lawful labelling says is found of the module, but for what is found of scopes
 abbrev pub ModulesFindWhatLabelsSay : Type 0
-ModulesFindWhatLabelsSay = (m : Module) (marks : Labelling m) → IsLawful m marks → (found : List Note) → Adds found (module_finds m found) (LabelsSay m marks)
+ModulesFindWhatLabelsSay = (m : Module) (marks : Labelling m) → IsLawful m marks → (found : List Note)
+    → Adds found (module_finds m found) (LabelsSay m marks)
 
 -- where nothing was found before, just what is found under any lawful labelling
 abbrev pub ModulesFindWhatLabelsFind : Type 0
-ModulesFindWhatLabelsFind = (m : Module) (marks : Labelling m) → IsLawful m marks → (f : Finding) → Contains (findings_of (module_finds m [])) f ↔ LabelsFind m marks f
+ModulesFindWhatLabelsFind = (m : Module) (marks : Labelling m) → IsLawful m marks → (f : Finding)
+    → Contains (findings_of (module_finds m [])) f ↔ LabelsFind m marks f
 
 -- the findings of a module are what is found of scopes, what is found of classes, and this list, and no others
 abbrev pub FindingsOfModulesAreComputed : Type 0
-FindingsOfModulesAreComputed = (m : Module) (f : Finding) → IsFinding m f ↔ (ScopeFinds m f ⊎ (ClassFinds m f ⊎ Contains (findings_of (module_finds m [])) f))
+FindingsOfModulesAreComputed = (m : Module) (f : Finding)
+    → IsFinding m f ↔ (ScopeFinds m f ⊎ (ClassFinds m f ⊎ Contains (findings_of (module_finds m [])) f))

@@ -1,10 +1,12 @@
 -- The lawful labelling of functions, classes and a module, and the findings of a module.
 -- Language Reference 3.12, 8.7 "Function definitions", 8.8 "Class definitions"; own rules of the profile.
-use Rattle.std.specs.Prelude.{◌≡◌, ◌⊎◌, ℕ, suc, List, [], ◌∷◌, ◌++◌, length, Bool as Test, true, false, not, Option, Some, None, codes}
+use Rattle.std.specs.Prelude.{◌≡◌, ◌⊎◌, ℕ, suc, List, [], ◌∷◌, ◌++◌, length, Bool as Test, true, false, not, Option}
+use Rattle.std.specs.Prelude.{Some, None, codes}
 use Rattle.pc_tree.specs.declared.code.Code.{Code}
 use Rattle.pc_tree.specs.declared.code.Code.TheVariants.{E21}
 use Rattle.pc_tree.specs.declared.code.Finding.{Finding}
-use Rattle.pc_tree.specs.Tree.{FuncDef, Member, field_member, method_member, Item, constant_item, class_item, def_item, Module}
+use Rattle.pc_tree.specs.Tree.{FuncDef, Member, field_member, method_member, Item, constant_item, class_item, def_item}
+use Rattle.pc_tree.specs.Tree.{Module}
 use Rattle.pc_tree.specs.Depth.{place_of}
 use Rattle.pc_scope.specs.declared.resolution.Owner.{Owner}
 use Rattle.pc_scope.specs.declared.resolution.Owner.TheVariants as owners
@@ -23,7 +25,9 @@ use Rattle.pc_flow.specs.Environment.{Env, none_assigned, assign, declared_type}
 use Rattle.pc_rules.specs.Context.{FlowsInto}
 use Rattle.pc_rules.specs.Labels.{FlowMarks, Marks, mark_of, type_of, Finds, IsFlowAt, IsCodeAt, is_of_scopes}
 use Rattle.pc_rules.specs.Lawful.{Lawful}
-use Rattle.pc_rules.specs.Signatures.{body_context, initializer_context, LawfulDefault, DefaultFinds, ParamsMarks, LawfulParams, ParamsFind, binds_name, constant_type, annotated_types, first_of_types}
+use Rattle.pc_rules.specs.Signatures.{body_context, initializer_context, LawfulDefault, DefaultFinds, ParamsMarks}
+use Rattle.pc_rules.specs.Signatures.{LawfulParams, ParamsFind, binds_name, constant_type, annotated_types}
+use Rattle.pc_rules.specs.Signatures.{first_of_types}
 use Rattle.pc_labels.specs.StatementLabels.{SuiteMarks}
 use Rattle.pc_labels.specs.Statements.{NamesBound, LawfulSuite, SuiteFinds}
 
@@ -52,7 +56,9 @@ DeclaredEntry declared first r t = Unit {0}
 -- each parameter that binds a local has its type as declared type, behind the names bound so far
 abbrev pub LawfulEntry : (List ℕ → Res) → (declared : List Tree) → NamesBound → List TypedParameter → Type 0
 LawfulEntry resolve declared seen [] = Unit {0}
-LawfulEntry resolve declared seen (p ∷ ps) = DeclaredEntry declared (not (is_one_of p.name seen)) (resolve p.name) p.type × LawfulEntry resolve declared (p.name ∷ seen) ps
+LawfulEntry resolve declared seen (p ∷ ps) =
+    DeclaredEntry declared (not (is_one_of p.name seen)) (resolve p.name) p.type
+    × LawfulEntry resolve declared (p.name ∷ seen) ps
 
 -- at the entry the parameters are assigned, and no other local
 abbrev pub assigned_at_entry : (first : Test) → Res → Tree → Env → Env
@@ -62,7 +68,8 @@ assigned_at_entry first r t env = env
 -- the environment after these parameters are assigned, behind the names bound so far
 abbrev pub entry_env : (List ℕ → Res) → NamesBound → List TypedParameter → Env → Env
 entry_env resolve seen [] env = env
-entry_env resolve seen (p ∷ ps) env = entry_env resolve (p.name ∷ seen) ps (assigned_at_entry (not (is_one_of p.name seen)) (resolve p.name) p.type env)
+entry_env resolve seen (p ∷ ps) env =
+    entry_env resolve (p.name ∷ seen) ps (assigned_at_entry (not (is_one_of p.name seen)) (resolve p.name) p.type env)
 
 -- E21: the body can complete, and None is not static to the return type
 pub data ReturnsWell (bases : Bases) (return_type : Tree) : Option Env → Option Code → Type 0 where
@@ -72,7 +79,13 @@ pub data ReturnsWell (bases : Bases) (return_type : Tree) : Option Env → Optio
 
 -- each local's declared type, the flows of defaults, the labels of the body, where it ends, the code at the name
 abbrev pub FunctionMarks : FuncDef → Type 0
-FunctionMarks f = record { params : ParamsMarks f.params; declared : List Tree; body : SuiteMarks f.body; out : Option Env; completing : Option Code }
+FunctionMarks f = record {
+  params : ParamsMarks f.params;
+  declared : List Tree;
+  body : SuiteMarks f.body;
+  out : Option Env;
+  completing : Option Code;
+}
 
 -- the labels of a function are lawful: its defaults, its locals' declared types, its body and its E21
 abbrev pub LawfulFunction : Module → (constants : List Tree) → Owner → (f : FuncDef) → FunctionMarks f → Type 0
@@ -80,7 +93,10 @@ LawfulFunction m constants owner f marks = record {
   params : LawfulParams m (receiver owner) f.params marks.params;
   each_local : length marks.declared ≡ length (locals owner f);
   entry : LawfulEntry (resolve_among m (locals owner f)) marks.declared [] (entry_parameters m owner f);
-  body : LawfulSuite m (body_context m constants (locals owner f)) marks.declared (return_type m f) (names_entered [] (entry_parameters m owner f)) (entry_env (resolve_among m (locals owner f)) [] (entry_parameters m owner f) (none_assigned (length (locals owner f)))) f.body marks.body marks.out;
+  body : LawfulSuite m (body_context m constants (locals owner f)) marks.declared (return_type m f)
+      (names_entered [] (entry_parameters m owner f))
+      (entry_env (resolve_among m (locals owner f)) [] (entry_parameters m owner f)
+      (none_assigned (length (locals owner f)))) f.body marks.body marks.out;
   completing : ReturnsWell (bases_of m) (return_type m f) marks.out marks.completing;
 }
 
@@ -89,7 +105,9 @@ abbrev pub FunctionFinds : Module → (constants : List Tree) → Owner → (f :
 FunctionFinds m constants owner f marks g =
     ParamsFind m f.params marks.params g
     ⊎ (OptionAnnFinds m (bases_of m) f.returns g
-    ⊎ (IsCodeAt f.name.place marks.completing g ⊎ SuiteFinds m (body_context m constants (locals owner f)) (names_entered [] (entry_parameters m owner f)) f.body marks.body g))
+    ⊎ (IsCodeAt f.name.place marks.completing g
+    ⊎ SuiteFinds m (body_context m constants (locals owner f))
+    (names_entered [] (entry_parameters m owner f)) f.body marks.body g))
 
 -- ---- classes
 
@@ -100,10 +118,12 @@ MembersMarks (field_member d ∷ rest) = record { default : FlowMarks; rest : Me
 MembersMarks (method_member d ∷ rest) = record { method : FunctionMarks d; rest : MembersMarks rest }
 
 -- behind members of these names and so many methods
-abbrev pub LawfulMembers : Module → (constants : List Tree) → ClassFacts → (c number : ℕ) → (before : List (List ℕ)) → (ms : List Member) → MembersMarks ms → Type 0
+abbrev pub LawfulMembers : Module → (constants : List Tree) → ClassFacts → (c number : ℕ) → (before : List (List ℕ))
+    → (ms : List Member) → MembersMarks ms → Type 0
 LawfulMembers m constants base c number before [] marks = Unit {0}
 LawfulMembers m constants base c number before (field_member d ∷ ms) marks = record {
-  default : LawfulDefault (bases_of m) (binds_field base before d.name.text) d.default (read_ann m (bases_of m) d.annotation) marks.default;
+  default : LawfulDefault (bases_of m) (binds_field base before d.name.text) d.default
+      (read_ann m (bases_of m) d.annotation) marks.default;
   others : LawfulMembers m constants base c number (d.name.text ∷ before) ms marks.rest;
 }
 LawfulMembers m constants base c number before (method_member d ∷ ms) marks = record {
@@ -112,10 +132,14 @@ LawfulMembers m constants base c number before (method_member d ∷ ms) marks = 
 }
 
 -- what is found in members: in annotations, at defaults, and in methods
-abbrev pub MembersFind : Module → (constants : List Tree) → (c number : ℕ) → (ms : List Member) → MembersMarks ms → Finding → Type 0
+abbrev pub MembersFind : Module → (constants : List Tree) → (c number : ℕ) → (ms : List Member) → MembersMarks ms
+    → Finding → Type 0
 MembersFind m constants c number [] marks f = ⊥
-MembersFind m constants c number (field_member d ∷ rest) marks f = AnnFinds m (bases_of m) d.annotation f ⊎ (DefaultFinds d.default marks.default f ⊎ MembersFind m constants c number rest marks.rest f)
-MembersFind m constants c number (method_member d ∷ rest) marks f = FunctionFinds m constants (owners.Method c number) d marks.method f ⊎ MembersFind m constants c (suc number) rest marks.rest f
+MembersFind m constants c number (field_member d ∷ rest) marks f = AnnFinds m (bases_of m) d.annotation f
+    ⊎ (DefaultFinds d.default marks.default f ⊎ MembersFind m constants c number rest marks.rest f)
+MembersFind m constants c number (method_member d ∷ rest) marks f =
+    FunctionFinds m constants (owners.Method c number) d marks.method f
+    ⊎ MembersFind m constants c (suc number) rest marks.rest f
 
 -- ---- constants and items
 
@@ -154,34 +178,58 @@ nothing_before = record { constants = []; classes = 0; functions = 0; names = []
 
 -- what stands before the next item, this one included
 abbrev pub before_next : Module → BeforeItem → (i : Item) → ItemMarks i → BeforeItem
-before_next m b (constant_item p c) marks = record { constants = b.constants ++ item_constants m (constant_item p c) marks; classes = b.classes; functions = b.functions; names = c.name.text ∷ b.names }
-before_next m b (class_item p c) marks = record { constants = b.constants; classes = suc b.classes; functions = b.functions; names = c.name.text ∷ b.names }
-before_next m b (def_item p f) marks = record { constants = b.constants; classes = b.classes; functions = suc b.functions; names = f.name.text ∷ b.names }
+before_next m b (constant_item p c) marks =
+    record {
+      constants = b.constants ++ item_constants m (constant_item p c) marks;
+      classes = b.classes;
+      functions = b.functions;
+      names = c.name.text ∷ b.names;
+    }
+before_next m b (class_item p c) marks = record {
+  constants = b.constants;
+  classes = suc b.classes;
+  functions = b.functions;
+  names = c.name.text ∷ b.names;
+}
+before_next m b (def_item p f) marks = record {
+  constants = b.constants;
+  classes = b.classes;
+  functions = suc b.functions;
+  names = f.name.text ∷ b.names;
+}
 
 -- the labels of an item are lawful: of an initializer with its flow, of a class's members, of a function
 abbrev pub LawfulItem : Module → (constants : List Tree) → BeforeItem → (i : Item) → ItemMarks i → Type 0
 LawfulItem m constants b (constant_item p c) marks = record {
-  value : Lawful (initializer_context m b.constants b.classes) [] [] (first_of_types (annotated_types m (binds_name b.names c.name) c.annotation)) c.value marks.value;
-  flow : FlowsInto (bases_of m) (mark_of c.value marks.value) (annotated_types m (binds_name b.names c.name) c.annotation) marks.flows;
+  value : Lawful (initializer_context m b.constants b.classes) [] []
+      (first_of_types (annotated_types m (binds_name b.names c.name) c.annotation)) c.value marks.value;
+  flow : FlowsInto (bases_of m) (mark_of c.value marks.value)
+      (annotated_types m (binds_name b.names c.name) c.annotation) marks.flows;
 }
-LawfulItem m constants b (class_item p c) marks = LawfulMembers m constants (base_class m b.classes c) b.classes 0 [] c.members marks
+LawfulItem m constants b (class_item p c) marks =
+    LawfulMembers m constants (base_class m b.classes c) b.classes 0 [] c.members marks
 LawfulItem m constants b (def_item p f) marks = LawfulFunction m constants (owners.Func b.functions) f marks
 
 -- the labels of items are lawful, each behind what stands before it
-abbrev pub LawfulModuleItems : Module → (constants : List Tree) → BeforeItem → (items : List Item) → ItemsMarks items → Type 0
+abbrev pub LawfulModuleItems : Module → (constants : List Tree) → BeforeItem → (items : List Item) → ItemsMarks items
+    → Type 0
 LawfulModuleItems m constants b [] marks = Unit {0}
-LawfulModuleItems m constants b (i ∷ rest) marks = LawfulItem m constants b i marks.0 × LawfulModuleItems m constants (before_next m b i marks.0) rest marks.1
+LawfulModuleItems m constants b (i ∷ rest) marks = LawfulItem m constants b i marks.0
+    × LawfulModuleItems m constants (before_next m b i marks.0) rest marks.1
 
 -- what is found in an item: a constant, a class or a def
 abbrev pub ItemFinds : Module → (constants : List Tree) → BeforeItem → (i : Item) → ItemMarks i → Finding → Type 0
-ItemFinds m constants b (constant_item p c) marks f = OptionAnnFinds m (bases_of m) c.annotation f ⊎ (IsFlowAt (place_of c.value) marks.flows f ⊎ Finds c.value marks.value f)
+ItemFinds m constants b (constant_item p c) marks f = OptionAnnFinds m (bases_of m) c.annotation f
+    ⊎ (IsFlowAt (place_of c.value) marks.flows f ⊎ Finds c.value marks.value f)
 ItemFinds m constants b (class_item p c) marks f = MembersFind m constants b.classes 0 c.members marks f
 ItemFinds m constants b (def_item p d) marks f = FunctionFinds m constants (owners.Func b.functions) d marks f
 
 -- what is found in items, each behind what stands before it
-abbrev pub ItemsFind : Module → (constants : List Tree) → BeforeItem → (items : List Item) → ItemsMarks items → Finding → Type 0
+abbrev pub ItemsFind : Module → (constants : List Tree) → BeforeItem → (items : List Item) → ItemsMarks items → Finding
+    → Type 0
 ItemsFind m constants b [] marks f = ⊥
-ItemsFind m constants b (i ∷ rest) marks f = ItemFinds m constants b i marks.0 f ⊎ ItemsFind m constants (before_next m b i marks.0) rest marks.1 f
+ItemsFind m constants b (i ∷ rest) marks f = ItemFinds m constants b i marks.0 f
+    ⊎ ItemsFind m constants (before_next m b i marks.0) rest marks.1 f
 
 -- ---- the module
 

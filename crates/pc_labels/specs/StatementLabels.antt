@@ -1,8 +1,10 @@
--- The labels of statements: those of their expressions, and the environments between statements, at heads of loops and at `break`.
--- Own rule of the profile.
+-- The labels of statements: those of their expressions, and the environments between statements, at heads of loops and
+-- at `break`. Own rule of the profile.
 use Rattle.std.specs.Prelude.{List, [], ◌∷◌, ◌++◌, Bool as Test, true, false, Option, Some, None, option_to_list}
 use Rattle.pc_tree.specs.declared.code.Code.{Code}
-use Rattle.pc_tree.specs.Tree.{Expr, Target, to_name, to_attribute, to_index, Stmt, Stmts, Branches, pass, breaks, continues, returns, asserts, annotated, assigns, evaluates, while_loop, for_loop, conditional, no_stmts, more_stmts, no_branches, more_branches}
+use Rattle.pc_tree.specs.Tree.{Expr, Target, to_name, to_attribute, to_index, Stmt, Stmts, Branches, pass, breaks}
+use Rattle.pc_tree.specs.Tree.{continues, returns, asserts, annotated, assigns, evaluates, while_loop, for_loop}
+use Rattle.pc_tree.specs.Tree.{conditional, no_stmts, more_stmts, no_branches, more_branches}
 use Rattle.pc_scope.specs.Reach.{completes}
 use Rattle.pc_flow.specs.Environment.{Env}
 use Rattle.pc_rules.specs.Labels.{FlowMarks, Marks}
@@ -37,8 +39,20 @@ abbrev mutual
   StmtMarks (assigns p target value) = record { value : Marks value; target : TargetMarks target; flows : FlowMarks }
   StmtMarks (evaluates p value) = Marks value
   StmtMarks (while_loop p c b) = record { head : Env; condition : Marks c; body : SuiteMarks b; out : Option Env }
-  StmtMarks (for_loop p n e b) = record { iterable : Marks e; item : Mark; flows : FlowMarks; head : Env; body : SuiteMarks b; out : Option Env }
-  StmtMarks (conditional p bs o) = record { branches : BranchesMarks bs; last : Env; otherwise : SuiteMarks o; out : Option Env }
+  StmtMarks (for_loop p n e b) = record {
+    iterable : Marks e;
+    item : Mark;
+    flows : FlowMarks;
+    head : Env;
+    body : SuiteMarks b;
+    out : Option Env;
+  }
+  StmtMarks (conditional p bs o) = record {
+    branches : BranchesMarks bs;
+    last : Env;
+    otherwise : SuiteMarks o;
+    out : Option Env;
+  }
 
   -- the environment behind the first statement, and the labels of the others
   pub SuiteMarks : Stmts → Type 0
@@ -48,7 +62,12 @@ abbrev mutual
   -- of each branch its condition's labels, its body's, and the environment where the body ends, if it can complete
   pub BranchesMarks : Branches → Type 0
   BranchesMarks no_branches = Unit {0}
-  BranchesMarks (more_branches c b rest) = record { condition : Marks c; body : SuiteMarks b; out : Option Env; rest : BranchesMarks rest }
+  BranchesMarks (more_branches c b rest) = record {
+    condition : Marks c;
+    body : SuiteMarks b;
+    out : Option Env;
+    rest : BranchesMarks rest;
+  }
 
 -- of what stands behind a statement: a rule where it can complete, else another one
 abbrev pub BehindRule : {A : Type 0} (completes : Test) → Behind completes A → (A → Type 0) → Type 0 → Type 0
@@ -69,7 +88,8 @@ abbrev mutual
 
   pub breaks_in_suite : (b : Stmts) → SuiteMarks b → List Env
   breaks_in_suite no_stmts m = []
-  breaks_in_suite (more_stmts s rest) m = breaks_in s m.0 ++ behind_list (completes s) m.1 (λ r. breaks_in_suite rest r.1)
+  breaks_in_suite (more_stmts s rest) m = breaks_in s m.0
+      ++ behind_list (completes s) m.1 (λ r. breaks_in_suite rest r.1)
 
   pub breaks_in_branches : (bs : Branches) → BranchesMarks bs → List Env
   breaks_in_branches no_branches m = []

@@ -1,6 +1,6 @@
--- The law that a walk over statements comes to just what their lawful labels say: the computed twin of the rules of statements has the
--- environments of the labels, and finds just what stands under them, but for what is found of scopes.
--- Own rule of the profile.
+-- The law that a walk over statements comes to just what their lawful labels say: the computed twin of the rules of
+-- statements has the environments of the labels, and finds just what stands under them, but for what is found of
+-- scopes. Own rule of the profile.
 use Rattle.std.specs.Prelude.{◌≡◌, ◌⊎◌, ◌↔◌, ℕ, List, [], ◌++◌, length, true, false, Option, Some, None, Contains}
 use Rattle.pc_tree.specs.declared.code.Finding.{Finding}
 use Rattle.pc_tree.specs.Tree.{Stmt, Stmts, FuncDef, Module}
@@ -23,20 +23,25 @@ use Rattle.pc_labels.specs.StatementLabels.{StmtMarks, SuiteMarks, breaks_in, br
 use Rattle.pc_labels.specs.Statements.{NamesBound, LawfulStmt, LawfulSuite, StmtFinds, SuiteFinds}
 use Rattle.pc_labels.specs.Modules.{FunctionMarks, LawfulFunction, entry_parameters, names_entered}
 use Rattle.pc_labels.specs.LabellingLaws.{Setting}
-use Rattle.pc_labels.specs.ComputedStatements.{Table, type_table, bound_type, BodyFrame, Walk, step, walk_suite, function_finds}
+use Rattle.pc_labels.specs.ComputedStatements.{Table, type_table, bound_type, BodyFrame, Walk, step, walk_suite}
+use Rattle.pc_labels.specs.ComputedStatements.{function_finds}
 
 -- what the statements of a function that returns this type stand in
 abbrev pub frame_in : Setting → (returned : Tree) → BodyFrame
 frame_in setting returned = record { whole = setting.whole; context = setting.context; returned = returned }
 
--- a table of a walk fits declared types, behind the names bound so far: each local that one of them means has its declared type there, and no other local has one
+-- a table of a walk fits declared types, behind the names bound so far: each local that one of them means has its
+-- declared type there, and no other local has one
 pub record TableFits (setting : Setting) (declared : List Tree) (seen : NamesBound) (table : Table) : Type 0 where
   pub long : length table ≡ setting.count
   pub well_formed : IsWellFormedEnv setting.context.bases table
-  pub bound : (word : List ℕ) (x : ℕ) → is_one_of word seen ≡ true → setting.context.resolve word ≡ res.Local x → bound_type table x ≡ Some (declared_type declared x)
-  pub unbound : (word : List ℕ) (x : ℕ) → is_one_of word seen ≡ false → setting.context.resolve word ≡ res.Local x → bound_type table x ≡ None
+  pub bound : (word : List ℕ) (x : ℕ) → is_one_of word seen ≡ true → setting.context.resolve word ≡ res.Local x
+      → bound_type table x ≡ Some (declared_type declared x)
+  pub unbound : (word : List ℕ) (x : ℕ) → is_one_of word seen ≡ false → setting.context.resolve word ≡ res.Local x
+      → bound_type table x ≡ None
 
--- an environment fits a table of a walk and declared types: they agree on each local that it assigns, and its types are well-formed
+-- an environment fits a table of a walk and declared types: they agree on each local that it assigns, and its types are
+-- well-formed
 pub record EnvFits (setting : Setting) (declared : List Tree) (table : Table) (env : Env) : Type 0 where
   pub same : SameWhere declared (type_table table) env
   pub well_formed : IsWellFormedEnv setting.context.bases env
@@ -53,11 +58,13 @@ with_breaks bases declared (Some way) envs = Some (join_envs_onto bases declared
 
 -- more was found: just what is said, but for what is found of scopes
 abbrev pub Adds : (before after : List Note) → (Says : Finding → Type 0) → Type 0
-Adds before after Says = (f : Finding) → Contains (findings_of after) f ↔ (Contains (findings_of before) f ⊎ (Says f × (is_of_scopes f.code ≡ false)))
+Adds before after Says = (f : Finding)
+    → Contains (findings_of after) f ↔ (Contains (findings_of before) f ⊎ (Says f × (is_of_scopes f.code ≡ false)))
 
--- A walk has come to what labels say: from a table to one that fits behind these names, to this environment, with these `break`s
--- joined, and with what is said found; and what fitted the table before fits the one behind.
-pub record WalkSays (setting : Setting) (declared : List Tree) (seen : NamesBound) (table : Table) (broken : Option Env) (found : List Note) (w : Walk) (out : Option Env) (breaks : List Env) (Says : Finding → Type 0) : Type 0 where
+-- A walk has come to what labels say: from a table to one that fits behind these names, to this environment, with these
+-- `break`s joined, and with what is said found; and what fitted the table before fits the one behind.
+pub record WalkSays (setting : Setting) (declared : List Tree) (seen : NamesBound) (table : Table) (broken : Option Env)
+    (found : List Note) (w : Walk) (out : Option Env) (breaks : List Env) (Says : Finding → Type 0) : Type 0 where
   pub fits : TableFits setting declared seen w.table
   pub grows : (env : Env) → EnvFits setting declared table env → EnvFits setting declared w.table env
   pub env_is : w.env ≡ out
@@ -72,8 +79,11 @@ WalksOfStatementsSayWhatLabelsSay =
     (setting : Setting) (returned : Tree) → IsWellFormed setting.context.bases returned →
     (declared : List Tree) (seen : NamesBound) (table : Table) (env : Env) (broken : Option Env) (found : List Note) →
     TableFits setting declared seen table → EnvFits setting declared table env → OutFits setting declared table broken →
-    (s : Stmt) (marks : StmtMarks s) (out : Option Env) → LawfulStmt setting.whole setting.context declared returned seen env s marks out →
-    WalkSays setting declared (texts (bound_by_stmt s) ++ seen) table broken found (step (frame_in setting returned) table (Some env) broken found s) out (breaks_in s marks) (StmtFinds setting.whole setting.context seen s marks)
+    (s : Stmt) (marks : StmtMarks s) (out : Option Env)
+    → LawfulStmt setting.whole setting.context declared returned seen env s marks out →
+    WalkSays setting declared (texts (bound_by_stmt s) ++ seen) table broken found
+    (step (frame_in setting returned) table (Some env) broken found s) out (breaks_in s marks)
+    (StmtFinds setting.whole setting.context seen s marks)
 
 -- and so does a walk over a suite
 abbrev pub WalksOfSuitesSayWhatLabelsSay : Type 0
@@ -81,16 +91,24 @@ WalksOfSuitesSayWhatLabelsSay =
     (setting : Setting) (returned : Tree) → IsWellFormed setting.context.bases returned →
     (declared : List Tree) (seen : NamesBound) (table : Table) (env : Env) (broken : Option Env) (found : List Note) →
     TableFits setting declared seen table → EnvFits setting declared table env → OutFits setting declared table broken →
-    (b : Stmts) (marks : SuiteMarks b) (out : Option Env) → LawfulSuite setting.whole setting.context declared returned seen env b marks out →
-    WalkSays setting declared (texts (bound_by b) ++ seen) table broken found (walk_suite (frame_in setting returned) (record { table = table; env = Some env; broken = broken; found = found }) b) out (breaks_in_suite b marks) (SuiteFinds setting.whole setting.context seen b marks)
+    (b : Stmts) (marks : SuiteMarks b) (out : Option Env)
+    → LawfulSuite setting.whole setting.context declared returned seen env b marks out →
+    WalkSays setting declared (texts (bound_by b) ++ seen) table broken found
+    (walk_suite (frame_in setting returned)
+    (record { table = table; env = Some env; broken = broken; found = found }) b) out (breaks_in_suite b marks)
+    (SuiteFinds setting.whole setting.context seen b marks)
 
 -- what labels say in the body of a function and at its name
 abbrev pub BodySays : Module → (constants : List Tree) → Owner → (f : FuncDef) → FunctionMarks f → Finding → Type 0
 BodySays m constants owner f marks g =
-    IsCodeAt f.name.place marks.completing g ⊎ SuiteFinds m (body_context m constants (locals owner f)) (names_entered [] (entry_parameters m owner f)) f.body marks.body g
+    IsCodeAt f.name.place marks.completing g
+    ⊎ SuiteFinds m (body_context m constants (locals owner f))
+    (names_entered [] (entry_parameters m owner f)) f.body marks.body g
 
--- the walk over the body of a function finds just what any lawful labels of the function say in its body and at its name, but for what is found of scopes
+-- the walk over the body of a function finds just what any lawful labels of the function say in its body and at its
+-- name, but for what is found of scopes
 abbrev pub BodiesFindWhatLabelsSay : Type 0
 BodiesFindWhatLabelsSay =
-    (m : Module) (constants : List Tree) → AreWellFormed (bases_of m) constants → (owner : Owner) (f : FuncDef) (marks : FunctionMarks f) → LawfulFunction m constants owner f marks →
+    (m : Module) (constants : List Tree) → AreWellFormed (bases_of m) constants
+    → (owner : Owner) (f : FuncDef) (marks : FunctionMarks f) → LawfulFunction m constants owner f marks →
     (found : List Note) → Adds found (function_finds m constants owner f found) (BodySays m constants owner f marks)

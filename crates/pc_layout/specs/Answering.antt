@@ -1,5 +1,6 @@
 -- What comes of lines: the tokens of their layout, or a fault.
-use Rattle.std.specs.Prelude.{◌≡◌, ◌⊎◌, ℕ, List, [], ◌∷◌, ◌++◌, map, length, Option, Some, None, Result, Ok, Err, MatchOption}
+use Rattle.std.specs.Prelude.{◌≡◌, ◌⊎◌, ℕ, List, [], ◌∷◌, ◌++◌, map, length, Option, Some, None, Result, Ok, Err}
+use Rattle.std.specs.Prelude.{MatchOption}
 use Rattle.std.specs.Borrow.{Bor}
 use Rattle.pc_source.specs.declared.fault.Refusal.{Refusal}
 use Rattle.pc_source.specs.declared.fault.Fault.{Fault}
@@ -46,12 +47,17 @@ pub record ComesRefused (text : List ℕ) (ls : List LogicalLine) (items : List 
   pub fault : ComesFaulty items (Refused refusal)
   pub refuses : Refuses text ls refusal
 
--- of these lines and faults these tokens and faults come: a fault among the lines, or else the layout, or else the refusal
+-- of these lines and faults these tokens and faults come: a fault among the lines, or else the layout, or else the
+-- refusal
 abbrev pub AnswersLines : List ℕ → List (Result LogicalLine Fault) → List (Result Lexeme Fault) → Type 0
-AnswersLines text lines items = MatchOption (fault_came lines) (ComesWhole text (lines_came lines) items ⊎ ComesRefused text (lines_came lines) items) (ComesFaulty items)
+AnswersLines text lines items =
+    MatchOption (fault_came lines)
+    (ComesWhole text (lines_came lines) items ⊎ ComesRefused text (lines_came lines) items) (ComesFaulty items)
 
-module _ {I T : Type 0} (steps : I → Option (Result Line Fault) → I → Type 0) (gives : T → Option (Result (Token (Bor (List ℕ))) Fault) → T → Type 0) where
+module _ {I T : Type 0} (steps : I → Option (Result Line Fault) → I → Type 0)
+    (gives : T → Option (Result (Token (Bor (List ℕ))) Fault) → T → Type 0) where
   -- whatever tokens come, some lines came, and the tokens are their layout
   abbrev pub LaysOut : List ℕ → I → T → Type 0
   LaysOut text it toks = (items : List (Result (Token (Bor (List ℕ))) Fault)) → Yields gives toks items →
-      (ks : List (Result Line Fault)) × Yields steps it ks × AnswersLines text (map line_item_of ks) (map token_item_of items)
+      (ks : List (Result Line Fault)) × Yields steps it ks
+      × AnswersLines text (map line_item_of ks) (map token_item_of items)

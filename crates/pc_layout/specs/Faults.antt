@@ -10,14 +10,16 @@ use Rattle.pc_token.specs.declared.token.Operator.{Operator}
 use Rattle.pc_token.specs.declared.token.Operator.TheVariants.{At}
 use Rattle.pc_token.specs.declared.token.TokenKind.TheVariants as k
 use Rattle.pc_token.specs.Lexeme.{Lexeme, LogicalLine}
-use Rattle.pc_layout.specs.Spelling.{first_byte, BeginsWith, EndsInColon, IsSpelled, IsHeader, dataclass_decorator, excludes_keyword, excludes_operator}
+use Rattle.pc_layout.specs.Spelling.{first_byte, BeginsWith, EndsInColon, IsSpelled, IsHeader, dataclass_decorator}
+use Rattle.pc_layout.specs.Spelling.{excludes_keyword, excludes_operator}
 
 -- a suite of this column is open after these lines: going back, the first line that is not deeper has the column
 abbrev pub IsOpen : ℕ → List LogicalLine → Type 0
 IsOpen column [] = ⊥
 IsOpen column (l ∷ ls) = (l.column ≡ column) ⊎ ((column < l.column) × IsOpen column ls)
 
--- a line of this column would stand inside the suite of a line with P: one that is less deep than the column and than each line since
+-- a line of this column would stand inside the suite of a line with P: one that is less deep than the column and than
+-- each line since
 abbrev pub IsInside : (LogicalLine → Type 0) → ℕ → List LogicalLine → Type 0
 IsInside P column [] = ⊥
 IsInside P column (l ∷ ls) = ((l.column < column) × P l) ⊎ IsInside P (min column l.column) ls
@@ -49,12 +51,14 @@ deepest = 50
 -- a line has a token that is an excluded keyword, and is no import header
 abbrev pub HasExcludedKeyword : LogicalLine → ℕ → Type 0
 HasExcludedKeyword l byte =
-    (x : Lexeme) × (word : Keyword) × Contains l.lexemes x × (x.kind ≡ k.Keyword word) × IsTrue (excludes_keyword word) × (¬ (IsHeader l)) × (byte ≡ x.place.start)
+    (x : Lexeme) × (word : Keyword) × Contains l.lexemes x × (x.kind ≡ k.Keyword word) × IsTrue (excludes_keyword word)
+    × (¬ (IsHeader l)) × (byte ≡ x.place.start)
 
 -- a line has a token that is an excluded operator
 abbrev pub HasExcludedOperator : LogicalLine → ℕ → Type 0
 HasExcludedOperator l byte =
-    (x : Lexeme) × (operator : Operator) × Contains l.lexemes x × (x.kind ≡ k.Operator operator) × IsTrue (excludes_operator operator) × (byte ≡ x.place.start)
+    (x : Lexeme) × (operator : Operator) × Contains l.lexemes x × (x.kind ≡ k.Operator operator)
+    × IsTrue (excludes_operator operator) × (byte ≡ x.place.start)
 
 -- what is wrong with a line after these lines, and at which byte; `len` is the text's length
 abbrev pub IsFault : ℕ → List LogicalLine → LogicalLine → RefusalCode → ℕ → Type 0
@@ -63,9 +67,11 @@ IsFault len before l I2 byte = IsMisplaced l before × (byte ≡ first_byte len 
 IsFault len before l I3 byte = AreOpen deepest (l ∷ before) × (byte ≡ first_byte len l.lexemes)
 IsFault len before l N1 byte = HasExcludedKeyword l byte
 IsFault len before l N2 byte = HasExcludedOperator l byte
-IsFault len before l N3 byte = BeginsWith (k.Keyword Def) l × IsInside (BeginsWith (k.Keyword Def)) l.column before × (byte ≡ first_byte len l.lexemes)
+IsFault len before l N3 byte = BeginsWith (k.Keyword Def) l × IsInside (BeginsWith (k.Keyword Def)) l.column before
+    × (byte ≡ first_byte len l.lexemes)
 IsFault len before l N4 byte = BeginsWith (k.Keyword Class) l × (0 < l.column) × (byte ≡ first_byte len l.lexemes)
-IsFault len before l N5 byte = BeginsWith (k.Operator At) l × (¬ (IsSpelled dataclass_decorator l)) × (byte ≡ first_byte len l.lexemes)
+IsFault len before l N5 byte = BeginsWith (k.Operator At) l × (¬ (IsSpelled dataclass_decorator l))
+    × (byte ≡ first_byte len l.lexemes)
 IsFault len before l _ byte = ⊥
 
 -- one of these lines has the fault, after the lines before
@@ -85,7 +91,9 @@ code_rank N4 = 7
 code_rank N5 = 8
 code_rank _ = 0
 
--- the lines' refusal: a fault of theirs, and none stands at a lesser byte, or at that byte with a code that counts before
+-- the lines' refusal: a fault of theirs, and none stands at a lesser byte, or at that byte with a code that counts
+-- before
 pub record IsLayoutRefusal (len : ℕ) (ls : List LogicalLine) (refusal : Refusal) : Type 0 where
   pub fault : HasFault len [] ls refusal.code refusal.byte
-  pub least : (code : RefusalCode) (byte : ℕ) → HasFault len [] ls code byte → (refusal.byte < byte) ⊎ ((refusal.byte ≡ byte) × (code_rank refusal.code ≤ code_rank code))
+  pub least : (code : RefusalCode) (byte : ℕ) → HasFault len [] ls code byte
+      → (refusal.byte < byte) ⊎ ((refusal.byte ≡ byte) × (code_rank refusal.code ≤ code_rank code))

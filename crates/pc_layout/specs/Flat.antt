@@ -1,6 +1,8 @@
--- A forest of suites written flat: a NEWLINE after each line, an INDENT before a deeper suite, a DEDENT after it, END last.
--- Python Language Reference 3.12, 2.1.1 "Logical lines", 2.1.8 "Indentation"; the places are own rules of the profile.
-use Rattle.std.specs.Prelude.{ℕ, ◌+◌, ◌-◌, ◌&&◌, ◌==◌, nat_lt, if◌then◌else◌, List, [], ◌∷◌, ◌++◌, drop, length, slice_index, slice_range, position}
+-- A forest of suites written flat: a NEWLINE after each line, an INDENT before a deeper suite, a DEDENT after it, END
+-- last. Python Language Reference 3.12, 2.1.1 "Logical lines", 2.1.8 "Indentation"; the places are own rules of the
+-- profile.
+use Rattle.std.specs.Prelude.{ℕ, ◌+◌, ◌-◌, ◌&&◌, ◌==◌, nat_lt, if◌then◌else◌, List, [], ◌∷◌, ◌++◌, drop, length}
+use Rattle.std.specs.Prelude.{slice_index, slice_range, position}
 use Rattle.std.specs.Option.{option_map_or}
 use Rattle.pc_source.specs.declared.place.Place.{Place}
 use Rattle.pc_token.specs.declared.token.TokenKind.{TokenKind}
@@ -16,7 +18,8 @@ line_feed_from text from = option_map_or (λ n. from + n) (position (λ b. b == 
 -- from a line feed, or the carriage return before it, up to the line feed's end; empty at the text's length
 abbrev pub line_end_at : List ℕ → ℕ → ℕ → Place
 line_end_at text from feed = record {
-  start = if nat_lt feed (length text) && (nat_lt from feed && slice_index text (feed - 1) == 13) then feed - 1 else feed;
+  start = if nat_lt feed (length text) && (nat_lt from feed && slice_index text (feed - 1) == 13) then feed - 1
+      else feed;
   end = if nat_lt feed (length text) then feed + 1 else feed;
 }
 
@@ -26,7 +29,12 @@ line_end text from = line_end_at text from (line_feed_from text from)
 
 -- a token of the layout, which has the text of its place
 abbrev pub sign : TokenKind → List ℕ → Place → Lexeme
-sign kind text place = record { kind = kind; place = place; text = slice_range text place.start place.end; form = slice_range text place.start place.end }
+sign kind text place = record {
+  kind = kind;
+  place = place;
+  text = slice_range text place.start place.end;
+  form = slice_range text place.start place.end;
+}
 
 -- a token of the layout that has no text
 abbrev pub mark : TokenKind → ℕ → Lexeme
@@ -48,14 +56,16 @@ starts_at text byte (l ∷ ls) = first_byte (length text) l.lexemes
 -- a deeper suite that is written so, between its INDENT and its DEDENT at the next line; nothing where there is none
 abbrev pub indented_lexemes : List ℕ → List LogicalLine → ℕ → List Lexeme → List Lexeme
 indented_lexemes text [] next flat_lexemes = []
-indented_lexemes text (l ∷ ls) next flat_lexemes = mark Indent (first_byte (length text) l.lexemes) ∷ (flat_lexemes ++ mark Dedent next ∷ [])
+indented_lexemes text (l ∷ ls) next flat_lexemes =
+    mark Indent (first_byte (length text) l.lexemes) ∷ (flat_lexemes ++ mark Dedent next ∷ [])
 
 -- a suite written flat, before a line that begins at the next byte
 abbrev pub flat_lexemes : List ℕ → Suite → ℕ → List Lexeme
 flat_lexemes text nothing next = []
 flat_lexemes text (line l deeper others) next =
     written_line text l.lexemes
-    ++ (indented_lexemes text (lines_of deeper) (starts_at text next (lines_of others)) (flat_lexemes text deeper (starts_at text next (lines_of others)))
+    ++ (indented_lexemes text (lines_of deeper) (starts_at text next (lines_of others))
+    (flat_lexemes text deeper (starts_at text next (lines_of others)))
     ++ flat_lexemes text others next)
 
 -- the forest of the whole text, and END

@@ -3,7 +3,8 @@
 use Rattle.std.specs.Prelude.{◌≡◌, ℕ, ◌<◌, List, [], ◌∷◌, ◌++◌}
 use Rattle.pc_token.specs.Lexeme.{LogicalLine}
 
--- a suite: no line, or a line, the suite after it that is deeper (of no line where there is none), and the lines after that
+-- a suite: no line, or a line, the suite after it that is deeper (of no line where there is none), and the lines after
+-- that
 pub data Suite : Type 0 where
   nothing : Suite
   line : LogicalLine → Suite → Suite → Suite
@@ -16,4 +17,5 @@ lines_of (line l deeper others) = l ∷ (lines_of deeper ++ lines_of others)
 -- a suite of a column: each line has the column, and the suite after a line has a greater one
 abbrev pub IsSuite : ℕ → Suite → Type 0
 IsSuite column nothing = Unit {0}
-IsSuite column (line l deeper others) = (l.column ≡ column) × ((d : ℕ) × (column < d) × IsSuite d deeper) × IsSuite column others
+IsSuite column (line l deeper others) = (l.column ≡ column) × ((d : ℕ) × (column < d) × IsSuite d deeper)
+    × IsSuite column others

@@ -11,23 +11,28 @@ use Rattle.pc_token.specs.Within.{AreWithin, LinesWithin}
 
 -- lines are the lines of one forest of column 0 at most
 abbrev pub OneForest : Type 0
-OneForest = (forest other : Suite) → IsSuite 0 forest → IsSuite 0 other → lines_of forest ≡ lines_of other → forest ≡ other
+OneForest = (forest other : Suite) → IsSuite 0 forest → IsSuite 0 other → lines_of forest ≡ lines_of other
+    → forest ≡ other
 
 -- lines have one layout at most
 abbrev pub OneLayout : Type 0
-OneLayout = (text : List ℕ) (ls : List LogicalLine) (tokens others : List Lexeme) → IsLayout text ls tokens → IsLayout text ls others → tokens ≡ others
+OneLayout = (text : List ℕ) (ls : List LogicalLine) (tokens others : List Lexeme) → IsLayout text ls tokens
+    → IsLayout text ls others → tokens ≡ others
 
 -- lines that have a layout have no refusal
 abbrev pub LayoutOrRefusal : Type 0
-LayoutOrRefusal = (text : List ℕ) (ls : List LogicalLine) (tokens : List Lexeme) (refusal : Refusal) → IsLayout text ls tokens → ¬ (IsLayoutRefusal (length text) ls refusal)
+LayoutOrRefusal = (text : List ℕ) (ls : List LogicalLine) (tokens : List Lexeme) (refusal : Refusal)
+    → IsLayout text ls tokens → ¬ (IsLayoutRefusal (length text) ls refusal)
 
 -- lines have one refusal at most
 abbrev pub OneRefusal : Type 0
-OneRefusal = (len : ℕ) (ls : List LogicalLine) (refusal other : Refusal) → IsLayoutRefusal len ls refusal → IsLayoutRefusal len ls other → refusal ≡ other
+OneRefusal = (len : ℕ) (ls : List LogicalLine) (refusal other : Refusal) → IsLayoutRefusal len ls refusal
+    → IsLayoutRefusal len ls other → refusal ≡ other
 
 -- a fault stands where a token begins
 abbrev pub FaultsAtTokens : Type 0
-FaultsAtTokens = (len : ℕ) (ls : List LogicalLine) (code : RefusalCode) (byte : ℕ) → HaveTokens ls → HasFault len [] ls code byte → (x : Lexeme) × Contains (all_lexemes ls) x × (byte ≡ x.place.start)
+FaultsAtTokens = (len : ℕ) (ls : List LogicalLine) (code : RefusalCode) (byte : ℕ) → HaveTokens ls
+    → HasFault len [] ls code byte → (x : Lexeme) × Contains (all_lexemes ls) x × (byte ≡ x.place.start)
 
 -- the logical lines of a text without a lexical fault stand in order
 abbrev pub LinesStandInOrder : Type 0
@@ -35,8 +40,10 @@ LinesStandInOrder = (text : List ℕ) (ls : List LogicalLine) → HasLines text 
 
 -- a fault of lines that stand within a text of some length stands from 0 to that length
 abbrev pub FaultsWithin : Type 0
-FaultsWithin = (len : ℕ) (ls : List LogicalLine) (code : RefusalCode) (byte : ℕ) → LinesWithin len ls → HasFault len [] ls code byte → byte ≤ len
+FaultsWithin = (len : ℕ) (ls : List LogicalLine) (code : RefusalCode) (byte : ℕ) → LinesWithin len ls
+    → HasFault len [] ls code byte → byte ≤ len
 
 -- the layout of lines that stand within the text stands within it
 abbrev pub LayoutsWithin : Type 0
-LayoutsWithin = (text : List ℕ) (ls : List LogicalLine) (tokens : List Lexeme) → LinesWithin (length text) ls → IsLayout text ls tokens → AreWithin (length text) tokens
+LayoutsWithin = (text : List ℕ) (ls : List LogicalLine) (tokens : List Lexeme) → LinesWithin (length text) ls
+    → IsLayout text ls tokens → AreWithin (length text) tokens

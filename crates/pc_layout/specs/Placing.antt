@@ -1,6 +1,7 @@
 -- The layout line by line: which suites are open, and what a line does to them.
 -- (The laws in proofs/ tie this to the forest of suites and to the refusals.)
-use Rattle.std.specs.Prelude.{ℕ, ◌-◌, Bool, true, false, ◌&&◌, ◌||◌, ◌==◌, nat_lt, if◌then◌else◌, List, [], ◌∷◌, length, Option, Some, None, Result, Ok, Err}
+use Rattle.std.specs.Prelude.{ℕ, ◌-◌, Bool, true, false, ◌&&◌, ◌||◌, ◌==◌, nat_lt, if◌then◌else◌, List, [], ◌∷◌, length}
+use Rattle.std.specs.Prelude.{Option, Some, None, Result, Ok, Err}
 use Rattle.std.specs.Str.{bytes_eq}
 use Rattle.std.specs.Cmp.Lexicographic.{pointwise}
 use Rattle.pc_source.specs.declared.fault.Refusal.{Refusal}
@@ -11,7 +12,8 @@ use Rattle.pc_token.specs.declared.token.Operator.TheVariants.{At}
 use Rattle.pc_token.specs.declared.token.TokenKind.{TokenKind}
 use Rattle.pc_token.specs.declared.token.TokenKind.TheVariants as k
 use Rattle.pc_token.specs.Lexeme.{Lexeme}
-use Rattle.pc_layout.specs.Spelling.{first_byte, first_kind, forms, future_header, dataclass_header, any_header, dataclass_decorator, excludes_keyword, excludes_operator}
+use Rattle.pc_layout.specs.Spelling.{first_byte, first_kind, forms, future_header, dataclass_header, any_header}
+use Rattle.pc_layout.specs.Spelling.{dataclass_decorator, excludes_keyword, excludes_operator}
 use Rattle.pc_layout.specs.Faults.{deepest}
 use Rattle.pc_layout.specs.declared.levels.Level.{Level}
 
@@ -45,13 +47,22 @@ pub record Placement : Type 0 where
 -- a line of a column opens a suite
 abbrev pub opening_placement : LayoutContext → ℕ → Result Placement RefusalCode
 opening_placement x c = if x.after_colon
-    then (if nat_lt (length x.levels) deepest then Ok (record { levels = record { column = c; in_def = in_def_of x.levels || x.after_def } ∷ x.levels; dedents = 0; indent = true }) else Err I3)
+    then (if nat_lt (length x.levels) deepest
+    then Ok (record {
+      levels = record { column = c; in_def = in_def_of x.levels || x.after_def } ∷ x.levels;
+      dedents = 0;
+      indent = true;
+    }) else Err I3)
     else Err I2
 
 -- a line of a column closes suites, or none
 abbrev pub closing_placement : LayoutContext → ℕ → Result Placement RefusalCode
 closing_placement x c = if column_of (levels_up_to c x.levels) == c
-    then Ok (record { levels = levels_up_to c x.levels; dedents = length x.levels - length (levels_up_to c x.levels); indent = false })
+    then Ok (record {
+      levels = levels_up_to c x.levels;
+      dedents = length x.levels - length (levels_up_to c x.levels);
+      indent = false;
+    })
     else Err I1
 
 -- a line of a column opens a suite where it is deeper than the innermost, and else closes suites
@@ -64,7 +75,8 @@ is_spelled xs words = pointwise bytes_eq (forms xs) words
 
 -- they are one of the three import headers, at a column
 abbrev pub is_header : ℕ → List Lexeme → Bool
-is_header column xs = (column == 0) && (is_spelled xs future_header || (is_spelled xs dataclass_header || is_spelled xs any_header))
+is_header column xs = (column == 0)
+    && (is_spelled xs future_header || (is_spelled xs dataclass_header || is_spelled xs any_header))
 
 -- what is wrong with how a line begins
 abbrev pub opening_fault : Bool → ℕ → List Lexeme → Option TokenKind → Option RefusalCode
@@ -91,4 +103,6 @@ first_excluded header (x ∷ xs) = refused_or (exclusion header x.kind) x.place.
 
 -- what is wrong with the words of a line
 abbrev pub word_fault : ℕ → Bool → ℕ → List Lexeme → Option Refusal
-word_fault len in_def column xs = refused_or (opening_fault in_def column xs (first_kind xs)) (first_byte len xs) (first_excluded (is_header column xs) xs)
+word_fault len in_def column xs =
+    refused_or (opening_fault in_def column xs (first_kind xs)) (first_byte len xs)
+    (first_excluded (is_header column xs) xs)

@@ -1,10 +1,13 @@
 -- How a logical line begins, ends and is spelled, and which words and signs the profile leaves out.
--- Python Language Reference 3.12, 2.3.1 "Keywords", 2.5 "Operators", 2.6 "Delimiters"; what is left out is an own rule of the profile.
-use Rattle.std.specs.Prelude.{◌≡◌, ◌⊎◌, ℕ, ◌-◌, Bool, true, false, List, [], ◌∷◌, Option, Some, None, map, codes, length, option_map}
+-- Python Language Reference 3.12, 2.3.1 "Keywords", 2.5 "Operators", 2.6 "Delimiters"; what is left out is an own rule
+-- of the profile.
+use Rattle.std.specs.Prelude.{◌≡◌, ◌⊎◌, ℕ, ◌-◌, Bool, true, false, List, [], ◌∷◌, Option, Some, None, map, codes}
+use Rattle.std.specs.Prelude.{length, option_map}
 use Rattle.std.specs.List.{slice_get}
 use Rattle.std.specs.Option.{option_map_or}
 use Rattle.pc_token.specs.declared.token.Keyword.{Keyword}
-use Rattle.pc_token.specs.declared.token.Keyword.TheVariants.{As, Async, Await, Del, Except, Finally, From, Global, Import, Lambda, Nonlocal, Raise, Try, With, Yield}
+use Rattle.pc_token.specs.declared.token.Keyword.TheVariants.{As, Async, Await, Del, Except, Finally, From, Global}
+use Rattle.pc_token.specs.declared.token.Keyword.TheVariants.{Import, Lambda, Nonlocal, Raise, Try, With, Yield}
 use Rattle.pc_token.specs.declared.token.Operator.{Operator}
 use Rattle.pc_token.specs.declared.token.Operator.TheVariants as o
 use Rattle.pc_token.specs.declared.token.TokenKind.{TokenKind}

@@ -1,5 +1,6 @@
 -- The tokens that lines give, line by line.
-use Rattle.std.specs.Prelude.{ℕ, Bool, true, false, if◌then◌else◌, List, [], ◌∷◌, length, replicate, Option, Some, None, Result, Ok, Err}
+use Rattle.std.specs.Prelude.{ℕ, Bool, true, false, if◌then◌else◌, List, [], ◌∷◌, length, replicate, Option, Some, None}
+use Rattle.std.specs.Prelude.{Result, Ok, Err}
 use Rattle.pc_source.specs.declared.fault.Refusal.{Refusal}
 use Rattle.pc_source.specs.declared.fault.RefusalCode.{RefusalCode}
 use Rattle.pc_source.specs.declared.fault.Fault.{Fault}
@@ -51,7 +52,8 @@ given_line xs end others = give xs (Ok end ∷ others)
 -- a line that was placed so, before what comes after it
 abbrev pub placed_line : List ℕ → Placement → List Lexeme → List (Result Lexeme Fault) → List (Result Lexeme Fault)
 placed_line text p xs others =
-    give (dedents p.dedents (first_byte (length text) xs)) (give (indents p.indent (first_byte (length text) xs)) (given_line xs (newline text xs) others))
+    give (dedents p.dedents (first_byte (length text) xs))
+    (give (indents p.indent (first_byte (length text) xs)) (given_line xs (newline text xs) others))
 
 -- a refusal counts once no later line holds a fault
 abbrev pub settle : Refusal → List (Result LogicalLine Fault) → Fault
@@ -78,7 +80,8 @@ abbrev pub closed_all : ℕ → LayoutContext → List (Result Lexeme Fault)
 closed_all len x = give (dedents (length x.levels) len) (Ok (mark k.End len) ∷ [])
 
 -- the tokens of a line and of the lines after it, or the fault
-abbrev pub layout_lexemes_by : Result Placement Refusal → List ℕ → List Lexeme → List (Result LogicalLine Fault) → (LayoutContext → List (Result Lexeme Fault)) → List (Result Lexeme Fault)
+abbrev pub layout_lexemes_by : Result Placement Refusal → List ℕ → List Lexeme → List (Result LogicalLine Fault)
+    → (LayoutContext → List (Result Lexeme Fault)) → List (Result Lexeme Fault)
 layout_lexemes_by (Ok p) text xs ls others = placed_line text p xs (others (after p xs))
 layout_lexemes_by (Err r) text xs ls others = Err (settle r ls) ∷ []
 
@@ -86,4 +89,5 @@ layout_lexemes_by (Err r) text xs ls others = Err (settle r ls) ∷ []
 unfoldable pub layout_lexemes : List ℕ → LayoutContext → List (Result LogicalLine Fault) → List (Result Lexeme Fault)
 layout_lexemes text x [] = closed_all (length text) x
 layout_lexemes text x (Err e ∷ ls) = Err e ∷ []
-layout_lexemes text x (Ok l ∷ ls) = layout_lexemes_by (step (length text) x l) text l.lexemes ls (λ y. layout_lexemes text y ls)
+layout_lexemes text x (Ok l ∷ ls) =
+    layout_lexemes_by (step (length text) x l) text l.lexemes ls (λ y. layout_lexemes text y ls)

@@ -1,5 +1,6 @@
 //! The line at hand.
-ghost use Rattle.std.specs.Prelude.{◌≡◌, ℕ, ◌+◌, ◌-◌, ◌^◌, ◌<◌, ◌≤◌, ◌*◌, true, false, List, [], ◌∷◌, length, map, Ok, Err, MatchResult, OnOk};
+ghost use Rattle.std.specs.Prelude.{◌≡◌, ℕ, ◌+◌, ◌-◌, ◌^◌, ◌<◌, ◌≤◌, ◌*◌, true, false, List, [], ◌∷◌, length, map, Ok};
+ghost use Rattle.std.specs.Prelude.{Err, MatchResult, OnOk};
 ghost use Rattle.pc_token.specs.Lexeme.{lexeme_of, line_of};
 ghost use Rattle.pc_layout.specs.Stepping.{settle, start, layout_lexemes};
 ghost use Rattle.pc_layout.specs.TokenIterator.Levels.{context_of, line_at, StepsTo};
@@ -45,7 +46,8 @@ fn step(
     column: usize,
     tokens: &[Tok<'_>],
 ) -> Result<Signs, Refusal>
-    ensures { StepsTo len (context_of levels.old) (line_at column (map lexeme_of tokens.now)) result (context_of levels.new) }
+    ensures { StepsTo len (context_of levels.old) (line_at column (map lexeme_of tokens.now)) result
+        (context_of levels.new) }
 {
     match levels.place(column) {
         Err(code) => {

@@ -1,5 +1,6 @@
 //! The laws of the layout: each function says one, and does nothing.
-ghost use Rattle.pc_layout.specs.Laws.{OneForest, OneLayout, LayoutOrRefusal, OneRefusal, FaultsAtTokens, LinesStandInOrder, FaultsWithin, LayoutsWithin};
+ghost use Rattle.pc_layout.specs.Laws.{OneForest, OneLayout, LayoutOrRefusal, OneRefusal, FaultsAtTokens};
+ghost use Rattle.pc_layout.specs.Laws.{LinesStandInOrder, FaultsWithin, LayoutsWithin};
 
 /// Lines are the lines of one forest of column 0 at most.
 pub fn one_forest()

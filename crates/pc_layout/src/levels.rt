@@ -1,5 +1,6 @@
 //! The suites that are open.
-ghost use Rattle.std.specs.Prelude.{◌≡◌, ℕ, ◌+◌, ◌-◌, ◌<◌, ◌≤◌, true, false, List, [], ◌∷◌, length, reverse, Ok, Err, MatchResult};
+ghost use Rattle.std.specs.Prelude.{◌≡◌, ℕ, ◌+◌, ◌-◌, ◌<◌, ◌≤◌, true, false, List, [], ◌∷◌, length, reverse, Ok, Err};
+ghost use Rattle.std.specs.Prelude.{MatchResult};
 
 use arrayvec::ArrayVec;
 use pc_source::RefusalCode;
@@ -91,7 +92,8 @@ impl Levels {
     /// Opens and closes suites for a line of a column.
     pub fn place(&mut self, column: usize) -> Result<Signs, RefusalCode>
         ensures places { MatchResult result
-            (λ s. placement (context_of self.old) column ≡ Ok (record { levels = (context_of self.new).levels; dedents = s.dedents; indent = s.indent }))
+            (λ s. placement (context_of self.old) column
+            ≡ Ok (record { levels = (context_of self.new).levels; dedents = s.dedents; indent = s.indent }))
             (λ code. placement (context_of self.old) column ≡ Err code) }
         ensures colon { self.new.after_colon ≡ self.old.after_colon }
         ensures def { self.new.after_def ≡ self.old.after_def }
@@ -122,7 +124,11 @@ impl Levels {
 
     /// What the line that was placed lets come after it.
     pub fn note(&mut self, after_colon: bool, after_def: bool)
-        ensures { context_of self.new ≡ record { levels = (context_of self.old).levels; after_colon = after_colon; after_def = after_def } }
+        ensures { context_of self.new ≡ record {
+          levels = (context_of self.old).levels;
+          after_colon = after_colon;
+          after_def = after_def;
+        } }
     {
         self.after_colon = after_colon;
         self.after_def = after_def;

@@ -1,11 +1,17 @@
 //! How a logical line begins, ends and is spelled.
-ghost use Rattle.std.specs.Prelude.{◌≡◌, ℕ, ◌+◌, ◌-◌, ◌<◌, ◌≤◌, ◌&&◌, ◌==◌, true, false, List, [], ◌∷◌, length, map, drop, take};
+ghost use Rattle.std.specs.Prelude.{◌≡◌, ℕ, ◌+◌, ◌-◌, ◌<◌, ◌≤◌, ◌&&◌, ◌==◌, true, false, List, [], ◌∷◌, length, map};
+ghost use Rattle.std.specs.Prelude.{drop, take};
 ghost use Rattle.std.specs.Str.{bytes_eq};
 ghost use Rattle.std.specs.Cmp.Lexicographic.{pointwise};
 ghost use Rattle.pc_token.specs.Lexeme.{lexeme_of, form_of};
-ghost use Rattle.pc_layout.specs.Spelling.{first_kind as first_kind_of, last_kind as last_kind_of, first_byte as first_byte_of, last_byte as last_byte_of, dataclass_decorator, excludes_keyword as excluded_keywords, excludes_operator as excluded_operators};
+ghost use Rattle.pc_layout.specs.Spelling.{first_kind as first_kind_of, last_kind as last_kind_of};
+ghost use Rattle.pc_layout.specs.Spelling.{first_byte as first_byte_of, last_byte as last_byte_of, dataclass_decorator};
+ghost use Rattle.pc_layout.specs.Spelling.{excludes_keyword as excluded_keywords};
+ghost use Rattle.pc_layout.specs.Spelling.{excludes_operator as excluded_operators};
 ghost use Rattle.pc_layout.specs.Stepping.{is_colon, is_def};
-ghost use Rattle.pc_layout.specs.Placing.{is_spelled as spelled, is_header as header_of, opening_fault as opening_fault_of, exclusion as excluded_of, first_excluded as first_excluded_of, word_fault as word_fault_of};
+ghost use Rattle.pc_layout.specs.Placing.{is_spelled as spelled, is_header as header_of};
+ghost use Rattle.pc_layout.specs.Placing.{opening_fault as opening_fault_of, exclusion as excluded_of};
+ghost use Rattle.pc_layout.specs.Placing.{first_excluded as first_excluded_of, word_fault as word_fault_of};
 
 use pc_source::{Refusal, RefusalCode};
 use pc_token::{Keyword, Operator, Tok, TokenKind};

@@ -75,7 +75,8 @@ pub fn layout<'a>(
 ) -> Result<Vec<Tok<'a>>, Fault>
     ensures laid { IfOk result (λ tokens. IsLayout source.now (map line_of lines.now) (map lexeme_of tokens.items)) }
     ensures refused { IfErr result (OnRefusal (Refuses source.now (map line_of lines.now))) }
-    ensures within { LinesWithin (length source.now) (map line_of lines.now) → IfErr result (IsWithin (length source.now)) }
+    ensures within { LinesWithin (length source.now) (map line_of lines.now)
+        → IfErr result (IsWithin (length source.now)) }
 {
     let mut tokens = Vec::new(alloc);
     let listed = Listed {

@@ -1,12 +1,16 @@
 -- What is called, and how arguments meet parameters.
 -- Language Reference 6.3.4 "Calls", 8.7 "Function definitions", 3.2.8.2 "Instance methods".
-use Rattle.std.specs.Prelude.{ℕ, Bool, true, false, ◌&&◌, ◌||◌, nat_eq, List, [], ◌∷◌, if◌then◌else◌, Option, Some, None, slice_get, codes}
+use Rattle.std.specs.Prelude.{ℕ, Bool, true, false, ◌&&◌, ◌||◌, nat_eq, List, [], ◌∷◌, if◌then◌else◌, Option, Some}
+use Rattle.std.specs.Prelude.{None, slice_get, codes}
 use Rattle.pc_tree.specs.Tree.{Expr, name}
-use Rattle.pc_value.specs.Value.{Value, whole, boolean, string, Slot, Out, Gives, Stops, Raised, TypeError, UnboundLocalError, NameError, Outside, Seen, a_list, a_dict, seen, class_number_of, is_list}
+use Rattle.pc_value.specs.Value.{Value, whole, boolean, string, Slot, Out, Gives, Stops, Raised, TypeError}
+use Rattle.pc_value.specs.Value.{UnboundLocalError, NameError, Outside, Seen, a_list, a_dict, seen, class_number_of}
+use Rattle.pc_value.specs.Value.{is_list}
 use Rattle.pc_value.specs.Texts.{same_text}
 use Rattle.pc_value.specs.Actions.{Action, append, pop, get, length_of, text_of}
 use Rattle.pc_machine.specs.State.{State, Parameter, Function, Class, Local}
-use Rattle.pc_machine.specs.Names.{Meaning, means_value, means_unbound, means_function, means_class, means_reserved, means_nothing, meaning_in_run}
+use Rattle.pc_machine.specs.Names.{Meaning, means_value, means_unbound, means_function, means_class, means_reserved}
+use Rattle.pc_machine.specs.Names.{means_nothing, meaning_in_run}
 
 -- the built-in methods of lists and dicts
 pub data BuiltinMethod : Type 0 where
@@ -60,7 +64,8 @@ method_of s v m = method_of_class m (class_at s.classes (class_number_of s.heap 
 
 -- the built-in method that a list or a dict has by a name
 abbrev pub builtin_method_of : Seen → List ℕ → Option BuiltinMethod
-builtin_method_of (a_list l items) m = if same_text m (codes "append") then Some list_append else if same_text m (codes "pop") then Some list_pop else None
+builtin_method_of (a_list l items) m = if same_text m (codes "append") then Some list_append
+    else if same_text m (codes "pop") then Some list_pop else None
 builtin_method_of (a_dict l entries) m = if same_text m (codes "get") then Some dict_get else None
 builtin_method_of v m = None
 
@@ -115,12 +120,15 @@ and_others p (Some v) (Some others) = Some (record { name = p.name; value = Some
 abbrev pub filled_parameters : List Parameter → List Value → List NamedValue → Option (List Local)
 filled_parameters [] [] named = Some []
 filled_parameters [] (v ∷ values) named = None
-filled_parameters (p ∷ rest) [] named = and_others p (value_taken p None (value_named p.name named)) (filled_parameters rest [] named)
-filled_parameters (p ∷ rest) (v ∷ values) named = and_others p (value_taken p (Some v) (value_named p.name named)) (filled_parameters rest values named)
+filled_parameters (p ∷ rest) [] named =
+    and_others p (value_taken p None (value_named p.name named)) (filled_parameters rest [] named)
+filled_parameters (p ∷ rest) (v ∷ values) named =
+    and_others p (value_taken p (Some v) (value_named p.name named)) (filled_parameters rest values named)
 
 -- the parameters with their values: none where the arguments do not suit them
 abbrev pub bound_arguments : List Parameter → List Value → List NamedValue → Option (List Local)
-bound_arguments parameters values named = if are_parameters named parameters then filled_parameters parameters values named else None
+bound_arguments parameters values named = if are_parameters named parameters
+    then filled_parameters parameters values named else None
 
 -- arguments that do not suit are TypeError
 abbrev pub or_type_error : Option (List Local) → Out (List Local)
@@ -144,9 +152,9 @@ builtin_method_action o list_pop [] [] = Gives (pop o)
 builtin_method_action o dict_get (k ∷ []) [] = Gives (get o k)
 builtin_method_action o method values named = Stops Outside
 
--- what a call of a reserved name does, after its arguments: `print` nothing, `len` and `str` an action; a wrong count is
--- TypeError for `len` and `isinstance` and out of the profile for `str`; other reserved names, `range` outside a `for`
--- among them, and arguments by name are out of the profile
+-- what a call of a reserved name does, after its arguments: `print` nothing, `len` and `str` an action; a wrong count
+-- is TypeError for `len` and `isinstance` and out of the profile for `str`; other reserved names, `range` outside a
+-- `for` among them, and arguments by name are out of the profile
 pub data ReservedCall : Type 0 where
   prints : ReservedCall
   performs : (action : Action) → ReservedCall
@@ -164,7 +172,9 @@ text_call values = Stops Outside
 -- a call of a reserved name with these arguments: what it does, or how it stops the run
 abbrev pub reserved_call : List ℕ → List Value → List NamedValue → Out ReservedCall
 reserved_call n values (a ∷ rest) = Stops Outside
-reserved_call n values [] = if same_text n (codes "print") then Gives prints else if same_text n (codes "len") then length_call values else if same_text n (codes "str") then text_call values else if same_text n (codes "isinstance") then Stops (Raised TypeError) else Stops Outside
+reserved_call n values [] = if same_text n (codes "print") then Gives prints else if same_text n (codes "len")
+    then length_call values else if same_text n (codes "str") then text_call values
+    else if same_text n (codes "isinstance") then Stops (Raised TypeError) else Stops Outside
 
 -- what a `for` goes over at `range(..)`: the limit, from one argument by position
 abbrev pub range_argument : List Value → List NamedValue → Out Value
@@ -178,7 +188,9 @@ pub data Test : Type 0 where
 
 -- `int`, `str`, `bool`, `list`, or a class that the module has bound; all else is out of the profile
 abbrev pub test_of_reserved : List ℕ → Out Test
-test_of_reserved n = if same_text n (codes "int") then Gives tests_int else if same_text n (codes "str") then Gives tests_str else if same_text n (codes "bool") then Gives tests_bool else if same_text n (codes "list") then Gives tests_list else Stops Outside
+test_of_reserved n = if same_text n (codes "int") then Gives tests_int else if same_text n (codes "str")
+    then Gives tests_str else if same_text n (codes "bool") then Gives tests_bool else if same_text n (codes "list")
+    then Gives tests_list else Stops Outside
 
 -- what a name as the second argument of `isinstance` tests for, by what the name means
 abbrev pub test_of_meaning : List ℕ → Meaning → Out Test

@@ -1,19 +1,35 @@
 -- The run model: what each expression and each statement does, in order, then the items of a module and `main`.
 -- Language Reference 4 "Execution model", 6 "Expressions", 7 "Simple statements", 8 "Compound statements"; events,
 -- charges and ends: own rules of the profile.
-use Rattle.std.specs.Prelude.{ℕ, zero, suc, Bool, true, false, not, List, [], ◌∷◌, ◌++◌, length, if◌then◌else◌, Option, Some, None, is_some, codes, chars}
+use Rattle.std.specs.Prelude.{ℕ, zero, suc, Bool, true, false, not, List, [], ◌∷◌, ◌++◌, length, if◌then◌else◌, Option}
+use Rattle.std.specs.Prelude.{Some, None, is_some, codes, chars}
 use Rattle.pc_source.specs.declared.place.Place.{Place}
-use Rattle.pc_tree.specs.Tree.{Name, Expr, name, number, text, truth, nothing, tuple, list, dict, negative, negation, binary, compare, is_none, is_not_none, conjunction, disjunction, attribute, index, call, Exprs, no_exprs, more_exprs, Entries, no_entries, more_entries, Keywords, no_keywords, more_keywords, Target, to_name, to_attribute, to_index, Literal, number_literal, negative_literal, text_literal, truth_literal, none_literal, Stmt, pass, breaks, continues, returns, asserts, annotated, assigns, evaluates, while_loop, for_loop, conditional, Stmts, no_stmts, more_stmts, Branches, no_branches, more_branches, Param, FuncDef, Member, field_member, method_member, ClassDef, Item, constant_item, class_item, def_item, Module}
+use Rattle.pc_tree.specs.Tree.{Name, Expr, name, number, text, truth, nothing, tuple, list, dict, negative, negation}
+use Rattle.pc_tree.specs.Tree.{binary, compare, is_none, is_not_none, conjunction, disjunction, attribute, index, call}
+use Rattle.pc_tree.specs.Tree.{Exprs, no_exprs, more_exprs, Entries, no_entries, more_entries, Keywords, no_keywords}
+use Rattle.pc_tree.specs.Tree.{more_keywords, Target, to_name, to_attribute, to_index, Literal, number_literal}
+use Rattle.pc_tree.specs.Tree.{negative_literal, text_literal, truth_literal, none_literal, Stmt, pass, breaks}
+use Rattle.pc_tree.specs.Tree.{continues, returns, asserts, annotated, assigns, evaluates, while_loop, for_loop}
+use Rattle.pc_tree.specs.Tree.{conditional, Stmts, no_stmts, more_stmts, Branches, no_branches, more_branches, Param}
+use Rattle.pc_tree.specs.Tree.{FuncDef, Member, field_member, method_member, ClassDef, Item, constant_item, class_item}
+use Rattle.pc_tree.specs.Tree.{def_item, Module}
 use Rattle.pc_value.specs.Value as value
-use Rattle.pc_value.specs.Value.{Value, whole, boolean, string, tuple_of, location, values_of, Entry, is_true, Stop, Raised, Other, Outside, Cut, TypeError, NameError, Out, Gives, Stops}
+use Rattle.pc_value.specs.Value.{Value, whole, boolean, string, tuple_of, location, values_of, Entry, is_true, Stop}
+use Rattle.pc_value.specs.Value.{Raised, Other, Outside, Cut, TypeError, NameError, Out, Gives, Stops}
 use Rattle.pc_value.specs.Actions as action
 use Rattle.pc_value.specs.Actions.{Action, Iteration}
 use Rattle.pc_value.specs.Numbers.{number_of_digits, negative_of_digits}
 use Rattle.pc_value.specs.Texts.{same_text}
-use Rattle.pc_machine.specs.State.{State, Parameter, Function, Class, GlobalBinding, a_value, a_function, a_class, Local}
+use Rattle.pc_machine.specs.State.{State, Parameter, Function, Class, GlobalBinding, a_value, a_function, a_class}
+use Rattle.pc_machine.specs.State.{Local}
 use Rattle.pc_machine.specs.Names.{Meaning, means_class, means_nothing, meaning_in_run, with_local, frame_of}
-use Rattle.pc_machine.specs.Calls.{Callee, calls_value, calls_function, calls_class, calls_reserved, calls_method, calls_builtin_method, callee_of_meaning, value_of_meaning, method_of, named_method, class_at, NamedValue, bound_arguments, or_type_error, slots_of, builtin_method_action, ReservedCall, prints, performs, reserved_call, range_argument, instance_test_of, passes}
-use Rattle.pc_machine.specs.Steps.{Interpretation, Parts, StatementEnd, next, breaking, continuing, leaves, value_out, iteration_out, item_out}
+use Rattle.pc_machine.specs.Calls.{Callee, calls_value, calls_function, calls_class, calls_reserved, calls_method}
+use Rattle.pc_machine.specs.Calls.{calls_builtin_method, callee_of_meaning, value_of_meaning, method_of, named_method}
+use Rattle.pc_machine.specs.Calls.{class_at, NamedValue, bound_arguments, or_type_error, slots_of}
+use Rattle.pc_machine.specs.Calls.{builtin_method_action, ReservedCall, prints, performs, reserved_call, range_argument}
+use Rattle.pc_machine.specs.Calls.{instance_test_of, passes}
+use Rattle.pc_machine.specs.Steps.{Interpretation, Parts, StatementEnd, next, breaking, continuing, leaves, value_out}
+use Rattle.pc_machine.specs.Steps.{iteration_out, item_out}
 
 -- a value is None
 abbrev pub is_none_value : Value → Bool
@@ -34,7 +50,8 @@ pub data CallForm : Type 0 where
 
 -- the form of a call, by its callee and its arguments
 abbrev pub call_form : Expr → Exprs → Keywords → CallForm
-call_form (name n) (more_exprs e (more_exprs t no_exprs)) no_keywords = if same_text n.text (codes "isinstance") then instance_test n e t else ordinary
+call_form (name n) (more_exprs e (more_exprs t no_exprs)) no_keywords = if same_text n.text (codes "isinstance")
+    then instance_test n e t else ordinary
 call_form callee arguments by_name = ordinary
 
 -- what a `for` goes over is a call of `range`, or a value
@@ -44,7 +61,8 @@ pub data IterableForm : Type 0 where
 
 -- the form of what a `for` goes over: a call of the name `range`, or any other expression
 abbrev pub iterable_form : Expr → IterableForm
-iterable_form (call p (name n) arguments keywords) = if same_text n.text (codes "range") then range_call p n arguments keywords else any_iterable
+iterable_form (call p (name n) arguments keywords) = if same_text n.text (codes "range")
+    then range_call p n arguments keywords else any_iterable
 iterable_form e = any_iterable
 
 -- `self` as a local of a method
@@ -103,7 +121,11 @@ pub record Members : Type 0 where
 
 -- the class that a number will name, behind its base
 abbrev pub class_behind : Option Class → Members → ℕ → Class
-class_behind base own n = record { ancestors = n ∷ ancestors_of base; fields = fields_of base ++ own.fields; methods = own.methods ++ methods_of base }
+class_behind base own n = record {
+  ancestors = n ∷ ancestors_of base;
+  fields = fields_of base ++ own.fields;
+  methods = own.methods ++ methods_of base;
+}
 
 -- the state after a local, a name of the module or a class was bound
 abbrev pub binds_local : List ℕ → Value → State → State
@@ -115,7 +137,10 @@ binds_global n b s = record s { globals = s.globals ++ record { name = n; is = b
 
 -- the state after a class was made and its name was bound to its number
 abbrev pub binds_class : List ℕ → Class → State → State
-binds_class n c s = record s { classes = s.classes ++ c ∷ []; globals = s.globals ++ record { name = n; is = a_class (length s.classes) } ∷ [] }
+binds_class n c s = record s {
+  classes = s.classes ++ c ∷ [];
+  globals = s.globals ++ record { name = n; is = a_class (length s.classes) } ∷ [];
+}
 
 module _ {ℓ} (Step : Type 0 → Type ℓ) (reading : Interpretation Step) where
   infixl 20 ◌>>=◌ ◌>>◌
@@ -321,7 +346,8 @@ module _ {ℓ} (Step : Type 0 → Type ℓ) (reading : Interpretation Step) wher
     k ← parts.eval i
     emit p
     act value_out (action.read_item v k)
-  eval_node parts (call p callee arguments keywords) = eval_call parts p callee arguments keywords (call_form callee arguments keywords)
+  eval_node parts (call p callee arguments keywords) =
+      eval_call parts p callee arguments keywords (call_form callee arguments keywords)
 
   -- ---- statements
 
@@ -434,14 +460,16 @@ module _ {ℓ} (Step : Type 0 → Type ℓ) (reading : Interpretation Step) wher
   after_turn (leaves v) more = pure (leaves v)
 
   -- a turn of a `while`: the condition, the suite, the further turns
-  abbrev pub while_turn : (Expr → Step Value) → (Stmts → Step StatementEnd) → Step StatementEnd → Expr → Stmts → Step StatementEnd
+  abbrev pub while_turn : (Expr → Step Value) → (Stmts → Step StatementEnd) → Step StatementEnd → Expr → Stmts
+      → Step StatementEnd
   while_turn eval exec more e body = do
     v ← eval e
     b ← condition v
     choose b (exec_body exec body >>= λ flow. after_turn flow more) (pure next)
 
   -- a turn of a `for`: the item if there is one, the target, the suite, the further turns
-  abbrev pub with_item : (Stmts → Step StatementEnd) → Step StatementEnd → List ℕ → Stmts → Option Value → Step StatementEnd
+  abbrev pub with_item : (Stmts → Step StatementEnd) → Step StatementEnd → List ℕ → Stmts → Option Value
+      → Step StatementEnd
   with_item exec more n body None = pure next
   with_item exec more n body (Some v) = do
     change (binds_local n v)
@@ -449,7 +477,8 @@ module _ {ℓ} (Step : Type 0 → Type ℓ) (reading : Interpretation Step) wher
     after_turn flow more
 
   -- a turn of a `for`, counted from 0: the action that gives its item, then the turn with it
-  abbrev pub for_turn : (Stmts → Step StatementEnd) → Step StatementEnd → Iteration → ℕ → List ℕ → Stmts → Step StatementEnd
+  abbrev pub for_turn : (Stmts → Step StatementEnd) → Step StatementEnd → Iteration → ℕ → List ℕ → Stmts
+      → Step StatementEnd
   for_turn exec more over i n body = do
     item ← act item_out (action.turn over i)
     with_item exec more n body item
@@ -473,7 +502,12 @@ module _ {ℓ} (Step : Type 0 → Type ℓ) (reading : Interpretation Step) wher
 
   -- at most n nested steps
   abbrev pub steps : ℕ → Parts Step
-  steps zero = record { eval = λ e. stop Cut; exec = λ body. stop Cut; again = λ e body. stop Cut; turns = λ over i n body. stop Cut }
+  steps zero = record {
+    eval = λ e. stop Cut;
+    exec = λ body. stop Cut;
+    again = λ e body. stop Cut;
+    turns = λ over i n body. stop Cut;
+  }
   steps (suc n) = over_parts (steps n)
 
   -- ---- the module
@@ -513,7 +547,10 @@ module _ {ℓ} (Step : Type 0 → Type ℓ) (reading : Interpretation Step) wher
   make_members (field_member f ∷ rest) = do
     default ← make_default f.default
     others ← make_members rest
-    pure (record { fields = record { name = f.name.text; default = default } ∷ others.fields; methods = others.methods })
+    pure (record {
+      fields = record { name = f.name.text; default = default } ∷ others.fields;
+      methods = others.methods;
+    })
   make_members (method_member f ∷ rest) = do
     method ← make_function f
     others ← make_members rest

@@ -14,7 +14,8 @@ abbrev pub Step : Type 0 → Type 1
 Step A = State → List Place → Out A → State → Type 0
 
 -- a step went on to another one
-pub record WentOn {A B : Type 0} (first : Step A) (next : A → Step B) (s : State) (events : List Place) (out : Out B) (s' : State) : Type 0 where
+pub record WentOn {A B : Type 0} (first : Step A) (next : A → Step B) (s : State) (events : List Place) (out : Out B)
+    (s' : State) : Type 0 where
   pub value : A
   pub middle : State
   pub early : List Place
@@ -24,7 +25,8 @@ pub record WentOn {A B : Type 0} (first : Step A) (next : A → Step B) (s : Sta
   pub both : events ≡ early ++ late
 
 -- a step ended the run
-pub record StoppedIn {A B : Type 0} (first : Step A) (s : State) (events : List Place) (out : Out B) (s' : State) : Type 0 where
+pub record StoppedIn {A B : Type 0} (first : Step A) (s : State) (events : List Place) (out : Out B)
+    (s' : State) : Type 0 where
   pub stop : Stop
   pub before : first s events (Stops stop) s'
   pub is : out ≡ Stops stop
@@ -35,7 +37,8 @@ abbrev pub ◌>>=◌ : {A B : Type 0} → Step A → (A → Step B) → Step B
 (first >>= next) s events out s' = WentOn first next s events out s' ⊎ StoppedIn first s events out s'
 
 -- no place is evaluated, the state stays, and it comes to this
-pub record ComesQuietly {A : Type 0} (to : Out A) (s : State) (events : List Place) (out : Out A) (s' : State) : Type 0 where
+pub record ComesQuietly {A : Type 0} (to : Out A) (s : State) (events : List Place) (out : Out A)
+    (s' : State) : Type 0 where
   pub is : out ≡ to
   pub quiet : events ≡ []
   pub same : s' ≡ s
@@ -66,26 +69,30 @@ pub record Emits (place : Place) (s : State) (events : List Place) (out : Out (U
   pub same : s' ≡ s
 
 -- no place is evaluated, the state stays, and it comes to what the state says
-pub record Looks {A : Type 0} (f : State → Out A) (s : State) (events : List Place) (out : Out A) (s' : State) : Type 0 where
+pub record Looks {A : Type 0} (f : State → Out A) (s : State) (events : List Place) (out : Out A)
+    (s' : State) : Type 0 where
   pub is : out ≡ f s
   pub quiet : events ≡ []
   pub same : s' ≡ s
 
 -- no place is evaluated, and the state changes
-pub record Changes (f : State → State) (s : State) (events : List Place) (out : Out (Unit {0})) (s' : State) : Type 0 where
+pub record Changes (f : State → State) (s : State) (events : List Place) (out : Out (Unit {0}))
+    (s' : State) : Type 0 where
   pub is : out ≡ Gives tt
   pub quiet : events ≡ []
   pub after : s' ≡ f s
 
 -- an action, at any free answers
-pub record Acts {A : Type 0} (want : Outcome → Out A) (a : Action) (s : State) (events : List Place) (out : Out A) (s' : State) : Type 0 where
+pub record Acts {A : Type 0} (want : Outcome → Out A) (a : Action) (s : State) (events : List Place) (out : Out A)
+    (s' : State) : Type 0 where
   pub free : Free
   pub is : out ≡ want (action_result free a s.heap).outcome
   pub quiet : events ≡ []
   pub after : s' ≡ record s { heap = (action_result free a s.heap).heap }
 
 -- a body runs from its own frame, and the caller's is put back
-pub record Enters {A : Type 0} (frame : Frame) (body : Step A) (s : State) (events : List Place) (out : Out A) (s' : State) : Type 0 where
+pub record Enters {A : Type 0} (frame : Frame) (body : Step A) (s : State) (events : List Place) (out : Out A)
+    (s' : State) : Type 0 where
   pub left : State
   pub runs : body (record s { frame = frame }) events out left
   pub after : s' ≡ record left { frame = s.frame }

@@ -1,9 +1,11 @@
 -- The machine of the tracer as a plain run so far, and what its steps tell.
 -- Own rule of the profile.
-use Rattle.std.specs.Prelude.{◌≡◌, ℤ, true, List, ◌∷◌, map, if◌then◌else◌, Option, Some, None, Result, Ok, Err, chars, Vec}
+use Rattle.std.specs.Prelude.{◌≡◌, ℤ, true, List, ◌∷◌, map, if◌then◌else◌, Option, Some, None, Result, Ok, Err, chars}
+use Rattle.std.specs.Prelude.{Vec}
 use Rattle.std.specs.Global.{Global as Allocator}
 use Rattle.std.specs.Borrow.{Bor}
-use Rattle.pc_tree.specs.Tree.{Literal, number_literal, negative_literal, text_literal, truth_literal, none_literal, Param, FuncDef, func_of, literal_of}
+use Rattle.pc_tree.specs.Tree.{Literal, number_literal, negative_literal, text_literal, truth_literal, none_literal}
+use Rattle.pc_tree.specs.Tree.{Param, FuncDef, func_of, literal_of}
 use Rattle.pc_tree.specs.declared.tree.Literal.{Literal as RustLiteral}
 use Rattle.pc_tree.specs.declared.tree.FuncDef.{FuncDef as RustFuncDef}
 use Rattle.pc_value.specs.Value.{Value, whole, boolean, string, none, Out, Gives, Stops}
@@ -18,8 +20,11 @@ use Rattle.pc_value.specs.Plain.{plainly_acted}
 use Rattle.pc_value.specs.Outcomes.{takes_choice}
 use Rattle.pc_value.specs.declared.value.Value.{Value as RustValue}
 use Rattle.pc_value.specs.declared.action.Outcome.{Outcome as RustOutcome}
-use Rattle.pc_machine.specs.State.{State, Parameter, Function, Class, GlobalBinding, a_value, a_function, a_class, Global, Local, Frame}
-use Rattle.pc_machine.specs.Calls.{NamedValue, Callee, calls_value, calls_function, calls_class, calls_reserved, calls_method, calls_builtin_method, BuiltinMethod, list_append, list_pop, dict_get, Test, tests_int, tests_str, tests_bool, tests_list, tests_class}
+use Rattle.pc_machine.specs.State.{State, Parameter, Function, Class, GlobalBinding, a_value, a_function, a_class}
+use Rattle.pc_machine.specs.State.{Global, Local, Frame}
+use Rattle.pc_machine.specs.Calls.{NamedValue, Callee, calls_value, calls_function, calls_class, calls_reserved}
+use Rattle.pc_machine.specs.Calls.{calls_method, calls_builtin_method, BuiltinMethod, list_append, list_pop, dict_get}
+use Rattle.pc_machine.specs.Calls.{Test, tests_int, tests_str, tests_bool, tests_list, tests_class}
 use Rattle.pc_machine.specs.Evaluation.{self_local}
 use Rattle.pc_machine.specs.declared.state.Callee.{Callee as RustCallee}
 use Rattle.pc_machine.specs.declared.state.Callee.TheVariants as rust_callee
@@ -27,7 +32,8 @@ use Rattle.pc_machine.specs.declared.state.Test.{Test as RustTest}
 use Rattle.pc_machine.specs.declared.state.Test.TheVariants as rust_test
 use Rattle.pc_machine.specs.declared.state.BuiltinMethod.{BuiltinMethod as RustBuiltinMethod}
 use Rattle.pc_machine.specs.declared.state.BuiltinMethod.TheVariants as rust_method
-use Rattle.pc_machine.specs.Names.{Meaning, means_value, means_unbound, means_function, means_class, means_reserved, means_nothing}
+use Rattle.pc_machine.specs.Names.{Meaning, means_value, means_unbound, means_function, means_class, means_reserved}
+use Rattle.pc_machine.specs.Names.{means_nothing}
 use Rattle.pc_machine.specs.Steps.{StatementEnd, next, breaking, continuing, leaves}
 use Rattle.pc_machine.specs.Plain.{Progress, After, Came, Ended, later_choices, next_choice, after_action}
 use Rattle.pc_machine.specs.declared.state.Parameter.{Parameter as RustParameter}
@@ -89,7 +95,11 @@ method_of_def f = function_of (func_of f.now)
 
 -- a class with its ancestors, fields and methods, as the program holds it
 abbrev pub class_of : RustClass → Class
-class_of c = record { ancestors = c.ancestors.items; fields = map parameter_of c.fields.items; methods = map method_of_def c.methods.items }
+class_of c = record {
+  ancestors = c.ancestors.items;
+  fields = map parameter_of c.fields.items;
+  methods = map method_of_def c.methods.items;
+}
 
 -- what the module binds to a name, as the program holds it
 abbrev pub bound_of : RustBound → GlobalBinding
@@ -123,11 +133,22 @@ flow_of (rust_flow.Leaves v) = leaves (value_of v)
 
 -- the state of a run that a machine holds
 abbrev pub state_of : Machine → State
-state_of m = record { classes = map class_of m.classes.items; globals = map global_of m.globals.bindings.items; frame = map local_of m.frame.items; heap = heap_of m.heap }
+state_of m = record {
+  classes = map class_of m.classes.items;
+  globals = map global_of m.globals.bindings.items;
+  frame = map local_of m.frame.items;
+  heap = heap_of m.heap;
+}
 
 -- the plain run so far that a machine holds
 abbrev pub progress_of : Machine → Progress
-progress_of m = record { state = state_of m; events = m.events.items; fuel = m.fuel; choices = m.choices.now; depth = m.depth.calls }
+progress_of m = record {
+  state = state_of m;
+  events = m.events.items;
+  fuel = m.fuel;
+  choices = m.choices.now;
+  depth = m.depth.calls;
+}
 
 -- how a run stops before its time, as the program tells it
 abbrev pub stop_of : RustStop → Stop
@@ -155,7 +176,8 @@ after_choice w = record w { choices = later_choices true w.choices }
 -- an action's outcome, and the progress after it
 pub record Performs (o : RustOutcome) (m : Machine) (a : Action) (w : Progress) : Type 0 where
   pub outcome : outcome_of o ≡ (plainly_acted (next_choice w.choices) a w.state.heap).outcome
-  pub progress : progress_of m ≡ after_action (takes_choice w.state.heap a) (plainly_acted (next_choice w.choices) a w.state.heap).heap w
+  pub progress : progress_of m
+      ≡ after_action (takes_choice w.state.heap a) (plainly_acted (next_choice w.choices) a w.state.heap).heap w
 
 -- ---- names
 

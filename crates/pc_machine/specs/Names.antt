@@ -2,7 +2,9 @@
 -- Language Reference 4.2 "Naming and binding"; the reserved names: own rule of the profile.
 use Rattle.std.specs.Prelude.{ℕ, Bool, true, false, List, [], ◌∷◌, ◌++◌, map, if◌then◌else◌, Option, Some, None}
 use Rattle.pc_token.specs.Keywords.{is_reserved}
-use Rattle.pc_tree.specs.Tree.{Stmts, no_stmts, more_stmts, Stmt, pass, breaks, continues, returns, asserts, annotated, assigns, evaluates, while_loop, for_loop, conditional, Branches, no_branches, more_branches, Target, to_name, to_attribute, to_index}
+use Rattle.pc_tree.specs.Tree.{Stmts, no_stmts, more_stmts, Stmt, pass, breaks, continues, returns, asserts, annotated}
+use Rattle.pc_tree.specs.Tree.{assigns, evaluates, while_loop, for_loop, conditional, Branches, no_branches}
+use Rattle.pc_tree.specs.Tree.{more_branches, Target, to_name, to_attribute, to_index}
 use Rattle.pc_value.specs.Value.{Value}
 use Rattle.pc_value.specs.Texts.{same_text}
 use Rattle.pc_machine.specs.State.{Local, Frame, Function, Globals, GlobalBinding, a_value, a_function, a_class, State}
@@ -54,7 +56,8 @@ local_by_name name (l ∷ rest) = if same_text l.name name then Some l.value els
 -- the frame after a local was bound
 abbrev pub with_local : List ℕ → Value → Frame → Frame
 with_local name v [] = []
-with_local name v (l ∷ rest) = if same_text l.name name then record { name = l.name; value = Some v } ∷ rest else l ∷ with_local name v rest
+with_local name v (l ∷ rest) = if same_text l.name name then record { name = l.name; value = Some v } ∷ rest
+    else l ∷ with_local name v rest
 
 -- what the module has bound to a name so far
 abbrev pub global_by_name : List ℕ → Globals → Option GlobalBinding
@@ -90,4 +93,5 @@ meaning_of_local outer (Some (Some v)) = means_value v
 
 -- a name that the function binds is local in all of it; others are the module's, then reserved
 abbrev pub meaning_in_run : List ℕ → State → Meaning
-meaning_in_run name s = meaning_of_local (meaning_of_global (is_reserved name) (global_by_name name s.globals)) (local_by_name name s.frame)
+meaning_in_run name s = meaning_of_local (meaning_of_global (is_reserved name) (global_by_name name s.globals))
+    (local_by_name name s.frame)

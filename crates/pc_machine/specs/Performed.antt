@@ -7,9 +7,11 @@ use Rattle.pc_value.specs.Actions as action
 use Rattle.pc_value.specs.Actions.{Iteration}
 use Rattle.pc_machine.specs.State.{Function, Frame}
 use Rattle.pc_machine.specs.Names.{frame_of}
-use Rattle.pc_machine.specs.Calls.{Callee, NamedValue, named_method, bound_arguments, or_type_error, range_argument, instance_test_of, passes}
+use Rattle.pc_machine.specs.Calls.{Callee, NamedValue, named_method, bound_arguments, or_type_error, range_argument}
+use Rattle.pc_machine.specs.Calls.{instance_test_of, passes}
 use Rattle.pc_machine.specs.Steps.{StatementEnd, next, value_out, iteration_out}
-use Rattle.pc_machine.specs.Plain.{Came, Ended, Step, and_then, comes, charge, after_event, after_entry, call_limit, plain, act}
+use Rattle.pc_machine.specs.Plain.{Came, Ended, Step, and_then, comes, charge, after_event, after_entry, call_limit}
+use Rattle.pc_machine.specs.Plain.{plain, act}
 use Rattle.pc_machine.specs.Runs.{plain_parts}
 use Rattle.pc_machine.specs.Evaluation as text
 use Rattle.pc_machine.specs.Evaluation.{self_local}
@@ -28,7 +30,8 @@ attribute_callee v m w = text.callee_of_attribute Step plain v m (named_method w
 
 -- what `isinstance(e, T)` gives, once e has its value and the event is left
 abbrev pub instance_tested : Value → Expr → Step Value
-instance_tested v t w = and_then (comes (instance_test_of t w.state) w) (λ test v'. Came (boolean (passes v'.state v test)) v')
+instance_tested v t w = and_then (comes (instance_test_of t w.state) w)
+    (λ test v'. Came (boolean (passes v'.state v test)) v')
 
 -- the store of `e.f = v`, once v and e have their values and the event is left
 abbrev pub attribute_stored : Value → List ℕ → Value → Step StatementEnd
@@ -40,7 +43,8 @@ item_stored o k v w = and_then (act value_out (action.store_item o k v) w) (λ s
 
 -- what a `for` goes over at `range(..)`, once the arguments have their values and the event is left
 abbrev pub range_begun : List Value → List NamedValue → Step Iteration
-range_begun values named w = and_then (comes (range_argument values named) w) (λ limit w'. act iteration_out (action.iterate_range limit) w')
+range_begun values named w =
+    and_then (comes (range_argument values named) w) (λ limit w'. act iteration_out (action.iterate_range limit) w')
 
 -- an empty suite of a loop is charged as `pass` is
 abbrev pub empty_charged : Stmts → Step (Unit {0})
@@ -54,5 +58,11 @@ entered_unless false frame w = Came w.state.frame (after_entry frame w)
 
 -- a function, or a method with its object, is entered with its arguments; what it comes to is the caller's frame
 abbrev pub opened_frame : Function → Option Value → List Value → List NamedValue → Step Frame
-opened_frame f None values named w = and_then (comes (or_type_error (bound_arguments f.parameters values named)) w) (λ arguments w'. entered_unless (nat_eq w'.depth call_limit) (frame_of f arguments) w')
-opened_frame f (Some object) values named w = and_then (comes (or_type_error (bound_arguments f.parameters values named)) w) (λ arguments w'. and_then (entered_unless (nat_eq w'.depth call_limit) (frame_of f (self_local object ∷ arguments)) w') (λ caller w''. Came caller (after_event f.name.place w'')))
+opened_frame f None values named w =
+    and_then (comes (or_type_error (bound_arguments f.parameters values named)) w)
+    (λ arguments w'. entered_unless (nat_eq w'.depth call_limit) (frame_of f arguments) w')
+opened_frame f (Some object) values named w =
+    and_then (comes (or_type_error (bound_arguments f.parameters values named)) w)
+    (λ arguments w'. and_then
+    (entered_unless (nat_eq w'.depth call_limit) (frame_of f (self_local object ∷ arguments)) w')
+    (λ caller w''. Came caller (after_event f.name.place w'')))

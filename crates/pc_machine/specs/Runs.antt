@@ -66,7 +66,8 @@ pub record PlainlyRan (m : Module) (fuel : ℕ) (choices : List ℕ) (events : L
 
 -- the plain run of a module for a fuel and choices
 abbrev pub PlainRun : Module → ℕ → List ℕ → List Place → End → Type 0
-PlainRun m fuel choices events end = (IsFalse (is_runnable m) × NeverRan events end) ⊎ (IsTrue (is_runnable m) × PlainlyRan m fuel choices events end)
+PlainRun m fuel choices events end = (IsFalse (is_runnable m) × NeverRan events end)
+    ⊎ (IsTrue (is_runnable m) × PlainlyRan m fuel choices events end)
 
 -- the ends that the report speaks of: one of the four exceptions, or out of the profile
 abbrev pub IsFaultyEnd : End → Type 0
@@ -78,4 +79,5 @@ IsFaultyEnd (stopped Cut) = ⊥
 
 -- each plain run of a module, whatever the fuel and the choices, is a run of it
 abbrev pub PlainRunsAreRuns : Type 0
-PlainRunsAreRuns = (m : Module) (fuel : ℕ) (choices : List ℕ) (events : List Place) (end : End) → PlainRun m fuel choices events end → Run m events end
+PlainRunsAreRuns = (m : Module) (fuel : ℕ) (choices : List ℕ) (events : List Place) (end : End)
+    → PlainRun m fuel choices events end → Run m events end

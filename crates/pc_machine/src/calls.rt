@@ -8,7 +8,8 @@ ghost use Rattle.pc_tree.specs.Tree.{literal_of, param_of};
 ghost use Rattle.pc_value.specs.Meaning.{value_of};
 ghost use Rattle.pc_value.specs.Internal.Keys.{option_value};
 ghost use Rattle.pc_machine.specs.Calls.{value_named, is_parameter, are_parameters, bound_arguments, value_taken};
-ghost use Rattle.pc_machine.specs.Machine.{literal_value, parameter_of, parameter_of_param, named_of, value_if_any, locals_of, default_of};
+ghost use Rattle.pc_machine.specs.Machine.{literal_value, parameter_of, parameter_of_param, named_of, value_if_any};
+ghost use Rattle.pc_machine.specs.Machine.{locals_of, default_of};
 
 use crate::state::{Local, NamedValue, Parameter};
 use indexmap::{IndexMap, IndexSet};
@@ -72,7 +73,8 @@ fn first_values<'a, 'm>(
     keys: RandomState,
     named: &'a [NamedValue<'m>],
 ) -> Result<NameMap<'m, &'a Value>, OutOfMemory>
-    ensures { IfOk result (λ m. (name : List ℕ) → option_value (at_text m name) ≡ value_named name (map named_of named.now)) }
+    ensures { IfOk result (λ m. (name : List ℕ)
+        → option_value (at_text m name) ≡ value_named name (map named_of named.now)) }
 {
     let mut values = IndexMap::with_hasher(alloc, keys);
     for argument in named {
@@ -87,7 +89,8 @@ fn parameter_names<'m>(
     keys: RandomState,
     parameters: &[Parameter<'m>],
 ) -> Result<NameSet<'m>, OutOfMemory>
-    ensures { IfOk result (λ s. (name : List ℕ) → is_among (texts_in s) name ≡ is_parameter name (map parameter_of parameters.now)) }
+    ensures { IfOk result (λ s. (name : List ℕ)
+        → is_among (texts_in s) name ≡ is_parameter name (map parameter_of parameters.now)) }
 {
     let mut names = IndexSet::with_hasher(alloc, keys);
     for parameter in parameters {
@@ -141,7 +144,8 @@ fn take(
     by_position: Option<&Value>,
     by_name: Option<&Value>,
 ) -> Result<Option<Value>, OutOfMemory>
-    ensures { IfOk result (λ o. value_if_any o ≡ value_taken (parameter_of parameter.entry) (option_value by_position.entry) (option_value by_name.entry)) }
+    ensures { IfOk result (λ o. value_if_any o
+        ≡ value_taken (parameter_of parameter.entry) (option_value by_position.entry) (option_value by_name.entry)) }
 {
     match (by_position, by_name) {
         (Some(_), Some(_)) => Ok(None),
@@ -160,7 +164,8 @@ pub fn bound_arguments<'m>(
     values: &[Value],
     named: &[NamedValue<'_>],
 ) -> Result<Option<Vec<Local<'m>>>, OutOfMemory>
-    ensures { IfOk result (λ o. locals_of o ≡ bound_arguments (map parameter_of parameters.now) (map value_of values.now) (map named_of named.now)) }
+    ensures { IfOk result (λ o. locals_of o
+        ≡ bound_arguments (map parameter_of parameters.now) (map value_of values.now) (map named_of named.now)) }
 {
     if !are_parameters(alloc, keys, named, parameters)? {
         return Ok(None);

@@ -40,7 +40,8 @@ impl<'m> Globals<'m> {
     ///
     /// `OutOfMemory` where there is no room; nothing is bound then.
     pub fn bind(&mut self, name: &'m str, bound: Bound<'m>) -> Result<(), OutOfMemory>
-        ensures { OnOk result (map global_seen self.new.bindings.items ≡ map global_seen self.old.bindings.items ++ record { name = name.now; is = bound_of bound.entry } ∷ []) }
+        ensures { OnOk result (map global_seen self.new.bindings.items
+            ≡ map global_seen self.old.bindings.items ++ record { name = name.now; is = bound_of bound.entry } ∷ []) }
     {
         let place = self.bindings.len();
         self.bindings.push(Global { name, bound })?;

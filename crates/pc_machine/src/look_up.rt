@@ -5,9 +5,11 @@ ghost use Rattle.pc_tree.specs.Tree.{expr_of};
 ghost use Rattle.pc_value.specs.Meaning.{value_of, heap_of};
 ghost use Rattle.pc_value.specs.Value.{is_true, seen, a_list, a_dict, class_number_of};
 ghost use Rattle.pc_machine.specs.Plain.{comes};
-ghost use Rattle.pc_machine.specs.Calls.{method_of, method_among, builtin_method_of, class_at, callee_of_meaning, instance_test_of, test_of_reserved, passes, is_ancestor, descends_from};
+ghost use Rattle.pc_machine.specs.Calls.{method_of, method_among, builtin_method_of, class_at, callee_of_meaning};
+ghost use Rattle.pc_machine.specs.Calls.{instance_test_of, test_of_reserved, passes, is_ancestor, descends_from};
 ghost use Rattle.pc_machine.specs.Names.{meaning_in_run};
-ghost use Rattle.pc_machine.specs.Machine.{TellsProgress, TellsOutcome, found_method, found_class, found_builtin, test_seen, progress_of, state_of, callee_seen, method_of_def};
+ghost use Rattle.pc_machine.specs.Machine.{TellsProgress, TellsOutcome, found_method, found_class, found_builtin};
+ghost use Rattle.pc_machine.specs.Machine.{test_seen, progress_of, state_of, callee_seen, method_of_def};
 
 use crate::halt::{Halt, Stop};
 use crate::machine::{Machine, raised};
@@ -85,7 +87,8 @@ fn is_ancestor(class: usize, ancestors: &[usize]) -> bool
 impl<'m> Machine<'m> {
     /// The class of an instance.
     fn class_of(&self, object: &Value) -> Option<&Class<'m>>
-        ensures { found_class result ≡ class_at (state_of self.now).classes (class_number_of (heap_of self.now.heap) (value_of object.now)) }
+        ensures { found_class result
+            ≡ class_at (state_of self.now).classes (class_number_of (heap_of self.now.heap) (value_of object.now)) }
     {
         match see(&self.heap, object) {
             Seen::Number(_) => None,
@@ -111,7 +114,8 @@ impl<'m> Machine<'m> {
 
     /// The built-in method that an object has by a name.
     pub(crate) fn find_builtin_method(&self, object: &Value, name: &str) -> Option<BuiltinMethod>
-        ensures { found_builtin result ≡ builtin_method_of (seen (heap_of self.now.heap) (value_of object.now)) name.now }
+        ensures { found_builtin result
+            ≡ builtin_method_of (seen (heap_of self.now.heap) (value_of object.now)) name.now }
     {
         match see(&self.heap, object) {
             Seen::Number(_) => None,
@@ -127,7 +131,8 @@ impl<'m> Machine<'m> {
 
     /// What a name is as a callee. Language Reference 6.3.4 "Calls".
     pub fn look_up_callee(&self, alloc: Allocator, name: &'m str) -> Result<Callee<'m>, Halt>
-        ensures { TellsProgress callee_seen result self.now (comes (callee_of_meaning name.now (meaning_in_run name.now (state_of self.now))) (progress_of self.now)) }
+        ensures { TellsProgress callee_seen result self.now
+            (comes (callee_of_meaning name.now (meaning_in_run name.now (state_of self.now))) (progress_of self.now)) }
     {
         match self.meaning(name) {
             Meaning::Value(value) => Ok(Callee::Value(value.copy(alloc)?)),
@@ -158,7 +163,8 @@ impl<'m> Machine<'m> {
 
     /// An object is an instance of a class or of a descendant of it.
     fn is_instance(&self, object: &Value, class: usize) -> bool
-        ensures { result ≡ descends_from class (class_at (state_of self.now).classes (class_number_of (heap_of self.now.heap) (value_of object.now))) }
+        ensures { result ≡ descends_from class
+            (class_at (state_of self.now).classes (class_number_of (heap_of self.now.heap) (value_of object.now))) }
     {
         match self.class_of(object) {
             Some(made) => is_ancestor(class, &made.ancestors),

@@ -10,7 +10,8 @@ ghost use Rattle.pc_machine.specs.Calls.{value_of_meaning};
 ghost use Rattle.pc_machine.specs.Evaluation.{binds_local};
 ghost use Rattle.pc_machine.specs.declared.halt.Halt.TheVariants as halt;
 ghost use Rattle.pc_machine.specs.declared.halt.Stop.TheVariants as stop;
-ghost use Rattle.pc_machine.specs.Machine.{TellsProgress, meaning_seen, state_of, progress_of, Performs, after_choice, unit, value_if_any};
+ghost use Rattle.pc_machine.specs.Machine.{TellsProgress, meaning_seen, state_of, progress_of, Performs, after_choice};
+ghost use Rattle.pc_machine.specs.Machine.{unit, value_if_any};
 
 use crate::depth::Depth;
 use crate::halt::{Halt, Stop};
@@ -92,7 +93,8 @@ impl<'m> Machine<'m> {
 
     /// The value of a name.
     fn value_of_name(&self, alloc: Allocator, name: &str) -> Result<Value, Halt>
-        ensures { TellsProgress value_of result self.now (comes (value_of_meaning (meaning_in_run name.now (state_of self.now))) (progress_of self.now)) }
+        ensures { TellsProgress value_of result self.now
+            (comes (value_of_meaning (meaning_in_run name.now (state_of self.now))) (progress_of self.now)) }
     {
         match self.meaning(name) {
             Meaning::Value(value) => Ok(value.copy(alloc)?),
@@ -107,7 +109,9 @@ impl<'m> Machine<'m> {
     /// A name as an expression: its place, then its value. Language Reference 6.2.1 "Identifiers (Names)".
     #[inline(never)]
     pub fn read_name(&mut self, alloc: Allocator, place: Place, name: &str) -> Result<Value, Halt>
-        ensures plain { TellsProgress value_of result self.new (comes (value_of_meaning (meaning_in_run name.now (state_of self.old))) (after_event place (progress_of self.old))) }
+        ensures plain { TellsProgress value_of result self.new
+            (comes (value_of_meaning (meaning_in_run name.now (state_of self.old)))
+            (after_event place (progress_of self.old))) }
         ensures fuel { self.new.fuel ≤ self.old.fuel }
     {
         self.emit(place)?;
@@ -117,7 +121,8 @@ impl<'m> Machine<'m> {
     /// A local is bound to a value. Language Reference 4.2.1 "Binding of names".
     #[inline(never)]
     pub fn bind_local(&mut self, name: &str, value: Value)
-        ensures plain { progress_of self.new ≡ after_change (binds_local name.now (value_of value)) (progress_of self.old) }
+        ensures plain { progress_of self.new
+            ≡ after_change (binds_local name.now (value_of value)) (progress_of self.old) }
         ensures fuel { self.new.fuel ≡ self.old.fuel }
     {
         set_local(&mut self.frame, name, value);
@@ -151,7 +156,8 @@ impl<'m> Machine<'m> {
     /// A value, at its place. Own rule of the profile.
     #[inline(never)]
     pub fn give(&mut self, place: Place, value: Value) -> Result<Value, Halt>
-        ensures plain { TellsProgress value_of result self.new (Came (value_of value) (after_event place (progress_of self.old))) }
+        ensures plain { TellsProgress value_of result self.new
+            (Came (value_of value) (after_event place (progress_of self.old))) }
         ensures fuel { self.new.fuel ≤ self.old.fuel }
     {
         self.emit(place)?;
@@ -193,7 +199,8 @@ impl<'m> Machine<'m> {
 
     /// An action that comes to a value.
     pub(crate) fn act_value(&mut self, alloc: Allocator, action: Action) -> Result<Value, Halt>
-        ensures plain { TellsProgress value_of result self.new (act value_out (action_of action) (progress_of self.old)) }
+        ensures plain { TellsProgress value_of result self.new
+            (act value_out (action_of action) (progress_of self.old)) }
         ensures fuel { self.new.fuel ≤ self.old.fuel }
     {
         match self.act(alloc, &action)? {
@@ -210,7 +217,8 @@ impl<'m> Machine<'m> {
     /// An action that comes to what a `for` goes over. Language Reference 8.3 "The for statement".
     #[inline(never)]
     pub fn act_iteration(&mut self, alloc: Allocator, action: Action) -> Result<Iteration, Halt>
-        ensures plain { TellsProgress iteration_of result self.new (act iteration_out (action_of action) (progress_of self.old)) }
+        ensures plain { TellsProgress iteration_of result self.new
+            (act iteration_out (action_of action) (progress_of self.old)) }
         ensures fuel { self.new.fuel ≤ self.old.fuel }
     {
         match self.act(alloc, &action)? {
@@ -227,7 +235,8 @@ impl<'m> Machine<'m> {
     /// A turn of a `for`: the item, or none at the end. Language Reference 8.3 "The for statement".
     #[inline(never)]
     pub fn act_item(&mut self, alloc: Allocator, action: &Action) -> Result<Option<Value>, Halt>
-        ensures plain { TellsProgress value_if_any result self.new (act item_out (action_of action.now) (progress_of self.old)) }
+        ensures plain { TellsProgress value_if_any result self.new
+            (act item_out (action_of action.now) (progress_of self.old)) }
         ensures fuel { self.new.fuel ≤ self.old.fuel }
     {
         match self.act(alloc, action)? {
@@ -244,7 +253,8 @@ impl<'m> Machine<'m> {
     /// An action that comes to a value, at its place. Own rule of the profile.
     #[inline(never)]
     pub fn perform(&mut self, alloc: Allocator, place: Place, action: Action) -> Result<Value, Halt>
-        ensures plain { TellsProgress value_of result self.new (act value_out (action_of action) (after_event place (progress_of self.old))) }
+        ensures plain { TellsProgress value_of result self.new
+            (act value_out (action_of action) (after_event place (progress_of self.old))) }
         ensures fuel { self.new.fuel ≤ self.old.fuel }
     {
         self.emit(place)?;

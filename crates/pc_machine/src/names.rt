@@ -5,7 +5,8 @@ ghost use Rattle.pc_tree.specs.Tree.{stmts_of_list, stmt_of_kind, target_of};
 ghost use Rattle.pc_source.specs.declared.place.Place.{Place as PlaceOf};
 ghost use Rattle.pc_value.specs.Meaning.{value_of};
 ghost use Rattle.pc_value.specs.Texts.{same_text};
-ghost use Rattle.pc_machine.specs.Names.{unbound, names_bound, names_bound_by, names_bound_in, target_names, local_by_name, with_local};
+ghost use Rattle.pc_machine.specs.Names.{unbound, names_bound, names_bound_by, names_bound_in, target_names};
+ghost use Rattle.pc_machine.specs.Names.{local_by_name, with_local};
 ghost use Rattle.pc_machine.specs.Machine.{local_of as local_seen, found_local};
 ghost use Rattle.pc_tree.specs.Lists.{branches_of_list};
 
@@ -48,7 +49,8 @@ pub fn set_local(frame: &mut [Local<'_>], name: &str, value: Value)
 
 /// One more local, not bound yet.
 fn add_name<'m>(frame: &mut Vec<Local<'m>>, name: &'m str) -> Result<(), OutOfMemory>
-    ensures { OnOk result (map local_seen frame.new.items ≡ map local_seen frame.old.items ++ map unbound (name.now ∷ [])) }
+    ensures { OnOk result (map local_seen frame.new.items
+        ≡ map local_seen frame.old.items ++ map unbound (name.now ∷ [])) }
 {
     match frame.push(Local { name, value: None }) {
         Ok(()) => Ok(()),
@@ -59,7 +61,8 @@ fn add_name<'m>(frame: &mut Vec<Local<'m>>, name: &'m str) -> Result<(), OutOfMe
 /// The names that statements bind, as locals that are not bound yet.
 #[cycle(names)]
 pub fn add_names<'m>(frame: &mut Vec<Local<'m>>, body: &'m [Stmt]) -> Result<(), OutOfMemory>
-    ensures { OnOk result (map local_seen frame.new.items ≡ map local_seen frame.old.items ++ map unbound (names_bound (stmts_of_list body.now))) }
+    ensures { OnOk result (map local_seen frame.new.items
+        ≡ map local_seen frame.old.items ++ map unbound (names_bound (stmts_of_list body.now))) }
 {
     for statement in body {
         add_names_of(frame, &statement.kind)?;
@@ -70,7 +73,9 @@ pub fn add_names<'m>(frame: &mut Vec<Local<'m>>, body: &'m [Stmt]) -> Result<(),
 /// The names that a statement binds.
 #[cycle(names)]
 fn add_names_of<'m>(frame: &mut Vec<Local<'m>>, kind: &'m StmtKind) -> Result<(), OutOfMemory>
-    ensures { (p : PlaceOf) → OnOk result (map local_seen frame.new.items ≡ map local_seen frame.old.items ++ map unbound (names_bound_by (stmt_of_kind p kind.now))) }
+    ensures { (p : PlaceOf) → OnOk result
+        (map local_seen frame.new.items
+        ≡ map local_seen frame.old.items ++ map unbound (names_bound_by (stmt_of_kind p kind.now))) }
 {
     match kind {
         StmtKind::Pass => Ok(()),
@@ -95,7 +100,8 @@ fn add_names_of<'m>(frame: &mut Vec<Local<'m>>, kind: &'m StmtKind) -> Result<()
 
 /// The name that a target binds, if it binds one.
 fn add_target<'m>(frame: &mut Vec<Local<'m>>, target: &'m Target) -> Result<(), OutOfMemory>
-    ensures { OnOk result (map local_seen frame.new.items ≡ map local_seen frame.old.items ++ map unbound (target_names (target_of target.now))) }
+    ensures { OnOk result (map local_seen frame.new.items
+        ≡ map local_seen frame.old.items ++ map unbound (target_names (target_of target.now))) }
 {
     match target {
         Target::Name(name) => add_name(frame, name.text.as_str()),
@@ -107,7 +113,8 @@ fn add_target<'m>(frame: &mut Vec<Local<'m>>, target: &'m Target) -> Result<(), 
 /// The names that the suites of conditions bind.
 #[cycle(names)]
 fn add_names_in<'m>(frame: &mut Vec<Local<'m>>, branches: &'m [Branch]) -> Result<(), OutOfMemory>
-    ensures { OnOk result (map local_seen frame.new.items ≡ map local_seen frame.old.items ++ map unbound (names_bound_in (branches_of_list branches.now))) }
+    ensures { OnOk result (map local_seen frame.new.items
+        ≡ map local_seen frame.old.items ++ map unbound (names_bound_in (branches_of_list branches.now))) }
 {
     for branch in branches {
         add_names(frame, &branch.body)?;

@@ -11,8 +11,11 @@ ghost use Rattle.pc_machine.specs.Plain.{Came, after_event, act};
 ghost use Rattle.pc_machine.specs.Steps.{value_out};
 ghost use Rattle.pc_machine.specs.Calls.{method_of, bound_arguments, or_type_error, slots_of, builtin_method_action};
 ghost use Rattle.pc_machine.specs.Names.{frame_of};
-ghost use Rattle.pc_machine.specs.Performed.{callee_in, callee_called, attribute_callee, instance_tested, attribute_stored, item_stored, range_begun, empty_charged, opened_frame};
-ghost use Rattle.pc_machine.specs.Machine.{TellsProgress, TellsOutcome, method_seen, local_of, with_object, unit, progress_of, state_of, flow_of, named_of, value_if_any, callee_seen, frame_of_vec, method_of_def};
+ghost use Rattle.pc_machine.specs.Performed.{callee_in, callee_called, attribute_callee, instance_tested};
+ghost use Rattle.pc_machine.specs.Performed.{attribute_stored, item_stored, range_begun, empty_charged, opened_frame};
+ghost use Rattle.pc_machine.specs.Machine.{TellsProgress, TellsOutcome, method_seen, local_of, with_object, unit};
+ghost use Rattle.pc_machine.specs.Machine.{progress_of, state_of, flow_of, named_of, value_if_any, callee_seen};
+ghost use Rattle.pc_machine.specs.Machine.{frame_of_vec, method_of_def};
 ghost use Rattle.pc_tree.specs.Tree.{name as name_node};
 ghost use Rattle.pc_machine.specs.Calls.{calls_class, calls_reserved};
 ghost use Rattle.pc_machine.specs.declared.state.Callee.TheVariants as callee;
@@ -52,7 +55,9 @@ fn builtin_action(
     values: &[Value],
     named: &[NamedValue<'_>],
 ) -> Result<Action, Halt>
-    ensures { TellsOutcome action_of result (builtin_method_action (value_of object) (method_seen method) (map value_of values.now) (map named_of named.now)) }
+    ensures { TellsOutcome action_of result
+        (builtin_method_action (value_of object) (method_seen method) (map value_of values.now)
+        (map named_of named.now)) }
 {
     if !named.is_empty() {
         return Err(Halt::Stopped(Stop::Outside));
@@ -73,7 +78,9 @@ fn suited_arguments<'m>(
     values: &[Value],
     named: &[NamedValue<'m>],
 ) -> Result<Vec<Local<'m>>, Halt>
-    ensures { TellsOutcome frame_of_vec result (or_type_error (bound_arguments (method_of_def def.entry).parameters (map value_of values.now) (map named_of named.now))) }
+    ensures { TellsOutcome frame_of_vec result
+        (or_type_error (bound_arguments (method_of_def def.entry).parameters (map value_of values.now)
+        (map named_of named.now))) }
 {
     let parameters = parameters(alloc, &def.params)?;
     match bound_arguments(alloc, keys, &parameters, values, named)? {
@@ -89,7 +96,8 @@ fn frame_of<'m>(
     arguments: Vec<Local<'m>>,
     def: &'m FuncDef,
 ) -> Result<Vec<Local<'m>>, OutOfMemory>
-    ensures { IfOk result (λ ls. map local_of ls.items ≡ frame_of (method_of_def def.entry) (with_object (value_if_any object) (map local_of arguments.entry.items))) }
+    ensures { IfOk result (λ ls. map local_of ls.items
+        ≡ frame_of (method_of_def def.entry) (with_object (value_if_any object) (map local_of arguments.entry.items))) }
 {
     let mut frame = Vec::new(alloc);
     if let Some(object) = object {
@@ -109,7 +117,8 @@ impl<'m> Machine<'m> {
     /// A whole number as it is written. Language Reference 2.4.5 "Integer literals".
     #[inline(never)]
     pub fn number(&mut self, alloc: Allocator, place: Place, digits: &str) -> Result<Value, Halt>
-        ensures plain { TellsProgress value_of result self.new (act value_out (action.number (number_of_digits digits.now)) (after_event place (progress_of self.old))) }
+        ensures plain { TellsProgress value_of result self.new
+            (act value_out (action.number (number_of_digits digits.now)) (after_event place (progress_of self.old))) }
         ensures fuel { self.new.fuel ≤ self.old.fuel }
     {
         let digits = text_of(alloc, digits)?;
@@ -119,7 +128,8 @@ impl<'m> Machine<'m> {
     /// A text. Language Reference 2.4.1 "String and Bytes literals".
     #[inline(never)]
     pub fn text(&mut self, alloc: Allocator, place: Place, text: &str) -> Result<Value, Halt>
-        ensures plain { TellsProgress value_of result self.new (Came (string (chars text.now)) (after_event place (progress_of self.old))) }
+        ensures plain { TellsProgress value_of result self.new
+            (Came (string (chars text.now)) (after_event place (progress_of self.old))) }
         ensures fuel { self.new.fuel ≤ self.old.fuel }
     {
         let characters = characters(alloc, text)?;
@@ -135,7 +145,10 @@ impl<'m> Machine<'m> {
         object: Value,
         name: &str,
     ) -> Result<Value, Halt>
-        ensures plain { TellsProgress value_of result self.new (act value_out (action.read_attribute (value_of object) name.now (is_some (method_of (state_of self.old) (value_of object) name.now))) (after_event place (progress_of self.old))) }
+        ensures plain { TellsProgress value_of result self.new
+            (act value_out (action.read_attribute (value_of object) name.now
+            (is_some (method_of (state_of self.old) (value_of object) name.now)))
+            (after_event place (progress_of self.old))) }
         ensures fuel { self.new.fuel ≤ self.old.fuel }
     {
         let is_method = self.find_method(&object, name).is_some();
@@ -146,7 +159,8 @@ impl<'m> Machine<'m> {
     /// A name as a callee: it is charged, then its place, then what it is. Language Reference 6.3.4 "Calls".
     #[inline(never)]
     pub fn callee_of_name(&mut self, alloc: Allocator, name: &'m Name) -> Result<Callee<'m>, Halt>
-        ensures plain { (n : ℕ) → TellsProgress callee_seen result self.new (callee_in n (name_node (name_of name.now)) (progress_of self.old)) }
+        ensures plain { (n : ℕ) → TellsProgress callee_seen result self.new
+            (callee_in n (name_node (name_of name.now)) (progress_of self.old)) }
         ensures fuel { self.new.fuel ≤ self.old.fuel }
     {
         self.charge()?;
@@ -164,7 +178,8 @@ impl<'m> Machine<'m> {
         object: Value,
         name: &str,
     ) -> Result<Callee<'m>, Halt>
-        ensures plain { TellsProgress callee_seen result self.new (attribute_callee (value_of object) name.now (after_event place (progress_of self.old))) }
+        ensures plain { TellsProgress callee_seen result self.new
+            (attribute_callee (value_of object) name.now (after_event place (progress_of self.old))) }
         ensures fuel { self.new.fuel ≤ self.old.fuel }
     {
         self.emit(place)?;
@@ -187,7 +202,8 @@ impl<'m> Machine<'m> {
         object: &Value,
         test: &Expr,
     ) -> Result<Value, Halt>
-        ensures plain { TellsProgress value_of result self.new (instance_tested (value_of object.now) (expr_of test.now) (after_event place (progress_of self.old))) }
+        ensures plain { TellsProgress value_of result self.new
+            (instance_tested (value_of object.now) (expr_of test.now) (after_event place (progress_of self.old))) }
         ensures fuel { self.new.fuel ≤ self.old.fuel }
     {
         self.emit(place)?;
@@ -204,7 +220,9 @@ impl<'m> Machine<'m> {
         values: &[Value],
         named: &[NamedValue<'m>],
     ) -> Result<Value, Halt>
-        ensures plain { (n : ℕ) → TellsProgress value_of result self.new (callee_called n (calls_class class) (map value_of values.now) (map named_of named.now) (progress_of self.old)) }
+        ensures plain { (n : ℕ) → TellsProgress value_of result self.new
+            (callee_called n (calls_class class) (map value_of values.now) (map named_of named.now)
+            (progress_of self.old)) }
         ensures fuel { self.new.fuel ≤ self.old.fuel }
     {
         let fields = match self.classes.get(class) {
@@ -220,7 +238,8 @@ impl<'m> Machine<'m> {
         }
     }
 
-    /// A call of a reserved name, after its arguments. Library Reference, "Built-in Functions"; own rule of the profile.
+    /// A call of a reserved name, after its arguments. Library Reference, "Built-in Functions"; own rule of the
+    /// profile.
     #[inline(never)]
     pub fn call_reserved(
         &mut self,
@@ -229,7 +248,9 @@ impl<'m> Machine<'m> {
         values: &[Value],
         named: &[NamedValue<'m>],
     ) -> Result<Value, Halt>
-        ensures plain { (n : ℕ) → TellsProgress value_of result self.new (callee_called n (calls_reserved name.now) (map value_of values.now) (map named_of named.now) (progress_of self.old)) }
+        ensures plain { (n : ℕ) → TellsProgress value_of result self.new
+            (callee_called n (calls_reserved name.now) (map value_of values.now) (map named_of named.now)
+            (progress_of self.old)) }
         ensures fuel { self.new.fuel ≤ self.old.fuel }
     {
         if !named.is_empty() {
@@ -267,7 +288,9 @@ impl<'m> Machine<'m> {
         values: &[Value],
         named: &[NamedValue<'m>],
     ) -> Result<Value, Halt>
-        ensures plain { (n : ℕ) → TellsProgress value_of result self.new (callee_called n (callee_seen (callee.BuiltinMethod object method)) (map value_of values.now) (map named_of named.now) (progress_of self.old)) }
+        ensures plain { (n : ℕ) → TellsProgress value_of result self.new
+            (callee_called n (callee_seen (callee.BuiltinMethod object method)) (map value_of values.now)
+            (map named_of named.now) (progress_of self.old)) }
         ensures fuel { self.new.fuel ≤ self.old.fuel }
     {
         let action = builtin_action(alloc, object, method, values, named)?;
@@ -285,7 +308,9 @@ impl<'m> Machine<'m> {
         values: &[Value],
         named: &[NamedValue<'m>],
     ) -> Result<Vec<Local<'m>>, Halt>
-        ensures plain { TellsProgress frame_of_vec result self.new (opened_frame (method_of_def def.entry) (value_if_any object) (map value_of values.now) (map named_of named.now) (progress_of self.old)) }
+        ensures plain { TellsProgress frame_of_vec result self.new
+            (opened_frame (method_of_def def.entry) (value_if_any object) (map value_of values.now)
+            (map named_of named.now) (progress_of self.old)) }
         ensures fuel { self.new.fuel ≤ self.old.fuel }
     {
         let arguments = suited_arguments(alloc, self.keys, def, values, named)?;
@@ -312,7 +337,8 @@ impl<'m> Machine<'m> {
     /// A loop's suite that is empty is charged. Own rule of the profile.
     #[inline(never)]
     pub fn charge_empty(&mut self, body: &[Stmt]) -> Result<(), Halt>
-        ensures plain { TellsProgress unit result self.new (empty_charged (stmts_of_list body.now) (progress_of self.old)) }
+        ensures plain { TellsProgress unit result self.new
+            (empty_charged (stmts_of_list body.now) (progress_of self.old)) }
         ensures fuel { self.new.fuel ≤ self.old.fuel }
         ensures spent { OnOk result (body.now ≡ [] → self.new.fuel < self.old.fuel) }
     {
@@ -332,7 +358,8 @@ impl<'m> Machine<'m> {
         name: &str,
         value: Value,
     ) -> Result<Flow, Halt>
-        ensures plain { TellsProgress flow_of result self.new (attribute_stored (value_of object) name.now (value_of value) (after_event place (progress_of self.old))) }
+        ensures plain { TellsProgress flow_of result self.new
+            (attribute_stored (value_of object) name.now (value_of value) (after_event place (progress_of self.old))) }
         ensures fuel { self.new.fuel ≤ self.old.fuel }
     {
         let name = text_of(alloc, name)?;
@@ -350,7 +377,8 @@ impl<'m> Machine<'m> {
         key: Value,
         value: Value,
     ) -> Result<Flow, Halt>
-        ensures plain { TellsProgress flow_of result self.new (item_stored (value_of object) (value_of key) (value_of value) (after_event place (progress_of self.old))) }
+        ensures plain { TellsProgress flow_of result self.new
+            (item_stored (value_of object) (value_of key) (value_of value) (after_event place (progress_of self.old))) }
         ensures fuel { self.new.fuel ≤ self.old.fuel }
     {
         self.perform(alloc, place, Action::StoreItem(object, key, value))?;
@@ -366,7 +394,9 @@ impl<'m> Machine<'m> {
         values: Vec<Value>,
         named: &[NamedValue<'m>],
     ) -> Result<Iteration, Halt>
-        ensures plain { TellsProgress iteration_of result self.new (range_begun (map value_of values.items) (map named_of named.now) (after_event place (progress_of self.old))) }
+        ensures plain { TellsProgress iteration_of result self.new
+            (range_begun (map value_of values.items) (map named_of named.now)
+            (after_event place (progress_of self.old))) }
         ensures fuel { self.new.fuel ≤ self.old.fuel }
     {
         self.emit(place)?;

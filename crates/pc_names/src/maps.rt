@@ -19,7 +19,8 @@ pub fn bind_first<'m, V: Drop>(
     name: &'m str,
     value: V,
 ) -> Result<(), OutOfMemory>
-    ensures bound { OnOk result ((text : List ℕ) → at_text map.new text ≡ first_of (at_text map.old text) (bound_as name.now value text)) }
+    ensures bound { OnOk result
+        ((text : List ℕ) → at_text map.new text ≡ first_of (at_text map.old text) (bound_as name.now value text)) }
     ensures kept { OnErr result ((text : List ℕ) → at_text map.new text ≡ at_text map.old text) }
 {
     if map.contains_key(name) {

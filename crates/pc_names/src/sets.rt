@@ -17,7 +17,8 @@ pub type NameSet<'m> = IndexSet<&'m str, RandomState>;
 /// `OutOfMemory` where the set has no room.
 pub fn put<'m>(names: &mut NameSet<'m>, name: &'m str) -> Result<bool, OutOfMemory>
     ensures was { IfOk result (λ b. b ≡ is_among (texts_in names.old) name.now) }
-    ensures now { OnOk result ((other : List ℕ) → is_among (texts_in names.new) other ≡ is_among (name.now ∷ texts_in names.old) other) }
+    ensures now { OnOk result
+        ((other : List ℕ) → is_among (texts_in names.new) other ≡ is_among (name.now ∷ texts_in names.old) other) }
 {
     let added = names.insert(name)?;
     Ok(!added)

@@ -1,6 +1,7 @@
 -- Findings as they are gathered: each by itself, or with the two types of the flow that it tells of.
 -- Own rule of the profile.
-use Rattle.std.specs.Prelude.{◌≡◌, List, [], ◌∷◌, Option, Some, None, option_map, map, IfSome, Bool as Test, ◌&&◌, nat_eq, if◌then◌else◌}
+use Rattle.std.specs.Prelude.{◌≡◌, List, [], ◌∷◌, Option, Some, None, option_map, map, IfSome, Bool as Test, ◌&&◌}
+use Rattle.std.specs.Prelude.{nat_eq, if◌then◌else◌}
 use Rattle.std.specs.List.{AllByRecursion}
 use Rattle.pc_source.specs.declared.place.Place.{Place}
 use Rattle.pc_tree.specs.declared.code.Code.TheVariants.{A1}
@@ -68,6 +69,7 @@ abbrev pub AreGiven : List Entry → Type 0
 AreGiven es = AllByRecursion (λ e. IfSome e.flow IsGivenFlow) es
 
 -- types of a store that mean these two, or none where there are none
-abbrev pub ExplainsFlow : {Store Ty : Type 0} → (has : Store → Ty → Type 0) → (tree : Ty → Tree) → Store → Option (Ty × Ty) → Option (Tree × Tree) → Type 0
+abbrev pub ExplainsFlow : {Store Ty : Type 0} → (has : Store → Ty → Type 0) → (tree : Ty → Tree) → Store
+    → Option (Ty × Ty) → Option (Tree × Tree) → Type 0
 ExplainsFlow has tree store None o = o ≡ None
 ExplainsFlow has tree store (Some p) o = has store p.0 × has store p.1 × (o ≡ Some (tree p.0, tree p.1))

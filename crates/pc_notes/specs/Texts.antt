@@ -20,7 +20,9 @@ FlowText = Place × String Global × String Global
 
 -- the texts are those of the types of the first flow that is noted at the place
 abbrev pub IsFlowText : Module → List Note → FlowText → Type 0
-IsFlowText m notes text = MatchOption (flow_noted text.0 notes) ⊥ (λ f. (string_bytes text.1 ≡ type_text m f.0) × (string_bytes text.2 ≡ type_text m f.1))
+IsFlowText m notes text =
+    MatchOption (flow_noted text.0 notes) ⊥
+    (λ f. (string_bytes text.1 ≡ type_text m f.0) × (string_bytes text.2 ≡ type_text m f.1))
 
 -- the order of places
 abbrev pub place_cmp : Place → Place → Ordering
@@ -30,7 +32,8 @@ place_cmp p q = ordering_then (nat_cmp p.start q.start) (nat_cmp p.end q.end)
 abbrev pub places_of : List FlowText → List Place
 places_of texts = map (λ t. t.0) texts
 
--- each text is that of the flow noted at its place; each place where a flow is noted has one; the places ascend, so none has two
+-- each text is that of the flow noted at its place; each place where a flow is noted has one; the places ascend, so
+-- none has two
 pub record AreFlowTexts (m : Module) (notes : List Note) (texts : List FlowText) : Type 0 where
   pub each : AllByRecursion (IsFlowText m notes) texts
   pub all : (p : Place) → IsSome (flow_noted p notes) → Contains (places_of texts) p

@@ -4,7 +4,8 @@ ghost use Rattle.std.specs.Prelude.{◌≡◌, ◌++◌, ◌∷◌, [], map, IfO
 ghost use Rattle.pc_tree.specs.Code.{finding};
 ghost use Rattle.pc_tree.specs.Tree.{module_of};
 ghost use Rattle.pc_types.specs.Store.{KeepsTypes};
-ghost use Rattle.pc_notes.specs.Notes.{IsGivenFlow, Note, note_of, notes_of, plain_note, dynamic, findings_of, is_same_place, flow_noted, ExplainsFlow};
+ghost use Rattle.pc_notes.specs.Notes.{IsGivenFlow, Note, note_of, notes_of, plain_note, dynamic, findings_of};
+ghost use Rattle.pc_notes.specs.Notes.{is_same_place, flow_noted, ExplainsFlow};
 ghost use Rattle.pc_notes.specs.declared.notes.Entry.{Entry as Kept};
 ghost use Rattle.pc_notes.specs.Texts.{AreFlowTexts, HasFirstFlows, HasGivenFlows};
 
@@ -34,7 +35,8 @@ pub(crate) struct Entry {
 impl Entry {
     /// The flow that an entry tells of, if it stands at this place.
     fn flow_at(&self, place: Place) -> Option<&Flow>
-        ensures { option_map (λ f. f.now) result ≡ (if is_same_place place self.now.finding.place then self.now.flow else None) }
+        ensures { option_map (λ f. f.now) result
+            ≡ (if is_same_place place self.now.finding.place then self.now.flow else None) }
     {
         let own = self.finding.place;
         if place.start == own.start && place.end == own.end {
@@ -111,7 +113,8 @@ impl Notes {
     ) -> Result<(), OutOfMemory>
         requires from { S.has store.now from.now }
         requires into { S.has store.now into.now }
-        ensures { OnOk result (notes_of self.new ≡ notes_of self.old ++ dynamic place (S.tree from.now) (S.tree into.now) ∷ []) }
+        ensures { OnOk result (notes_of self.new
+            ≡ notes_of self.old ++ dynamic place (S.tree from.now) (S.tree into.now) ∷ []) }
     {
         let mut boxes = BoxStore::new();
         let from = transfer(store, &mut boxes, alloc, from)?;
@@ -145,7 +148,8 @@ impl Notes {
         alloc: Global,
         place: Place,
     ) -> Result<Option<(S::Ty, S::Ty)>, OutOfMemory>
-        ensures value { IfOk result (λ found. ExplainsFlow S.has S.tree store.new found (flow_noted place (notes_of self.now))) }
+        ensures value { IfOk result
+            (λ found. ExplainsFlow S.has S.tree store.new found (flow_noted place (notes_of self.now))) }
         ensures kept { KeepsTypes S.has store.old store.new }
     {
         for entry in &self.entries {
@@ -169,8 +173,8 @@ impl Notes {
         Ok(flows)
     }
 
-    /// The flows that are noted, by place, each with the texts of the two types of the first flow noted there: the type that
-    /// flows, and the one that it flows into.
+    /// The flows that are noted, by place, each with the texts of the two types of the first flow noted there: the type
+    /// that flows, and the one that it flows into.
     pub fn texts(
         &self,
         alloc: Global,
@@ -189,7 +193,8 @@ fn keep_first<'n>(
     entry: &'n Entry,
 ) -> Result<(), OutOfMemory>
     requires { IfSome entry.now.flow IsGivenFlow }
-    ensures { OnOk result ((entries : List Kept) → HasFirstFlows (notes_of entries) flows.old → HasFirstFlows (notes_of entries ++ note_of entry.now ∷ []) flows.new) }
+    ensures { OnOk result ((entries : List Kept) → HasFirstFlows (notes_of entries) flows.old
+        → HasFirstFlows (notes_of entries ++ note_of entry.now ∷ []) flows.new) }
 {
     let Some(flow) = &entry.flow else {
         return Ok(());
@@ -208,7 +213,8 @@ fn texts_of(
     flows: &BTreeMap<Place, &Flow>,
 ) -> Result<Vec<(Place, String, String)>, OutOfMemory>
     requires { HasGivenFlows flows.now }
-    ensures { IfOk result (λ v. (notes : List Note) → HasFirstFlows notes flows.now → AreFlowTexts (module_of tree.now) notes v.items) }
+    ensures { IfOk result (λ v. (notes : List Note) → HasFirstFlows notes flows.now
+        → AreFlowTexts (module_of tree.now) notes v.items) }
 {
     let store = BoxStore::new();
     let mut texts = Vec::new(alloc);

@@ -48,7 +48,9 @@ keyed_mark bases false false values = in_error E22
 -- the label of a dict display of which no dict is expected, by the test of static subtyping
 abbrev pub own_dict_mark : Bases → (keys values : List Tree) → Mark
 own_dict_mark bases [] values = in_error E22
-own_dict_mark bases (k ∷ ks) values = keyed_mark bases (list_all (λ t. static_test bases t Int) (k ∷ ks)) (list_all (λ t. static_test bases t Str) (k ∷ ks)) values
+own_dict_mark bases (k ∷ ks) values =
+    keyed_mark bases (list_all (λ t. static_test bases t Int) (k ∷ ks))
+    (list_all (λ t. static_test bases t Str) (k ∷ ks)) values
 
 module _ {Store Ty : Type 0} (has : Store → Ty → Type 0) (tree : Ty → Tree) where
   -- an item type of the store, which means this one, of which there is a list

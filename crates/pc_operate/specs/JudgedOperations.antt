@@ -5,7 +5,8 @@ use Rattle.pc_types.specs.Tree.{Tree}
 use Rattle.pc_types.specs.Below.{Bases}
 use Rattle.pc_class.specs.Facts as facts
 use Rattle.pc_flow.specs.Environment.{join_all}
-use Rattle.pc_rules.specs.Operations.{Offer, negative_member, attribute_member, index_member, iterate_member, contain_member, length_member}
+use Rattle.pc_rules.specs.Operations.{Offer, negative_member, attribute_member, index_member, iterate_member}
+use Rattle.pc_rules.specs.Operations.{contain_member, length_member}
 use Rattle.pc_rules.specs.Standing.{HasOffer, offer_with}
 use Rattle.pc_rules.specs.declared.label.Offer.{Offer as RustOffer}
 use Rattle.pc_operate.specs.declared.offers.Operation.{Operation}

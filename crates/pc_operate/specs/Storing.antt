@@ -17,7 +17,11 @@ store_on classes targets.Index t = store_index_member t
 
 -- a store offer with the types that it means
 abbrev pub store_offer_with : {Ty : Type 0} → (tree : Ty → Tree) → RustStoreOffer Ty → StoreOffer
-store_offer_with tree o = record { found = option_to_list o.found; takes = option_to_list (option_map tree o.takes); stores = option_to_list (option_map tree o.stores) }
+store_offer_with tree o = record {
+  found = option_to_list o.found;
+  takes = option_to_list (option_map tree o.takes);
+  stores = option_to_list (option_map tree o.stores);
+}
 
 -- the store gave the types of a store offer
 pub record HasStoreOffer {Ty : Type 0} (has : Ty → Type 0) (o : RustStoreOffer Ty) : Type 0 where

@@ -32,8 +32,13 @@ pub fn label_comparison<S: TypeStore>(
 ) -> Result<Label<S::Ty>, OutOfMemory>
     requires left { S.has store.old label.now.ty }
     requires right { S.has store.old right.now }
-    ensures value { IfOk result (λ l. IsMark S.has S.tree store.new l (compare_mark parents.now operator (S.tree label.now.ty) (S.tree right.now))) }
-    ensures pushed { (m : Mark) → mark_with S.tree label.now ≡ brief m → OnOk result (notes_of found.new ≡ notes_of found.old ++ flows_at (place_of (expr_of left.now)) (flows_of parents.now m (compare_types operator (S.tree right.now)))) }
+    ensures value { IfOk result
+        (λ l. IsMark S.has S.tree store.new l
+        (compare_mark parents.now operator (S.tree label.now.ty) (S.tree right.now))) }
+    ensures pushed { (m : Mark) → mark_with S.tree label.now ≡ brief m
+        → OnOk result (notes_of found.new
+        ≡ notes_of found.old ++ flows_at (place_of (expr_of left.now))
+        (flows_of parents.now m (compare_types operator (S.tree right.now)))) }
     ensures kept { KeepsTypes S.has store.old store.new }
 {
     let types = compare_types(store, alloc, operator, right)?;

@@ -14,7 +14,8 @@ ghost use Rattle.pc_rules.specs.Context.{Context};
 ghost use Rattle.pc_rules.specs.Lawful.{list_item, dict_parts, tuple_parts, members_of_expected, list_mark};
 ghost use Rattle.pc_rules.specs.Computed.{dict_mark};
 ghost use Rattle.pc_rules.specs.Standing.{HasIfAny, IsMark};
-ghost use Rattle.pc_operate.specs.Displays.{key_value_with, HasKeyValueIfAny, IsItem, IsListItem, IsDictParts, IsEntry, is_tuple, own_dict_mark};
+ghost use Rattle.pc_operate.specs.Displays.{key_value_with, HasKeyValueIfAny, IsItem, IsListItem, IsDictParts, IsEntry};
+ghost use Rattle.pc_operate.specs.Displays.{is_tuple, own_dict_mark};
 
 use crate::members::join_types;
 use pc_rules::{Label, clean, in_error};
@@ -53,7 +54,8 @@ pub fn tuple_label<S: TypeStore>(
     types: &[S::Ty],
 ) -> Result<Label<S::Ty>, OutOfMemory>
     requires { All (S.has store.old) types.now }
-    ensures value { IfOk result (λ l. IsMark S.has S.tree store.new l (display_mark (TupleOf (trees (map S.tree types.now))))) }
+    ensures value { IfOk result
+        (λ l. IsMark S.has S.tree store.new l (display_mark (TupleOf (trees (map S.tree types.now))))) }
     ensures kept { KeepsTypes S.has store.old store.new }
 {
     let made = store.tuple(alloc, types)?;
@@ -91,7 +93,9 @@ pub fn list_label<S: TypeStore>(
     requires item { HasIfAny (S.has store.old) item.now }
     requires small { IsListItem (option_map S.tree item.now) }
     requires types { All (S.has store.old) types.now }
-    ensures value { IfOk result (λ l. IsMark S.has S.tree store.new l (list_mark parents.now (option_map S.tree item.now) (map S.tree types.now))) }
+    ensures value { IfOk result
+        (λ l. IsMark S.has S.tree store.new l
+        (list_mark parents.now (option_map S.tree item.now) (map S.tree types.now))) }
     ensures kept { KeepsTypes S.has store.old store.new }
 {
     if let Some(item) = item {
@@ -115,7 +119,8 @@ fn dict_of<S: TypeStore>(
     requires key { S.has store.old key.now }
     requires value { S.has store.old value.now }
     requires suits { IsKey (S.tree key.now) }
-    ensures value { IfOk result (λ l. IsMark S.has S.tree store.new l (display_mark (DictOf (S.tree key.now) (S.tree value.now)))) }
+    ensures value { IfOk result
+        (λ l. IsMark S.has S.tree store.new l (display_mark (DictOf (S.tree key.now) (S.tree value.now)))) }
     ensures kept { KeepsTypes S.has store.old store.new }
 {
     let made = store.dict(alloc, key, value)?;
@@ -136,7 +141,9 @@ fn dict_of_join<S: TypeStore>(
     requires key { S.has store.old key.now }
     requires suits { IsKey (S.tree key.now) }
     requires values { All (S.has store.old) values.now }
-    ensures value { IfOk result (λ l. IsMark S.has S.tree store.new l (display_mark (DictOf (S.tree key.now) (join_all parents.now (map S.tree values.now))))) }
+    ensures value { IfOk result
+        (λ l. IsMark S.has S.tree store.new l
+        (display_mark (DictOf (S.tree key.now) (join_all parents.now (map S.tree values.now))))) }
     ensures kept { KeepsTypes S.has store.old store.new }
 {
     let value = join_types(store, alloc, parents, values)?;
@@ -168,7 +175,8 @@ fn own_dict_label<S: TypeStore>(
 ) -> Result<Label<S::Ty>, OutOfMemory>
     requires keys { All (S.has store.old) keys.now }
     requires values { All (S.has store.old) values.now }
-    ensures value { IfOk result (λ l. IsMark S.has S.tree store.new l (own_dict_mark parents.now (map S.tree keys.now) (map S.tree values.now))) }
+    ensures value { IfOk result
+        (λ l. IsMark S.has S.tree store.new l (own_dict_mark parents.now (map S.tree keys.now) (map S.tree values.now))) }
     ensures kept { KeepsTypes S.has store.old store.new }
 {
     if keys.is_empty() {
@@ -198,7 +206,10 @@ pub fn dict_label<S: TypeStore>(
     requires small { IsDictParts (option_map (key_value_with S.tree) parts.now) }
     requires keys { All (S.has store.old) keys.now }
     requires values { All (S.has store.old) values.now }
-    ensures value { (ctx : Context) (declared : List Tree) → ctx.bases ≡ parents.now → IfOk result (λ l. IsMark S.has S.tree store.new l (dict_mark ctx declared (static_test parents.now) (assignable_test parents.now) (option_map (key_value_with S.tree) parts.now) (map S.tree keys.now) (map S.tree values.now))) }
+    ensures value { (ctx : Context) (declared : List Tree) → ctx.bases ≡ parents.now
+        → IfOk result (λ l. IsMark S.has S.tree store.new l
+        (dict_mark ctx declared (static_test parents.now) (assignable_test parents.now)
+        (option_map (key_value_with S.tree) parts.now) (map S.tree keys.now) (map S.tree values.now))) }
     ensures kept { KeepsTypes S.has store.old store.new }
 {
     match parts {
@@ -207,14 +218,16 @@ pub fn dict_label<S: TypeStore>(
     }
 }
 
-/// What is expected of the items of a list display: the item type of the first list among the members of the expected type.
+/// What is expected of the items of a list display: the item type of the first list among the members of the expected
+/// type.
 pub fn list_item<S: TypeStore>(
     store: &S,
     alloc: Global,
     want: &Option<S::Ty>,
 ) -> Result<Option<S::Ty>, OutOfMemory>
     requires { HasIfAny (S.has store.now) want.now }
-    ensures { IfOk result (λ o. IsItem S.has S.tree store.now o (list_item (members_of_expected (option_map S.tree want.now)))) }
+    ensures { IfOk result (λ o.
+        IsItem S.has S.tree store.now o (list_item (members_of_expected (option_map S.tree want.now)))) }
 {
     let members = expected_members(store, alloc, want)?;
     for i in 0..members.len() {
@@ -226,15 +239,16 @@ pub fn list_item<S: TypeStore>(
     Ok(None)
 }
 
-/// What is expected of the entries of a dict display: the types of keys and values of the first dict among the members of
-/// the expected type.
+/// What is expected of the entries of a dict display: the types of keys and values of the first dict among the members
+/// of the expected type.
 pub fn dict_parts<S: TypeStore>(
     store: &S,
     alloc: Global,
     want: &Option<S::Ty>,
 ) -> Result<Option<KeyValue<S::Ty>>, OutOfMemory>
     requires { HasIfAny (S.has store.now) want.now }
-    ensures { IfOk result (λ o. IsEntry S.has S.tree store.now o (dict_parts (members_of_expected (option_map S.tree want.now)))) }
+    ensures { IfOk result (λ o.
+        IsEntry S.has S.tree store.now o (dict_parts (members_of_expected (option_map S.tree want.now)))) }
 {
     let members = expected_members(store, alloc, want)?;
     for i in 0..members.len() {
@@ -260,8 +274,8 @@ fn is_tuple<S: TypeStore>(store: &S, ty: &S::Ty, length: usize) -> bool
     }
 }
 
-/// What is expected of the items of a tuple display of this length: the parts of the first such tuple among the members of
-/// the expected type, none where there is no such tuple.
+/// What is expected of the items of a tuple display of this length: the parts of the first such tuple among the members
+/// of the expected type, none where there is no such tuple.
 pub fn tuple_parts<S: TypeStore>(
     store: &S,
     alloc: Global,
@@ -270,7 +284,8 @@ pub fn tuple_parts<S: TypeStore>(
 ) -> Result<Vec<S::Ty>, OutOfMemory>
     requires { HasIfAny (S.has store.now) want.now }
     ensures held { IfOk result (λ ts. All (S.has store.now) ts.items) }
-    ensures value { IfOk result (λ ts. map S.tree ts.items ≡ tuple_parts length (members_of_expected (option_map S.tree want.now))) }
+    ensures value { IfOk result
+        (λ ts. map S.tree ts.items ≡ tuple_parts length (members_of_expected (option_map S.tree want.now))) }
 {
     let members = expected_members(store, alloc, want)?;
     for i in 0..members.len() {

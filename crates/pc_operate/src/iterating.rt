@@ -24,7 +24,9 @@ pub fn item_label<S: TypeStore>(
 ) -> Result<Label<S::Ty>, OutOfMemory>
     requires iterable { S.has store.old iterable.now }
     requires classes { HasEntries (S.has store.old) classes.now }
-    ensures label { IfOk result (λ l. IsMark S.has S.tree store.new l (offers_mark parents.now (map (iterate_member parents.now) (members (S.tree iterable.now))))) }
+    ensures label { IfOk result
+        (λ l. IsMark S.has S.tree store.new l
+        (offers_mark parents.now (map (iterate_member parents.now) (members (S.tree iterable.now))))) }
     ensures kept { KeepsTypes S.has store.old store.new }
 {
     let operation = Operation::Iterate;

@@ -6,7 +6,8 @@ ghost use Rattle.pc_types.specs.Store.{Means, KeepsTypes};
 ghost use Rattle.pc_types.specs.Tree.{Union, Int, Str, NoneType};
 ghost use Rattle.pc_flow.specs.Environment.{join_all};
 ghost use Rattle.pc_class.specs.Tables.{HasEntries, classes_with};
-ghost use Rattle.pc_rules.specs.Operations.{suits_not, negative_member, attribute_member, index_member, iterate_member, contain_member, length_member};
+ghost use Rattle.pc_rules.specs.Operations.{suits_not, negative_member, attribute_member, index_member, iterate_member};
+ghost use Rattle.pc_rules.specs.Operations.{contain_member, length_member};
 ghost use Rattle.pc_operate.specs.JudgedOperations.{IsOffer, item_at};
 
 use pc_class::ClassTable;
@@ -107,7 +108,8 @@ pub(crate) fn iterate_offer<S: TypeStore>(
     member: &S::Ty,
 ) -> Result<Offer<S::Ty>, OutOfMemory>
     requires { S.has store.old member.now }
-    ensures value { IfOk result (λ o. IsOffer S.has S.tree store.new o (iterate_member parents.now (S.tree member.now))) }
+    ensures value { IfOk result
+        (λ o. IsOffer S.has S.tree store.new o (iterate_member parents.now (S.tree member.now))) }
     ensures kept { KeepsTypes S.has store.old store.new }
 {
     let gives = match store.head(member) {
@@ -180,7 +182,8 @@ fn tuple_item<S: TypeStore>(
     items: &[S::Ty],
 ) -> Result<S::Ty, OutOfMemory>
     requires { All (S.has store.old) items.now }
-    ensures value { IfOk result (λ t. Means S.has S.tree store.new t (item_at parents.now literal (map S.tree items.now))) }
+    ensures value { IfOk result
+        (λ t. Means S.has S.tree store.new t (item_at parents.now literal (map S.tree items.now))) }
     ensures kept { KeepsTypes S.has store.old store.new }
 {
     if let Some(i) = literal {
@@ -200,7 +203,8 @@ pub(crate) fn index_offer<S: TypeStore>(
     member: &S::Ty,
 ) -> Result<Offer<S::Ty>, OutOfMemory>
     requires { S.has store.old member.now }
-    ensures value { IfOk result (λ o. IsOffer S.has S.tree store.new o (index_member parents.now literal (S.tree member.now))) }
+    ensures value { IfOk result
+        (λ o. IsOffer S.has S.tree store.new o (index_member parents.now literal (S.tree member.now))) }
     ensures kept { KeepsTypes S.has store.old store.new }
 {
     let gives = match store.head(member) {
@@ -240,7 +244,9 @@ pub(crate) fn attribute_offer<S: TypeStore>(
 ) -> Result<Offer<S::Ty>, OutOfMemory>
     requires member { S.has store.old member.now }
     requires classes { HasEntries (S.has store.old) classes.now }
-    ensures value { IfOk result (λ o. IsOffer S.has S.tree store.new o (attribute_member (classes_with S.tree classes.now) name.now (S.tree member.now))) }
+    ensures value { IfOk result
+        (λ o. IsOffer S.has S.tree store.new o
+        (attribute_member (classes_with S.tree classes.now) name.now (S.tree member.now))) }
     ensures kept { KeepsTypes S.has store.old store.new }
 {
     let class = match store.head(member) {

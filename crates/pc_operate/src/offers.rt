@@ -52,7 +52,9 @@ fn offer_on<S: TypeStore>(
 ) -> Result<Offer<S::Ty>, OutOfMemory>
     requires member { S.has store.old member.now }
     requires classes { HasEntries (S.has store.old) classes.now }
-    ensures value { IfOk result (λ o. IsOffer S.has S.tree store.new o (offer_on parents.now (classes_with S.tree classes.now) operation.entry (S.tree member.now))) }
+    ensures value { IfOk result
+        (λ o. IsOffer S.has S.tree store.new o
+        (offer_on parents.now (classes_with S.tree classes.now) operation.entry (S.tree member.now))) }
     ensures kept { KeepsTypes S.has store.old store.new }
 {
     match operation {
@@ -77,7 +79,9 @@ pub fn member_offers<S: TypeStore>(
     requires ty { S.has store.old ty.now }
     requires classes { HasEntries (S.has store.old) classes.now }
     ensures held { IfOk result (λ os. All (HasOffer (S.has store.new)) os.items) }
-    ensures value { IfOk result (λ os. map (offer_with S.tree) os.items ≡ map (offer_on parents.now (classes_with S.tree classes.now) operation.entry) (members (S.tree ty.now))) }
+    ensures value { IfOk result
+        (λ os. map (offer_with S.tree) os.items
+        ≡ map (offer_on parents.now (classes_with S.tree classes.now) operation.entry) (members (S.tree ty.now))) }
     ensures kept { KeepsTypes S.has store.old store.new }
 {
     let members = store.members(alloc, ty)?;
@@ -96,8 +100,8 @@ pub(crate) fn has_error(codes: &[Code]) -> bool
     codes.iter().any(|code| code.is_error())
 }
 
-/// The label of an operation, by what it comes to on each member: the join of the results, `Any` where one is in error; each
-/// code once.
+/// The label of an operation, by what it comes to on each member: the join of the results, `Any` where one is in error;
+/// each code once.
 pub fn offers_label<S: TypeStore>(
     store: &mut S,
     alloc: Global,
@@ -105,7 +109,8 @@ pub fn offers_label<S: TypeStore>(
     offers: &[Offer<S::Ty>],
 ) -> Result<Label<S::Ty>, OutOfMemory>
     requires { All (HasOffer (S.has store.old)) offers.now }
-    ensures value { IfOk result (λ l. IsMark S.has S.tree store.new l (offers_mark parents.now (map (offer_with S.tree) offers.now))) }
+    ensures value { IfOk result
+        (λ l. IsMark S.has S.tree store.new l (offers_mark parents.now (map (offer_with S.tree) offers.now))) }
     ensures kept { KeepsTypes S.has store.old store.new }
 {
     let mut codes = Vec::new(alloc);
@@ -153,7 +158,8 @@ pub(crate) fn add_copy<S: TypeStore>(
     requires ty { HasIfAny (S.has store.now) ty.now }
     requires types { All (S.has store.now) types.old.items }
     ensures held { OnOk result (All (S.has store.now) types.new.items) }
-    ensures value { OnOk result (map S.tree types.new.items ≡ map S.tree types.old.items ++ option_to_list (option_map S.tree ty.now)) }
+    ensures value { OnOk result
+        (map S.tree types.new.items ≡ map S.tree types.old.items ++ option_to_list (option_map S.tree ty.now)) }
 {
     if let Some(ty) = ty {
         types.push(store.copy(alloc, ty)?)?;
@@ -198,7 +204,8 @@ fn small_number(digits: &str) -> Option<usize>
 
 /// The number of an int literal as an index, where it may be one of a tuple's: a type has at most 256 nodes.
 pub(crate) fn literal_index(e: &Expr) -> Option<usize>
-    ensures { (bases : Bases) (t : Tree) → nodes t ≤ node_limit → index_member bases result t ≡ index_member bases (int_literal (expr_of e.now)) t }
+    ensures { (bases : Bases) (t : Tree) → nodes t ≤ node_limit
+        → index_member bases result t ≡ index_member bases (int_literal (expr_of e.now)) t }
 {
     match e {
         Expr::Int(_, digits) => small_number(digits.as_str()),

@@ -11,7 +11,8 @@ ghost use Rattle.pc_flow.specs.Environment.{join_or_object};
 ghost use Rattle.pc_flow.specs.Narrowing.{narrow};
 ghost use Rattle.pc_flow.specs.Stored.{env_of, declared_of};
 ghost use Rattle.pc_notes.specs.Notes.{notes_of};
-ghost use Rattle.pc_rules.specs.Operations.{Mark, clean, offers_mark, operand_types, negative_member, attribute_member, index_member};
+ghost use Rattle.pc_rules.specs.Operations.{Mark, clean, offers_mark, operand_types, negative_member, attribute_member};
+ghost use Rattle.pc_rules.specs.Operations.{index_member};
 ghost use Rattle.pc_rules.specs.Lawful.{int_literal};
 ghost use Rattle.pc_rules.specs.Computed.{flows_of};
 ghost use Rattle.pc_rules.specs.Found.{brief, flows_at};
@@ -75,7 +76,9 @@ pub fn label_negative<S: TypeStore, R: Resolver>(
 ) -> Result<Label<S::Ty>, OutOfMemory>
     requires operand { S.has store.old operand.now }
     requires classes { HasEntries (S.has store.old) setting.now.classes.now }
-    ensures value { IfOk result (λ l. IsMark S.has S.tree store.new l (offers_mark setting.now.parents.now (map negative_member (members (S.tree operand.now))))) }
+    ensures value { IfOk result
+        (λ l. IsMark S.has S.tree store.new l
+        (offers_mark setting.now.parents.now (map negative_member (members (S.tree operand.now))))) }
     ensures kept { KeepsTypes S.has store.old store.new }
 {
     let parents = setting.parents;
@@ -100,7 +103,11 @@ pub fn label_attribute<S: TypeStore, R: Resolver>(
 ) -> Result<Label<S::Ty>, OutOfMemory>
     requires object { S.has store.old object.now }
     requires classes { HasEntries (S.has store.old) setting.now.classes.now }
-    ensures value { IfOk result (λ l. IsMark S.has S.tree store.new l (offers_mark setting.now.parents.now (map (attribute_member (classes_with S.tree setting.now.classes.now) (name_of field.now).text) (members (S.tree object.now))))) }
+    ensures value { IfOk result
+        (λ l. IsMark S.has S.tree store.new l
+        (offers_mark setting.now.parents.now
+        (map (attribute_member (classes_with S.tree setting.now.classes.now) (name_of field.now).text)
+        (members (S.tree object.now))))) }
     ensures kept { KeepsTypes S.has store.old store.new }
 {
     let parents = setting.parents;
@@ -123,8 +130,16 @@ pub fn label_index<S: TypeStore, R: Resolver>(
     requires object { S.has store.old object.now }
     requires key { S.has store.old label.now.ty }
     requires classes { HasEntries (S.has store.old) setting.now.classes.now }
-    ensures value { IfOk result (λ l. IsMark S.has S.tree store.new l (offers_mark setting.now.parents.now (map (index_member setting.now.parents.now (int_literal (expr_of key.now))) (members (S.tree object.now))))) }
-    ensures pushed { (m : Mark) → mark_with S.tree label.now ≡ brief m → OnOk result (notes_of found.new ≡ notes_of found.old ++ flows_at (place_of (expr_of key.now)) (flows_of setting.now.parents.now m (operand_types (map (index_member setting.now.parents.now (int_literal (expr_of key.now))) (members (S.tree object.now)))))) }
+    ensures value { IfOk result
+        (λ l. IsMark S.has S.tree store.new l
+        (offers_mark setting.now.parents.now
+        (map (index_member setting.now.parents.now (int_literal (expr_of key.now))) (members (S.tree object.now))))) }
+    ensures pushed { (m : Mark) → mark_with S.tree label.now ≡ brief m
+        → OnOk result (notes_of found.new
+        ≡ notes_of found.old ++ flows_at (place_of (expr_of key.now))
+        (flows_of setting.now.parents.now m
+        (operand_types (map (index_member setting.now.parents.now (int_literal (expr_of key.now)))
+        (members (S.tree object.now)))))) }
     ensures kept { KeepsTypes S.has store.old store.new }
 {
     let parents = setting.parents;
@@ -145,7 +160,8 @@ pub fn label_junction<S: TypeStore>(
 ) -> Result<Label<S::Ty>, OutOfMemory>
     requires left { S.has store.old left.now }
     requires right { S.has store.old right.now }
-    ensures value { IfOk result (λ l. IsMark S.has S.tree store.new l (clean (join_or_object parents.now (S.tree left.now) (S.tree right.now)))) }
+    ensures value { IfOk result
+        (λ l. IsMark S.has S.tree store.new l (clean (join_or_object parents.now (S.tree left.now) (S.tree right.now)))) }
     ensures kept { KeepsTypes S.has store.old store.new }
 {
     let ty = join_or_object(store, alloc, parents, left, right)?;
@@ -164,7 +180,9 @@ pub fn env_where<S: TypeStore, R: Resolver>(
 ) -> Result<Env<S::Ty>, OutOfMemory>
     requires { HasGivenAll (S.has store.old) S.tree setting.now env.now }
     ensures given { IfOk result (λ e. HasGivenAll (S.has store.new) S.tree setting.now e) }
-    ensures value { IfOk result (λ e. env_of S.tree e ≡ narrow setting.now.parents.now (declared_of S.tree setting.now.declared.now) (R.meaning setting.now.names.now) holds (expr_of condition.now) (env_of S.tree env.now)) }
+    ensures value { IfOk result
+        (λ e. env_of S.tree e ≡ narrow setting.now.parents.now (declared_of S.tree setting.now.declared.now)
+        (R.meaning setting.now.names.now) holds (expr_of condition.now) (env_of S.tree env.now)) }
     ensures kept { KeepsTypes S.has store.old store.new }
 {
     let parents = setting.parents;
@@ -193,7 +211,8 @@ pub fn env_where<S: TypeStore, R: Resolver>(
     Ok(after)
 }
 
-/// Does nothing: it says again that a setting and an environment hold types of the store, for a call that needs it next.
+/// Does nothing: it says again that a setting and an environment hold types of the store, for a call that needs it
+/// next.
 pub fn still_stands<S: TypeStore, R: Resolver>(
     _store: &S,
     _setting: &Setting<'_, S::Ty, R>,

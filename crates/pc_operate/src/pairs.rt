@@ -8,9 +8,11 @@ ghost use Rattle.pc_types.specs.Tree.{Bool};
 ghost use Rattle.pc_types.specs.Below.{Bases};
 ghost use Rattle.pc_types.specs.Shape.{members};
 ghost use Rattle.pc_types.specs.Store.{Means, KeepsTypes};
-ghost use Rattle.pc_rules.specs.Operations.{kind_of, has_side, is_never, is_any, is_dynamic, pair_offers, offers_mark, clean, binary_mark, order_mark};
+ghost use Rattle.pc_rules.specs.Operations.{kind_of, has_side, is_never, is_any, is_dynamic, pair_offers, offers_mark};
+ghost use Rattle.pc_rules.specs.Operations.{clean, binary_mark, order_mark};
 ghost use Rattle.pc_rules.specs.Lawful.{contain_offers, compare_mark, compare_types};
-ghost use Rattle.pc_operate.specs.Internal.OperandPairs.{kind_with, meet, common, takes_of, gives_of, dynamic_of, operator_mark, dynamic_mark, kind_mark};
+ghost use Rattle.pc_operate.specs.Internal.OperandPairs.{kind_with, meet, common, takes_of, gives_of, dynamic_of};
+ghost use Rattle.pc_operate.specs.Internal.OperandPairs.{operator_mark, dynamic_mark, kind_mark};
 ghost use Rattle.pc_rules.specs.Standing.{HasOffer, offer_with, IsMark};
 
 use crate::members::contain_offer;
@@ -165,7 +167,9 @@ fn kind_label<S: TypeStore>(
     operator: Operator,
     common: Option<Kind>,
 ) -> Result<Label<S::Ty>, OutOfMemory>
-    ensures value { IfOk result (λ l. IsMark S.has S.tree store.new l (kind_mark (takes_of operator) (gives_of operator) (option_map kind_with common))) }
+    ensures value { IfOk result
+        (λ l. IsMark S.has S.tree store.new l
+        (kind_mark (takes_of operator) (gives_of operator) (option_map kind_with common))) }
     ensures kept { KeepsTypes S.has store.old store.new }
 {
     let Some(kind) = common else {
@@ -203,7 +207,9 @@ fn is_open<S: TypeStore>(
 ) -> Result<bool, OutOfMemory>
     requires left { S.has store.now s.now }
     requires right { S.has store.now t.now }
-    ensures { IfOk result (λ b. b ≡ (is_any (S.tree s.now) && list_all (λ m. is_any m || has_side (takes_of operator) m) (members (S.tree t.now)))) }
+    ensures { IfOk result (λ b. b
+        ≡ (is_any (S.tree s.now)
+        && list_all (λ m. is_any m || has_side (takes_of operator) m) (members (S.tree t.now)))) }
 {
     if !is_any(store, s) {
         return Ok(false);
@@ -241,7 +247,10 @@ fn pairs_label<S: TypeStore>(
     requires left { S.has store.old s.now }
     requires right { S.has store.old t.now }
     requires members { (is_never (S.tree s.now) || is_never (S.tree t.now)) ≡ false }
-    ensures value { (bases : Bases) → IfOk result (λ l. IsMark S.has S.tree store.new l (offers_mark bases (pair_offers (takes_of operator) (gives_of operator) (members (S.tree s.now)) (members (S.tree t.now))))) }
+    ensures value { (bases : Bases)
+        → IfOk result (λ l. IsMark S.has S.tree store.new l
+        (offers_mark bases (pair_offers (takes_of operator) (gives_of operator) (members (S.tree s.now))
+        (members (S.tree t.now))))) }
     ensures kept { KeepsTypes S.has store.old store.new }
 {
     let lefts = store.members(alloc, s)?;
@@ -260,7 +269,9 @@ fn operator_label<S: TypeStore>(
 ) -> Result<Label<S::Ty>, OutOfMemory>
     requires left { S.has store.old s.now }
     requires right { S.has store.old t.now }
-    ensures value { (bases : Bases) → IfOk result (λ l. IsMark S.has S.tree store.new l (operator_mark bases operator (S.tree s.now) (S.tree t.now))) }
+    ensures value { (bases : Bases)
+        → IfOk result (λ l. IsMark S.has S.tree store.new l
+        (operator_mark bases operator (S.tree s.now) (S.tree t.now))) }
     ensures kept { KeepsTypes S.has store.old store.new }
 {
     if is_never(store, s) || is_never(store, t) {
@@ -276,8 +287,8 @@ fn operator_label<S: TypeStore>(
     pairs_label(store, alloc, operator, s, t)
 }
 
-/// The label of `+`, `-`, `*`, `//` and `%` on two operands. Language Reference 6.7 "Binary arithmetic operations"; own rule of
-/// the profile.
+/// The label of `+`, `-`, `*`, `//` and `%` on two operands. Language Reference 6.7 "Binary arithmetic operations"; own
+/// rule of the profile.
 pub fn binary_label<S: TypeStore>(
     store: &mut S,
     alloc: Global,
@@ -288,7 +299,8 @@ pub fn binary_label<S: TypeStore>(
 ) -> Result<Label<S::Ty>, OutOfMemory>
     requires left { S.has store.old s.now }
     requires right { S.has store.old t.now }
-    ensures value { IfOk result (λ l. IsMark S.has S.tree store.new l (binary_mark parents.now operator (S.tree s.now) (S.tree t.now))) }
+    ensures value { IfOk result
+        (λ l. IsMark S.has S.tree store.new l (binary_mark parents.now operator (S.tree s.now) (S.tree t.now))) }
     ensures kept { KeepsTypes S.has store.old store.new }
 {
     operator_label(store, alloc, Operator::Arithmetic(operator), s, t)
@@ -324,7 +336,8 @@ fn order_label<S: TypeStore>(
 ) -> Result<Label<S::Ty>, OutOfMemory>
     requires left { S.has store.old s.now }
     requires right { S.has store.old t.now }
-    ensures value { IfOk result (λ l. IsMark S.has S.tree store.new l (order_mark parents.now (S.tree s.now) (S.tree t.now))) }
+    ensures value { IfOk result
+        (λ l. IsMark S.has S.tree store.new l (order_mark parents.now (S.tree s.now) (S.tree t.now))) }
     ensures kept { KeepsTypes S.has store.old store.new }
 {
     operator_label(store, alloc, Operator::Order, s, t)
@@ -339,8 +352,8 @@ fn truth_label<S: TypeStore>(store: &mut S, alloc: Global) -> Result<Label<S::Ty
     Ok(clean(alloc, ty))
 }
 
-/// The label of a comparison of two operands: `==` and `!=` take anything, `in` and `not in` go by the right one. Language
-/// Reference 6.10 "Comparisons"; own rule of the profile.
+/// The label of a comparison of two operands: `==` and `!=` take anything, `in` and `not in` go by the right one.
+/// Language Reference 6.10 "Comparisons"; own rule of the profile.
 pub(crate) fn compare_label<S: TypeStore>(
     store: &mut S,
     alloc: Global,
@@ -351,7 +364,8 @@ pub(crate) fn compare_label<S: TypeStore>(
 ) -> Result<Label<S::Ty>, OutOfMemory>
     requires left { S.has store.old s.now }
     requires right { S.has store.old t.now }
-    ensures value { IfOk result (λ l. IsMark S.has S.tree store.new l (compare_mark parents.now operator (S.tree s.now) (S.tree t.now))) }
+    ensures value { IfOk result
+        (λ l. IsMark S.has S.tree store.new l (compare_mark parents.now operator (S.tree s.now) (S.tree t.now))) }
     ensures kept { KeepsTypes S.has store.old store.new }
 {
     match operator {

@@ -7,7 +7,8 @@ ghost use Rattle.pc_types.specs.Tree.{Tree};
 ghost use Rattle.pc_types.specs.Shape.{members};
 ghost use Rattle.pc_types.specs.Store.{KeepsTypes};
 ghost use Rattle.pc_class.specs.Tables.{HasEntries, classes_with};
-ghost use Rattle.pc_rules.specs.Operations.{store_with, store_attribute_member, store_index_member, store_codes, store_index_types, stored_types, only_type};
+ghost use Rattle.pc_rules.specs.Operations.{store_with, store_attribute_member, store_index_member, store_codes};
+ghost use Rattle.pc_rules.specs.Operations.{store_index_types, stored_types, only_type};
 ghost use Rattle.pc_rules.specs.Found.{once};
 ghost use Rattle.pc_rules.specs.Standing.{HasIfAny};
 ghost use Rattle.pc_operate.specs.Storing.{store_on, store_offer_with, HasStoreOffer, IsStoreOffer};
@@ -60,7 +61,9 @@ fn attribute_store<S: TypeStore>(
 ) -> Result<StoreOffer<S::Ty>, OutOfMemory>
     requires member { S.has store.now member.now }
     requires classes { HasEntries (S.has store.now) classes.now }
-    ensures { IfOk result (λ o. IsStoreOffer S.has S.tree store.now o (store_attribute_member (classes_with S.tree classes.now) name.now (S.tree member.now))) }
+    ensures { IfOk result (λ o.
+        IsStoreOffer S.has S.tree store.now o
+        (store_attribute_member (classes_with S.tree classes.now) name.now (S.tree member.now))) }
 {
     let class = match store.head(member) {
         Head::Class(class) => class,
@@ -125,7 +128,9 @@ fn store_on<S: TypeStore>(
 ) -> Result<StoreOffer<S::Ty>, OutOfMemory>
     requires member { S.has store.old member.now }
     requires classes { HasEntries (S.has store.old) classes.now }
-    ensures value { IfOk result (λ o. IsStoreOffer S.has S.tree store.new o (store_on (classes_with S.tree classes.now) target.entry (S.tree member.now))) }
+    ensures value { IfOk result
+        (λ o. IsStoreOffer S.has S.tree store.new o
+        (store_on (classes_with S.tree classes.now) target.entry (S.tree member.now))) }
     ensures kept { KeepsTypes S.has store.old store.new }
 {
     match target {
@@ -134,8 +139,8 @@ fn store_on<S: TypeStore>(
     }
 }
 
-/// What a store comes to on each member of a type, in order. Language Reference 7.2 "Assignment statements"; own rule of the
-/// profile.
+/// What a store comes to on each member of a type, in order. Language Reference 7.2 "Assignment statements"; own rule
+/// of the profile.
 pub fn store_offers<S: TypeStore>(
     store: &mut S,
     alloc: Global,
@@ -146,7 +151,9 @@ pub fn store_offers<S: TypeStore>(
     requires ty { S.has store.old ty.now }
     requires classes { HasEntries (S.has store.old) classes.now }
     ensures held { IfOk result (λ os. All (HasStoreOffer (S.has store.new)) os.items) }
-    ensures value { IfOk result (λ os. map (store_offer_with S.tree) os.items ≡ map (store_on (classes_with S.tree classes.now) target.entry) (members (S.tree ty.now))) }
+    ensures value { IfOk result
+        (λ os. map (store_offer_with S.tree) os.items
+        ≡ map (store_on (classes_with S.tree classes.now) target.entry) (members (S.tree ty.now))) }
     ensures kept { KeepsTypes S.has store.old store.new }
 {
     let members = store.members(alloc, ty)?;
@@ -163,7 +170,8 @@ pub fn store_codes<Ty: Drop>(
     alloc: Global,
     offers: &[StoreOffer<Ty>],
 ) -> Result<Vec<Code>, OutOfMemory>
-    ensures { (tree : Ty → Tree) → IfOk result (λ cs. cs.items ≡ once (store_codes (map (store_offer_with tree) offers.now))) }
+    ensures { (tree : Ty → Tree)
+        → IfOk result (λ cs. cs.items ≡ once (store_codes (map (store_offer_with tree) offers.now))) }
 {
     let mut codes = Vec::new(alloc);
     for offer in offers {
@@ -180,7 +188,8 @@ pub fn store_index_types<S: TypeStore>(
 ) -> Result<Vec<S::Ty>, OutOfMemory>
     requires { All (HasStoreOffer (S.has store.now)) offers.now }
     ensures held { IfOk result (λ ts. All (S.has store.now) ts.items) }
-    ensures value { IfOk result (λ ts. map S.tree ts.items ≡ store_index_types (map (store_offer_with S.tree) offers.now)) }
+    ensures value { IfOk result
+        (λ ts. map S.tree ts.items ≡ store_index_types (map (store_offer_with S.tree) offers.now)) }
 {
     let codes = store_codes(alloc, offers)?;
     let mut types = Vec::new(alloc);
@@ -223,7 +232,8 @@ pub fn only_type<S: TypeStore>(
 ) -> Result<Option<S::Ty>, OutOfMemory>
     requires { All (S.has store.now) types.now }
     ensures held { IfOk result (λ t. HasIfAny (S.has store.now) t) }
-    ensures value { IfOk result (λ t. option_map S.tree t ≡ only_type (map (store_offer_with S.tree) offers.now) (map S.tree types.now)) }
+    ensures value { IfOk result
+        (λ t. option_map S.tree t ≡ only_type (map (store_offer_with S.tree) offers.now) (map S.tree types.now)) }
 {
     match (offers, types) {
         ([_], [ty]) => Ok(Some(store.copy(alloc, ty)?)),

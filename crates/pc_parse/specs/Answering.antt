@@ -1,4 +1,5 @@
--- What is answered for tokens that come one at a time: the module that they spell, a fault that came among them, or their refusal.
+-- What is answered for tokens that come one at a time: the module that they spell, a fault that came among them, or
+-- their refusal.
 use Rattle.std.specs.Prelude.{ℕ, List, [], ◌∷◌, ◌++◌, map, Option, Result, Ok, Err}
 use Rattle.pc_source.specs.declared.fault.Fault.{Fault}
 use Rattle.pc_source.specs.declared.fault.Refusal.{Refusal}

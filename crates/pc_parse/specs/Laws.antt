@@ -7,4 +7,5 @@ use Rattle.pc_tree.specs.Faults.{IsRefusal}
 
 -- the refusal of tokens that stand within a text of some length stands from 0 to that length
 abbrev pub RefusalsWithin : Type 0
-RefusalsWithin = (len : ℕ) (tokens : List Lexeme) (refusal : Refusal) → AreWithin len tokens → IsRefusal tokens refusal → refusal.byte ≤ len
+RefusalsWithin = (len : ℕ) (tokens : List Lexeme) (refusal : Refusal) → AreWithin len tokens → IsRefusal tokens refusal
+    → refusal.byte ≤ len

@@ -3,14 +3,16 @@ ghost use Rattle.std.specs.Prelude.{◌≡◌, ◌≤◌, MatchResult, IfOk, fal
 ghost use Rattle.pc_source.specs.declared.fault.Fault.TheVariants as fault;
 ghost use Rattle.pc_token.specs.declared.token.TokenKind.TheVariants as kind;
 ghost use Rattle.pc_token.specs.declared.token.Operator.TheVariants as sign;
-ghost use Rattle.pc_tree.specs.Tree.{Ann as AnnTree, Anns, no_anns, applied as applied_tree, union as union_tree, name_of};
+ghost use Rattle.pc_tree.specs.Tree.{Ann as AnnTree, Anns, no_anns, applied as applied_tree, union as union_tree};
+ghost use Rattle.pc_tree.specs.Tree.{name_of};
 ghost use Rattle.pc_tree.specs.Machine.Finishing.{add_ann};
 ghost use Rattle.pc_tree.specs.Machine.States.{argument_due, empty_opened};
 ghost use Rattle.pc_token.specs.Lexeme.{Lexeme};
 ghost use Rattle.std.specs.Prelude.{List};
 ghost use Rattle.pc_reader.specs.Reading.{IsReady, IsAhead};
 ghost use Rattle.pc_parse.specs.Internal.WholeTrees.{ReadsAnn};
-ghost use Rattle.pc_parse.specs.Internal.Annotations.{KeepsAnn, KeepsAnns, MakesAnn, ReadsUnion, ReadsPart, ReadsApplied};
+ghost use Rattle.pc_parse.specs.Internal.Annotations.{KeepsAnn, KeepsAnns, MakesAnn, ReadsUnion, ReadsPart};
+ghost use Rattle.pc_parse.specs.Internal.Annotations.{ReadsApplied};
 
 use crate::parser::Parser;
 use pc_reader::{Reader, above, deeper};
@@ -49,7 +51,9 @@ impl Annotations {
     /// Adds an annotation at the end.
     fn push(&mut self, annotation: Annotation) -> Result<(), Fault>
         requires { annotation.depth ≤ 65 }
-        ensures { MatchResult result (λ _. (rest : Anns) (a : AnnTree) (ts : List Lexeme) → KeepsAnns self.old rest → KeepsAnn annotation a ts → KeepsAnns self.new (add_ann rest a)) (λ e. e ≡ fault.OutOfMemory) }
+        ensures { MatchResult result
+            (λ _. (rest : Anns) (a : AnnTree) (ts : List Lexeme) → KeepsAnns self.old rest → KeepsAnn annotation a ts
+            → KeepsAnns self.new (add_ann rest a)) (λ e. e ≡ fault.OutOfMemory) }
     {
         self.depth = deeper(self.depth, above(annotation.depth));
         self.anns.push(annotation.ann)?;
@@ -59,7 +63,8 @@ impl Annotations {
 
 /// A name with these arguments.
 fn applied(head: Name, arguments: Annotations, place: Place) -> Annotation
-    ensures { (anns : Anns) → KeepsAnns arguments anns → MakesAnn result (λ q. applied_tree q (name_of head) anns) place.start place.end }
+    ensures { (anns : Anns) → KeepsAnns arguments anns
+        → MakesAnn result (λ q. applied_tree q (name_of head) anns) place.start place.end }
 {
     let depth = arguments.depth;
     if depth > 64 {
@@ -165,7 +170,8 @@ fn arguments<X: AsStr + Drop, I: Iterator<Item = Result<Token<X>, Fault>> + Drop
     head: Name,
 ) -> Result<Annotation, Fault>
     requires { IsReady I.can_next I.remaining reader.old }
-    ensures { ReadsApplied X.text I.next_gives I.can_next I.remaining (λ n ts parts before s. argument_due n ts parts before s) reader.old reader.new head result }
+    ensures { ReadsApplied X.text I.next_gives I.can_next I.remaining
+        (λ n ts parts before s. argument_due n ts parts before s) reader.old reader.new head result }
 {
     let start = head.place.start;
     if reader.sees(TokenKind::Operator(Operator::LeftParenthesis)) {
@@ -194,7 +200,8 @@ fn no_arguments<X: AsStr + Drop, I: Iterator<Item = Result<Token<X>, Fault>> + D
     head: Name,
 ) -> Result<Annotation, Fault>
     requires { IsReady I.can_next I.remaining reader.old }
-    ensures { ReadsApplied X.text I.next_gives I.can_next I.remaining (λ n ts parts before s. empty_opened n ts parts before s) reader.old reader.new head result }
+    ensures { ReadsApplied X.text I.next_gives I.can_next I.remaining
+        (λ n ts parts before s. empty_opened n ts parts before s) reader.old reader.new head result }
 {
     reader.expect(TokenKind::Operator(Operator::RightParenthesis))?;
     let close = reader.expect(TokenKind::Operator(Operator::RightBracket))?;

@@ -23,7 +23,8 @@ fn imports<X: AsStr + Drop, I: Iterator<Item = Result<Token<X>, Fault>> + Drop>(
     imported: &str,
 ) -> Result<(), Fault>
     requires { IsReady I.can_next I.remaining reader.old }
-    ensures { ReadsFixed X.text I.next_gives I.can_next I.remaining (import_words source.now imported.now) reader.old reader.new result }
+    ensures { ReadsFixed X.text I.next_gives I.can_next I.remaining
+        (import_words source.now imported.now) reader.old reader.new result }
 {
     reader.expect_name(source)?;
     reader.expect(TokenKind::Keyword(Keyword::Import))?;

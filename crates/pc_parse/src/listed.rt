@@ -64,7 +64,8 @@ impl<'t, 'a> Iterator for Listed<'t, 'a> {
 /// is deeper than 64. `OutOfMemory` where the tree has no room.
 pub fn parse(alloc: Global, tokens: &[Tok<'_>]) -> Result<Module, Fault>
     ensures found { IfOk result (λ m. IsModule (map lexeme_of tokens.now) (module_of m)) }
-    ensures only { (m : ModuleTree) → IsModule (map lexeme_of tokens.now) m → MatchResult result (λ v. module_of v ≡ m) (λ e. e ≡ fault.OutOfMemory) }
+    ensures only { (m : ModuleTree) → IsModule (map lexeme_of tokens.now) m
+        → MatchResult result (λ v. module_of v ≡ m) (λ e. e ≡ fault.OutOfMemory) }
     ensures refused { IfErr result (OnRefusal (IsRefusal (map lexeme_of tokens.now))) }
     ensures within { (len : ℕ) → AreWithin len (map lexeme_of tokens.now) → IfErr result (IsWithin len) }
 {

@@ -4,7 +4,8 @@ ghost use Rattle.pc_tree.specs.Tree.{expr_of, target_of};
 ghost use Rattle.pc_tree.specs.Machine.Finishing.{if_plain, target_of_tree};
 ghost use Rattle.pc_tree.specs.Machine.Kinds.{lead_of as lead_of_kind, leads_return, leads_assert, leads_other};
 ghost use Rattle.pc_reader.specs.Reading.{IsReady};
-ghost use Rattle.pc_parse.specs.Internal.Suites.{lead_view, HasLead, HasWord, kind_of_word, ReadsStmt, ReadsLineEnd, ReadsLocal};
+ghost use Rattle.pc_parse.specs.Internal.Suites.{lead_view, HasLead, HasWord, kind_of_word, ReadsStmt, ReadsLineEnd};
+ghost use Rattle.pc_parse.specs.Internal.Suites.{ReadsLocal};
 
 use crate::parser::Parser;
 use pc_reader::{Operand, plain_name};
@@ -70,7 +71,8 @@ fn lead_of(kind: TokenKind) -> Lead
 
 /// What is assigned to, if an expression is that and stands in no parentheses.
 fn target(operand: Operand) -> Option<Target>
-    ensures { MatchOption result (if_plain operand.plain (target_of_tree (expr_of operand.expr)) ≡ None) (λ t. if_plain operand.plain (target_of_tree (expr_of operand.expr)) ≡ Some (target_of t)) }
+    ensures { MatchOption result (if_plain operand.plain (target_of_tree (expr_of operand.expr)) ≡ None)
+        (λ t. if_plain operand.plain (target_of_tree (expr_of operand.expr)) ≡ Some (target_of t)) }
 {
     if !operand.plain {
         return None;
@@ -112,7 +114,8 @@ impl<X: AsStr + Drop, I: Iterator<Item = Result<Token<X>, Fault>> + Drop> Parser
     /// `pass`, `break` or `continue`.
     pub(crate) fn word(&mut self, word: Word) -> Result<Stmt, Fault>
         requires { IsReady I.can_next I.remaining self.old.reader }
-        ensures { ReadsStmt X.text I.next_gives I.can_next I.remaining (λ _. HasWord X.text (kind_of_word word) self.old) self.old self.new result }
+        ensures { ReadsStmt X.text I.next_gives I.can_next I.remaining
+            (λ _. HasWord X.text (kind_of_word word) self.old) self.old self.new result }
     {
         let first = self.reader.take()?;
         self.line_end(Stmt {
@@ -124,7 +127,8 @@ impl<X: AsStr + Drop, I: Iterator<Item = Result<Token<X>, Fault>> + Drop> Parser
     /// `return`, with or without a value.
     pub(crate) fn returned(&mut self, alloc: Global) -> Result<Stmt, Fault>
         requires { IsReady I.can_next I.remaining self.old.reader }
-        ensures { ReadsStmt X.text I.next_gives I.can_next I.remaining (λ _. HasLead leads_return self.old) self.old self.new result }
+        ensures { ReadsStmt X.text I.next_gives I.can_next I.remaining
+            (λ _. HasLead leads_return self.old) self.old self.new result }
     {
         let first = self.reader.take()?;
         if self.reader.sees(TokenKind::Newline) {
@@ -143,7 +147,8 @@ impl<X: AsStr + Drop, I: Iterator<Item = Result<Token<X>, Fault>> + Drop> Parser
     /// `assert`, a condition, and a message behind a comma if there is one.
     pub(crate) fn asserted(&mut self, alloc: Global) -> Result<Stmt, Fault>
         requires { IsReady I.can_next I.remaining self.old.reader }
-        ensures { ReadsStmt X.text I.next_gives I.can_next I.remaining (λ _. HasLead leads_assert self.old) self.old self.new result }
+        ensures { ReadsStmt X.text I.next_gives I.can_next I.remaining
+            (λ _. HasLead leads_assert self.old) self.old self.new result }
     {
         let first = self.reader.take()?;
         let condition = self.expression(alloc)?;
@@ -165,7 +170,8 @@ impl<X: AsStr + Drop, I: Iterator<Item = Result<Token<X>, Fault>> + Drop> Parser
     /// the expression alone.
     pub(crate) fn line(&mut self, alloc: Global) -> Result<Stmt, Fault>
         requires { IsReady I.can_next I.remaining self.old.reader }
-        ensures { ReadsStmt X.text I.next_gives I.can_next I.remaining (λ _. HasLead leads_other self.old) self.old self.new result }
+        ensures { ReadsStmt X.text I.next_gives I.can_next I.remaining
+            (λ _. HasLead leads_other self.old) self.old self.new result }
     {
         let Some(first) = self.reader.place() else {
             return Err(self.reader.misfit());

@@ -34,8 +34,11 @@ pub fn parse_from<X: AsStr + Drop, I: Iterator<Item = Result<Token<X>, Fault>> +
     requires can { I.can_next tokens }
     requires ends { IsFinite (I.remaining tokens) }
     ensures read { IfOk result (λ m. IsRead X.text I.next_gives tokens (module_of m)) }
-    ensures refused { IfErr result (OnRefusal (λ r. IsRefusedByTokens X.text I.next_gives tokens r ⊎ IsFaulty X.text I.next_gives tokens (fault.Refused r))) }
-    ensures within { (len : ℕ) → RefusesWithin I.next_gives len tokens → ComesAs I.next_gives (λ ts. AreWithin len (map (lexeme X.text) ts)) tokens
+    ensures refused { IfErr result
+        (OnRefusal (λ r. IsRefusedByTokens X.text I.next_gives tokens r
+        ⊎ IsFaulty X.text I.next_gives tokens (fault.Refused r))) }
+    ensures within { (len : ℕ) → RefusesWithin I.next_gives len tokens
+        → ComesAs I.next_gives (λ ts. AreWithin len (map (lexeme X.text) ts)) tokens
         → IfErr result (IsWithin len) }
 {
     let reader = Reader::new(tokens)?;

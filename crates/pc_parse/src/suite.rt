@@ -37,7 +37,8 @@ impl<X: AsStr + Drop, I: Iterator<Item = Result<Token<X>, Fault>> + Drop> Parser
     #[cycle(statements)]
     fn statement(&mut self, alloc: Global) -> Result<Stmt, Fault>
         requires { IsReady I.can_next I.remaining self.old.reader }
-        ensures { ReadsStmt X.text I.next_gives I.can_next I.remaining (λ done. MayGoOn done self.old) self.old self.new result }
+        ensures { ReadsStmt X.text I.next_gives I.can_next I.remaining
+            (λ done. MayGoOn done self.old) self.old self.new result }
     {
         match self.lead() {
             Lead::Pass => self.word(Word::Pass),
@@ -57,7 +58,8 @@ impl<X: AsStr + Drop, I: Iterator<Item = Result<Token<X>, Fault>> + Drop> Parser
     #[cycle(statements)]
     fn while_loop(&mut self, alloc: Global) -> Result<Stmt, Fault>
         requires { IsReady I.can_next I.remaining self.old.reader }
-        ensures { ReadsStmt X.text I.next_gives I.can_next I.remaining (λ _. HasLead leads_while self.old) self.old self.new result }
+        ensures { ReadsStmt X.text I.next_gives I.can_next I.remaining
+            (λ _. HasLead leads_while self.old) self.old self.new result }
     {
         let first = self.reader.take()?;
         let (condition, body) = self.headed(alloc)?;
@@ -71,7 +73,8 @@ impl<X: AsStr + Drop, I: Iterator<Item = Result<Token<X>, Fault>> + Drop> Parser
     #[cycle(statements)]
     fn for_loop(&mut self, alloc: Global) -> Result<Stmt, Fault>
         requires { IsReady I.can_next I.remaining self.old.reader }
-        ensures { ReadsStmt X.text I.next_gives I.can_next I.remaining (λ _. HasLead leads_for self.old) self.old self.new result }
+        ensures { ReadsStmt X.text I.next_gives I.can_next I.remaining
+            (λ _. HasLead leads_for self.old) self.old self.new result }
     {
         let first = self.reader.take()?;
         let target = self.reader.name(alloc)?;
@@ -87,7 +90,8 @@ impl<X: AsStr + Drop, I: Iterator<Item = Result<Token<X>, Fault>> + Drop> Parser
     #[cycle(statements)]
     fn conditional(&mut self, alloc: Global) -> Result<Stmt, Fault>
         requires { IsReady I.can_next I.remaining self.old.reader }
-        ensures { ReadsStmt X.text I.next_gives I.can_next I.remaining (λ _. HasLead leads_if self.old) self.old self.new result }
+        ensures { ReadsStmt X.text I.next_gives I.can_next I.remaining
+            (λ _. HasLead leads_if self.old) self.old self.new result }
     {
         let first = self.reader.take()?;
         let mut branches = Vec::new(alloc);

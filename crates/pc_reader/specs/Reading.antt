@@ -59,12 +59,14 @@ module _ {X : Type 0} (text : X → List ℕ) where
 module _ {X I : Type 0} (text : X → List ℕ) (steps : I → Option (Result (Token X) Fault) → I → Type 0) where
   -- the items that come from an iterator lead from a reading to this answer
   abbrev pub ComesToAnswer : I → ℕ → Reading → Result Module Fault → Type 0
-  ComesToAnswer it end r o = (xs : List (Result (Token X) Fault)) × stream.Yields steps it xs × (run_items text end r xs ≡ o)
+  ComesToAnswer it end r o = (xs : List (Result (Token X) Fault)) × stream.Yields steps it xs
+      × (run_items text end r xs ≡ o)
 
   -- so for this token ahead, if there is one, and the items behind it
   abbrev pub came : Option (Token X) → I → ℕ → Reading → Result Module Fault → Type 0
   came None it end r o = run_items text end r [] ≡ o
-  came (Some t) it end r o = (xs : List (Result (Token X) Fault)) × stream.Yields steps it xs × (run_items text end r (Ok t ∷ xs) ≡ o)
+  came (Some t) it end r o = (xs : List (Result (Token X) Fault)) × stream.Yields steps it xs
+      × (run_items text end r (Ok t ∷ xs) ≡ o)
 
   -- the same with the token ahead before them; with none ahead they have ended
   abbrev pub Came : Reader X I → Reading → Result Module Fault → Type 0
@@ -102,9 +104,11 @@ pub record Rejects {X I : Type 0} (text : X → List ℕ) (st : State) (a : Read
 -- a token of another kind does not go on from a state
 pub record NeedsKind {X I : Type 0} (text : X → List ℕ) (kind : TokenKind) (st : State) (a : Reader X I) : Type 0 where
   pub unfinished : stop_at st ≡ short
-  pub stuck_at : (t : Token X) → a.ahead ≡ Some t → same_kind t.kind kind ≡ false → turn st (lexeme text t) t.kind ≡ stuck
+  pub stuck_at : (t : Token X) → a.ahead ≡ Some t → same_kind t.kind kind ≡ false
+      → turn st (lexeme text t) t.kind ≡ stuck
 
-module _ {X I : Type 0} (text : X → List ℕ) (steps : I → Option (Result (Token X) Fault) → I → Type 0) (can : I → Type 0) (left : I → Count) where
+module _ {X I : Type 0} (text : X → List ℕ) (steps : I → Option (Result (Token X) Fault) → I → Type 0)
+    (can : I → Type 0) (left : I → Count) where
   -- the token ahead was taken
   pub record Takes (a b : Reader X I) (t : Token X) : Type 0 where
     pub here : a.ahead ≡ Some t

@@ -8,7 +8,9 @@ ghost use Rattle.pc_tree.specs.Machine.Kinds.{start_of};
 ghost use Rattle.pc_tree.specs.Machine.Expressions.{rank};
 ghost use Rattle.pc_tree.specs.Machine.States.{item_due, in_call};
 ghost use Rattle.pc_reader.specs.Reading.{IsReady, IsAhead, lexeme};
-ghost use Rattle.pc_reader.specs.Internal.Expressions.{NextIs, Over, Undotted, IsPrimary, IsSingle, IsValue, is_value_start, value_ahead, ReadsOperand, ReadsItems, ReadsKeywords, ReadsOn};
+ghost use Rattle.pc_reader.specs.Internal.Expressions.{NextIs, Over, Undotted, IsPrimary, IsSingle, IsValue};
+ghost use Rattle.pc_reader.specs.Internal.Expressions.{is_value_start, value_ahead, ReadsOperand, ReadsItems};
+ghost use Rattle.pc_reader.specs.Internal.Expressions.{ReadsKeywords, ReadsOn};
 
 use crate::items::{Arguments, Entries, Items, Keywords, Listed, called, dict, list, tuple};
 use crate::name::{characters, digits, named};
@@ -25,7 +27,8 @@ impl<X: AsStr + Drop, I: Iterator<Item = Result<Token<X>, Fault>> + Drop> Reader
     /// A name, a number, a string, or a word that is a value.
     fn single(&mut self, alloc: Global) -> Result<Operand, Fault>
         requires { IsReady I.can_next I.remaining self.old }
-        ensures reads { ReadsOperand X.text I.next_gives I.can_next I.remaining (λ s. IsSingle self.old s) 7 self.old self.new result }
+        ensures reads { ReadsOperand X.text I.next_gives I.can_next I.remaining
+            (λ s. IsSingle self.old s) 7 self.old self.new result }
         ensures level { IfOk result (λ o. o.level ≡ 7) }
     {
         if !self.sees_value() {
@@ -59,7 +62,9 @@ fn is_value(kind: TokenKind) -> bool
 
 /// The value that a token is.
 fn value<X: AsStr + Drop>(alloc: Global, token: Token<X>) -> Result<Operand, Fault>
-    ensures { MatchResult result (λ o. (o.level ≡ 7) × (is_value_start (start_of token.kind) ≡ true → IsValue (lexeme X.text token) o)) (λ e. e ≡ fault.OutOfMemory) }
+    ensures { MatchResult result
+        (λ o. (o.level ≡ 7) × (is_value_start (start_of token.kind) ≡ true → IsValue (lexeme X.text token) o))
+        (λ e. e ≡ fault.OutOfMemory) }
 {
     let place = token.place;
     match token.kind {
@@ -87,7 +92,8 @@ impl<X: AsStr + Drop, I: Iterator<Item = Result<Token<X>, Fault>> + Drop> Reader
     pub fn operators(&mut self, alloc: Global, level: u8) -> Result<Operand, Fault>
         requires ready { IsReady I.can_next I.remaining self.old }
         requires level { level ≤ 6 }
-        ensures reads { ReadsOperand X.text I.next_gives I.can_next I.remaining (λ s. rank s ≡ level) level self.old self.new result }
+        ensures reads { ReadsOperand X.text I.next_gives I.can_next I.remaining
+            (λ s. rank s ≡ level) level self.old self.new result }
         ensures over { IfOk result (λ o. NextIs (Over level o.level) self.new.ahead) }
         ensures undotted { IfOk result (λ o. NextIs (Undotted o.level) self.new.ahead) }
     {
@@ -108,7 +114,8 @@ impl<X: AsStr + Drop, I: Iterator<Item = Result<Token<X>, Fault>> + Drop> Reader
     fn prefixed(&mut self, alloc: Global, level: u8) -> Result<Operand, Fault>
         requires ready { IsReady I.can_next I.remaining self.old }
         requires level { level ≤ 6 }
-        ensures reads { ReadsOperand X.text I.next_gives I.can_next I.remaining (λ s. rank s ≡ level) level self.old self.new result }
+        ensures reads { ReadsOperand X.text I.next_gives I.can_next I.remaining
+            (λ s. rank s ≡ level) level self.old self.new result }
         ensures undotted { IfOk result (λ o. NextIs (Undotted o.level) self.new.ahead) }
     {
         if level <= 2 && self.sees(TokenKind::Keyword(Keyword::Not)) {
@@ -127,7 +134,8 @@ impl<X: AsStr + Drop, I: Iterator<Item = Result<Token<X>, Fault>> + Drop> Reader
     #[cycle(expressions)]
     fn postfix(&mut self, alloc: Global) -> Result<Operand, Fault>
         requires { IsReady I.can_next I.remaining self.old }
-        ensures reads { ReadsOperand X.text I.next_gives I.can_next I.remaining (λ s. IsPrimary self.old s) 7 self.old self.new result }
+        ensures reads { ReadsOperand X.text I.next_gives I.can_next I.remaining
+            (λ s. IsPrimary self.old s) 7 self.old self.new result }
         ensures level { IfOk result (λ o. o.level ≡ 7) }
         ensures undotted { IfOk result (λ o. NextIs (Undotted 7) self.new.ahead) }
     {
@@ -154,7 +162,8 @@ impl<X: AsStr + Drop, I: Iterator<Item = Result<Token<X>, Fault>> + Drop> Reader
     #[cycle(expressions)]
     fn atom(&mut self, alloc: Global) -> Result<Operand, Fault>
         requires { IsReady I.can_next I.remaining self.old }
-        ensures reads { ReadsOperand X.text I.next_gives I.can_next I.remaining (λ s. IsPrimary self.old s) 7 self.old self.new result }
+        ensures reads { ReadsOperand X.text I.next_gives I.can_next I.remaining
+            (λ s. IsPrimary self.old s) 7 self.old self.new result }
         ensures level { IfOk result (λ o. o.level ≡ 7) }
     {
         if self.sees(TokenKind::Operator(Operator::LeftParenthesis)) {
@@ -179,7 +188,8 @@ impl<X: AsStr + Drop, I: Iterator<Item = Result<Token<X>, Fault>> + Drop> Reader
     #[cycle(expressions)]
     fn group(&mut self, alloc: Global) -> Result<Operand, Fault>
         requires { IsReady I.can_next I.remaining self.old }
-        ensures reads { ReadsOperand X.text I.next_gives I.can_next I.remaining (λ s. IsAhead (kind.Operator sign.LeftParenthesis) self.old.ahead ≡ true) 7 self.old self.new result }
+        ensures reads { ReadsOperand X.text I.next_gives I.can_next I.remaining
+            (λ s. IsAhead (kind.Operator sign.LeftParenthesis) self.old.ahead ≡ true) 7 self.old self.new result }
         ensures level { IfOk result (λ o. o.level ≡ 7) }
     {
         let open = self.take()?;
@@ -231,7 +241,8 @@ impl<X: AsStr + Drop, I: Iterator<Item = Result<Token<X>, Fault>> + Drop> Reader
     #[cycle(expressions)]
     fn dict(&mut self, alloc: Global) -> Result<Operand, Fault>
         requires { IsReady I.can_next I.remaining self.old }
-        ensures reads { ReadsOperand X.text I.next_gives I.can_next I.remaining (λ s. IsAhead (kind.Operator sign.LeftBrace) self.old.ahead ≡ true) 7 self.old self.new result }
+        ensures reads { ReadsOperand X.text I.next_gives I.can_next I.remaining
+            (λ s. IsAhead (kind.Operator sign.LeftBrace) self.old.ahead ≡ true) 7 self.old self.new result }
         ensures level { IfOk result (λ o. o.level ≡ 7) }
     {
         let open = self.take()?;
@@ -258,7 +269,8 @@ impl<X: AsStr + Drop, I: Iterator<Item = Result<Token<X>, Fault>> + Drop> Reader
     fn call(&mut self, alloc: Global, callee: Operand) -> Result<Operand, Fault>
         requires ready { IsReady I.can_next I.remaining self.old }
         requires depth { callee.depth ≤ 65 }
-        ensures { ReadsOn X.text I.next_gives I.can_next I.remaining (λ t p s. item_due (in_call p.tree) no_exprs (p.tokens ++ (t ∷ [])) s) 7 self.old self.new callee result }
+        ensures { ReadsOn X.text I.next_gives I.can_next I.remaining
+            (λ t p s. item_due (in_call p.tree) no_exprs (p.tokens ++ (t ∷ [])) s) 7 self.old self.new callee result }
     {
         let mut items = Items::new(alloc);
         loop {

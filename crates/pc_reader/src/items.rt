@@ -1,7 +1,9 @@
 //! What stands in brackets, with commas between.
 ghost use Rattle.std.specs.Prelude.{◌≡◌, ◌+◌, ◌≤◌, ℕ, MatchResult, min, max};
 ghost use Rattle.pc_source.specs.declared.fault.Fault.TheVariants as fault;
-ghost use Rattle.pc_tree.specs.Tree.{Exprs, Entries as EntryTrees, Keywords as KeywordTrees, tuple as tuple_tree, list as list_tree, dict as dict_tree, call as call_tree, no_exprs, no_entries, no_keywords, name_of};
+ghost use Rattle.pc_tree.specs.Tree.{Exprs, Entries as EntryTrees, Keywords as KeywordTrees, tuple as tuple_tree};
+ghost use Rattle.pc_tree.specs.Tree.{list as list_tree, dict as dict_tree, call as call_tree, no_exprs, no_entries};
+ghost use Rattle.pc_tree.specs.Tree.{no_keywords, name_of};
 ghost use Rattle.pc_tree.specs.Machine.Finishing.{add_expr, add_entry, add_keyword};
 ghost use Rattle.pc_tree.specs.Machine.States.{Part};
 ghost use Rattle.pc_reader.specs.Internal.Operands.{KeepsPart, Builds};
@@ -60,7 +62,9 @@ impl Items {
     /// Adds an expression at the end.
     pub(crate) fn push(&mut self, item: Operand) -> Result<(), Fault>
         requires { item.depth ≤ 65 }
-        ensures { MatchResult result (λ _. (es : Exprs) (p : Part) → KeepsItems self.old es → KeepsPart item p → KeepsItems self.new (add_expr es p.tree)) (λ e. e ≡ fault.OutOfMemory) }
+        ensures { MatchResult result
+            (λ _. (es : Exprs) (p : Part) → KeepsItems self.old es → KeepsPart item p
+            → KeepsItems self.new (add_expr es p.tree)) (λ e. e ≡ fault.OutOfMemory) }
     {
         self.depth = deeper(self.depth, above(item.depth));
         self.exprs.push(item.expr)?;
@@ -82,7 +86,9 @@ impl Entries {
     pub(crate) fn push(&mut self, key: Operand, value: Operand) -> Result<(), Fault>
         requires key { key.depth ≤ 65 }
         requires value { value.depth ≤ 65 }
-        ensures { MatchResult result (λ _. (es : EntryTrees) (k v : Part) → KeepsEntries self.old es → KeepsPart key k → KeepsPart value v → KeepsEntries self.new (add_entry es k.tree v.tree)) (λ e. e ≡ fault.OutOfMemory) }
+        ensures { MatchResult result
+            (λ _. (es : EntryTrees) (k v : Part) → KeepsEntries self.old es → KeepsPart key k → KeepsPart value v
+            → KeepsEntries self.new (add_entry es k.tree v.tree)) (λ e. e ≡ fault.OutOfMemory) }
     {
         self.depth = deeper(self.depth, above(deeper(key.depth, value.depth)));
         self.entries.push(Entry {
@@ -106,7 +112,9 @@ impl Keywords {
     /// Adds an argument by name at the end.
     pub(crate) fn push(&mut self, name: Name, value: Operand) -> Result<(), Fault>
         requires { value.depth ≤ 65 }
-        ensures { MatchResult result (λ _. (ks : KeywordTrees) (v : Part) → KeepsKeywords self.old ks → KeepsPart value v → KeepsKeywords self.new (add_keyword ks (name_of name) v.tree)) (λ e. e ≡ fault.OutOfMemory) }
+        ensures { MatchResult result
+            (λ _. (ks : KeywordTrees) (v : Part) → KeepsKeywords self.old ks → KeepsPart value v
+            → KeepsKeywords self.new (add_keyword ks (name_of name) v.tree)) (λ e. e ≡ fault.OutOfMemory) }
     {
         self.depth = deeper(self.depth, above(value.depth));
         self.arguments.push(KeywordArgument {
@@ -119,7 +127,8 @@ impl Keywords {
 
 /// A list display of these items.
 pub(crate) fn list(alloc: Global, items: Items, start: usize, end: usize) -> Operand
-    ensures { (result.level ≡ 7) × ((es : Exprs) → KeepsItems items es → Builds result (λ q. list_tree q es) start end) }
+    ensures { (result.level ≡ 7)
+        × ((es : Exprs) → KeepsItems items es → Builds result (λ q. list_tree q es) start end) }
 {
     let place = Place { start, end };
     if items.depth > 64 {
@@ -130,7 +139,8 @@ pub(crate) fn list(alloc: Global, items: Items, start: usize, end: usize) -> Ope
 
 /// A tuple of these items.
 pub(crate) fn tuple(alloc: Global, items: Items, start: usize, end: usize) -> Operand
-    ensures { (result.level ≡ 7) × ((es : Exprs) → KeepsItems items es → Builds result (λ q. tuple_tree q es) start end) }
+    ensures { (result.level ≡ 7)
+        × ((es : Exprs) → KeepsItems items es → Builds result (λ q. tuple_tree q es) start end) }
 {
     let place = Place { start, end };
     if items.depth > 64 {
@@ -141,7 +151,8 @@ pub(crate) fn tuple(alloc: Global, items: Items, start: usize, end: usize) -> Op
 
 /// A dict display of these entries.
 pub(crate) fn dict(alloc: Global, entries: Entries, start: usize, end: usize) -> Operand
-    ensures { (result.level ≡ 7) × ((es : EntryTrees) → KeepsEntries entries es → Builds result (λ q. dict_tree q es) start end) }
+    ensures { (result.level ≡ 7)
+        × ((es : EntryTrees) → KeepsEntries entries es → Builds result (λ q. dict_tree q es) start end) }
 {
     let place = Place { start, end };
     if entries.depth > 64 {
@@ -159,7 +170,10 @@ pub(crate) fn called(
     end: usize,
 ) -> Result<Operand, Fault>
     requires { callee.depth ≤ 65 }
-    ensures { MatchResult result (λ o. (o.level ≡ 7) × ((p : Part) (es : Exprs) (ks : KeywordTrees) → KeepsPart callee p → KeepsItems items es → KeepsKeywords keywords ks → Builds o (λ q. call_tree q p.tree es ks) callee.start end)) (λ e. e ≡ fault.OutOfMemory) }
+    ensures { MatchResult result
+        (λ o. (o.level ≡ 7) × ((p : Part) (es : Exprs) (ks : KeywordTrees) → KeepsPart callee p → KeepsItems items es
+        → KeepsKeywords keywords ks → Builds o (λ q. call_tree q p.tree es ks) callee.start end))
+        (λ e. e ≡ fault.OutOfMemory) }
 {
     let place = Place {
         start: callee.start,

@@ -2,7 +2,8 @@
 ghost use Rattle.std.specs.Prelude.{◌≡◌, MatchResult, true};
 ghost use Rattle.pc_source.specs.declared.fault.Fault.TheVariants as fault;
 ghost use Rattle.pc_reader.specs.Reading.{IsReady, lexeme};
-ghost use Rattle.pc_reader.specs.Internal.Literals.{ReadsLiteral, ReadsNegative, ReadsDefault, is_literal_kind, literal_ahead, IsLiteral};
+ghost use Rattle.pc_reader.specs.Internal.Literals.{ReadsLiteral, ReadsNegative, ReadsDefault, is_literal_kind};
+ghost use Rattle.pc_reader.specs.Internal.Literals.{literal_ahead, IsLiteral};
 
 use crate::name::{characters, digits};
 use crate::reader::Reader;
@@ -26,7 +27,8 @@ fn is_literal(kind: TokenKind) -> bool
 
 /// The literal that a token is.
 fn plain<X: AsStr + Drop>(alloc: Global, token: Token<X>) -> Result<Literal, Fault>
-    ensures { MatchResult result (λ l. is_literal_kind token.kind ≡ true → IsLiteral (lexeme X.text token) l) (λ e. e ≡ fault.OutOfMemory) }
+    ensures { MatchResult result (λ l. is_literal_kind token.kind ≡ true → IsLiteral (lexeme X.text token) l)
+        (λ e. e ≡ fault.OutOfMemory) }
 {
     let place = token.place;
     match token.kind {

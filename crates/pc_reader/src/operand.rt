@@ -1,5 +1,6 @@
 //! Parts of expressions, whose depth is counted as they are built.
-ghost use Rattle.std.specs.Prelude.{◌≡◌, ◌+◌, ◌≤◌, ℕ, Bool, List, MatchResult, MatchOption, min, max, Some, None, false};
+ghost use Rattle.std.specs.Prelude.{◌≡◌, ◌+◌, ◌≤◌, ℕ, Bool, List, MatchResult, MatchOption, min, max, Some, None};
+ghost use Rattle.std.specs.Prelude.{false};
 ghost use Rattle.pc_source.specs.declared.fault.Fault.TheVariants as fault;
 ghost use Rattle.pc_tree.specs.Tree.{attribute, index as index_tree, expr_of, name_of};
 ghost use Rattle.pc_tree.specs.Machine.Expressions.{infix_tree, prefix_tree, prefix_level, own_of};
@@ -124,7 +125,10 @@ pub(crate) fn join(
 ) -> Result<Operand, Fault>
     requires left { left.depth ≤ 65 }
     requires right { right.depth ≤ 65 }
-    ensures { MatchResult result (λ o. (o.level ≡ own_of (infix_of operator)) × ((l r : Part) → KeepsPart left l → KeepsPart right r → Builds o (infix_tree (infix_of operator) l.tree r.tree) left.start right.end)) (λ e. e ≡ fault.OutOfMemory) }
+    ensures { MatchResult result
+        (λ o. (o.level ≡ own_of (infix_of operator))
+        × ((l r : Part) → KeepsPart left l → KeepsPart right r
+        → Builds o (infix_tree (infix_of operator) l.tree r.tree) left.start right.end)) (λ e. e ≡ fault.OutOfMemory) }
 {
     let place = Place {
         start: left.start,
@@ -145,7 +149,10 @@ pub(crate) fn wrap(
     operand: Operand,
 ) -> Result<Operand, Fault>
     requires { operand.depth ≤ 65 }
-    ensures { MatchResult result (λ o. (o.level ≡ prefix_level (prefix_of prefix)) × ((p : Part) → KeepsPart operand p → Builds o (prefix_tree (prefix_of prefix) p.tree) start operand.end) × (o.depth ≤ 65)) (λ e. e ≡ fault.OutOfMemory) }
+    ensures { MatchResult result
+        (λ o. (o.level ≡ prefix_level (prefix_of prefix))
+        × ((p : Part) → KeepsPart operand p → Builds o (prefix_tree (prefix_of prefix) p.tree) start operand.end)
+        × (o.depth ≤ 65)) (λ e. e ≡ fault.OutOfMemory) }
 {
     let place = Place {
         start,
@@ -167,7 +174,9 @@ pub(crate) fn none_test(
     end: usize,
 ) -> Result<Operand, Fault>
     requires { operand.depth ≤ 65 }
-    ensures { MatchResult result (λ o. (o.level ≡ 3) × ((p : Part) → KeepsPart operand p → Builds o (none_tree negated p.tree) operand.start end)) (λ e. e ≡ fault.OutOfMemory) }
+    ensures { MatchResult result
+        (λ o. (o.level ≡ 3) × ((p : Part) → KeepsPart operand p
+        → Builds o (none_tree negated p.tree) operand.start end)) (λ e. e ≡ fault.OutOfMemory) }
 {
     let place = Place {
         start: operand.start,
@@ -189,7 +198,9 @@ pub(crate) fn member(
     end: usize,
 ) -> Result<Operand, Fault>
     requires { operand.depth ≤ 65 }
-    ensures { MatchResult result (λ o. (o.level ≡ 7) × ((p : Part) → KeepsPart operand p → Builds o (λ q. attribute q p.tree (name_of name)) operand.start end)) (λ e. e ≡ fault.OutOfMemory) }
+    ensures { MatchResult result
+        (λ o. (o.level ≡ 7) × ((p : Part) → KeepsPart operand p
+        → Builds o (λ q. attribute q p.tree (name_of name)) operand.start end)) (λ e. e ≡ fault.OutOfMemory) }
 {
     let place = Place {
         start: operand.start,
@@ -209,7 +220,9 @@ pub(crate) fn indexed(
 ) -> Result<Operand, Fault>
     requires operand { operand.depth ≤ 65 }
     requires key { key.depth ≤ 65 }
-    ensures { MatchResult result (λ o. (o.level ≡ 7) × ((p k : Part) → KeepsPart operand p → KeepsPart key k → Builds o (λ q. index_tree q p.tree k.tree) operand.start end)) (λ e. e ≡ fault.OutOfMemory) }
+    ensures { MatchResult result
+        (λ o. (o.level ≡ 7) × ((p k : Part) → KeepsPart operand p → KeepsPart key k
+        → Builds o (λ q. index_tree q p.tree k.tree) operand.start end)) (λ e. e ≡ fault.OutOfMemory) }
 {
     let place = Place {
         start: operand.start,
@@ -238,7 +251,8 @@ pub(crate) fn grouped(operand: Operand, start: usize, end: usize) -> Operand
 
 /// The name that an operand is, if it is one and stands in no parentheses.
 pub fn plain_name(operand: Operand) -> Option<Name>
-    ensures { MatchOption result (if_plain operand.plain (name_of_tree (expr_of operand.expr)) ≡ None) (λ n. if_plain operand.plain (name_of_tree (expr_of operand.expr)) ≡ Some (name_of n)) }
+    ensures { MatchOption result (if_plain operand.plain (name_of_tree (expr_of operand.expr)) ≡ None)
+        (λ n. if_plain operand.plain (name_of_tree (expr_of operand.expr)) ≡ Some (name_of n)) }
 {
     if !operand.plain {
         return None;

@@ -7,7 +7,8 @@ ghost use Rattle.pc_tree.specs.Fronts.Expressions.{prefix_kind};
 ghost use Rattle.pc_reader.specs.Internal.Operands.{KeepsPart, prefix_of, starts_of, applied_all};
 ghost use Rattle.pc_reader.specs.Reading.{IsReady, IsAhead};
 ghost use Rattle.pc_reader.specs.Internal.Links.{link_view};
-ghost use Rattle.pc_reader.specs.Internal.Expressions.{NextIs, Over, HasLink, ReadsInfix, ReadsOn, ReadsSigns, wrapped_level};
+ghost use Rattle.pc_reader.specs.Internal.Expressions.{NextIs, Over, HasLink, ReadsInfix, ReadsOn, ReadsSigns};
+ghost use Rattle.pc_reader.specs.Internal.Expressions.{wrapped_level};
 
 use crate::link::{Link, link_of};
 use crate::operand::{Infix, Operand, Prefix, member, none_test, wrap};
@@ -38,7 +39,10 @@ pub(crate) fn wrap_all(
     operand: Operand,
 ) -> Result<Operand, Fault>
     requires { operand.depth ≤ 65 }
-    ensures { MatchResult result (λ o. (ts : List Lexeme) (p : Part) → starts_of ts ≡ signs.items → KeepsPart operand p → KeepsPart o (applied_all (prefix_of prefix) ts p) × (o.level ≡ wrapped_level (prefix_of prefix) ts operand.level)) (λ e. e ≡ fault.OutOfMemory) }
+    ensures { MatchResult result
+        (λ o. (ts : List Lexeme) (p : Part) → starts_of ts ≡ signs.items → KeepsPart operand p
+        → KeepsPart o (applied_all (prefix_of prefix) ts p)
+        × (o.level ≡ wrapped_level (prefix_of prefix) ts operand.level)) (λ e. e ≡ fault.OutOfMemory) }
 {
     let mut signs = signs;
     let mut operand = operand;
@@ -52,7 +56,8 @@ impl<X: AsStr + Drop, I: Iterator<Item = Result<Token<X>, Fault>> + Drop> Reader
     /// The operator ahead, if it goes on with an operand that binds as tightly as `left` where one
     /// that binds as tightly as `level` is due.
     pub(crate) fn link(&self, left: u8, level: u8) -> Option<Link>
-        ensures { MatchOption result (NextIs (Over level left) self.now.ahead) (λ l. HasLink level left (link_view l) self.now.ahead) }
+        ensures { MatchOption result (NextIs (Over level left) self.now.ahead)
+            (λ l. HasLink level left (link_view l) self.now.ahead) }
     {
         let kind = self.kind()?;
         let link = link_of(kind)?;
@@ -82,7 +87,8 @@ impl<X: AsStr + Drop, I: Iterator<Item = Result<Token<X>, Fault>> + Drop> Reader
     pub(crate) fn none_behind(&mut self, alloc: Global, operand: Operand) -> Result<Operand, Fault>
         requires ready { IsReady I.can_next I.remaining self.old }
         requires depth { operand.depth ≤ 65 }
-        ensures { ReadsOn X.text I.next_gives I.can_next I.remaining (λ t p s. identified p (t ∷ []) s) 3 self.old self.new operand result }
+        ensures { ReadsOn X.text I.next_gives I.can_next I.remaining
+            (λ t p s. identified p (t ∷ []) s) 3 self.old self.new operand result }
     {
         if self.sees(TokenKind::Keyword(Keyword::Not)) {
             self.take()?;
@@ -96,7 +102,8 @@ impl<X: AsStr + Drop, I: Iterator<Item = Result<Token<X>, Fault>> + Drop> Reader
     /// Signs of one kind, by the bytes where they begin.
     pub(crate) fn signs(&mut self, alloc: Global, prefix: Prefix) -> Result<Vec<usize>, Fault>
         requires { IsReady I.can_next I.remaining self.old }
-        ensures reads { ReadsSigns X.text I.next_gives I.can_next I.remaining (prefix_of prefix) self.old self.new result }
+        ensures reads { ReadsSigns X.text I.next_gives I.can_next I.remaining
+            (prefix_of prefix) self.old self.new result }
         ensures over { IfOk result (λ _. IsAhead (prefix_kind (prefix_of prefix)) self.new.ahead ≡ false) }
     {
         let kind = prefix.kind();
@@ -114,7 +121,8 @@ impl<X: AsStr + Drop, I: Iterator<Item = Result<Token<X>, Fault>> + Drop> Reader
     pub(crate) fn member(&mut self, alloc: Global, operand: Operand) -> Result<Operand, Fault>
         requires ready { IsReady I.can_next I.remaining self.old }
         requires depth { operand.depth ≤ 65 }
-        ensures { ReadsOn X.text I.next_gives I.can_next I.remaining (λ t p s. dotted p (t ∷ []) s) 7 self.old self.new operand result }
+        ensures { ReadsOn X.text I.next_gives I.can_next I.remaining
+            (λ t p s. dotted p (t ∷ []) s) 7 self.old self.new operand result }
     {
         let name = self.name(alloc)?;
         let end = name.place.end;

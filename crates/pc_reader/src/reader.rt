@@ -6,7 +6,8 @@ ghost use Rattle.pc_tree.specs.Machine.States.{State};
 ghost use Rattle.pc_tree.specs.Machine.{Reading, at, lost, stop, short};
 ghost use Rattle.pc_token.specs.Lexeme.{form_of};
 ghost use Rattle.pc_reader.specs.Internal.FixedWords.{IsFormAhead};
-ghost use Rattle.pc_reader.specs.Reading.{Blames, Came, IsAhead, kind_ahead, place_ahead, IsReady, Rejects, ComesToAnswer, Takes, NeedsKind, misfit_at};
+ghost use Rattle.pc_reader.specs.Reading.{Blames, Came, IsAhead, kind_ahead, place_ahead, IsReady, Rejects};
+ghost use Rattle.pc_reader.specs.Reading.{ComesToAnswer, Takes, NeedsKind, misfit_at};
 
 use pc_source::{Fault, Place, Refusal, RefusalCode};
 use pc_token::{Token, TokenKind};
@@ -55,7 +56,8 @@ impl<X: AsStr + Drop, I: Iterator<Item = Result<Token<X>, Fault>> + Drop> Reader
         requires ends { IsFinite (I.remaining tokens) }
         ensures ready { MatchResult result (λ r. IsReady I.can_next I.remaining r) (λ _. Unit {0}) }
         ensures leads { MatchResult result
-            (λ r. (st : Reading) (o : _) → Came X.text I.next_gives r st o → ComesToAnswer X.text I.next_gives tokens 0 st o)
+            (λ r. (st : Reading) (o : _) → Came X.text I.next_gives r st o
+            → ComesToAnswer X.text I.next_gives tokens 0 st o)
             (λ e. Blames e (λ o. (st : Reading) → ComesToAnswer X.text I.next_gives tokens 0 st o)) }
     {
         let mut tokens = tokens;
@@ -98,7 +100,8 @@ impl<X: AsStr + Drop, I: Iterator<Item = Result<Token<X>, Fault>> + Drop> Reader
     pub fn take(&mut self) -> Result<Token<X>, Fault>
         requires { IsReady I.can_next I.remaining self.old }
         ensures { MatchResult result (λ t. Takes X.text I.next_gives I.can_next I.remaining self.old self.new t)
-            (λ e. Blames e (λ o. (r : Reading) → (self.old.ahead ≡ None → stop r ≡ short) → Came X.text I.next_gives self.old r o)) }
+            (λ e. Blames e (λ o. (r : Reading) → (self.old.ahead ≡ None → stop r ≡ short)
+            → Came X.text I.next_gives self.old r o)) }
     {
         let Some(first) = self.ahead.take() else {
             return Err(Fault::Refused(Refusal {
@@ -133,7 +136,8 @@ impl<X: AsStr + Drop, I: Iterator<Item = Result<Token<X>, Fault>> + Drop> Reader
     /// The fault at the token ahead, with which nothing goes on, or a later one of the stream itself.
     pub fn misfit(&mut self) -> Fault
         requires { IsReady I.can_next I.remaining self.old }
-        ensures { Blames result (λ o. (st : State) → Rejects X.text st self.old → Came X.text I.next_gives self.old (at st) o) }
+        ensures { Blames result (λ o. (st : State) → Rejects X.text st self.old
+            → Came X.text I.next_gives self.old (at st) o) }
     {
         let byte = match &self.ahead {
             Some(first) => first.place.start,
@@ -151,7 +155,9 @@ impl<X: AsStr + Drop, I: Iterator<Item = Result<Token<X>, Fault>> + Drop> Reader
     /// Takes the token ahead, which is of this kind, or names what stands there instead.
     pub fn expect(&mut self, kind: TokenKind) -> Result<Token<X>, Fault>
         requires { IsReady I.can_next I.remaining self.old }
-        ensures taken { MatchResult result (λ t. Takes X.text I.next_gives I.can_next I.remaining self.old self.new t) (λ e. Blames e (λ o. (st : State) → NeedsKind X.text kind st self.old → Came X.text I.next_gives self.old (at st) o)) }
+        ensures taken { MatchResult result (λ t. Takes X.text I.next_gives I.can_next I.remaining self.old self.new t)
+            (λ e. Blames e (λ o. (st : State) → NeedsKind X.text kind st self.old
+            → Came X.text I.next_gives self.old (at st) o)) }
         ensures kind { IfOk result (λ t. t.kind ≡ kind) }
     {
         if self.sees(kind) {

@@ -20,11 +20,15 @@ IsListed flows place = (f : FlowEntry) × Contains flows f × (f.0 ≡ place)
 
 -- a flow of the list is at the place, with these texts
 abbrev pub ListsAt : List FlowEntry → Place → FlowTexts → Type 0
-ListsAt flows place texts = (f : FlowEntry) × Contains flows f × (f.0 ≡ place) × (string_bytes texts.from ≡ string_bytes f.1) × (string_bytes texts.to ≡ string_bytes f.2)
+ListsAt flows place texts = (f : FlowEntry) × Contains flows f × (f.0 ≡ place)
+    × (string_bytes texts.from ≡ string_bytes f.1) × (string_bytes texts.to ≡ string_bytes f.2)
 
--- a finding of a flow through `Any` has the texts that the list has at its place, where it has some; other findings have none
+-- a finding of a flow through `Any` has the texts that the list has at its place, where it has some; other findings
+-- have none
 abbrev pub IsExplained : List FlowEntry → Finding → Option FlowTexts → Type 0
-IsExplained flows finding texts = MatchOption texts (finding.code ≡ A1 → ¬ (IsListed flows finding.place)) (λ t. (finding.code ≡ A1) × ListsAt flows finding.place t)
+IsExplained flows finding texts =
+    MatchOption texts (finding.code ≡ A1 → ¬ (IsListed flows finding.place))
+    (λ t. (finding.code ≡ A1) × ListsAt flows finding.place t)
 
 -- the order of places
 abbrev pub place_cmp : Place → Place → Ordering
@@ -32,4 +36,5 @@ place_cmp p q = ordering_then (nat_cmp p.start q.start) (nat_cmp p.end q.end)
 
 -- a map has, at each place of the list, a flow of the list
 abbrev pub HasFlows : List FlowEntry → BTreeMap Place (Bor FlowEntry) → Type 0
-HasFlows flows m = (p : Place) → MatchOption (get place_cmp m p) (¬ (IsListed flows p)) (λ f. Contains flows f.now × (f.now.0 ≡ p))
+HasFlows flows m = (p : Place)
+    → MatchOption (get place_cmp m p) (¬ (IsListed flows p)) (λ f. Contains flows f.now × (f.now.0 ≡ p))

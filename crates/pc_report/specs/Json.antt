@@ -24,18 +24,25 @@ to_json (Some flow) = codes ",\"to\":" ++ quoted (string_bytes flow.to)
 
 -- a finding, with the flow that is shown
 abbrev pub finding_json : Option FlowTexts → Row → List ℕ
-finding_json flow row = codes "{\"code\":\"" ++ (text_of row.finding.code ++ (codes "\",\"column\":" ++ (decimal row.column ++ (codes ",\"end\":" ++ (decimal row.finding.place.end
-    ++ (from_json flow ++ (codes ",\"line\":" ++ (decimal row.line ++ (codes ",\"start\":" ++ (decimal row.finding.place.start ++ (to_json flow ++ codes "}")))))))))))
+finding_json flow row = codes "{\"code\":\""
+    ++ (text_of row.finding.code
+    ++ (codes "\",\"column\":" ++ (decimal row.column ++ (codes ",\"end\":" ++ (decimal row.finding.place.end
+    ++ (from_json flow ++ (codes ",\"line\":"
+    ++ (decimal row.line ++ (codes ",\"start\":"
+    ++ (decimal row.finding.place.start ++ (to_json flow ++ codes "}")))))))))))
 
 -- the findings, a comma between two
 abbrev pub findings_json : Format → List Row → List ℕ
 findings_json format [] = []
 findings_json format (row ∷ []) = finding_json (shown_flow format row) row
-findings_json format (row ∷ next ∷ rows) = finding_json (shown_flow format row) row ++ (44 ∷ findings_json format (next ∷ rows))
+findings_json format (row ∷ next ∷ rows) = finding_json (shown_flow format row) row
+    ++ (44 ∷ findings_json format (next ∷ rows))
 
 -- the report in braces
 abbrev pub report_object : Format → List Row → List ℕ
-report_object format rows = codes "{\"dynamic\":" ++ (decimal (dynamic_count rows) ++ (codes ",\"errors\":" ++ (decimal (errors_of rows) ++ (codes ",\"findings\":[" ++ (findings_json format rows
+report_object format rows = codes "{\"dynamic\":"
+    ++ (decimal (dynamic_count rows)
+    ++ (codes ",\"errors\":" ++ (decimal (errors_of rows) ++ (codes ",\"findings\":[" ++ (findings_json format rows
     ++ (codes "],\"format\":" ++ (decimal (format_number format) ++ codes "}")))))))
 
 -- the report, and a line feed
@@ -46,10 +53,19 @@ report_json format rows = report_object format rows ++ 10 ∷ []
 
 -- the members of a finding, with the flow that is shown
 abbrev pub finding_members : Option FlowTexts → Row → Members
-finding_members None row = member (codes "code") (string (text_of row.finding.code)) (member (codes "column") (number (unsigned row.column)) (member (codes "end") (number (unsigned row.finding.place.end))
-    (member (codes "line") (number (unsigned row.line)) (member (codes "start") (number (unsigned row.finding.place.start)) no_members))))
-finding_members (Some flow) row = member (codes "code") (string (text_of row.finding.code)) (member (codes "column") (number (unsigned row.column)) (member (codes "end") (number (unsigned row.finding.place.end))
-    (member (codes "from") (string (string_bytes flow.from)) (member (codes "line") (number (unsigned row.line)) (member (codes "start") (number (unsigned row.finding.place.start))
+finding_members None row =
+    member (codes "code") (string (text_of row.finding.code))
+    (member (codes "column") (number (unsigned row.column))
+    (member (codes "end") (number (unsigned row.finding.place.end))
+    (member (codes "line") (number (unsigned row.line))
+    (member (codes "start") (number (unsigned row.finding.place.start)) no_members))))
+finding_members (Some flow) row =
+    member (codes "code") (string (text_of row.finding.code))
+    (member (codes "column") (number (unsigned row.column))
+    (member (codes "end") (number (unsigned row.finding.place.end))
+    (member (codes "from") (string (string_bytes flow.from))
+    (member (codes "line") (number (unsigned row.line))
+    (member (codes "start") (number (unsigned row.finding.place.start))
     (member (codes "to") (string (string_bytes flow.to)) no_members))))))
 
 -- a finding as an object
@@ -62,10 +78,14 @@ findings_data format rows = items_of (map (finding_data format) rows)
 
 -- the report as an object
 abbrev pub report_data : Format → List Row → Data
-report_data format rows = object (member (codes "dynamic") (number (unsigned (dynamic_count rows))) (member (codes "errors") (number (unsigned (errors_of rows)))
-    (member (codes "findings") (array (findings_data format rows)) (member (codes "format") (number (unsigned (format_number format))) no_members))))
+report_data format rows =
+    object (member (codes "dynamic") (number (unsigned (dynamic_count rows)))
+    (member (codes "errors") (number (unsigned (errors_of rows)))
+    (member (codes "findings") (array (findings_data format rows))
+    (member (codes "format") (number (unsigned (format_number format))) no_members))))
 
 -- ---- for private clauses: each number of a row has 64 bits, as the numbers of a value have
 
 abbrev pub FitsWords : Row → Type 0
-FitsWords row = (row.line < 2 ^ 64) × (row.column < 2 ^ 64) × (row.finding.place.start < 2 ^ 64) × (row.finding.place.end < 2 ^ 64)
+FitsWords row = (row.line < 2 ^ 64) × (row.column < 2 ^ 64) × (row.finding.place.start < 2 ^ 64)
+    × (row.finding.place.end < 2 ^ 64)

@@ -1,9 +1,13 @@
 -- The findings that a JSON value tells of. Own rule of the profile.
-use Rattle.std.specs.Prelude.{ℕ, List, [], ◌∷◌, Option, None, Some, option_map, option_and_then, codes, bytes_eq, if◌then◌else◌}
+use Rattle.std.specs.Prelude.{ℕ, List, [], ◌∷◌, Option, None, Some, option_map, option_and_then, codes, bytes_eq}
+use Rattle.std.specs.Prelude.{if◌then◌else◌}
 use Rattle.serde_json.specs.Data.{Data, Items, no_items, item}
 use Rattle.serde_json.specs.Find.{get, as_number, as_u64, as_str, as_array}
 use Rattle.pc_tree.specs.declared.code.Code.{Code}
-use Rattle.pc_tree.specs.declared.code.Code.TheVariants.{A1, A2, A3, A4, A5, A6, A7, A8, E01, E02, E03, E04, E05, E06, E07, E08, E09, E10, E11, E12, E13, E14, E15, E16, E17, E18, E19, E20, E21, E22, E23, E24, E25, E26, E27, E28, E29, E30, E31}
+use Rattle.pc_tree.specs.declared.code.Code.TheVariants.{A1, A2, A3, A4, A5, A6, A7, A8, E01, E02, E03, E04, E05, E06}
+use Rattle.pc_tree.specs.declared.code.Code.TheVariants.{E07, E08, E09, E10, E11, E12, E13, E14, E15, E16, E17, E18}
+use Rattle.pc_tree.specs.declared.code.Code.TheVariants.{E19, E20, E21, E22, E23, E24, E25, E26, E27, E28, E29, E30}
+use Rattle.pc_tree.specs.declared.code.Code.TheVariants.{E31}
 use Rattle.pc_tree.specs.declared.code.Finding.{Finding}
 use Rattle.pc_tree.specs.Code.{finding}
 
@@ -57,7 +61,10 @@ number_at name d = option_and_then as_u64 (option_and_then as_number (get name d
 
 -- the finding that an object tells of, by its start, its end and its code
 abbrev pub finding_in : Data → Option Finding
-finding_in d = option_and_then (λ start. option_and_then (λ end. option_map (λ code. finding (record { start = start; end = end }) code) (option_and_then code_of (option_and_then as_str (get (codes "code") d))))
+finding_in d = option_and_then
+    (λ start. option_and_then
+    (λ end. option_map (λ code. finding (record { start = start; end = end }) code)
+    (option_and_then code_of (option_and_then as_str (get (codes "code") d))))
     (number_at (codes "end") d)) (number_at (codes "start") d)
 
 -- the findings of the items, in order

@@ -11,7 +11,8 @@ OnReadFault OutOfMemory wanting failed = wanting
 OnReadFault Read wanting failed = failed
 
 -- a device gave these bytes, so many at most, and no call failed; where they are fewer, it has no more
-pub record IsRead {D : Type 0} (remaining : D → Option (List ℕ)) (most : ℕ) (bytes : List ℕ) (old new : Counted D) : Type 0 where
+pub record IsRead {D : Type 0} (remaining : D → Option (List ℕ)) (most : ℕ) (bytes : List ℕ)
+    (old new : Counted D) : Type 0 where
   pub given : Consumes (remaining old.device) (remaining new.device) bytes
   pub short : length bytes ≤ most
   pub whole : length bytes < most → IsAtEnd (remaining new.device)

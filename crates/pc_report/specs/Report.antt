@@ -1,5 +1,6 @@
 -- The report of findings: sorted, without repeats, with lines and columns; and its text. Own rule of the profile.
-use Rattle.std.specs.Prelude.{◌≡◌, ℕ, Option, None, Some, string_bytes, ◌<◌, ◌⊎◌, List, [], ◌∷◌, ◌++◌, ◌↔◌, map, Contains, codes, count_by, not}
+use Rattle.std.specs.Prelude.{◌≡◌, ℕ, Option, None, Some, string_bytes, ◌<◌, ◌⊎◌, List, [], ◌∷◌, ◌++◌, ◌↔◌, map}
+use Rattle.std.specs.Prelude.{Contains, codes, count_by, not}
 use Rattle.std.specs.declared.cmp.Ordering.TheVariants.{Less}
 use Rattle.std.specs.Ordering.{nat_cmp}
 use Rattle.std.specs.Cmp.Lexicographic.{slice_cmp}
@@ -32,7 +33,8 @@ row_findings rows = map (λ row. row.finding) rows
 
 -- a row has the line and the column of its finding's start
 abbrev pub IsPlaced : List ℕ → Row → Type 0
-IsPlaced source row = (row.line ≡ line_of source row.finding.place.start) × (row.column ≡ column_of source row.finding.place.start)
+IsPlaced source row = (row.line ≡ line_of source row.finding.place.start)
+    × (row.column ≡ column_of source row.finding.place.start)
 
 -- each row of a flow through `Any` has the texts that the flows have at its place, and no other row has texts
 abbrev pub ExplainsRows : List FlowEntry → List Row → Type 0
@@ -56,7 +58,9 @@ flow_text (Some flow) = 32 ∷ (string_bytes flow.from ++ (codes " -> " ++ strin
 
 -- a row's line and column, its code and its label, and the flow that is shown
 abbrev pub row_text : Format → Row → List ℕ
-row_text format row = decimal row.line ++ (58 ∷ (decimal row.column ++ (32 ∷ (text_of row.finding.code ++ (32 ∷ (label_of row.finding.code ++ flow_text (shown_flow format row)))))))
+row_text format row = decimal row.line
+    ++ (58 ∷ (decimal row.column
+    ++ (32 ∷ (text_of row.finding.code ++ (32 ∷ (label_of row.finding.code ++ flow_text (shown_flow format row)))))))
 
 -- how many rows are errors
 abbrev pub errors_of : List Row → ℕ
@@ -69,4 +73,5 @@ dynamic_count rows = count_by (λ row. not (is_error row.finding.code)) rows
 -- a line for each row, and a last line with the numbers of errors and of dynamic places
 abbrev pub report_text : Format → List Row → List ℕ
 report_text format rows = flat_map (λ row. row_text format row ++ 10 ∷ []) rows
-    ++ (codes "errors " ++ (decimal (errors_of rows) ++ (codes ", dynamic " ++ (decimal (dynamic_count rows) ++ 10 ∷ []))))
+    ++ (codes "errors " ++ (decimal (errors_of rows)
+    ++ (codes ", dynamic " ++ (decimal (dynamic_count rows) ++ 10 ∷ []))))

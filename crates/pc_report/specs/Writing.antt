@@ -18,8 +18,11 @@ module _ {D : Type 0} (contents : D → Option (List ℕ)) where
 
   -- the device took a beginning of these bytes, and not all; then a call failed, the only one that did
   abbrev pub TakesBeginning : List ℕ → Counted D → Counted D → Type 0
-  TakesBeginning bytes old new = (n : ℕ) × (n < length bytes) × Appends (contents old.device) (contents new.device) (take n bytes) × (new.failures ≡ failures_after true old.failures)
+  TakesBeginning bytes old new = (n : ℕ) × (n < length bytes)
+      × Appends (contents old.device) (contents new.device) (take n bytes)
+      × (new.failures ≡ failures_after true old.failures)
 
   -- all bytes were written; or memory was wanting and nothing was done; or a call of the device failed
   abbrev pub IsWritten : List ℕ → Counted D → Counted D → Result (Unit {0}) WriteFault → Type 0
-  IsWritten bytes old new result = MatchResult result (λ _. TakesAll bytes old new) (λ e. OnWriteFault e (new ≡ old) (TakesBeginning bytes old new))
+  IsWritten bytes old new result =
+      MatchResult result (λ _. TakesAll bytes old new) (λ e. OnWriteFault e (new ≡ old) (TakesBeginning bytes old new))

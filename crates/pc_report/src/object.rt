@@ -48,7 +48,8 @@ fn write_finding(
     format: Format,
     row: &Row,
 ) -> Result<(), OutOfMemory>
-    ensures text { OnOk result (string_bytes text.new ≡ string_bytes text.old ++ finding_json (shown_flow format row.now) row.now) }
+    ensures text { OnOk result
+        (string_bytes text.new ≡ string_bytes text.old ++ finding_json (shown_flow format row.now) row.now) }
     ensures words { OnOk result (FitsWords row.now) }
 {
     let value = finding_value(alloc, format, row)?;

@@ -1,11 +1,13 @@
 //! The report: findings in order, with lines and columns.
 
-ghost use Rattle.std.specs.Prelude.{◌≡◌, ◌↔◌, ◌≤◌, ◌++◌, ◌∷◌, [], List, ℕ, IfOk, OnOk, Contains, option_map, string_bytes, length};
+ghost use Rattle.std.specs.Prelude.{◌≡◌, ◌↔◌, ◌≤◌, ◌++◌, ◌∷◌, [], List, ℕ, IfOk, OnOk, Contains, option_map};
+ghost use Rattle.std.specs.Prelude.{string_bytes, length};
 ghost use Rattle.std.specs.List.{AllByRecursion};
 ghost use Rattle.pc_source.specs.Lines.{line_of, column_of};
 ghost use Rattle.pc_tree.specs.declared.code.Finding.{Finding};
 ghost use Rattle.pc_report.specs.Flows.{HasFlows};
-ghost use Rattle.pc_report.specs.Report.{IsPlaced, IsInOrder, row_findings, Lists, ExplainsRows, errors_of, dynamic_count, shown_flow, row_text, report_text};
+ghost use Rattle.pc_report.specs.Report.{IsPlaced, IsInOrder, row_findings, Lists, ExplainsRows, errors_of};
+ghost use Rattle.pc_report.specs.Report.{dynamic_count, shown_flow, row_text, report_text};
 ghost use Rattle.pc_report.specs.declared.report.Row.{Row};
 
 use crate::flow::{FlowTexts, by_place, texts_of};

@@ -1,6 +1,8 @@
 -- Calls: what a callee is, which calls suit it, and what each argument flows into.
 -- Language Reference 3.12, 6.3.4 "Calls"; typing specification, "Dataclasses"; own rules of the profile.
-use Rattle.std.specs.Prelude.{ℕ, zero, suc, List, [], ◌∷◌, ◌++◌, map, flat_map, length, take, drop, Bool as Test, true, false, ◌&&◌, ◌||◌, not, if◌then◌else◌, nat_le, nat_lt, nat_eq, Option, Some, None, slice_get, codes, bytes_eq}
+use Rattle.std.specs.Prelude.{ℕ, zero, suc, List, [], ◌∷◌, ◌++◌, map, flat_map, length, take, drop, Bool as Test, true}
+use Rattle.std.specs.Prelude.{false, ◌&&◌, ◌||◌, not, if◌then◌else◌, nat_le, nat_lt, nat_eq, Option, Some, None}
+use Rattle.std.specs.Prelude.{slice_get, codes, bytes_eq}
 use Rattle.std.specs.List.{list_any, list_all}
 use Rattle.std.specs.Option.{option_map}
 use Rattle.pc_tree.specs.declared.code.Code.{Code}
@@ -19,7 +21,8 @@ use Rattle.pc_types.specs.Shape.{members}
 use Rattle.pc_class.specs.Facts as facts
 use Rattle.pc_class.specs.Facts.{TypedParameter, Method, field_by_name, method_by_name, class_facts_at}
 use Rattle.pc_flow.specs.Environment.{Env, current, join_or_object, join_all}
-use Rattle.pc_flow.specs.Narrowing.{Tested, for_list, test_of_argument, local_of_argument, first_argument, second_argument}
+use Rattle.pc_flow.specs.Narrowing.{Tested, for_list, test_of_argument, local_of_argument, first_argument}
+use Rattle.pc_flow.specs.Narrowing.{second_argument}
 use Rattle.pc_rules.specs.Operations.{Mark, clean, in_error, has_error, offers_mark, length_member}
 use Rattle.pc_rules.specs.Context.{Context, Signature, name_mark}
 
@@ -38,11 +41,15 @@ count_exprs (more_exprs e rest) = suc (count_exprs rest)
 -- of a name given twice the later one fills nothing
 abbrev pub once_each : List (List ℕ) → List Name → List (List ℕ)
 once_each before [] = []
-once_each before (n ∷ rest) = if is_one_of n.text before then once_each before rest else n.text ∷ once_each (n.text ∷ before) rest
+once_each before (n ∷ rest) = if is_one_of n.text before then once_each before rest
+    else n.text ∷ once_each (n.text ∷ before) rest
 
 -- what the arguments of a call give, by position and by name
 abbrev pub arguments_given : Exprs → Keywords → GivenArguments
-arguments_given arguments keywords = record { positional = count_exprs arguments; named = once_each [] (keyword_names keywords) }
+arguments_given arguments keywords = record {
+  positional = count_exprs arguments;
+  named = once_each [] (keyword_names keywords);
+}
 
 -- the position of the first parameter of a name
 abbrev pub position_of : List TypedParameter → List ℕ → Option ℕ
@@ -57,7 +64,8 @@ is_free n (Some i) = nat_le n i
 -- each further parameter has a default, or an argument by name, which the first of a name takes
 abbrev pub are_filled : List (List ℕ) → List (List ℕ) → List TypedParameter → Test
 are_filled named before [] = true
-are_filled named before (p ∷ ps) = (p.has_default || (is_one_of p.name named && not (is_one_of p.name before))) && are_filled named (p.name ∷ before) ps
+are_filled named before (p ∷ ps) = (p.has_default || (is_one_of p.name named && not (is_one_of p.name before)))
+    && are_filled named (p.name ∷ before) ps
 
 -- the names of parameters, in order
 abbrev pub parameter_names : List TypedParameter → List (List ℕ)
@@ -94,7 +102,8 @@ fails_at_callee code = record { at_callee = code ∷ []; at_call = []; gives = A
 
 -- the wrong number of arguments is E14
 abbrev pub signature_offer : GivenArguments → Signature → CallOffer
-signature_offer g s = if is_suited g s then record { at_callee = []; at_call = []; gives = s.returns; calls = s ∷ [] } else fails_at_call E14
+signature_offer g s = if is_suited g s then record { at_callee = []; at_call = []; gives = s.returns; calls = s ∷ [] }
+    else fails_at_call E14
 
 -- a value called
 abbrev pub value_offer : Tree → CallOffer
@@ -107,7 +116,11 @@ value_offers t = map value_offer (members t)
 
 -- the class of a number as what is called: it takes its fields
 abbrev pub class_signature : List facts.ClassFacts → ℕ → Signature
-class_signature classes c = record { parameters = (class_facts_at classes c).fields; returns = Class c; takes_names = true }
+class_signature classes c = record {
+  parameters = (class_facts_at classes c).fields;
+  returns = Class c;
+  takes_names = true;
+}
 
 -- a method as what is called: its parameters without `self`, and its return type
 abbrev pub method_signature : Method → Signature
@@ -119,7 +132,11 @@ unnamed_parameter t = record { name = []; type = t; has_default = false }
 
 -- what takes arguments of these types, by position alone, and returns this type
 abbrev pub builtin_signature : List Tree → Tree → Signature
-builtin_signature types returns = record { parameters = map unnamed_parameter types; returns = returns; takes_names = false }
+builtin_signature types returns = record {
+  parameters = map unnamed_parameter types;
+  returns = returns;
+  takes_names = false;
+}
 
 -- a method of the class; a field called is a call of its value
 abbrev pub class_offers : GivenArguments → Option Method → Option TypedParameter → List CallOffer
@@ -132,16 +149,21 @@ abbrev pub list_offers : GivenArguments → List ℕ → Tree → List CallOffer
 list_offers g word t =
     if bytes_eq word (codes "append")
     then signature_offer g (builtin_signature (t ∷ []) NoneType) ∷ []
-    else (if bytes_eq word (codes "pop") then signature_offer g (builtin_signature [] t) ∷ [] else fails_at_callee E15 ∷ [])
+    else (if bytes_eq word (codes "pop") then signature_offer g (builtin_signature [] t) ∷ []
+    else fails_at_callee E15 ∷ [])
 
 -- `get(K)` gives the join of V and None
 abbrev pub dict_offers : Bases → GivenArguments → List ℕ → Tree → Tree → List CallOffer
 dict_offers bases g word k v =
-    if bytes_eq word (codes "get") then signature_offer g (builtin_signature (k ∷ []) (join_or_object bases v NoneType)) ∷ [] else fails_at_callee E15 ∷ []
+    if bytes_eq word (codes "get")
+    then signature_offer g (builtin_signature (k ∷ []) (join_or_object bases v NoneType)) ∷ []
+    else fails_at_callee E15 ∷ []
 
 -- a method call on one member
 abbrev pub method_offers : Context → GivenArguments → List ℕ → Tree → List CallOffer
-method_offers ctx g word (Class c) = class_offers g (method_by_name (class_facts_at ctx.classes c).methods word) (field_by_name (class_facts_at ctx.classes c).fields word)
+method_offers ctx g word (Class c) =
+    class_offers g (method_by_name (class_facts_at ctx.classes c).methods word)
+    (field_by_name (class_facts_at ctx.classes c).fields word)
 method_offers ctx g word (ListOf t) = list_offers g word t
 method_offers ctx g word (DictOf k v) = dict_offers ctx.bases g word k v
 method_offers ctx g word Any = fails_at_callee A4 ∷ []
@@ -163,7 +185,8 @@ error_offer = fails_at_call A6
 pub data CallRule : Type 0 where
   member_rule length_rule test_rule : CallRule
 
--- a callee: its label, the rule of its call, and what the call comes to on each member, none where the rule is another one
+-- a callee: its label, the rule of its call, and what the call comes to on each member, none where the rule is another
+-- one
 pub record CalleeLabel : Type 0 where
   pub mark : Mark
   pub rule : CallRule
@@ -188,7 +211,8 @@ own_callee rule = record { mark = clean Any; rule = rule; offers = [] }
 
 -- the built-ins: `print`, `str`, `len`, `isinstance`, `range`; any other reserved name is no value, and is not called
 abbrev pub builtin_callee : GivenArguments → Builtin → CalleeLabel
-builtin_callee g builtin.Print = good_callee ((if has_none g.named then plain_call NoneType else fails_at_call E14) ∷ [])
+builtin_callee g builtin.Print =
+    good_callee ((if has_none g.named then plain_call NoneType else fails_at_call E14) ∷ [])
 builtin_callee g builtin.Str = good_callee ((if is_one g then plain_call Str else fails_at_call E14) ∷ [])
 builtin_callee g builtin.Len = if is_one g then own_callee length_rule else good_callee (fails_at_call E14 ∷ [])
 builtin_callee g builtin.IsInstance = if is_two g then own_callee test_rule else good_callee (fails_at_call E14 ∷ [])
@@ -197,8 +221,10 @@ builtin_callee g _ = value_callee (in_error E20)
 
 -- what a name is as a callee: a function, a class or a built-in, and else what it is as a value
 abbrev pub name_callee : Context → Env → GivenArguments → Res → CalleeLabel
-name_callee ctx env g (res.Func i) = if ctx.in_body then good_callee (function_offer g (slice_get ctx.functions i) ∷ []) else value_callee (in_error E03)
-name_callee ctx env g (res.Class c) = if nat_lt c ctx.known then good_callee (signature_offer g (class_signature ctx.classes c) ∷ []) else value_callee (in_error E03)
+name_callee ctx env g (res.Func i) = if ctx.in_body then good_callee (function_offer g (slice_get ctx.functions i) ∷ [])
+    else value_callee (in_error E03)
+name_callee ctx env g (res.Class c) = if nat_lt c ctx.known
+    then good_callee (signature_offer g (class_signature ctx.classes c) ∷ []) else value_callee (in_error E03)
 name_callee ctx env g (res.Builtin b) = builtin_callee g b
 name_callee ctx env g r = value_callee (name_mark ctx env r)
 
@@ -206,7 +232,11 @@ name_callee ctx env g r = value_callee (name_mark ctx env r)
 abbrev pub method_callee : Context → GivenArguments → List ℕ → Tree → CalleeLabel
 method_callee ctx g word t =
     let offers = flat_map (method_offers ctx g word) (members t) in
-    record { mark = record { type = Any; codes = flat_map (λ o. o.at_callee) offers }; rule = member_rule; offers = offers }
+    record {
+      mark = record { type = Any; codes = flat_map (λ o. o.at_callee) offers };
+      rule = member_rule;
+      offers = offers;
+    }
 
 -- ---- the call as a whole
 
@@ -249,7 +279,8 @@ abbrev pub type_at : Option TypedParameter → List Tree
 type_at None = []
 type_at (Some p) = p.type ∷ []
 
--- an argument by position flows into the parameter there, one by name into the first of that name; it is expected where one member is called
+-- an argument by position flows into the parameter there, one by name into the first of that name; it is expected where
+-- one member is called
 abbrev pub positional_seat : List CallOffer → ℕ → Seat
 positional_seat offers k =
     let types = flat_map (λ s. type_at (slice_get s.parameters k)) (signatures offers) in
@@ -301,7 +332,8 @@ test_codes env x _ = []
 abbrev pub test_mark : Context → Env → Exprs → Mark
 test_mark ctx env arguments = record {
   type = Bool;
-  codes = test_codes env (local_of_argument ctx.resolve (first_argument arguments)) (test_of_argument ctx.resolve (second_argument arguments));
+  codes = test_codes env (local_of_argument ctx.resolve (first_argument arguments))
+      (test_of_argument ctx.resolve (second_argument arguments));
 }
 
 -- E25: what stands second tests for nothing; where E03 stands there, that is the only finding
@@ -317,8 +349,8 @@ abbrev pub is_range : Res → Test
 is_range (res.Builtin builtin.Range) = true
 is_range _ = false
 
--- `range` takes one int. Its result stands as what a `for` goes over and nowhere else, so no rule reads its type: there is no type of
--- ranges, and the label has object, the type of every value
+-- `range` takes one int. Its result stands as what a `for` goes over and nowhere else, so no rule reads its type: there
+-- is no type of ranges, and the label has object, the type of every value
 abbrev pub range_signature : Signature
 range_signature = builtin_signature (Int ∷ []) Object
 

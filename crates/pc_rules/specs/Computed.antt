@@ -5,7 +5,10 @@ use Rattle.std.specs.Prelude.{ℕ, suc, List, [], ◌∷◌, map, Bool as Test, 
 use Rattle.std.specs.List.{list_all}
 use Rattle.pc_tree.specs.declared.code.Code.{Code}
 use Rattle.pc_tree.specs.declared.code.Code.TheVariants.{A1, E12, E22}
-use Rattle.pc_tree.specs.Tree.{Expr, Exprs, Entries, Keywords, name, number, text, truth, nothing, tuple, list, dict, negative, negation, binary, compare, is_none, is_not_none, conjunction, disjunction, attribute, index, call, no_exprs, more_exprs, no_entries, more_entries, no_keywords, more_keywords}
+use Rattle.pc_tree.specs.Tree.{Expr, Exprs, Entries, Keywords, name, number, text, truth, nothing, tuple, list, dict}
+use Rattle.pc_tree.specs.Tree.{negative, negation, binary, compare, is_none, is_not_none, conjunction, disjunction}
+use Rattle.pc_tree.specs.Tree.{attribute, index, call, no_exprs, more_exprs, no_entries, more_entries, no_keywords}
+use Rattle.pc_tree.specs.Tree.{more_keywords}
 use Rattle.pc_types.specs.Tree.{Tree, Int, Bool, Str, NoneType, DictOf, TupleOf}
 use Rattle.pc_types.specs.Below.{Bases}
 use Rattle.pc_types.specs.Shape.{members, trees}
@@ -15,11 +18,15 @@ use Rattle.pc_rules.specs.WellFormed.{ContextWellFormed, MarksWellFormed}
 use Rattle.pc_types.specs.Computed.{static_test, assignable_test}
 use Rattle.pc_flow.specs.Environment.{Env, join_or_object, join_all}
 use Rattle.pc_flow.specs.Narrowing.{narrow}
-use Rattle.pc_rules.specs.Operations.{Mark, clean, in_error, offers_mark, operand_types, negative_member, attribute_member, index_member, binary_mark, display_mark}
+use Rattle.pc_rules.specs.Operations.{Mark, clean, in_error, offers_mark, operand_types, negative_member}
+use Rattle.pc_rules.specs.Operations.{attribute_member, index_member, binary_mark, display_mark}
 use Rattle.pc_rules.specs.Context.{Context, name_mark, is_early}
 use Rattle.pc_rules.specs.Calls.{Seat, arguments_given, count_exprs, positional_seat, named_seat}
-use Rattle.pc_rules.specs.Labels.{FlowMarks, Marks, ItemsMarks, EntriesMarks, KeywordsMarks, mark_of, type_of, with_mark, item_types, key_types, value_types}
-use Rattle.pc_rules.specs.Lawful.{KeyValue, list_item, dict_parts, tuple_parts, members_of_expected, item_seat, part_seat, list_mark, key_seat, value_seat, int_literal, compare_mark, compare_types, callee_of, whole_call_mark, whole_second_code, keyword_seat, Lawful}
+use Rattle.pc_rules.specs.Labels.{FlowMarks, Marks, ItemsMarks, EntriesMarks, KeywordsMarks, mark_of, type_of}
+use Rattle.pc_rules.specs.Labels.{with_mark, item_types, key_types, value_types}
+use Rattle.pc_rules.specs.Lawful.{KeyValue, list_item, dict_parts, tuple_parts, members_of_expected, item_seat}
+use Rattle.pc_rules.specs.Lawful.{part_seat, list_mark, key_seat, value_seat, int_literal, compare_mark, compare_types}
+use Rattle.pc_rules.specs.Lawful.{callee_of, whole_call_mark, whole_second_code, keyword_seat, Lawful}
 
 -- the code of a flow that is static, or assignable alone, or neither
 abbrev pub code_by : (static assignable : Test) → Option Code
@@ -36,9 +43,14 @@ module _ (static assignable : Tree → Tree → Test) where
   -- the flows of a labelled expression into several types
   abbrev pub flows_into : Mark → List Tree → FlowMarks
   flows_into m [] = []
-  flows_into m (t ∷ ts) = record { from = m.type; into = t; code = code_unless (is_early m.codes) m.type t } ∷ flows_into m ts
+  flows_into m (t ∷ ts) = record {
+    from = m.type;
+    into = t;
+    code = code_unless (is_early m.codes) m.type t;
+  } ∷ flows_into m ts
 
--- the flows of a labelled expression, by the tests of static and of consistent subtyping: the computed twin of FlowsInto
+-- the flows of a labelled expression, by the tests of static and of consistent subtyping: the computed twin of
+-- FlowsInto
 abbrev pub flows_of : Bases → Mark → List Tree → FlowMarks
 flows_of bases m ts = flows_into (static_test bases) (assignable_test bases) m ts
 
@@ -53,7 +65,8 @@ module _ (ctx : Context) (declared : List Tree) (static assignable : Tree → Tr
   abbrev pub dict_mark : Option KeyValue → (keys values : List Tree) → Mark
   dict_mark (Some kv) keys values = clean (DictOf kv.key kv.value)
   dict_mark None [] values = in_error E22
-  dict_mark None (k ∷ ks) values = keys_mark (list_all (λ t. static t Int) (k ∷ ks)) (list_all (λ t. static t Str) (k ∷ ks)) values
+  dict_mark None (k ∷ ks) values =
+      keys_mark (list_all (λ t. static t Int) (k ∷ ks)) (list_all (λ t. static t Str) (k ∷ ks)) values
 
   abbrev mutual
     -- the labels of an expression, in an environment and with the type that is expected of it
@@ -70,8 +83,12 @@ module _ (ctx : Context) (declared : List Tree) (static assignable : Tree → Tr
         let m = items_labels env (λ i. item_seat (list_item (members_of_expected want))) es in
         record { here = list_mark ctx.bases (list_item (members_of_expected want)) (item_types es m); items = m }
     labels env want (dict p es) =
-        let m = entries_labels env (key_seat (dict_parts (members_of_expected want))) (value_seat (dict_parts (members_of_expected want))) es in
-        record { here = dict_mark (dict_parts (members_of_expected want)) (key_types es m) (value_types es m); entries = m }
+        let m = entries_labels env (key_seat (dict_parts (members_of_expected want)))
+        (value_seat (dict_parts (members_of_expected want))) es in
+        record {
+          here = dict_mark (dict_parts (members_of_expected want)) (key_types es m) (value_types es m);
+          entries = m;
+        }
     labels env want (negative p e) =
         let a = labels env None e in
         record { here = offers_mark ctx.bases (map negative_member (members (type_of e a))); operand = a }
@@ -83,7 +100,12 @@ module _ (ctx : Context) (declared : List Tree) (static assignable : Tree → Tr
     labels env want (compare p o l r) =
         let a = labels env None l in
         let b = labels env None r in
-        record { here = compare_mark ctx.bases o (type_of l a) (type_of r b); left = a; right = b; flows = flows_into static assignable (mark_of l a) (compare_types o (type_of r b)) }
+        record {
+          here = compare_mark ctx.bases o (type_of l a) (type_of r b);
+          left = a;
+          right = b;
+          flows = flows_into static assignable (mark_of l a) (compare_types o (type_of r b));
+        }
     labels env want (is_none p e) = record { here = clean Bool; operand = labels env None e }
     labels env want (is_not_none p e) = record { here = clean Bool; operand = labels env None e }
     labels env want (conjunction p l r) =
@@ -96,12 +118,20 @@ module _ (ctx : Context) (declared : List Tree) (static assignable : Tree → Tr
         record { here = clean (join_or_object ctx.bases (type_of l a) (type_of r b)); left = a; right = b }
     labels env want (attribute p e field) =
         let a = labels env None e in
-        record { here = offers_mark ctx.bases (map (attribute_member ctx.classes field.text) (members (type_of e a))); object = a }
+        record {
+          here = offers_mark ctx.bases (map (attribute_member ctx.classes field.text) (members (type_of e a)));
+          object = a;
+        }
     labels env want (index p e i) =
         let a = labels env None e in
         let b = labels env None i in
         let os = map (index_member ctx.bases (int_literal i)) (members (type_of e a)) in
-        record { here = offers_mark ctx.bases os; object = a; key = b; flows = flows_into static assignable (mark_of i b) (operand_types os) }
+        record {
+          here = offers_mark ctx.bases os;
+          object = a;
+          key = b;
+          flows = flows_into static assignable (mark_of i b) (operand_types os);
+        }
     labels env want (call p c args kws) =
         let v = labels env None c in
         let callee = callee_of ctx env (arguments_given args kws) c v in
@@ -119,7 +149,11 @@ module _ (ctx : Context) (declared : List Tree) (static assignable : Tree → Tr
     items_labels env seat no_exprs = tt
     items_labels env seat (more_exprs e es) =
         let a = labels env (seat 0).want e in
-        record { first = a; flows = flows_into static assignable (mark_of e a) (seat 0).into; rest = items_labels env (λ i. seat (suc i)) es }
+        record {
+          first = a;
+          flows = flows_into static assignable (mark_of e a) (seat 0).into;
+          rest = items_labels env (λ i. seat (suc i)) es;
+        }
 
     -- of the entries of a dict, each key and each value for its seat
     pub entries_labels : Env → (key value : Seat) → (es : Entries) → EntriesMarks es
@@ -127,14 +161,25 @@ module _ (ctx : Context) (declared : List Tree) (static assignable : Tree → Tr
     entries_labels env x y (more_entries key value es) =
         let a = labels env x.want key in
         let b = labels env y.want value in
-        record { key = a; key_flows = flows_into static assignable (mark_of key a) x.into; value = b; value_flows = flows_into static assignable (mark_of value b) y.into; rest = entries_labels env x y es }
+        record {
+          key = a;
+          key_flows = flows_into static assignable (mark_of key a) x.into;
+          value = b;
+          value_flows = flows_into static assignable (mark_of value b) y.into;
+          rest = entries_labels env x y es;
+        }
 
     -- of arguments by name
     pub keywords_labels : Env → (seat : List ℕ → Seat) → (before : List (List ℕ)) → (es : Keywords) → KeywordsMarks es
     keywords_labels env seat before no_keywords = tt
     keywords_labels env seat before (more_keywords parameter value es) =
         let a = labels env (keyword_seat seat before parameter).want value in
-        record { first = a; flows = flows_into static assignable (mark_of value a) (keyword_seat seat before parameter).into; rest = keywords_labels env seat (parameter.text ∷ before) es }
+        record {
+          first = a;
+          flows =
+              flows_into static assignable (mark_of value a) (keyword_seat seat before parameter).into;
+          rest = keywords_labels env seat (parameter.text ∷ before) es;
+        }
 
 -- the labels of an expression, by the tests of static and of consistent subtyping: the computed twin of Lawful
 abbrev pub labels_of : Context → (declared : List Tree) → Env → (want : Option Tree) → (e : Expr) → Marks e
@@ -148,4 +193,6 @@ LabelsAreLawful =
     AreWellFormed ctx.bases declared →
     IsWellFormedEnv ctx.bases env →
     IsWellFormedIfAny ctx.bases want →
-    Lawful ctx declared env want e (labels_of ctx declared env want e) × IsWellFormed ctx.bases (type_of e (labels_of ctx declared env want e)) × MarksWellFormed ctx.bases e (labels_of ctx declared env want e)
+    Lawful ctx declared env want e (labels_of ctx declared env want e)
+    × IsWellFormed ctx.bases (type_of e (labels_of ctx declared env want e))
+    × MarksWellFormed ctx.bases e (labels_of ctx declared env want e)

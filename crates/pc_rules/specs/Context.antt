@@ -1,6 +1,7 @@
 -- What an expression stands in: the classes, functions and constants that it may name, and what its names mean.
 -- Language Reference 3.12, 4.2.2 "Resolution of names"; own rules of the profile.
-use Rattle.std.specs.Prelude.{◌≡◌, ℕ, List, [], ◌∷◌, Bool as Test, true, false, if◌then◌else◌, nat_lt, Option, Some, None, slice_get}
+use Rattle.std.specs.Prelude.{◌≡◌, ℕ, List, [], ◌∷◌, Bool as Test, true, false, if◌then◌else◌, nat_lt, Option, Some}
+use Rattle.std.specs.Prelude.{None, slice_get}
 use Rattle.pc_tree.specs.declared.code.Code.{Code}
 use Rattle.pc_tree.specs.declared.code.Code.TheVariants.{E02, E03, E04, E20}
 use Rattle.pc_scope.specs.declared.resolution.Res.{Res}

@@ -1,20 +1,25 @@
--- What is found under the labels of an expression, as a list in the order in which a walk comes to it, each dynamic flow with its two
--- types: computed twin of what stands under labels, but for E02 and E03, which are found of scopes.
+-- What is found under the labels of an expression, as a list in the order in which a walk comes to it, each dynamic
+-- flow with its two types: computed twin of what stands under labels, but for E02 and E03, which are found of scopes.
 -- Own rule of the profile.
-use Rattle.std.specs.Prelude.{◌≡◌, ◌↔◌, List, [], ◌∷◌, ◌++◌, flat_map, Bool as Test, true, false, if◌then◌else◌, Option, Some, None, Contains, option_to_list, bytes_eq}
+use Rattle.std.specs.Prelude.{◌≡◌, ◌↔◌, List, [], ◌∷◌, ◌++◌, flat_map, Bool as Test, true, false, if◌then◌else◌, Option}
+use Rattle.std.specs.Prelude.{Some, None, Contains, option_to_list, bytes_eq}
 use Rattle.std.specs.List.{list_any}
 use Rattle.pc_source.specs.declared.place.Place.{Place}
 use Rattle.pc_tree.specs.declared.code.Code.{Code}
 use Rattle.pc_tree.specs.declared.code.Code.TheVariants.{A1}
 use Rattle.pc_tree.specs.declared.code.Finding.{Finding}
 use Rattle.pc_tree.specs.Code.{finding, text_of}
-use Rattle.pc_tree.specs.Tree.{Expr, Exprs, Entries, Keywords, name, number, text, truth, nothing, tuple, list, dict, negative, negation, binary, compare, is_none, is_not_none, conjunction, disjunction, attribute, index, call, no_exprs, more_exprs, no_entries, more_entries, no_keywords, more_keywords}
+use Rattle.pc_tree.specs.Tree.{Expr, Exprs, Entries, Keywords, name, number, text, truth, nothing, tuple, list, dict}
+use Rattle.pc_tree.specs.Tree.{negative, negation, binary, compare, is_none, is_not_none, conjunction, disjunction}
+use Rattle.pc_tree.specs.Tree.{attribute, index, call, no_exprs, more_exprs, no_entries, more_entries, no_keywords}
+use Rattle.pc_tree.specs.Tree.{more_keywords}
 use Rattle.pc_tree.specs.Depth.{place_of}
 use Rattle.pc_types.specs.Tree.{Tree}
 use Rattle.pc_scope.specs.Expressions.{is_instance_test}
 use Rattle.pc_notes.specs.Notes.{Note, plain_note, dynamic, findings_of}
 use Rattle.pc_rules.specs.Operations.{Mark}
-use Rattle.pc_rules.specs.Labels.{FlowMarks, Marks, ItemsMarks, EntriesMarks, KeywordsMarks, mark_of, is_of_scopes, second_place, Finds}
+use Rattle.pc_rules.specs.Labels.{FlowMarks, Marks, ItemsMarks, EntriesMarks, KeywordsMarks, mark_of, is_of_scopes}
+use Rattle.pc_rules.specs.Labels.{second_place, Finds}
 
 -- the finding of a code at a place, none of a code that is found of scopes
 abbrev pub own_at : Place → Code → List Note
@@ -69,9 +74,11 @@ flow_at p s t None = []
 flow_at p s t (Some c) = own_flow p s t c
 
 -- what is found of one flow, unless its code is among these, and of others behind it
-abbrev pub flow_then : Place → (before : List Code) → (from into : Tree) → Option Code → (rest : List Code → List Note) → List Note
+abbrev pub flow_then : Place → (before : List Code) → (from into : Tree) → Option Code → (rest : List Code → List Note)
+    → List Note
 flow_then p before s t None rest = rest before
-flow_then p before s t (Some c) rest = if has_code before c then rest before else own_flow p s t c ++ rest (before ++ c ∷ [])
+flow_then p before s t (Some c) rest = if has_code before c then rest before
+    else own_flow p s t c ++ rest (before ++ c ∷ [])
 
 -- what is found of flows whose codes are not among these, each code once, of the first flow that has it
 abbrev pub flows_behind : Place → (before : List Code) → FlowMarks → List Note
@@ -100,14 +107,19 @@ abbrev mutual
   found_in_parts (dict p entries) m = found_in_entries entries m.entries
   found_in_parts (negative p e) m = whole e m.operand (found_in_parts e m.operand)
   found_in_parts (negation p e) m = whole e m.operand (found_in_parts e m.operand)
-  found_in_parts (binary p operator l r) m = whole l m.left (found_in_parts l m.left) ++ whole r m.right (found_in_parts r m.right)
-  found_in_parts (compare p operator l r) m = whole l m.left (found_in_parts l m.left) ++ (whole r m.right (found_in_parts r m.right) ++ flows_at (place_of l) m.flows)
+  found_in_parts (binary p operator l r) m = whole l m.left (found_in_parts l m.left)
+      ++ whole r m.right (found_in_parts r m.right)
+  found_in_parts (compare p operator l r) m = whole l m.left (found_in_parts l m.left)
+      ++ (whole r m.right (found_in_parts r m.right) ++ flows_at (place_of l) m.flows)
   found_in_parts (is_none p e) m = whole e m.operand (found_in_parts e m.operand)
   found_in_parts (is_not_none p e) m = whole e m.operand (found_in_parts e m.operand)
-  found_in_parts (conjunction p l r) m = whole l m.left (found_in_parts l m.left) ++ whole r m.right (found_in_parts r m.right)
-  found_in_parts (disjunction p l r) m = whole l m.left (found_in_parts l m.left) ++ whole r m.right (found_in_parts r m.right)
+  found_in_parts (conjunction p l r) m = whole l m.left (found_in_parts l m.left)
+      ++ whole r m.right (found_in_parts r m.right)
+  found_in_parts (disjunction p l r) m = whole l m.left (found_in_parts l m.left)
+      ++ whole r m.right (found_in_parts r m.right)
   found_in_parts (attribute p e field) m = whole e m.object (found_in_parts e m.object)
-  found_in_parts (index p e i) m = whole e m.object (found_in_parts e m.object) ++ (whole i m.key (found_in_parts i m.key) ++ flows_at (place_of i) m.flows)
+  found_in_parts (index p e i) m = whole e m.object (found_in_parts e m.object)
+      ++ (whole i m.key (found_in_parts i m.key) ++ flows_at (place_of i) m.flows)
   found_in_parts (call p callee arguments keywords) m =
       whole callee m.callee (found_in_parts callee m.callee)
       ++ (found_in_arguments (is_instance_test callee arguments keywords) arguments m.arguments
@@ -116,24 +128,30 @@ abbrev mutual
   -- of items, each with its flows
   pub found_in_items : (es : Exprs) → ItemsMarks es → List Note
   found_in_items no_exprs m = []
-  found_in_items (more_exprs e rest) m = whole e m.first (found_in_parts e m.first) ++ (flows_at (place_of e) m.flows ++ found_in_items rest m.rest)
+  found_in_items (more_exprs e rest) m = whole e m.first (found_in_parts e m.first)
+      ++ (flows_at (place_of e) m.flows ++ found_in_items rest m.rest)
 
   -- of arguments; of a test of an instance what stands second is not looked at
   pub found_in_arguments : (is_test : Test) → (es : Exprs) → ItemsMarks es → List Note
   found_in_arguments is_test no_exprs m = []
   found_in_arguments true (more_exprs e rest) m = whole e m.first (found_in_parts e m.first)
-  found_in_arguments false (more_exprs e rest) m = whole e m.first (found_in_parts e m.first) ++ (flows_at (place_of e) m.flows ++ found_in_arguments false rest m.rest)
+  found_in_arguments false (more_exprs e rest) m = whole e m.first (found_in_parts e m.first)
+      ++ (flows_at (place_of e) m.flows ++ found_in_arguments false rest m.rest)
 
   -- of the entries of a dict, each key and value with its flows
   pub found_in_entries : (es : Entries) → EntriesMarks es → List Note
   found_in_entries no_entries m = []
   found_in_entries (more_entries key value rest) m =
-      whole key m.key (found_in_parts key m.key) ++ (flows_at (place_of key) m.key_flows ++ (whole value m.value (found_in_parts value m.value) ++ (flows_at (place_of value) m.value_flows ++ found_in_entries rest m.rest)))
+      whole key m.key (found_in_parts key m.key)
+      ++ (flows_at (place_of key) m.key_flows
+      ++ (whole value m.value (found_in_parts value m.value)
+      ++ (flows_at (place_of value) m.value_flows ++ found_in_entries rest m.rest)))
 
   -- of arguments by name, each with its flows
   pub found_in_keywords : (es : Keywords) → KeywordsMarks es → List Note
   found_in_keywords no_keywords m = []
-  found_in_keywords (more_keywords parameter value rest) m = whole value m.first (found_in_parts value m.first) ++ (flows_at (place_of value) m.flows ++ found_in_keywords rest m.rest)
+  found_in_keywords (more_keywords parameter value rest) m = whole value m.first (found_in_parts value m.first)
+      ++ (flows_at (place_of value) m.flows ++ found_in_keywords rest m.rest)
 
 -- the findings under the labels of an expression: what is found in its parts, and then at it
 abbrev pub notes_under : (e : Expr) → Marks e → List Note
@@ -146,4 +164,5 @@ pub record IsOwn (e : Expr) (m : Marks e) (f : Finding) : Type 0 where
 
 -- the law that the list has just what stands under the labels and is not found of scopes
 abbrev pub LabelFindingsAreListed : Type 0
-LabelFindingsAreListed = (e : Expr) (m : Marks e) (f : Finding) → Contains (findings_of (notes_under e m)) f ↔ IsOwn e m f
+LabelFindingsAreListed = (e : Expr) (m : Marks e) (f : Finding)
+    → Contains (findings_of (notes_under e m)) f ↔ IsOwn e m f

@@ -1,12 +1,15 @@
--- The labels of an expression: for each of its parts a type and the codes that stand there, and for each flow its types and its code.
--- Own rule of the profile.
+-- The labels of an expression: for each of its parts a type and the codes that stand there, and for each flow its types
+-- and its code. Own rule of the profile.
 use Rattle.std.specs.Prelude.{◌≡◌, ◌⊎◌, List, [], ◌∷◌, Bool as Test, true, false, Option, Some, None, Contains}
 use Rattle.pc_source.specs.declared.place.Place.{Place}
 use Rattle.pc_tree.specs.declared.code.Code.{Code}
 use Rattle.pc_tree.specs.declared.code.Code.TheVariants.{E02, E03}
 use Rattle.pc_tree.specs.declared.code.Finding.{Finding}
 use Rattle.pc_tree.specs.Code.{finding}
-use Rattle.pc_tree.specs.Tree.{Expr, Exprs, Entries, Keywords, name, number, text, truth, nothing, tuple, list, dict, negative, negation, binary, compare, is_none, is_not_none, conjunction, disjunction, attribute, index, call, no_exprs, more_exprs, no_entries, more_entries, no_keywords, more_keywords}
+use Rattle.pc_tree.specs.Tree.{Expr, Exprs, Entries, Keywords, name, number, text, truth, nothing, tuple, list, dict}
+use Rattle.pc_tree.specs.Tree.{negative, negation, binary, compare, is_none, is_not_none, conjunction, disjunction}
+use Rattle.pc_tree.specs.Tree.{attribute, index, call, no_exprs, more_exprs, no_entries, more_entries, no_keywords}
+use Rattle.pc_tree.specs.Tree.{more_keywords}
 use Rattle.pc_tree.specs.Depth.{place_of}
 use Rattle.pc_scope.specs.Expressions.{is_instance_test}
 use Rattle.pc_types.specs.Tree.{Tree}
@@ -38,7 +41,13 @@ abbrev mutual
   Marks (disjunction p l r) = record { here : Mark; left : Marks l; right : Marks r }
   Marks (attribute p e field) = record { here : Mark; object : Marks e }
   Marks (index p e i) = record { here : Mark; object : Marks e; key : Marks i; flows : FlowMarks }
-  Marks (call p callee arguments keywords) = record { here : Mark; callee : Marks callee; second : Option Code; arguments : ItemsMarks arguments; keywords : KeywordsMarks keywords }
+  Marks (call p callee arguments keywords) = record {
+    here : Mark;
+    callee : Marks callee;
+    second : Option Code;
+    arguments : ItemsMarks arguments;
+    keywords : KeywordsMarks keywords;
+  }
 
   -- of items and of arguments by position: the labels of each, and its flows
   pub ItemsMarks : Exprs → Type 0
@@ -48,12 +57,22 @@ abbrev mutual
   -- of the entries of a dict: the labels of each key and value, and their flows
   pub EntriesMarks : Entries → Type 0
   EntriesMarks no_entries = Unit {0}
-  EntriesMarks (more_entries key value rest) = record { key : Marks key; key_flows : FlowMarks; value : Marks value; value_flows : FlowMarks; rest : EntriesMarks rest }
+  EntriesMarks (more_entries key value rest) = record {
+    key : Marks key;
+    key_flows : FlowMarks;
+    value : Marks value;
+    value_flows : FlowMarks;
+    rest : EntriesMarks rest;
+  }
 
   -- of arguments by name: the labels of each value, and its flows
   pub KeywordsMarks : Keywords → Type 0
   KeywordsMarks no_keywords = Unit {0}
-  KeywordsMarks (more_keywords parameter value rest) = record { first : Marks value; flows : FlowMarks; rest : KeywordsMarks rest }
+  KeywordsMarks (more_keywords parameter value rest) = record {
+    first : Marks value;
+    flows : FlowMarks;
+    rest : KeywordsMarks rest;
+  }
 
 -- the label of an expression itself
 abbrev pub mark_of : (e : Expr) → Marks e → Mark
@@ -101,7 +120,13 @@ with_mark (conjunction p l r) m here = record { here = here; left = m.left; righ
 with_mark (disjunction p l r) m here = record { here = here; left = m.left; right = m.right }
 with_mark (attribute p e field) m here = record { here = here; object = m.object }
 with_mark (index p e i) m here = record { here = here; object = m.object; key = m.key; flows = m.flows }
-with_mark (call p callee arguments by_name) m here = record { here = here; callee = m.callee; second = m.second; arguments = m.arguments; keywords = m.keywords }
+with_mark (call p callee arguments by_name) m here = record {
+  here = here;
+  callee = m.callee;
+  second = m.second;
+  arguments = m.arguments;
+  keywords = m.keywords;
+}
 
 -- the types of items, in order
 abbrev pub item_types : (es : Exprs) → ItemsMarks es → List Tree
@@ -120,7 +145,8 @@ value_types (more_entries key value rest) m = type_of value m.value ∷ value_ty
 
 -- ---- what stands under labels
 
--- E02 and E03 are found of scopes: labels have them for their types, and a law says that they have them where scopes find them
+-- E02 and E03 are found of scopes: labels have them for their types, and a law says that they have them where scopes
+-- find them
 abbrev pub is_of_scopes : Code → Test
 is_of_scopes E02 = true
 is_of_scopes E03 = true
@@ -165,17 +191,21 @@ abbrev mutual
   Finds (negative p e) m f = IsFoundAt p m.here.codes f ⊎ Finds e m.operand f
   Finds (negation p e) m f = IsFoundAt p m.here.codes f ⊎ Finds e m.operand f
   Finds (binary p operator l r) m f = IsFoundAt p m.here.codes f ⊎ (Finds l m.left f ⊎ Finds r m.right f)
-  Finds (compare p operator l r) m f = IsFoundAt p m.here.codes f ⊎ (IsFlowAt (place_of l) m.flows f ⊎ (Finds l m.left f ⊎ Finds r m.right f))
+  Finds (compare p operator l r) m f = IsFoundAt p m.here.codes f
+      ⊎ (IsFlowAt (place_of l) m.flows f ⊎ (Finds l m.left f ⊎ Finds r m.right f))
   Finds (is_none p e) m f = IsFoundAt p m.here.codes f ⊎ Finds e m.operand f
   Finds (is_not_none p e) m f = IsFoundAt p m.here.codes f ⊎ Finds e m.operand f
   Finds (conjunction p l r) m f = IsFoundAt p m.here.codes f ⊎ (Finds l m.left f ⊎ Finds r m.right f)
   Finds (disjunction p l r) m f = IsFoundAt p m.here.codes f ⊎ (Finds l m.left f ⊎ Finds r m.right f)
   Finds (attribute p e field) m f = IsFoundAt p m.here.codes f ⊎ Finds e m.object f
-  Finds (index p e i) m f = IsFoundAt p m.here.codes f ⊎ (IsFlowAt (place_of i) m.flows f ⊎ (Finds e m.object f ⊎ Finds i m.key f))
+  Finds (index p e i) m f = IsFoundAt p m.here.codes f
+      ⊎ (IsFlowAt (place_of i) m.flows f ⊎ (Finds e m.object f ⊎ Finds i m.key f))
   Finds (call p callee arguments keywords) m f =
       IsFoundAt p m.here.codes f
       ⊎ (Finds callee m.callee f
-      ⊎ (IsCodeAt (second_place arguments p) m.second f ⊎ (ArgumentsFind (is_instance_test callee arguments keywords) arguments m.arguments f ⊎ KeywordsFind keywords m.keywords f)))
+      ⊎ (IsCodeAt (second_place arguments p) m.second f
+      ⊎ (ArgumentsFind (is_instance_test callee arguments keywords) arguments m.arguments f
+      ⊎ KeywordsFind keywords m.keywords f)))
 
   pub ItemsFind : (es : Exprs) → ItemsMarks es → Finding → Type 0
   ItemsFind no_exprs m f = ⊥
@@ -185,13 +215,16 @@ abbrev mutual
   pub ArgumentsFind : (is_test : Test) → (es : Exprs) → ItemsMarks es → Finding → Type 0
   ArgumentsFind is_test no_exprs m f = ⊥
   ArgumentsFind true (more_exprs e rest) m f = Finds e m.first f
-  ArgumentsFind false (more_exprs e rest) m f = IsFlowAt (place_of e) m.flows f ⊎ (Finds e m.first f ⊎ ArgumentsFind false rest m.rest f)
+  ArgumentsFind false (more_exprs e rest) m f = IsFlowAt (place_of e) m.flows f
+      ⊎ (Finds e m.first f ⊎ ArgumentsFind false rest m.rest f)
 
   pub EntriesFind : (es : Entries) → EntriesMarks es → Finding → Type 0
   EntriesFind no_entries m f = ⊥
   EntriesFind (more_entries key value rest) m f =
-      (IsFlowAt (place_of key) m.key_flows f ⊎ Finds key m.key f) ⊎ ((IsFlowAt (place_of value) m.value_flows f ⊎ Finds value m.value f) ⊎ EntriesFind rest m.rest f)
+      (IsFlowAt (place_of key) m.key_flows f ⊎ Finds key m.key f)
+      ⊎ ((IsFlowAt (place_of value) m.value_flows f ⊎ Finds value m.value f) ⊎ EntriesFind rest m.rest f)
 
   pub KeywordsFind : (es : Keywords) → KeywordsMarks es → Finding → Type 0
   KeywordsFind no_keywords m f = ⊥
-  KeywordsFind (more_keywords parameter value rest) m f = IsFlowAt (place_of value) m.flows f ⊎ (Finds value m.first f ⊎ KeywordsFind rest m.rest f)
+  KeywordsFind (more_keywords parameter value rest) m f = IsFlowAt (place_of value) m.flows f
+      ⊎ (Finds value m.first f ⊎ KeywordsFind rest m.rest f)

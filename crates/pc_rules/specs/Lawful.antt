@@ -1,21 +1,31 @@
 -- The lawful labelling of an expression: each part obeys its own rule with respect to its neighbours alone.
 -- Language Reference 3.12, 6 "Expressions"; own rules of the profile.
-use Rattle.std.specs.Prelude.{◌≡◌, ℕ, suc, ◌+◌, ◌*◌, ◌-◌, List, [], ◌∷◌, map, Bool as Test, true, false, if◌then◌else◌, nat_eq, Option, Some, None, All, slice_get}
+use Rattle.std.specs.Prelude.{◌≡◌, ℕ, suc, ◌+◌, ◌*◌, ◌-◌, List, [], ◌∷◌, map, Bool as Test, true, false, if◌then◌else◌}
+use Rattle.std.specs.Prelude.{nat_eq, Option, Some, None, All, slice_get}
 use Rattle.pc_tree.specs.declared.tree.ComparisonOperator.{ComparisonOperator}
 use Rattle.pc_tree.specs.declared.tree.ComparisonOperator.TheVariants.{Equal, NotEqual, In, NotIn}
 use Rattle.pc_tree.specs.declared.code.Code.{Code}
 use Rattle.pc_tree.specs.declared.code.Code.TheVariants.{E03, E22}
-use Rattle.pc_tree.specs.Tree.{Name, Expr, Exprs, Entries, Keywords, name, number, text, truth, nothing, tuple, list, dict, negative, negation, binary, compare, is_none, is_not_none, conjunction, disjunction, attribute, index, call, no_exprs, more_exprs, no_entries, more_entries, no_keywords, more_keywords}
+use Rattle.pc_tree.specs.Tree.{Name, Expr, Exprs, Entries, Keywords, name, number, text, truth, nothing, tuple, list}
+use Rattle.pc_tree.specs.Tree.{dict, negative, negation, binary, compare, is_none, is_not_none, conjunction}
+use Rattle.pc_tree.specs.Tree.{disjunction, attribute, index, call, no_exprs, more_exprs, no_entries, more_entries}
+use Rattle.pc_tree.specs.Tree.{no_keywords, more_keywords}
 use Rattle.pc_scope.specs.Resolution.{is_one_of}
 use Rattle.pc_types.specs.Tree.{Tree, Any, Int, Bool, Str, NoneType, ListOf, DictOf, TupleOf}
 use Rattle.pc_types.specs.Below.{Bases, Static}
 use Rattle.pc_types.specs.Shape.{members, list_of_trees, trees, count}
 use Rattle.pc_flow.specs.Environment.{Env, join_or_object, join_all}
 use Rattle.pc_flow.specs.Narrowing.{narrow, test_of_argument, second_argument}
-use Rattle.pc_rules.specs.Operations.{Mark, clean, in_error, Offer, offers_mark, operand_types, index_member, attribute_member, contain_member, negative_member, binary_mark, order_mark, display_mark}
+use Rattle.pc_rules.specs.Operations.{Mark, clean, in_error, Offer, offers_mark, operand_types, index_member}
+use Rattle.pc_rules.specs.Operations.{attribute_member, contain_member, negative_member, binary_mark, order_mark}
+use Rattle.pc_rules.specs.Operations.{display_mark}
 use Rattle.pc_rules.specs.Context.{Context, FlowsInto, name_mark, is_early}
-use Rattle.pc_rules.specs.Calls.{GivenArguments, arguments_given, count_exprs, CallOffer, CallRule, member_rule, length_rule, test_rule, CalleeLabel, value_callee, name_callee, method_callee, call_mark, Seat, nowhere, positional_seat, named_seat, length_mark, test_mark, second_code}
-use Rattle.pc_rules.specs.Labels.{Marks, ItemsMarks, EntriesMarks, KeywordsMarks, mark_of, type_of, with_mark, item_types, key_types, value_types}
+use Rattle.pc_rules.specs.Calls.{GivenArguments, arguments_given, count_exprs, CallOffer, CallRule, member_rule}
+use Rattle.pc_rules.specs.Calls.{length_rule, test_rule, CalleeLabel, value_callee, name_callee, method_callee}
+use Rattle.pc_rules.specs.Calls.{call_mark, Seat, nowhere, positional_seat, named_seat, length_mark, test_mark}
+use Rattle.pc_rules.specs.Calls.{second_code}
+use Rattle.pc_rules.specs.Labels.{Marks, ItemsMarks, EntriesMarks, KeywordsMarks, mark_of, type_of, with_mark}
+use Rattle.pc_rules.specs.Labels.{item_types, key_types, value_types}
 
 -- ---- what is expected of the parts of a display
 
@@ -62,12 +72,17 @@ list_mark bases (Some t) types = clean (ListOf t)
 list_mark bases None [] = display_mark (ListOf Any)
 list_mark bases None (t ∷ ts) = display_mark (ListOf (join_all bases (t ∷ ts)))
 
--- the type of a dict display without an expected dict: its keys are int or str where every key is static to it, and int where both
+-- the type of a dict display without an expected dict: its keys are int or str where every key is static to it, and int
+-- where both
 pub data DictMark (bases : Bases) (values : List Tree) : List Tree → Mark → Type 0 where
   no_keys : DictMark bases values [] (in_error E22)
-  int_keys : {k : Tree} {ks : List Tree} → All (λ t. Static bases t Int) (k ∷ ks) → DictMark bases values (k ∷ ks) (display_mark (DictOf Int (join_all bases values)))
-  str_keys : {k : Tree} {ks : List Tree} → ¬ (All (λ t. Static bases t Int) (k ∷ ks)) → All (λ t. Static bases t Str) (k ∷ ks) → DictMark bases values (k ∷ ks) (display_mark (DictOf Str (join_all bases values)))
-  other_keys : {k : Tree} {ks : List Tree} → ¬ (All (λ t. Static bases t Int) (k ∷ ks)) → ¬ (All (λ t. Static bases t Str) (k ∷ ks)) → DictMark bases values (k ∷ ks) (in_error E22)
+  int_keys : {k : Tree} {ks : List Tree} → All (λ t. Static bases t Int) (k ∷ ks)
+      → DictMark bases values (k ∷ ks) (display_mark (DictOf Int (join_all bases values)))
+  str_keys : {k : Tree} {ks : List Tree} → ¬ (All (λ t. Static bases t Int) (k ∷ ks))
+      → All (λ t. Static bases t Str) (k ∷ ks)
+      → DictMark bases values (k ∷ ks) (display_mark (DictOf Str (join_all bases values)))
+  other_keys : {k : Tree} {ks : List Tree} → ¬ (All (λ t. Static bases t Int) (k ∷ ks))
+      → ¬ (All (λ t. Static bases t Str) (k ∷ ks)) → DictMark bases values (k ∷ ks) (in_error E22)
 
 -- the label of a dict display: the type of the expected dict, else what its own keys and values make
 abbrev pub DictRule : Bases → Option KeyValue → (keys values : List Tree) → Mark → Type 0
@@ -121,11 +136,13 @@ compare_types _ t = []
 -- a callee: a name, a method of an object, or a value; in an initializer a callee that is no name is E03
 abbrev pub callee_of : Context → Env → GivenArguments → (e : Expr) → Marks e → CalleeLabel
 callee_of ctx env g (name n) m = name_callee ctx env g (ctx.resolve n.text)
-callee_of ctx env g (attribute p e field) m = if ctx.in_body then method_callee ctx g field.text (type_of e m.object) else value_callee (in_error E03)
+callee_of ctx env g (attribute p e field) m = if ctx.in_body then method_callee ctx g field.text (type_of e m.object)
+    else value_callee (in_error E03)
 callee_of ctx env g e m = if ctx.in_body then value_callee (mark_of e m) else value_callee (in_error E03)
 
 -- the label of a call, by its rule
-abbrev pub whole_call_mark : Context → Env → CallRule → List CallOffer → (arguments : Exprs) → (types : List Tree) → Mark
+abbrev pub whole_call_mark : Context → Env → CallRule → List CallOffer → (arguments : Exprs) → (types : List Tree)
+    → Mark
 whole_call_mark ctx env member_rule offers arguments types = call_mark ctx.bases offers
 whole_call_mark ctx env length_rule offers arguments types = length_mark ctx.bases types
 whole_call_mark ctx env test_rule offers arguments types = test_mark ctx env arguments
@@ -138,7 +155,8 @@ early_second (more_exprs e (more_exprs f rest)) m = is_early (mark_of f m.rest.f
 
 -- the code at the second argument of a call, which only a test of an instance has
 abbrev pub whole_second_code : Context → CallRule → (arguments : Exprs) → ItemsMarks arguments → Option Code
-whole_second_code ctx test_rule arguments m = second_code (test_of_argument ctx.resolve (second_argument arguments)) (early_second arguments m)
+whole_second_code ctx test_rule arguments m =
+    second_code (test_of_argument ctx.resolve (second_argument arguments)) (early_second arguments m)
 whole_second_code ctx _ arguments m = None
 
 -- the seat of an argument by name, behind arguments of these names: nowhere where its own is among them
@@ -166,8 +184,10 @@ module _ (ctx : Context) (declared : List Tree) where
       here : m.here ≡ list_mark ctx.bases (list_item (members_of_expected want)) (item_types es m.items);
     }
     Lawful env want (dict p es) m = record {
-      entries : LawfulEntries env (key_seat (dict_parts (members_of_expected want))) (value_seat (dict_parts (members_of_expected want))) es m.entries;
-      here : DictRule ctx.bases (dict_parts (members_of_expected want)) (key_types es m.entries) (value_types es m.entries) m.here;
+      entries : LawfulEntries env (key_seat (dict_parts (members_of_expected want)))
+          (value_seat (dict_parts (members_of_expected want))) es m.entries;
+      here : DictRule ctx.bases (dict_parts (members_of_expected want)) (key_types es m.entries)
+          (value_types es m.entries) m.here;
     }
     Lawful env want (negative p e) m = record {
       operand : Lawful env None e m.operand;
@@ -209,23 +229,30 @@ module _ (ctx : Context) (declared : List Tree) where
     }
     Lawful env want (attribute p e field) m = record {
       object : Lawful env None e m.object;
-      here : m.here ≡ offers_mark ctx.bases (map (attribute_member ctx.classes field.text) (members (type_of e m.object)));
+      here : m.here ≡ offers_mark ctx.bases
+          (map (attribute_member ctx.classes field.text) (members (type_of e m.object)));
     }
     Lawful env want (index p e i) m = record {
       object : Lawful env None e m.object;
       key : Lawful env None i m.key;
-      here : m.here ≡ offers_mark ctx.bases (map (index_member ctx.bases (int_literal i)) (members (type_of e m.object)));
-      flows : FlowsInto ctx.bases (mark_of i m.key) (operand_types (map (index_member ctx.bases (int_literal i)) (members (type_of e m.object)))) m.flows;
+      here : m.here ≡ offers_mark ctx.bases
+          (map (index_member ctx.bases (int_literal i)) (members (type_of e m.object)));
+      flows : FlowsInto ctx.bases (mark_of i m.key)
+          (operand_types (map (index_member ctx.bases (int_literal i)) (members (type_of e m.object)))) m.flows;
     }
     -- the callee has the labels of a value but for its own, which says what it is as a callee
     Lawful env want (call p c args kws) m = record {
       value : Marks c;
       lawful : Lawful env None c value;
       callee : m.callee ≡ with_mark c value (callee_of ctx env (arguments_given args kws) c value).mark;
-      arguments : LawfulItems env (positional_seat (callee_of ctx env (arguments_given args kws) c value).offers) args m.arguments;
-      keywords : LawfulKeywords env (named_seat (callee_of ctx env (arguments_given args kws) c value).offers) [] kws m.keywords;
-      here : m.here ≡ whole_call_mark ctx env (callee_of ctx env (arguments_given args kws) c value).rule (callee_of ctx env (arguments_given args kws) c value).offers args (item_types args m.arguments);
-      second : m.second ≡ whole_second_code ctx (callee_of ctx env (arguments_given args kws) c value).rule args m.arguments;
+      arguments : LawfulItems env
+          (positional_seat (callee_of ctx env (arguments_given args kws) c value).offers) args m.arguments;
+      keywords : LawfulKeywords env
+          (named_seat (callee_of ctx env (arguments_given args kws) c value).offers) [] kws m.keywords;
+      here : m.here ≡ whole_call_mark ctx env (callee_of ctx env (arguments_given args kws) c value).rule
+          (callee_of ctx env (arguments_given args kws) c value).offers args (item_types args m.arguments);
+      second : m.second ≡ whole_second_code ctx
+          (callee_of ctx env (arguments_given args kws) c value).rule args m.arguments;
     }
 
     -- items or arguments by position are lawful, each for the seat at its position
@@ -249,7 +276,8 @@ module _ (ctx : Context) (declared : List Tree) where
     }
 
     -- of a name given twice the later argument flows nowhere
-    pub LawfulKeywords : Env → (seat : List ℕ → Seat) → (before : List (List ℕ)) → (es : Keywords) → KeywordsMarks es → Type 0
+    pub LawfulKeywords : Env → (seat : List ℕ → Seat) → (before : List (List ℕ)) → (es : Keywords) → KeywordsMarks es
+        → Type 0
     LawfulKeywords env seat before no_keywords m = Unit {0}
     LawfulKeywords env seat before (more_keywords parameter value rest) m = record {
       first : Lawful env (keyword_seat seat before parameter).want value m.first;

@@ -16,7 +16,8 @@ use Rattle.pc_rules.specs.Lawful.{Lawful}
 
 -- `isinstance(x, list)`: a call of one name with two others
 abbrev pub call_of_names : Place → (callee first second : Name) → Expr
-call_of_names p callee first second = call p (name callee) (more_exprs (name first) (more_exprs (name second) no_exprs)) no_keywords
+call_of_names p callee first second =
+    call p (name callee) (more_exprs (name first) (more_exprs (name second) no_exprs)) no_keywords
 
 -- the names mean `isinstance`, the local of this number, and `list`
 pub record TestsForList (ctx : Context) (callee first second : Name) (x : ℕ) : Type 0 where
@@ -28,7 +29,12 @@ pub record TestsForList (ctx : Context) (callee first second : Name) (x : ℕ) :
 abbrev pub HasAnyOrObject : Tree → Type 0
 HasAnyOrObject t = Contains (members t) Any ⊎ Contains (members t) Object
 
--- the law that a test of a local for a list is A7, under any lawful labels, where a member of its current type is Any or object
+-- the law that a test of a local for a list is A7, under any lawful labels, where a member of its current type is Any
+-- or object
 abbrev pub ListTestsAreDynamicPlaces : Type 0
-ListTestsAreDynamicPlaces = (ctx : Context) (declared : List Tree) (env : Env) (want : Option Tree) (p : Place) (callee first second : Name) (marks : Marks (call_of_names p callee first second)) (x : ℕ) (t : Tree)
-    → TestsForList ctx callee first second x → current env x ≡ Some t → HasAnyOrObject t → Lawful ctx declared env want (call_of_names p callee first second) marks → Finds (call_of_names p callee first second) marks (finding p A7)
+ListTestsAreDynamicPlaces =
+    (ctx : Context) (declared : List Tree) (env : Env) (want : Option Tree) (p : Place) (callee first second : Name)
+    (marks : Marks (call_of_names p callee first second)) (x : ℕ) (t : Tree)
+    → TestsForList ctx callee first second x → current env x ≡ Some t → HasAnyOrObject t
+    → Lawful ctx declared env want (call_of_names p callee first second) marks
+    → Finds (call_of_names p callee first second) marks (finding p A7)

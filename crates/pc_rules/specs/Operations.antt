@@ -1,14 +1,17 @@
 -- What each operation finds and gives, member by member; and the operators.
 -- Language Reference 6.3 "Primaries", 6.6 "Unary arithmetic", 6.7 "Binary arithmetic operations", 6.10 "Comparisons";
 -- own rules of the profile.
-use Rattle.std.specs.Prelude.{ℕ, List, [], ◌∷◌, map, flat_map, Bool as Test, true, false, ◌&&◌, ◌||◌, if◌then◌else◌, nat_le, Option, Some, None, unwrap_or, slice_get}
+use Rattle.std.specs.Prelude.{ℕ, List, [], ◌∷◌, map, flat_map, Bool as Test, true, false, ◌&&◌, ◌||◌, if◌then◌else◌}
+use Rattle.std.specs.Prelude.{nat_le, Option, Some, None, unwrap_or, slice_get}
 use Rattle.std.specs.List.{list_any, list_all}
 use Rattle.pc_tree.specs.declared.tree.BinaryOperator.{BinaryOperator}
 use Rattle.pc_tree.specs.declared.tree.BinaryOperator.TheVariants.{Add}
 use Rattle.pc_tree.specs.declared.code.Code.{Code}
-use Rattle.pc_tree.specs.declared.code.Code.TheVariants.{A2, A3, A4, A5, A6, E13, E15, E16, E17, E18, E19, E20, E23, E26, E27}
+use Rattle.pc_tree.specs.declared.code.Code.TheVariants.{A2, A3, A4, A5, A6, E13, E15, E16, E17, E18, E19, E20, E23}
+use Rattle.pc_tree.specs.declared.code.Code.TheVariants.{E26, E27}
 use Rattle.pc_tree.specs.Code.{is_error}
-use Rattle.pc_types.specs.Tree.{Tree, Trees, Any, Never, Int, Bool, Str, NoneType, Class, ListOf, DictOf, TupleOf, Union}
+use Rattle.pc_types.specs.Tree.{Tree, Trees, Any, Never, Int, Bool, Str, NoneType, Class, ListOf, DictOf, TupleOf}
+use Rattle.pc_types.specs.Tree.{Union}
 use Rattle.pc_types.specs.Below.{Bases}
 use Rattle.pc_types.specs.Shape.{members, list_of_trees, nodes, node_limit}
 use Rattle.pc_class.specs.Facts as facts
@@ -20,7 +23,8 @@ pub record Mark : Type 0 where
   pub type : Tree
   pub codes : List Code
 
--- what a flow is labelled with: the type that flows, the type that it flows into, and the code that is found of it, if any
+-- what a flow is labelled with: the type that flows, the type that it flows into, and the code that is found of it, if
+-- any
 pub record FlowMark : Type 0 where
   pub from : Tree
   pub into : Tree
@@ -97,7 +101,9 @@ attribute_found None None = suits_not E15
 
 -- a field gives its type; on an instance a method's name is no value
 abbrev pub attribute_member : List facts.ClassFacts → List ℕ → Tree → Offer
-attribute_member classes name (Class c) = attribute_found (field_by_name (class_facts_at classes c).fields name) (method_by_name (class_facts_at classes c).methods name)
+attribute_member classes name (Class c) =
+    attribute_found (field_by_name (class_facts_at classes c).fields name)
+    (method_by_name (class_facts_at classes c).methods name)
 attribute_member classes name Any = unsure A4 Any
 attribute_member classes name _ = suits_not E15
 
@@ -125,7 +131,9 @@ store_found None None = store_with E15
 
 -- a field of an instance takes a value of its type; a method's name takes none
 abbrev pub store_attribute_member : List facts.ClassFacts → List ℕ → Tree → StoreOffer
-store_attribute_member classes name (Class c) = store_found (field_by_name (class_facts_at classes c).fields name) (method_by_name (class_facts_at classes c).methods name)
+store_attribute_member classes name (Class c) =
+    store_found (field_by_name (class_facts_at classes c).fields name)
+    (method_by_name (class_facts_at classes c).methods name)
 store_attribute_member classes name Any = store_with A4
 store_attribute_member classes name _ = store_with E15
 
@@ -228,7 +236,8 @@ has_side takes m = kind_taken takes (kind_of m)
 
 -- what the row of two kinds gives
 abbrev pub row_of_kinds : (Kind → Test) → (Kind → Tree) → Option Kind → Option Kind → Option Tree
-row_of_kinds takes gives (Some whole_kind) (Some whole_kind) = if takes whole_kind then Some (gives whole_kind) else None
+row_of_kinds takes gives (Some whole_kind) (Some whole_kind) = if takes whole_kind then Some (gives whole_kind)
+    else None
 row_of_kinds takes gives (Some text_kind) (Some text_kind) = if takes text_kind then Some (gives text_kind) else None
 row_of_kinds takes gives _ _ = None
 
@@ -239,7 +248,8 @@ pair_found None = suits_not E13
 
 -- what an operator comes to on each pair of a member of the left type and one of the right
 abbrev pub pair_offers : (Kind → Test) → (Kind → Tree) → List Tree → List Tree → List Offer
-pair_offers takes gives ms ns = flat_map (λ m. map (λ n. pair_found (row_of_kinds takes gives (kind_of m) (kind_of n))) ns) ms
+pair_offers takes gives ms ns =
+    flat_map (λ m. map (λ n. pair_found (row_of_kinds takes gives (kind_of m) (kind_of n))) ns) ms
 
 -- the type is Never
 abbrev pub is_never : Tree → Test
@@ -254,7 +264,8 @@ is_any _ = false
 -- an operand is Any, and each member of the other is Any too or has a row on its side
 abbrev pub is_dynamic : (Kind → Test) → Tree → Tree → Test
 is_dynamic takes s t =
-    (is_any s && list_all (λ n. is_any n || has_side takes n) (members t)) || (is_any t && list_all (λ m. is_any m || has_side takes m) (members s))
+    (is_any s && list_all (λ n. is_any n || has_side takes n) (members t))
+    || (is_any t && list_all (λ m. is_any m || has_side takes m) (members s))
 
 -- each pair must have a row; on Never it is Never; on Any a dynamic place
 abbrev pub pairs_mark : Bases → (Kind → Test) → (Kind → Tree) → (dynamic : Tree) → Tree → Tree → Mark
@@ -263,7 +274,8 @@ pairs_mark bases takes gives dynamic s t =
     then clean Never
     else (if is_dynamic takes s t
     then record { type = dynamic; codes = A2 ∷ [] }
-    else (if is_any s || is_any t then in_error E13 else offers_mark bases (pair_offers takes gives (members s) (members t))))
+    else (if is_any s || is_any t then in_error E13
+    else offers_mark bases (pair_offers takes gives (members s) (members t))))
 
 -- `+ - * // %`
 abbrev pub binary_mark : Bases → BinaryOperator → Tree → Tree → Mark

@@ -1,9 +1,11 @@
 -- What functions and methods take and return, and the flows of defaults into their types.
 -- Language Reference 3.12, 8.7 "Function definitions"; typing specification, "Annotations".
-use Rattle.std.specs.Prelude.{◌≡◌, ◌⊎◌, ℕ, List, [], ◌∷◌, map, length, Bool as Test, true, false, ◌||◌, not, Option, Some, None}
+use Rattle.std.specs.Prelude.{◌≡◌, ◌⊎◌, ℕ, List, [], ◌∷◌, map, length, Bool as Test, true, false, ◌||◌, not, Option}
+use Rattle.std.specs.Prelude.{Some, None}
 use Rattle.pc_source.specs.declared.place.Place.{Place}
 use Rattle.pc_tree.specs.declared.code.Finding.{Finding}
-use Rattle.pc_tree.specs.Tree.{Ann, Name, Literal, number_literal, negative_literal, text_literal, truth_literal, none_literal, Param, FuncDef, Module}
+use Rattle.pc_tree.specs.Tree.{Ann, Name, Literal, number_literal, negative_literal, text_literal, truth_literal}
+use Rattle.pc_tree.specs.Tree.{none_literal, Param, FuncDef, Module}
 use Rattle.pc_scope.specs.Reserved.{is_builtin_name}
 use Rattle.pc_scope.specs.Bindings.{functions_in, classes_in}
 use Rattle.pc_scope.specs.Resolution.{is_one_of, resolve_among, resolve_in_module}
@@ -90,14 +92,16 @@ ParamsMarks (p ∷ ps) = record { default : FlowMarks; rest : ParamsMarks ps }
 abbrev pub LawfulParams : Module → (before : List (List ℕ)) → (ps : List Param) → ParamsMarks ps → Type 0
 LawfulParams m before [] marks = Unit {0}
 LawfulParams m before (p ∷ ps) marks = record {
-  default : LawfulDefault (bases_of m) (binds_name before p.name) p.default (read_option m (bases_of m) p.annotation) marks.default;
+  default : LawfulDefault (bases_of m) (binds_name before p.name) p.default
+      (read_option m (bases_of m) p.annotation) marks.default;
   rest : LawfulParams m (p.name.text ∷ before) ps marks.rest;
 }
 
 -- the findings of parameters: in their annotations, and at their defaults
 abbrev pub ParamsFind : Module → (ps : List Param) → ParamsMarks ps → Finding → Type 0
 ParamsFind m [] marks f = ⊥
-ParamsFind m (p ∷ ps) marks f = OptionAnnFinds m (bases_of m) p.annotation f ⊎ (DefaultFinds p.default marks.default f ⊎ ParamsFind m ps marks.rest f)
+ParamsFind m (p ∷ ps) marks f = OptionAnnFinds m (bases_of m) p.annotation f
+    ⊎ (DefaultFinds p.default marks.default f ⊎ ParamsFind m ps marks.rest f)
 
 -- ---- constants
 
@@ -106,7 +110,8 @@ abbrev pub constant_type : Module → Option Ann → Tree → Tree
 constant_type m None from = from
 constant_type m (Some a) from = read_ann m (bases_of m) a
 
--- an initializer flows into the annotation and is expected there; where the name is bound already or reserved, nothing is expected and it flows nowhere
+-- an initializer flows into the annotation and is expected there; where the name is bound already or reserved, nothing
+-- is expected and it flows nowhere
 abbrev pub annotated_types : Module → (binds : Test) → Option Ann → List Tree
 annotated_types m true (Some a) = read_ann m (bases_of m) a ∷ []
 annotated_types m binds a = []

@@ -1,11 +1,13 @@
--- What is found of the signatures of a module and of its constants, as lists, and the types of the constants: computed twin of the
--- rules on annotations, defaults and initializers. First what is found of functions, which each initializer may come upon; then of
--- classes and constants, in text order. What is bound already is told by a test of texts.
+-- What is found of the signatures of a module and of its constants, as lists, and the types of the constants: computed
+-- twin of the rules on annotations, defaults and initializers. First what is found of functions, which each initializer
+-- may come upon; then of classes and constants, in text order. What is bound already is told by a test of texts.
 -- Own rule of the profile.
-use Rattle.std.specs.Prelude.{ℕ, suc, List, [], ◌∷◌, ◌++◌, map, Bool as Test, true, false, ◌&&◌, ◌||◌, not, Option, Some, None, is_some, codes, bytes_eq, String}
+use Rattle.std.specs.Prelude.{ℕ, suc, List, [], ◌∷◌, ◌++◌, map, Bool as Test, true, false, ◌&&◌, ◌||◌, not, Option}
+use Rattle.std.specs.Prelude.{Some, None, is_some, codes, bytes_eq, String}
 use Rattle.std.specs.Global.{Global}
 use Rattle.indexmap.specs.IndexSet.{IndexSet}
-use Rattle.pc_tree.specs.Tree.{Expr, Literal, Param, FuncDef, Field, Member, field_member, method_member, ClassDef, Constant, Item, constant_item, class_item, def_item, Module}
+use Rattle.pc_tree.specs.Tree.{Expr, Literal, Param, FuncDef, Field, Member, field_member, method_member, ClassDef}
+use Rattle.pc_tree.specs.Tree.{Constant, Item, constant_item, class_item, def_item, Module}
 use Rattle.pc_tree.specs.Stopping.{name_of_member}
 use Rattle.pc_tree.specs.Depth.{place_of}
 use Rattle.pc_scope.specs.Reserved.{is_builtin_name}
@@ -23,7 +25,8 @@ use Rattle.pc_rules.specs.Operations.{Mark, clean}
 use Rattle.pc_rules.specs.Context.{Signature}
 use Rattle.pc_rules.specs.Computed.{flows_of}
 use Rattle.pc_rules.specs.Found.{flows_at}
-use Rattle.pc_rules.specs.Signatures.{signature_of, initializer_context, literal_type, literal_place, annotated_types, first_of_types, constant_type}
+use Rattle.pc_rules.specs.Signatures.{signature_of, initializer_context, literal_type, literal_place, annotated_types}
+use Rattle.pc_rules.specs.Signatures.{first_of_types, constant_type}
 use Rattle.pc_rules.specs.Standing.{Standing, mark_in, finds_in}
 
 -- ---- names that are bound already
@@ -50,7 +53,8 @@ base_has_member base name = is_some (field_by_name base.fields name) || is_some 
 
 -- a field binds its name: not reserved, not `mro`, not bound already, no field's or method's of an ancestor
 abbrev pub binds_as_field : ClassFacts → (bound : List ℕ → Test) → List ℕ → Test
-binds_as_field base bound name = not (is_builtin_name name || bytes_eq name (codes "mro")) && (not (bound name) && not (base_has_member base name))
+binds_as_field base bound name = not (is_builtin_name name || bytes_eq name (codes "mro"))
+    && (not (bound name) && not (base_has_member base name))
 
 -- ---- defaults
 
@@ -82,7 +86,9 @@ module _ (m : Module) where
   -- what is found of a parameter: in its annotation, and at its default
   abbrev pub param_findings : (bound : List ℕ → Test) → Param → List Note
   param_findings bound p =
-      map plain_note (option_findings m (bases_of m) p.annotation) ++ default_findings (bases_of m) (binds_text bound p.name.text) p.default (read_option m (bases_of m) p.annotation)
+      map plain_note (option_findings m (bases_of m) p.annotation)
+      ++ default_findings (bases_of m) (binds_text bound p.name.text) p.default
+      (read_option m (bases_of m) p.annotation)
 
   -- what is found of parameters, behind names that are bound already
   abbrev pub params_findings : (bound : List ℕ → Test) → List Param → List Note
@@ -109,7 +115,9 @@ module _ (m : Module) where
   -- what is found of a field: in its annotation, and at its default
   abbrev pub field_findings : ClassFacts → (bound : List ℕ → Test) → Field → List Note
   field_findings base bound d =
-      map plain_note (ann_findings m (bases_of m) d.annotation) ++ default_findings (bases_of m) (binds_as_field base bound d.name.text) d.default (read_ann m (bases_of m) d.annotation)
+      map plain_note (ann_findings m (bases_of m) d.annotation)
+      ++ default_findings (bases_of m) (binds_as_field base bound d.name.text) d.default
+      (read_ann m (bases_of m) d.annotation)
 
   -- what is found of a member: of a field, or of a method's signature, behind `self`
   abbrev pub member_findings : ClassFacts → (bound : List ℕ → Test) → Member → List Note
@@ -119,7 +127,8 @@ module _ (m : Module) where
   -- what is found of members, behind names that are bound already
   abbrev pub members_findings : ClassFacts → (bound : List ℕ → Test) → List Member → List Note
   members_findings base bound [] = []
-  members_findings base bound (x ∷ xs) = member_findings base bound x ++ members_findings base (with_name bound (name_of_member x).text) xs
+  members_findings base bound (x ∷ xs) = member_findings base bound x
+      ++ members_findings base (with_name bound (name_of_member x).text) xs
 
   -- what the base of the class of a number has
   abbrev pub base_at : ℕ → ClassFacts
@@ -158,19 +167,34 @@ module _ (m : Module) where
   -- what is found of an initializer that flows into these types: in it, and of its flow
   abbrev pub value_findings : ItemsReached → (into : List Tree) → Expr → List Note
   value_findings r into e =
-      finds_in (initial r.constants r.classes) (first_of_types into) e ++ flows_at (place_of e) (flows_of (bases_of m) (mark_in (initial r.constants r.classes) (first_of_types into) e) into)
+      finds_in (initial r.constants r.classes) (first_of_types into) e
+      ++ flows_at (place_of e)
+      (flows_of (bases_of m) (mark_in (initial r.constants r.classes) (first_of_types into) e) into)
 
   -- what is found of a constant: in its annotation, and of its initializer
   abbrev pub constant_findings : ItemsReached → Constant → List Note
-  constant_findings r c = map plain_note (option_findings m (bases_of m) c.annotation) ++ value_findings r (initializer_types r c) c.value
+  constant_findings r c = map plain_note (option_findings m (bases_of m) c.annotation)
+      ++ value_findings r (initializer_types r c) c.value
 
   -- ---- items
 
   -- what is reached behind one more item
   abbrev pub behind : ItemsReached → Item → ItemsReached
-  behind r (constant_item p c) = record { constants = r.constants ++ type_of_constant r c ∷ []; classes = r.classes; bound = with_name r.bound c.name.text }
-  behind r (class_item p c) = record { constants = r.constants; classes = suc r.classes; bound = with_name r.bound c.name.text }
-  behind r (def_item p f) = record { constants = r.constants; classes = r.classes; bound = with_name r.bound f.name.text }
+  behind r (constant_item p c) = record {
+    constants = r.constants ++ type_of_constant r c ∷ [];
+    classes = r.classes;
+    bound = with_name r.bound c.name.text;
+  }
+  behind r (class_item p c) = record {
+    constants = r.constants;
+    classes = suc r.classes;
+    bound = with_name r.bound c.name.text;
+  }
+  behind r (def_item p f) = record {
+    constants = r.constants;
+    classes = r.classes;
+    bound = with_name r.bound f.name.text;
+  }
 
   -- what is reached behind items
   abbrev pub behind_all : ItemsReached → List Item → ItemsReached

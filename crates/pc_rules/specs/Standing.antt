@@ -16,9 +16,11 @@ use Rattle.pc_notes.specs.Notes.{Note}
 use Rattle.pc_rules.specs.Operations.{Mark, Offer}
 use Rattle.pc_rules.specs.Context.{Context, Signature}
 use Rattle.pc_rules.specs.Calls.{Seat}
-use Rattle.pc_rules.specs.Labels.{Marks, ItemsMarks, EntriesMarks, KeywordsMarks, mark_of, type_of, item_types, key_types, value_types}
+use Rattle.pc_rules.specs.Labels.{Marks, ItemsMarks, EntriesMarks, KeywordsMarks, mark_of, type_of, item_types}
+use Rattle.pc_rules.specs.Labels.{key_types, value_types}
 use Rattle.pc_rules.specs.Computed.{labels_of, items_labels, entries_labels, keywords_labels}
-use Rattle.pc_rules.specs.Found.{brief, notes_under, found_in_parts, found_in_items, found_in_arguments, found_in_entries, found_in_keywords}
+use Rattle.pc_rules.specs.Found.{brief, notes_under, found_in_parts, found_in_items, found_in_arguments}
+use Rattle.pc_rules.specs.Found.{found_in_entries, found_in_keywords}
 use Rattle.pc_rules.specs.declared.setting.Setting.{Setting}
 use Rattle.pc_rules.specs.declared.setting.Signature.{Signature as RustSignature}
 use Rattle.pc_rules.specs.declared.label.Label.{Label}
@@ -34,7 +36,11 @@ pub record Standing : Type 0 where
 
 -- with the environment as a condition leaves it
 abbrev pub narrowed_standing : Standing → (holds : Test) → Expr → Standing
-narrowed_standing k holds e = record { context = k.context; declared = k.declared; env = narrow k.context.bases k.declared k.context.resolve holds e k.env }
+narrowed_standing k holds e = record {
+  context = k.context;
+  declared = k.declared;
+  env = narrow k.context.bases k.declared k.context.resolve holds e k.env;
+}
 
 -- ---- the computed labels there
 
@@ -53,15 +59,20 @@ parts_find k want e = found_in_parts e (labels_of k.context k.declared k.env wan
 module _ (k : Standing) where
   -- the labels of items, each with what is expected of it and what it flows into
   abbrev pub items_in : (seat : ℕ → Seat) → (es : Exprs) → ItemsMarks es
-  items_in seat es = items_labels k.context k.declared (static_test k.context.bases) (assignable_test k.context.bases) k.env seat es
+  items_in seat es = items_labels k.context k.declared (static_test k.context.bases)
+      (assignable_test k.context.bases) k.env seat es
 
   -- of the entries of a dict
   abbrev pub entries_in : (key value : Seat) → (es : Entries) → EntriesMarks es
-  entries_in key value es = entries_labels k.context k.declared (static_test k.context.bases) (assignable_test k.context.bases) k.env key value es
+  entries_in key value es =
+      entries_labels k.context k.declared (static_test k.context.bases)
+      (assignable_test k.context.bases) k.env key value es
 
   -- of arguments by name, behind arguments of these names
   abbrev pub keywords_in : (seat : List ℕ → Seat) → (before : List (List ℕ)) → (es : Keywords) → KeywordsMarks es
-  keywords_in seat before es = keywords_labels k.context k.declared (static_test k.context.bases) (assignable_test k.context.bases) k.env seat before es
+  keywords_in seat before es =
+      keywords_labels k.context k.declared (static_test k.context.bases)
+      (assignable_test k.context.bases) k.env seat before es
 
 -- the types of items, and what is found in them
 unfoldable pub types_in : Standing → (seat : ℕ → Seat) → Exprs → List Tree
@@ -93,7 +104,11 @@ keywords_find k seat before es = found_in_keywords es (keywords_in k seat before
 module _ {Ty : Type 0} (tree : Ty → Tree) where
   -- a signature with the types that it means
   abbrev pub signature_with : RustSignature Ty → Signature
-  signature_with s = record { parameters = parameters_with tree s.params.items; returns = tree s.ret; takes_names = true }
+  signature_with s = record {
+    parameters = parameters_with tree s.params.items;
+    returns = tree s.ret;
+    takes_names = true;
+  }
 
   -- a label with the type that it means
   abbrev pub mark_with : Label Ty → Mark
@@ -101,7 +116,11 @@ module _ {Ty : Type 0} (tree : Ty → Tree) where
 
   -- an offer with the types that it means
   abbrev pub offer_with : RustOffer Ty → Offer
-  offer_with o = record { found = option_to_list o.found; gives = tree o.gives; takes = option_to_list (option_map tree o.takes) }
+  offer_with o = record {
+    found = option_to_list o.found;
+    gives = tree o.gives;
+    takes = option_to_list (option_map tree o.takes);
+  }
 
 module _ {Ty R : Type 0} (tree : Ty → Tree) (meaning : R → List ℕ → Res) where
   -- the context that a setting means
@@ -118,7 +137,11 @@ module _ {Ty R : Type 0} (tree : Ty → Tree) (meaning : R → List ℕ → Res)
 
   -- what an expression stands in, by a setting and the types of an environment
   abbrev pub standing_of : Setting Ty R → List (Option Ty) → Standing
-  standing_of s types = record { context = context_with s; declared = declared_of tree s.declared.now; env = env_of tree types }
+  standing_of s types = record {
+    context = context_with s;
+    declared = declared_of tree s.declared.now;
+    env = env_of tree types;
+  }
 
 -- a type is of the store, if there is one
 abbrev pub HasIfAny : {Ty : Type 0} → (has : Ty → Type 0) → Option Ty → Type 0
@@ -136,7 +159,8 @@ pub record HasOffer {Ty : Type 0} (has : Ty → Type 0) (o : RustOffer Ty) : Typ
   pub takes : HasIfAny has o.takes
 
 -- the store gave all types of a setting and of an environment; those of the locals are well-formed
-pub record HasGivenAll {Ty R : Type 0} (has : Ty → Type 0) (tree : Ty → Tree) (s : Setting Ty R) (types : List (Option Ty)) : Type 0 where
+pub record HasGivenAll {Ty R : Type 0} (has : Ty → Type 0) (tree : Ty → Tree) (s : Setting Ty R)
+    (types : List (Option Ty)) : Type 0 where
   pub classes : HasEntries has s.classes.now
   pub functions : All (HasSignature has) s.functions.now
   pub constants : All has s.constants.now

@@ -1,8 +1,11 @@
--- Well-formed contexts, whose types are in normal form, without absorbed members and of at most 256 nodes; and the law that
--- expressions have lawful labels there.
+-- Well-formed contexts, whose types are in normal form, without absorbed members and of at most 256 nodes; and the law
+-- that expressions have lawful labels there.
 -- Own rule of the profile.
 use Rattle.std.specs.Prelude.{◌≡◌, ℕ, List, [], ◌∷◌, length, Option}
-use Rattle.pc_tree.specs.Tree.{Expr, Exprs, Entries, Keywords, name, number, text, truth, nothing, tuple, list, dict, negative, negation, binary, compare, is_none, is_not_none, conjunction, disjunction, attribute, index, call, no_exprs, more_exprs, no_entries, more_entries, no_keywords, more_keywords, Module}
+use Rattle.pc_tree.specs.Tree.{Expr, Exprs, Entries, Keywords, name, number, text, truth, nothing, tuple, list, dict}
+use Rattle.pc_tree.specs.Tree.{negative, negation, binary, compare, is_none, is_not_none, conjunction, disjunction}
+use Rattle.pc_tree.specs.Tree.{attribute, index, call, no_exprs, more_exprs, no_entries, more_entries, no_keywords}
+use Rattle.pc_tree.specs.Tree.{more_keywords, Module}
 use Rattle.pc_types.specs.Tree.{Tree}
 use Rattle.pc_types.specs.Below.{Bases, AreSmaller}
 use Rattle.pc_types.specs.WellFormed.{IsWellFormed}
@@ -51,31 +54,41 @@ abbrev mutual
   MarksWellFormed bases (dict p es) m = IsWellFormed bases m.here.type × EntriesWellFormed bases es m.entries
   MarksWellFormed bases (negative p e) m = IsWellFormed bases m.here.type × MarksWellFormed bases e m.operand
   MarksWellFormed bases (negation p e) m = IsWellFormed bases m.here.type × MarksWellFormed bases e m.operand
-  MarksWellFormed bases (binary p o l r) m = IsWellFormed bases m.here.type × MarksWellFormed bases l m.left × MarksWellFormed bases r m.right
-  MarksWellFormed bases (compare p o l r) m = IsWellFormed bases m.here.type × MarksWellFormed bases l m.left × MarksWellFormed bases r m.right × FlowsWellFormed bases m.flows
+  MarksWellFormed bases (binary p o l r) m = IsWellFormed bases m.here.type × MarksWellFormed bases l m.left
+      × MarksWellFormed bases r m.right
+  MarksWellFormed bases (compare p o l r) m = IsWellFormed bases m.here.type × MarksWellFormed bases l m.left
+      × MarksWellFormed bases r m.right × FlowsWellFormed bases m.flows
   MarksWellFormed bases (is_none p e) m = IsWellFormed bases m.here.type × MarksWellFormed bases e m.operand
   MarksWellFormed bases (is_not_none p e) m = IsWellFormed bases m.here.type × MarksWellFormed bases e m.operand
-  MarksWellFormed bases (conjunction p l r) m = IsWellFormed bases m.here.type × MarksWellFormed bases l m.left × MarksWellFormed bases r m.right
-  MarksWellFormed bases (disjunction p l r) m = IsWellFormed bases m.here.type × MarksWellFormed bases l m.left × MarksWellFormed bases r m.right
+  MarksWellFormed bases (conjunction p l r) m = IsWellFormed bases m.here.type × MarksWellFormed bases l m.left
+      × MarksWellFormed bases r m.right
+  MarksWellFormed bases (disjunction p l r) m = IsWellFormed bases m.here.type × MarksWellFormed bases l m.left
+      × MarksWellFormed bases r m.right
   MarksWellFormed bases (attribute p e field) m = IsWellFormed bases m.here.type × MarksWellFormed bases e m.object
-  MarksWellFormed bases (index p e i) m = IsWellFormed bases m.here.type × MarksWellFormed bases e m.object × MarksWellFormed bases i m.key × FlowsWellFormed bases m.flows
-  MarksWellFormed bases (call p c args kws) m = IsWellFormed bases m.here.type × MarksWellFormed bases c m.callee × ItemsWellFormed bases args m.arguments × KeywordsWellFormed bases kws m.keywords
+  MarksWellFormed bases (index p e i) m = IsWellFormed bases m.here.type × MarksWellFormed bases e m.object
+      × MarksWellFormed bases i m.key × FlowsWellFormed bases m.flows
+  MarksWellFormed bases (call p c args kws) m = IsWellFormed bases m.here.type × MarksWellFormed bases c m.callee
+      × ItemsWellFormed bases args m.arguments × KeywordsWellFormed bases kws m.keywords
 
   -- in those of items and of arguments by position
   pub ItemsWellFormed : Bases → (es : Exprs) → ItemsMarks es → Type 0
   ItemsWellFormed bases no_exprs m = Unit {0}
-  ItemsWellFormed bases (more_exprs e rest) m = MarksWellFormed bases e m.first × FlowsWellFormed bases m.flows × ItemsWellFormed bases rest m.rest
+  ItemsWellFormed bases (more_exprs e rest) m = MarksWellFormed bases e m.first × FlowsWellFormed bases m.flows
+      × ItemsWellFormed bases rest m.rest
 
   -- in those of the entries of a dict
   pub EntriesWellFormed : Bases → (es : Entries) → EntriesMarks es → Type 0
   EntriesWellFormed bases no_entries m = Unit {0}
   EntriesWellFormed bases (more_entries key value rest) m =
-      (MarksWellFormed bases key m.key × FlowsWellFormed bases m.key_flows) × (MarksWellFormed bases value m.value × FlowsWellFormed bases m.value_flows) × EntriesWellFormed bases rest m.rest
+      (MarksWellFormed bases key m.key × FlowsWellFormed bases m.key_flows)
+      × (MarksWellFormed bases value m.value × FlowsWellFormed bases m.value_flows)
+      × EntriesWellFormed bases rest m.rest
 
   -- in those of arguments by name
   pub KeywordsWellFormed : Bases → (es : Keywords) → KeywordsMarks es → Type 0
   KeywordsWellFormed bases no_keywords m = Unit {0}
-  KeywordsWellFormed bases (more_keywords parameter value rest) m = MarksWellFormed bases value m.first × FlowsWellFormed bases m.flows × KeywordsWellFormed bases rest m.rest
+  KeywordsWellFormed bases (more_keywords parameter value rest) m = MarksWellFormed bases value m.first
+      × FlowsWellFormed bases m.flows × KeywordsWellFormed bases rest m.rest
 
 -- an expression has lawful labels; its type, and every type in them, is well-formed
 pub record HasLabels (ctx : Context) (declared : List Tree) (env : Env) (want : Option Tree) (e : Expr) : Type 0 where
@@ -84,7 +97,8 @@ pub record HasLabels (ctx : Context) (declared : List Tree) (env : Env) (want : 
   pub well_formed : IsWellFormed ctx.bases (type_of e marks)
   pub each : MarksWellFormed ctx.bases e marks
 
--- where the context, the declared types, the environment and the type that is expected are well-formed, each expression has lawful labels
+-- where the context, the declared types, the environment and the type that is expected are well-formed, each expression
+-- has lawful labels
 abbrev pub ExpressionsHaveLabels : Type 0
 ExpressionsHaveLabels =
     (ctx : Context) (declared : List Tree) (env : Env) (want : Option Tree) (e : Expr) →
@@ -108,8 +122,10 @@ LawfulLabelsAreWellFormed =
 
 -- the context of a body is well-formed, if the types of the constants are
 abbrev pub BodyContextsAreWellFormed : Type 0
-BodyContextsAreWellFormed = (m : Module) (constants : List Tree) (names : List (List ℕ)) → AreWellFormed (bases_of m) constants → ContextWellFormed (body_context m constants names)
+BodyContextsAreWellFormed = (m : Module) (constants : List Tree) (names : List (List ℕ))
+    → AreWellFormed (bases_of m) constants → ContextWellFormed (body_context m constants names)
 
 -- and so is the context of an initializer
 abbrev pub InitializerContextsAreWellFormed : Type 0
-InitializerContextsAreWellFormed = (m : Module) (constants : List Tree) (classes : ℕ) → AreWellFormed (bases_of m) constants → ContextWellFormed (initializer_context m constants classes)
+InitializerContextsAreWellFormed = (m : Module) (constants : List Tree) (classes : ℕ)
+    → AreWellFormed (bases_of m) constants → ContextWellFormed (initializer_context m constants classes)

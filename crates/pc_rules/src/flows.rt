@@ -17,8 +17,8 @@ use pc_tree::Code;
 use pc_types::{Parents, TypeStore};
 use std::alloc::Global;
 
-/// The code of a flow of a labelled expression into a type: none where it is static or E03 stands at the expression, A1 where
-/// it is assignable alone, else E12.
+/// The code of a flow of a labelled expression into a type: none where it is static or E03 stands at the expression, A1
+/// where it is assignable alone, else E12.
 fn flow_code<S: TypeStore>(
     store: &mut S,
     parents: &Parents,
@@ -27,7 +27,8 @@ fn flow_code<S: TypeStore>(
 ) -> Option<Code>
     requires label { S.has store.old label.now.ty }
     requires into { S.has store.old into.now }
-    ensures value { result ≡ code_unless (static_test parents.now) (assignable_test parents.now) (is_early label.now.codes.items) (S.tree label.now.ty) (S.tree into.now) }
+    ensures value { result ≡ code_unless (static_test parents.now) (assignable_test parents.now)
+        (is_early label.now.codes.items) (S.tree label.now.ty) (S.tree into.now) }
     ensures kept { KeepsTypes S.has store.old store.new }
 {
     if is_early(&label.codes) || store.is_static(parents, &label.ty, into) {
@@ -51,7 +52,8 @@ fn note_flow<S: TypeStore>(
 ) -> Result<(), OutOfMemory>
     requires from { S.has store.now from.now }
     requires into { S.has store.now into.now }
-    ensures { OnOk result (notes_of found.new ≡ notes_of found.old ++ own_flow place (S.tree from.now) (S.tree into.now) code) }
+    ensures { OnOk result (notes_of found.new
+        ≡ notes_of found.old ++ own_flow place (S.tree from.now) (S.tree into.now) code) }
 {
     if is_of_scopes(code) {
         return Ok(());
@@ -75,8 +77,11 @@ pub fn find_flow<S: TypeStore>(
 ) -> Result<Option<Code>, OutOfMemory>
     requires label { S.has store.old label.now.ty }
     requires into { S.has store.old into.now }
-    ensures value { IfOk result (λ c. c ≡ code_unless (static_test parents.now) (assignable_test parents.now) (is_early label.now.codes.items) (S.tree label.now.ty) (S.tree into.now)) }
-    ensures found { IfOk result (λ c. notes_of found.new ≡ notes_of found.old ++ flow_at place (S.tree label.now.ty) (S.tree into.now) c) }
+    ensures value { IfOk result
+        (λ c. c ≡ code_unless (static_test parents.now) (assignable_test parents.now) (is_early label.now.codes.items)
+        (S.tree label.now.ty) (S.tree into.now)) }
+    ensures found { IfOk result
+        (λ c. notes_of found.new ≡ notes_of found.old ++ flow_at place (S.tree label.now.ty) (S.tree into.now) c) }
     ensures kept { KeepsTypes S.has store.old store.new }
 {
     let code = flow_code(store, parents, label, into);
@@ -98,7 +103,9 @@ pub fn find_flows<S: TypeStore>(
 ) -> Result<(), OutOfMemory>
     requires label { S.has store.old label.now.ty }
     requires into { All (S.has store.old) into.now }
-    ensures found { (m : Mark) → mark_with S.tree label.now ≡ brief m → OnOk result (notes_of found.new ≡ notes_of found.old ++ flows_at place (flows_of parents.now m (map S.tree into.now))) }
+    ensures found { (m : Mark) → mark_with S.tree label.now ≡ brief m
+        → OnOk result (notes_of found.new
+        ≡ notes_of found.old ++ flows_at place (flows_of parents.now m (map S.tree into.now))) }
     ensures kept { KeepsTypes S.has store.old store.new }
 {
     let mut codes = Vec::new(alloc);

@@ -10,17 +10,20 @@ ghost use Rattle.pc_rules.specs.Context.{Context};
 ghost use Rattle.pc_rules.specs.Labels.{Marks};
 ghost use Rattle.pc_rules.specs.Lawful.{Lawful};
 ghost use Rattle.pc_rules.specs.ListTests.{ListTestsAreDynamicPlaces};
-ghost use Rattle.pc_rules.specs.WellFormed.{ExpressionsHaveLabels, LawfulLabelsAreWellFormed, BodyContextsAreWellFormed, InitializerContextsAreWellFormed};
+ghost use Rattle.pc_rules.specs.WellFormed.{ExpressionsHaveLabels, LawfulLabelsAreWellFormed};
+ghost use Rattle.pc_rules.specs.WellFormed.{BodyContextsAreWellFormed, InitializerContextsAreWellFormed};
 
 /// The law that an expression has at most one lawful labelling, with what it may name, in an environment, with
 /// what is expected of it.
 pub fn one_labelling_of_expressions()
-    ensures { (ctx : Context) (declared : List Tree) (env : Env) → length declared ≡ length env → (want : Option Tree) (e : Expr) (marks others : Marks e) → Lawful ctx declared env want e marks → Lawful ctx declared env want e others → marks ≡ others }
+    ensures { (ctx : Context) (declared : List Tree) (env : Env) → length declared ≡ length env
+        → (want : Option Tree) (e : Expr) (marks others : Marks e) → Lawful ctx declared env want e marks
+        → Lawful ctx declared env want e others → marks ≡ others }
 {}
 
-/// The law that an expression has a lawful labelling, where the types of what it may name, of the locals and the one that is
-/// expected are in normal form, without absorbed members and of at most 256 nodes; and that every type in any lawful
-/// labelling of it is so.
+/// The law that an expression has a lawful labelling, where the types of what it may name, of the locals and the one
+/// that is expected are in normal form, without absorbed members and of at most 256 nodes; and that every type in any
+/// lawful labelling of it is so.
 pub fn expressions_have_labels()
     ensures labels { ExpressionsHaveLabels }
     ensures types { LawfulLabelsAreWellFormed }
@@ -32,8 +35,8 @@ pub fn labels_are_lawful()
     ensures { LabelsAreLawful }
 {}
 
-/// The law that the types of what a body and an initializer may name are in normal form, without absorbed members and of
-/// at most 256 nodes, where those of the constants are.
+/// The law that the types of what a body and an initializer may name are in normal form, without absorbed members and
+/// of at most 256 nodes, where those of the constants are.
 pub fn contexts_are_well_formed()
     ensures bodies { BodyContextsAreWellFormed }
     ensures initializers { InitializerContextsAreWellFormed }
@@ -45,8 +48,8 @@ pub fn findings_are_listed()
     ensures { LabelFindingsAreListed }
 {}
 
-/// The law that a test of a local for a list, `isinstance(x, list)`, is a dynamic place (`A7`) where a member of the local's
-/// current type is Any or object: the list may have items of any type.
+/// The law that a test of a local for a list, `isinstance(x, list)`, is a dynamic place (`A7`) where a member of the
+/// local's current type is Any or object: the list may have items of any type.
 pub fn list_tests_are_dynamic_places()
     ensures { ListTestsAreDynamicPlaces }
 {}

@@ -25,7 +25,8 @@ fn local_label<S: TypeStore>(
     local: usize,
 ) -> Result<Label<S::Ty>, OutOfMemory>
     requires { HasEach (S.has store.old) env.now }
-    ensures value { IfOk result (λ l. IsMark S.has S.tree store.new l (local_mark (current (env_of S.tree env.now) local))) }
+    ensures value { IfOk result
+        (λ l. IsMark S.has S.tree store.new l (local_mark (current (env_of S.tree env.now) local))) }
     ensures kept { KeepsTypes S.has store.old store.new }
 {
     match env.current(local) {
@@ -42,7 +43,8 @@ fn constant_label<S: TypeStore>(
     number: usize,
 ) -> Result<Label<S::Ty>, OutOfMemory>
     requires { All (S.has store.old) constants.now }
-    ensures value { IfOk result (λ l. IsMark S.has S.tree store.new l (constant_mark (slice_get (map S.tree constants.now) number))) }
+    ensures value { IfOk result
+        (λ l. IsMark S.has S.tree store.new l (constant_mark (slice_get (map S.tree constants.now) number))) }
     ensures kept { KeepsTypes S.has store.old store.new }
 {
     match constants.get(number) {
@@ -51,8 +53,8 @@ fn constant_label<S: TypeStore>(
     }
 }
 
-/// The label of a name as a value: a function, a class and a reserved name are none. Language Reference 4.2.2 "Resolution of
-/// names"; own rules of the profile.
+/// The label of a name as a value: a function, a class and a reserved name are none. Language Reference 4.2.2
+/// "Resolution of names"; own rules of the profile.
 pub fn name_label<S: TypeStore, R: Resolver>(
     store: &mut S,
     alloc: Global,
@@ -61,7 +63,10 @@ pub fn name_label<S: TypeStore, R: Resolver>(
     name: &Name,
 ) -> Result<Label<S::Ty>, OutOfMemory>
     requires { HasGivenAll (S.has store.old) S.tree setting.now env.now }
-    ensures value { IfOk result (λ l. IsMark S.has S.tree store.new l (name_mark (context_with S.tree R.meaning setting.now) (env_of S.tree env.now) (R.meaning setting.now.names.now (string_bytes name.now.text)))) }
+    ensures value { IfOk result
+        (λ l. IsMark S.has S.tree store.new l
+        (name_mark (context_with S.tree R.meaning setting.now) (env_of S.tree env.now)
+        (R.meaning setting.now.names.now (string_bytes name.now.text)))) }
     ensures kept { KeepsTypes S.has store.old store.new }
 {
     match setting.names.resolve(name.text.as_str()) {

@@ -11,9 +11,9 @@ pub struct Signature<Ty: Drop> {
     pub ret: Ty,
 }
 
-/// What an expression stands in, apart from its environment: the classes, functions and constants that it may name, what
-/// names mean there, and the declared types of the locals. In an initializer the classes of a number below `known` may be
-/// named, and no function.
+/// What an expression stands in, apart from its environment: the classes, functions and constants that it may name,
+/// what names mean there, and the declared types of the locals. In an initializer the classes of a number below `known`
+/// may be named, and no function.
 #[derive(Drop)]
 pub struct Setting<'s, Ty: Drop, R: Resolver> {
     pub parents: &'s Parents,

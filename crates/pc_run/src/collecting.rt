@@ -26,7 +26,8 @@ pub fn keep_entry(
     key: Value,
     value: Value,
 ) -> Result<(), OutOfMemory>
-    ensures { OnOk result (map entry_of entries.new.items ≡ map entry_of entries.old.items ++ record { key = value_of key; value = value_of value } ∷ []) }
+    ensures { OnOk result (map entry_of entries.new.items
+        ≡ map entry_of entries.old.items ++ record { key = value_of key; value = value_of value } ∷ []) }
 {
     match entries.push(pc_value::Entry { key, value }) {
         Ok(()) => Ok(()),
@@ -41,7 +42,10 @@ pub fn keep_named<'m>(
     name: &'m str,
     value: Value,
 ) -> Result<(), OutOfMemory>
-    ensures { OnOk result (map named_of named.new.items ≡ map named_of named.old.items ++ record { name = name.now; value = value_of value } ∷ []) }
+    ensures { OnOk result (map named_of named.new.items ≡ map named_of named.old.items ++ record {
+      name = name.now;
+      value = value_of value;
+    } ∷ []) }
 {
     match named.push(NamedValue { name, value }) {
         Ok(()) => Ok(()),

@@ -5,14 +5,17 @@ ghost use Rattle.pc_tree.specs.Tree.{expr_of, stmts_of_list, stmt_of_kind, targe
 ghost use Rattle.pc_value.specs.Meaning.{value_of};
 ghost use Rattle.pc_value.specs.Doing.{iteration_of};
 ghost use Rattle.pc_machine.specs.Runs.{plain_parts};
-ghost use Rattle.pc_run.specs.Internal.Nodes.{node, all_of, entries_in, keywords_in, call_in, test_in, exec_one, assign_traced, branches_in, iterable_in, entered_body};
+ghost use Rattle.pc_run.specs.Internal.Nodes.{node, all_of, entries_in, keywords_in, call_in, test_in, exec_one};
+ghost use Rattle.pc_run.specs.Internal.Nodes.{assign_traced, branches_in, iterable_in, entered_body};
 ghost use Rattle.pc_machine.specs.Performed.{callee_in, callee_called};
-ghost use Rattle.pc_machine.specs.Machine.{TellsProgress, progress_of, flow_of, named_of, callee_seen, value_if_any, method_of_def};
+ghost use Rattle.pc_machine.specs.Machine.{TellsProgress, progress_of, flow_of, named_of, callee_seen, value_if_any};
+ghost use Rattle.pc_machine.specs.Machine.{method_of_def};
 ghost use Rattle.pc_run.specs.Internal.Nodes.{values_of_vec, entries_of_vec, named_of_vec};
 ghost use Rattle.pc_tree.specs.Lists.{branches_of_list, exprs_of_list, entries_of_list, keywords_of_list};
 ghost use Rattle.pc_source.specs.declared.place.Place.{Place as PlaceOf};
 ghost use Rattle.pc_tree.specs.Tree.{asserts, assigns, evaluates, option_expr_of};
-ghost use Rattle.pc_tree.specs.Tree.{tuple, list, dict, negative, negation, binary, compare, is_none, is_not_none, conjunction, disjunction, attribute, index, name_of};
+ghost use Rattle.pc_tree.specs.Tree.{tuple, list, dict, negative, negation, binary, compare, is_none, is_not_none};
+ghost use Rattle.pc_tree.specs.Tree.{conjunction, disjunction, attribute, index, name_of};
 
 use crate::collecting::{keep, keep_entry, keep_named};
 use crate::forms::{advance, instance_test, is_nothing, range_call, value_of_flow};
@@ -28,7 +31,8 @@ use std::alloc::Global as Allocator;
 /// An expression: it is charged, then its parts, its event, its action.
 #[cycle(evaluate)]
 pub fn eval<'m>(machine: &mut Machine<'m>, alloc: Allocator, e: &'m Expr) -> Result<Value, Halt>
-    ensures plain { (n : ℕ) → machine.old.fuel < n → TellsProgress value_of result machine.new ((plain_parts n).eval (expr_of e.now) (progress_of machine.old)) }
+    ensures plain { (n : ℕ) → machine.old.fuel < n
+        → TellsProgress value_of result machine.new ((plain_parts n).eval (expr_of e.now) (progress_of machine.old)) }
     ensures fuel { machine.new.fuel ≤ machine.old.fuel }
     ensures spent { OnOk result (machine.new.fuel < machine.old.fuel) }
 {
@@ -39,7 +43,8 @@ pub fn eval<'m>(machine: &mut Machine<'m>, alloc: Allocator, e: &'m Expr) -> Res
 /// An expression that was charged.
 #[cycle(evaluate)]
 fn eval_node<'m>(machine: &mut Machine<'m>, alloc: Allocator, e: &'m Expr) -> Result<Value, Halt>
-    ensures plain { (n : ℕ) → machine.old.fuel < n → TellsProgress value_of result machine.new (node n (expr_of e.now) (progress_of machine.old)) }
+    ensures plain { (n : ℕ) → machine.old.fuel < n
+        → TellsProgress value_of result machine.new (node n (expr_of e.now) (progress_of machine.old)) }
     ensures fuel { machine.new.fuel ≤ machine.old.fuel }
 {
     match e {
@@ -83,7 +88,9 @@ fn eval_negative<'m>(
     place: Place,
     operand: &'m Expr,
 ) -> Result<Value, Halt>
-    ensures plain { (n : ℕ) → machine.old.fuel < n → TellsProgress value_of result machine.new (node n (negative place (expr_of operand.now)) (progress_of machine.old)) }
+    ensures plain { (n : ℕ) → machine.old.fuel < n
+        → TellsProgress value_of result machine.new
+        (node n (negative place (expr_of operand.now)) (progress_of machine.old)) }
     ensures fuel { machine.new.fuel ≤ machine.old.fuel }
 {
     let v = eval(machine, alloc, operand)?;
@@ -99,14 +106,17 @@ fn eval_not<'m>(
     place: Place,
     operand: &'m Expr,
 ) -> Result<Value, Halt>
-    ensures plain { (n : ℕ) → machine.old.fuel < n → TellsProgress value_of result machine.new (node n (negation place (expr_of operand.now)) (progress_of machine.old)) }
+    ensures plain { (n : ℕ) → machine.old.fuel < n
+        → TellsProgress value_of result machine.new
+        (node n (negation place (expr_of operand.now)) (progress_of machine.old)) }
     ensures fuel { machine.new.fuel ≤ machine.old.fuel }
 {
     let v = eval(machine, alloc, operand)?;
     machine.perform(alloc, place, Action::Not(v))
 }
 
-/// A field or a method that is read: the object, its event, its action. Language Reference 6.3.1 "Attribute references".
+/// A field or a method that is read: the object, its event, its action. Language Reference 6.3.1 "Attribute
+/// references".
 #[cycle(evaluate)]
 #[inline(never)]
 fn eval_attribute<'m>(
@@ -116,7 +126,9 @@ fn eval_attribute<'m>(
     object: &'m Expr,
     field: &'m Name,
 ) -> Result<Value, Halt>
-    ensures plain { (n : ℕ) → machine.old.fuel < n → TellsProgress value_of result machine.new (node n (attribute place (expr_of object.now) (name_of field.now)) (progress_of machine.old)) }
+    ensures plain { (n : ℕ) → machine.old.fuel < n
+        → TellsProgress value_of result machine.new
+        (node n (attribute place (expr_of object.now) (name_of field.now)) (progress_of machine.old)) }
     ensures fuel { machine.new.fuel ≤ machine.old.fuel }
 {
     let v = eval(machine, alloc, object)?;
@@ -132,7 +144,9 @@ fn eval_tuple<'m>(
     place: Place,
     items: &'m [Expr],
 ) -> Result<Value, Halt>
-    ensures plain { (n : ℕ) → machine.old.fuel < n → TellsProgress value_of result machine.new (node n (tuple place (exprs_of_list items.now)) (progress_of machine.old)) }
+    ensures plain { (n : ℕ) → machine.old.fuel < n
+        → TellsProgress value_of result machine.new
+        (node n (tuple place (exprs_of_list items.now)) (progress_of machine.old)) }
     ensures fuel { machine.new.fuel ≤ machine.old.fuel }
 {
     let values = eval_all(machine, alloc, items)?;
@@ -148,7 +162,9 @@ fn eval_list<'m>(
     place: Place,
     items: &'m [Expr],
 ) -> Result<Value, Halt>
-    ensures plain { (n : ℕ) → machine.old.fuel < n → TellsProgress value_of result machine.new (node n (list place (exprs_of_list items.now)) (progress_of machine.old)) }
+    ensures plain { (n : ℕ) → machine.old.fuel < n
+        → TellsProgress value_of result machine.new
+        (node n (list place (exprs_of_list items.now)) (progress_of machine.old)) }
     ensures fuel { machine.new.fuel ≤ machine.old.fuel }
 {
     let values = eval_all(machine, alloc, items)?;
@@ -164,7 +180,9 @@ fn eval_dict<'m>(
     place: Place,
     items: &'m [Entry],
 ) -> Result<Value, Halt>
-    ensures plain { (n : ℕ) → machine.old.fuel < n → TellsProgress value_of result machine.new (node n (dict place (entries_of_list items.now)) (progress_of machine.old)) }
+    ensures plain { (n : ℕ) → machine.old.fuel < n
+        → TellsProgress value_of result machine.new
+        (node n (dict place (entries_of_list items.now)) (progress_of machine.old)) }
     ensures fuel { machine.new.fuel ≤ machine.old.fuel }
 {
     let entries = eval_entries(machine, alloc, items)?;
@@ -182,7 +200,9 @@ fn eval_binary<'m>(
     left: &'m Expr,
     right: &'m Expr,
 ) -> Result<Value, Halt>
-    ensures plain { (n : ℕ) → machine.old.fuel < n → TellsProgress value_of result machine.new (node n (binary place operator (expr_of left.now) (expr_of right.now)) (progress_of machine.old)) }
+    ensures plain { (n : ℕ) → machine.old.fuel < n
+        → TellsProgress value_of result machine.new
+        (node n (binary place operator (expr_of left.now) (expr_of right.now)) (progress_of machine.old)) }
     ensures fuel { machine.new.fuel ≤ machine.old.fuel }
 {
     let v = eval(machine, alloc, left)?;
@@ -201,7 +221,9 @@ fn eval_compare<'m>(
     left: &'m Expr,
     right: &'m Expr,
 ) -> Result<Value, Halt>
-    ensures plain { (n : ℕ) → machine.old.fuel < n → TellsProgress value_of result machine.new (node n (compare place operator (expr_of left.now) (expr_of right.now)) (progress_of machine.old)) }
+    ensures plain { (n : ℕ) → machine.old.fuel < n
+        → TellsProgress value_of result machine.new
+        (node n (compare place operator (expr_of left.now) (expr_of right.now)) (progress_of machine.old)) }
     ensures fuel { machine.new.fuel ≤ machine.old.fuel }
 {
     let v = eval(machine, alloc, left)?;
@@ -219,7 +241,10 @@ fn eval_none_test<'m>(
     operand: &'m Expr,
     negated: bool,
 ) -> Result<Value, Halt>
-    ensures plain { (n : ℕ) → machine.old.fuel < n → TellsProgress value_of result machine.new (node n (if negated then is_not_none place (expr_of operand.now) else is_none place (expr_of operand.now)) (progress_of machine.old)) }
+    ensures plain { (n : ℕ) → machine.old.fuel < n
+        → TellsProgress value_of result machine.new
+        (node n (if negated then is_not_none place (expr_of operand.now) else is_none place (expr_of operand.now))
+        (progress_of machine.old)) }
     ensures fuel { machine.new.fuel ≤ machine.old.fuel }
 {
     let v = eval(machine, alloc, operand)?;
@@ -239,7 +264,9 @@ fn eval_and<'m>(
     left: &'m Expr,
     right: &'m Expr,
 ) -> Result<Value, Halt>
-    ensures plain { (n : ℕ) → machine.old.fuel < n → TellsProgress value_of result machine.new (node n (conjunction place (expr_of left.now) (expr_of right.now)) (progress_of machine.old)) }
+    ensures plain { (n : ℕ) → machine.old.fuel < n
+        → TellsProgress value_of result machine.new
+        (node n (conjunction place (expr_of left.now) (expr_of right.now)) (progress_of machine.old)) }
     ensures fuel { machine.new.fuel ≤ machine.old.fuel }
 {
     let first = eval(machine, alloc, left)?;
@@ -260,7 +287,9 @@ fn eval_or<'m>(
     left: &'m Expr,
     right: &'m Expr,
 ) -> Result<Value, Halt>
-    ensures plain { (n : ℕ) → machine.old.fuel < n → TellsProgress value_of result machine.new (node n (disjunction place (expr_of left.now) (expr_of right.now)) (progress_of machine.old)) }
+    ensures plain { (n : ℕ) → machine.old.fuel < n
+        → TellsProgress value_of result machine.new
+        (node n (disjunction place (expr_of left.now) (expr_of right.now)) (progress_of machine.old)) }
     ensures fuel { machine.new.fuel ≤ machine.old.fuel }
 {
     let first = eval(machine, alloc, left)?;
@@ -281,7 +310,9 @@ fn eval_index<'m>(
     object: &'m Expr,
     key: &'m Expr,
 ) -> Result<Value, Halt>
-    ensures plain { (n : ℕ) → machine.old.fuel < n → TellsProgress value_of result machine.new (node n (index place (expr_of object.now) (expr_of key.now)) (progress_of machine.old)) }
+    ensures plain { (n : ℕ) → machine.old.fuel < n
+        → TellsProgress value_of result machine.new
+        (node n (index place (expr_of object.now) (expr_of key.now)) (progress_of machine.old)) }
     ensures fuel { machine.new.fuel ≤ machine.old.fuel }
 {
     let v = eval(machine, alloc, object)?;
@@ -297,7 +328,9 @@ fn eval_all<'m>(
     alloc: Allocator,
     items: &'m [Expr],
 ) -> Result<Vec<Value>, Halt>
-    ensures plain { (n : ℕ) → machine.old.fuel < n → TellsProgress values_of_vec result machine.new (all_of n (exprs_of_list items.now) (progress_of machine.old)) }
+    ensures plain { (n : ℕ) → machine.old.fuel < n
+        → TellsProgress values_of_vec result machine.new
+        (all_of n (exprs_of_list items.now) (progress_of machine.old)) }
     ensures fuel { machine.new.fuel ≤ machine.old.fuel }
 {
     let mut values = Vec::new(alloc);
@@ -316,7 +349,9 @@ fn eval_entries<'m>(
     alloc: Allocator,
     items: &'m [Entry],
 ) -> Result<Vec<pc_value::Entry>, Halt>
-    ensures plain { (n : ℕ) → machine.old.fuel < n → TellsProgress entries_of_vec result machine.new (entries_in n (entries_of_list items.now) (progress_of machine.old)) }
+    ensures plain { (n : ℕ) → machine.old.fuel < n
+        → TellsProgress entries_of_vec result machine.new
+        (entries_in n (entries_of_list items.now) (progress_of machine.old)) }
     ensures fuel { machine.new.fuel ≤ machine.old.fuel }
 {
     let mut entries = Vec::new(alloc);
@@ -336,7 +371,9 @@ fn eval_keywords<'m>(
     alloc: Allocator,
     by_name: &'m [KeywordArgument],
 ) -> Result<Vec<NamedValue<'m>>, Halt>
-    ensures plain { (n : ℕ) → machine.old.fuel < n → TellsProgress named_of_vec result machine.new (keywords_in n (keywords_of_list by_name.now) (progress_of machine.old)) }
+    ensures plain { (n : ℕ) → machine.old.fuel < n
+        → TellsProgress named_of_vec result machine.new
+        (keywords_in n (keywords_of_list by_name.now) (progress_of machine.old)) }
     ensures fuel { machine.new.fuel ≤ machine.old.fuel }
 {
     let mut named = Vec::new(alloc);
@@ -355,7 +392,8 @@ fn eval_callee<'m>(
     alloc: Allocator,
     callee: &'m Expr,
 ) -> Result<Callee<'m>, Halt>
-    ensures plain { (n : ℕ) → machine.old.fuel < n → TellsProgress callee_seen result machine.new (callee_in n (expr_of callee.now) (progress_of machine.old)) }
+    ensures plain { (n : ℕ) → machine.old.fuel < n
+        → TellsProgress callee_seen result machine.new (callee_in n (expr_of callee.now) (progress_of machine.old)) }
     ensures fuel { machine.new.fuel ≤ machine.old.fuel }
 {
     if let Expr::Name(name) = callee {
@@ -381,7 +419,9 @@ fn eval_instance_test<'m>(
     object: &'m Expr,
     test: &'m Expr,
 ) -> Result<Value, Halt>
-    ensures plain { (n : ℕ) → machine.old.fuel < n → TellsProgress value_of result machine.new (test_in n place (name_of name.now) (expr_of object.now) (expr_of test.now) (progress_of machine.old)) }
+    ensures plain { (n : ℕ) → machine.old.fuel < n
+        → TellsProgress value_of result machine.new
+        (test_in n place (name_of name.now) (expr_of object.now) (expr_of test.now) (progress_of machine.old)) }
     ensures fuel { machine.new.fuel ≤ machine.old.fuel }
 {
     machine.charge()?;
@@ -401,7 +441,10 @@ fn eval_call<'m>(
     arguments: &'m [Expr],
     by_name: &'m [KeywordArgument],
 ) -> Result<Value, Halt>
-    ensures plain { (n : ℕ) → machine.old.fuel < n → TellsProgress value_of result machine.new (call_in n place (expr_of callee.now) (exprs_of_list arguments.now) (keywords_of_list by_name.now) (progress_of machine.old)) }
+    ensures plain { (n : ℕ) → machine.old.fuel < n
+        → TellsProgress value_of result machine.new
+        (call_in n place (expr_of callee.now) (exprs_of_list arguments.now) (keywords_of_list by_name.now)
+        (progress_of machine.old)) }
     ensures fuel { machine.new.fuel ≤ machine.old.fuel }
 {
     if let Some((name, object, test)) = instance_test(callee, arguments, by_name) {
@@ -424,7 +467,10 @@ pub fn call<'m>(
     values: &[Value],
     named: &[NamedValue<'m>],
 ) -> Result<Value, Halt>
-    ensures plain { (n : ℕ) → machine.old.fuel < n → TellsProgress value_of result machine.new (callee_called n (callee_seen callee.entry) (map value_of values.now) (map named_of named.now) (progress_of machine.old)) }
+    ensures plain { (n : ℕ) → machine.old.fuel < n
+        → TellsProgress value_of result machine.new
+        (callee_called n (callee_seen callee.entry) (map value_of values.now) (map named_of named.now)
+        (progress_of machine.old)) }
     ensures fuel { machine.new.fuel ≤ machine.old.fuel }
 {
     match callee {
@@ -450,7 +496,10 @@ fn enter<'m>(
     values: &[Value],
     named: &[NamedValue<'m>],
 ) -> Result<Value, Halt>
-    ensures plain { (n : ℕ) → machine.old.fuel < n → TellsProgress value_of result machine.new (entered_body n (method_of_def def.entry) (value_if_any object) (map value_of values.now) (map named_of named.now) (progress_of machine.old)) }
+    ensures plain { (n : ℕ) → machine.old.fuel < n
+        → TellsProgress value_of result machine.new
+        (entered_body n (method_of_def def.entry) (value_if_any object) (map value_of values.now)
+        (map named_of named.now) (progress_of machine.old)) }
     ensures fuel { machine.new.fuel ≤ machine.old.fuel }
 {
     let depth = machine.depth;
@@ -464,7 +513,9 @@ fn enter<'m>(
 /// Statements, one after another.
 #[cycle(evaluate)]
 fn exec<'m>(machine: &mut Machine<'m>, alloc: Allocator, body: &'m [Stmt]) -> Result<Flow, Halt>
-    ensures plain { (n : ℕ) → machine.old.fuel < n → TellsProgress flow_of result machine.new ((plain_parts n).exec (stmts_of_list body.now) (progress_of machine.old)) }
+    ensures plain { (n : ℕ) → machine.old.fuel < n
+        → TellsProgress flow_of result machine.new
+        ((plain_parts n).exec (stmts_of_list body.now) (progress_of machine.old)) }
     ensures fuel { machine.new.fuel ≤ machine.old.fuel }
     ensures spent { OnOk result (body.now ≢ [] → machine.new.fuel < machine.old.fuel) }
 {
@@ -486,7 +537,8 @@ fn exec_node<'m>(
     alloc: Allocator,
     kind: &'m StmtKind,
 ) -> Result<Flow, Halt>
-    ensures plain { (n : ℕ) (p : PlaceOf) → machine.old.fuel < n → TellsProgress flow_of result machine.new (exec_one n (stmt_of_kind p kind.now) (progress_of machine.old)) }
+    ensures plain { (n : ℕ) (p : PlaceOf) → machine.old.fuel < n
+        → TellsProgress flow_of result machine.new (exec_one n (stmt_of_kind p kind.now) (progress_of machine.old)) }
     ensures fuel { machine.new.fuel ≤ machine.old.fuel }
 {
     match kind {
@@ -525,7 +577,9 @@ fn exec_assignment<'m>(
     target: &'m Target,
     e: &'m Expr,
 ) -> Result<Flow, Halt>
-    ensures plain { (n : ℕ) (p : PlaceOf) → machine.old.fuel < n → TellsProgress flow_of result machine.new (exec_one n (assigns p (target_of target.now) (expr_of e.now)) (progress_of machine.old)) }
+    ensures plain { (n : ℕ) (p : PlaceOf) → machine.old.fuel < n
+        → TellsProgress flow_of result machine.new
+        (exec_one n (assigns p (target_of target.now) (expr_of e.now)) (progress_of machine.old)) }
     ensures fuel { machine.new.fuel ≤ machine.old.fuel }
 {
     let v = eval(machine, alloc, e)?;
@@ -540,7 +594,9 @@ fn exec_expression<'m>(
     alloc: Allocator,
     e: &'m Expr,
 ) -> Result<Flow, Halt>
-    ensures plain { (n : ℕ) (p : PlaceOf) → machine.old.fuel < n → TellsProgress flow_of result machine.new (exec_one n (evaluates p (expr_of e.now)) (progress_of machine.old)) }
+    ensures plain { (n : ℕ) (p : PlaceOf) → machine.old.fuel < n
+        → TellsProgress flow_of result machine.new
+        (exec_one n (evaluates p (expr_of e.now)) (progress_of machine.old)) }
     ensures fuel { machine.new.fuel ≤ machine.old.fuel }
 {
     eval(machine, alloc, e)?;
@@ -556,7 +612,9 @@ fn exec_assert<'m>(
     condition: &'m Expr,
     message: &'m Option<Expr>,
 ) -> Result<Flow, Halt>
-    ensures plain { (n : ℕ) (p : PlaceOf) → machine.old.fuel < n → TellsProgress flow_of result machine.new (exec_one n (asserts p (expr_of condition.now) (option_expr_of message.now)) (progress_of machine.old)) }
+    ensures plain { (n : ℕ) (p : PlaceOf) → machine.old.fuel < n
+        → TellsProgress flow_of result machine.new
+        (exec_one n (asserts p (expr_of condition.now) (option_expr_of message.now)) (progress_of machine.old)) }
     ensures fuel { machine.new.fuel ≤ machine.old.fuel }
 {
     let v = eval(machine, alloc, condition)?;
@@ -578,7 +636,9 @@ fn assign<'m>(
     target: &'m Target,
     value: Value,
 ) -> Result<Flow, Halt>
-    ensures plain { (n : ℕ) → machine.old.fuel < n → TellsProgress flow_of result machine.new (assign_traced n (target_of target.now) (value_of value) (progress_of machine.old)) }
+    ensures plain { (n : ℕ) → machine.old.fuel < n
+        → TellsProgress flow_of result machine.new
+        (assign_traced n (target_of target.now) (value_of value) (progress_of machine.old)) }
     ensures fuel { machine.new.fuel ≤ machine.old.fuel }
 {
     match target {
@@ -607,7 +667,9 @@ fn exec_branches<'m>(
     branches: &'m [Branch],
     otherwise: &'m [Stmt],
 ) -> Result<Flow, Halt>
-    ensures plain { (n : ℕ) → machine.old.fuel < n → TellsProgress flow_of result machine.new (branches_in n (branches_of_list branches.now) (stmts_of_list otherwise.now) (progress_of machine.old)) }
+    ensures plain { (n : ℕ) → machine.old.fuel < n
+        → TellsProgress flow_of result machine.new
+        (branches_in n (branches_of_list branches.now) (stmts_of_list otherwise.now) (progress_of machine.old)) }
     ensures fuel { machine.new.fuel ≤ machine.old.fuel }
 {
     for branch in branches {
@@ -628,7 +690,9 @@ fn run_while<'m>(
     condition: &'m Expr,
     body: &'m [Stmt],
 ) -> Result<Flow, Halt>
-    ensures plain { (n : ℕ) → machine.old.fuel < n → TellsProgress flow_of result machine.new ((plain_parts n).again (expr_of condition.now) (stmts_of_list body.now) (progress_of machine.old)) }
+    ensures plain { (n : ℕ) → machine.old.fuel < n
+        → TellsProgress flow_of result machine.new
+        ((plain_parts n).again (expr_of condition.now) (stmts_of_list body.now) (progress_of machine.old)) }
     ensures fuel { machine.new.fuel ≤ machine.old.fuel }
 {
     loop {
@@ -654,7 +718,8 @@ fn eval_iterable<'m>(
     alloc: Allocator,
     e: &'m Expr,
 ) -> Result<Iteration, Halt>
-    ensures plain { (n : ℕ) → machine.old.fuel < n → TellsProgress iteration_of result machine.new (iterable_in n (expr_of e.now) (progress_of machine.old)) }
+    ensures plain { (n : ℕ) → machine.old.fuel < n
+        → TellsProgress iteration_of result machine.new (iterable_in n (expr_of e.now) (progress_of machine.old)) }
     ensures fuel { machine.new.fuel ≤ machine.old.fuel }
 {
     if let Some((place, name, arguments, by_name)) = range_call(e) {
@@ -679,7 +744,9 @@ fn run_for<'m>(
     name: &'m str,
     body: &'m [Stmt],
 ) -> Result<Flow, Halt>
-    ensures plain { (n : ℕ) → machine.old.fuel < n → TellsProgress flow_of result machine.new ((plain_parts n).turns (iteration_of over) 0 name.now (stmts_of_list body.now) (progress_of machine.old)) }
+    ensures plain { (n : ℕ) → machine.old.fuel < n
+        → TellsProgress flow_of result machine.new
+        ((plain_parts n).turns (iteration_of over) 0 name.now (stmts_of_list body.now) (progress_of machine.old)) }
     ensures fuel { machine.new.fuel ≤ machine.old.fuel }
 {
     // A turn takes one of fuel at least, so no more turns than this follow.

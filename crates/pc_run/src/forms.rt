@@ -48,7 +48,8 @@ pub fn instance_test<'m>(
     arguments: &'m [Expr],
     by_name: &'m [KeywordArgument],
 ) -> Option<(&'m Name, &'m Expr, &'m Expr)>
-    ensures { form_seen result ≡ call_form (expr_of callee.now) (exprs_of_list arguments.now) (keywords_of_list by_name.now) }
+    ensures { form_seen result
+        ≡ call_form (expr_of callee.now) (exprs_of_list arguments.now) (keywords_of_list by_name.now) }
 {
     let Expr::Name(name) = callee else {
         return None;
@@ -85,7 +86,8 @@ pub fn range_call<'m>(e: &'m Expr) -> Option<(Place, &'m Name, &'m [Expr], &'m [
 /// On to the next turn of a `for`.
 pub fn advance(turn: &mut Action)
     requires { (over : RustIteration) × ((i : ℕ) × ((turn.now ≡ rust_action.Turn over i) × (i < 2 ^ 64 - 1))) }
-    ensures { (over : RustIteration) (i : ℕ) → turn.old ≡ rust_action.Turn over i → turn.new ≡ rust_action.Turn over (i + 1) }
+    ensures { (over : RustIteration) (i : ℕ) → turn.old ≡ rust_action.Turn over i
+        → turn.new ≡ rust_action.Turn over (i + 1) }
 {
     if let Action::Turn(_, index) = turn {
         *index += 1;

@@ -1,12 +1,16 @@
 //! The items of a module.
 
 ghost use Rattle.std.specs.Prelude.{◌≡◌, ◌≤◌, ◌<◌, ◌++◌, ◌∷◌, ℕ, IfOk, OnOk, map, length, is_some};
-ghost use Rattle.pc_tree.specs.Tree.{literal_of, option_literal_of, option_name_of, param_of, member_of, class_of as class_def_of, item_of, module_of};
+ghost use Rattle.pc_tree.specs.Tree.{literal_of, option_literal_of, option_name_of, param_of, member_of};
+ghost use Rattle.pc_tree.specs.Tree.{class_of as class_def_of, item_of, module_of};
 ghost use Rattle.pc_value.specs.Meaning.{value_of};
 ghost use Rattle.pc_machine.specs.Calls.{class_at};
-ghost use Rattle.pc_machine.specs.Evaluation.{base_number, defaults_last, class_behind, fields_of, methods_of, ancestors_of, binds_global, binds_class};
-ghost use Rattle.pc_run.specs.Internal.Items.{items_in, item_in, class_made, has_value, have_values, member_has_values, members_have_values, members_made, base_seen};
-ghost use Rattle.pc_machine.specs.Machine.{TellsProgress, TellsOutcome, class_of, found_class, bound_of, parameter_of, method_of_def, literal_value, unit, progress_of, state_of};
+ghost use Rattle.pc_machine.specs.Evaluation.{base_number, defaults_last, class_behind, fields_of, methods_of};
+ghost use Rattle.pc_machine.specs.Evaluation.{ancestors_of, binds_global, binds_class};
+ghost use Rattle.pc_run.specs.Internal.Items.{items_in, item_in, class_made, has_value, have_values, member_has_values};
+ghost use Rattle.pc_run.specs.Internal.Items.{members_have_values, members_made, base_seen};
+ghost use Rattle.pc_machine.specs.Machine.{TellsProgress, TellsOutcome, class_of, found_class, bound_of, parameter_of};
+ghost use Rattle.pc_machine.specs.Machine.{method_of_def, literal_value, unit, progress_of, state_of};
 ghost use Rattle.pc_machine.specs.Plain.{after_change};
 ghost use Rattle.pc_machine.specs.Runs.{plain_module};
 
@@ -145,7 +149,8 @@ fn fields<'m>(
     base: Option<&Class<'m>>,
     members: &'m [Member],
 ) -> Result<Vec<Parameter<'m>>, OutOfMemory>
-    ensures { IfOk result (λ fs. map parameter_of fs.items ≡ fields_of (found_class base.entry) ++ (members_made (map member_of members.now)).fields) }
+    ensures { IfOk result (λ fs. map parameter_of fs.items
+        ≡ fields_of (found_class base.entry) ++ (members_made (map member_of members.now)).fields) }
 {
     let mut fields = inherited_fields(alloc, base)?;
     for member in members {
@@ -178,7 +183,8 @@ fn methods<'m>(
     base: Option<&Class<'m>>,
     members: &'m [Member],
 ) -> Result<Vec<&'m FuncDef>, OutOfMemory>
-    ensures { IfOk result (λ fs. map method_of_def fs.items ≡ (members_made (map member_of members.now)).methods ++ methods_of (found_class base.entry)) }
+    ensures { IfOk result (λ fs. map method_of_def fs.items
+        ≡ (members_made (map member_of members.now)).methods ++ methods_of (found_class base.entry)) }
 {
     let mut methods = own_methods(alloc, members)?;
     let Some(made) = base else {
@@ -214,7 +220,9 @@ fn class_behind<'m>(
     base: Option<usize>,
     members: &'m [Member],
 ) -> Result<Class<'m>, OutOfMemory>
-    ensures { IfOk result (λ c. class_of c ≡ class_behind (class_at (state_of machine.now).classes base) (members_made (map member_of members.now)) (length (state_of machine.now).classes)) }
+    ensures { IfOk result (λ c. class_of c
+        ≡ class_behind (class_at (state_of machine.now).classes base) (members_made (map member_of members.now))
+        (length (state_of machine.now).classes)) }
 {
     let base = match base {
         Some(number) => machine.classes.get(number),
@@ -233,7 +241,9 @@ fn bind_global<'m>(
     name: &'m str,
     bound: Bound<'m>,
 ) -> Result<(), OutOfMemory>
-    ensures plain { OnOk result (progress_of machine.new ≡ after_change (binds_global name.now (bound_of bound.entry)) (progress_of machine.old)) }
+    ensures plain { OnOk result
+        (progress_of machine.new
+        ≡ after_change (binds_global name.now (bound_of bound.entry)) (progress_of machine.old)) }
     ensures fuel { machine.new.fuel ≡ machine.old.fuel }
 {
     machine.globals.bind(name, bound)
@@ -245,7 +255,8 @@ fn bind_class<'m>(
     name: &'m str,
     class: Class<'m>,
 ) -> Result<(), OutOfMemory>
-    ensures plain { OnOk result (progress_of machine.new ≡ after_change (binds_class name.now (class_of class.entry)) (progress_of machine.old)) }
+    ensures plain { OnOk result
+        (progress_of machine.new ≡ after_change (binds_class name.now (class_of class.entry)) (progress_of machine.old)) }
     ensures fuel { machine.new.fuel ≡ machine.old.fuel }
 {
     let number = machine.classes.len();
@@ -262,7 +273,8 @@ fn make_class<'m>(
     imports_dataclass: bool,
     class: &'m ClassDef,
 ) -> Result<(), Halt>
-    ensures plain { TellsProgress unit result machine.new (class_made imports_dataclass (class_def_of class.now) (progress_of machine.old)) }
+    ensures plain { TellsProgress unit result machine.new
+        (class_made imports_dataclass (class_def_of class.now) (progress_of machine.old)) }
     ensures fuel { machine.new.fuel ≤ machine.old.fuel }
 {
     if !imports_dataclass {
@@ -287,7 +299,9 @@ fn run_item<'m>(
     imports_dataclass: bool,
     item: &'m Item,
 ) -> Result<(), Halt>
-    ensures plain { (n : ℕ) → machine.old.fuel < n → TellsProgress unit result machine.new (item_in n imports_dataclass (item_of item.now) (progress_of machine.old)) }
+    ensures plain { (n : ℕ) → machine.old.fuel < n
+        → TellsProgress unit result machine.new
+        (item_in n imports_dataclass (item_of item.now) (progress_of machine.old)) }
     ensures fuel { machine.new.fuel ≤ machine.old.fuel }
 {
     match &item.kind {
@@ -315,7 +329,9 @@ fn run_items<'m>(
     imports_dataclass: bool,
     items: &'m [Item],
 ) -> Result<(), Halt>
-    ensures plain { (n : ℕ) → machine.old.fuel < n → TellsProgress unit result machine.new (items_in n imports_dataclass (map item_of items.now) (progress_of machine.old)) }
+    ensures plain { (n : ℕ) → machine.old.fuel < n
+        → TellsProgress unit result machine.new
+        (items_in n imports_dataclass (map item_of items.now) (progress_of machine.old)) }
     ensures fuel { machine.new.fuel ≤ machine.old.fuel }
 {
     for item in items {
@@ -330,7 +346,8 @@ pub fn run_module<'m>(
     alloc: Allocator,
     program: &'m Module,
 ) -> Result<Value, Halt>
-    ensures plain { (n : ℕ) → machine.old.fuel < n → TellsProgress value_of result machine.new (plain_module n (module_of program.now) (progress_of machine.old)) }
+    ensures plain { (n : ℕ) → machine.old.fuel < n
+        → TellsProgress value_of result machine.new (plain_module n (module_of program.now) (progress_of machine.old)) }
     ensures fuel { machine.new.fuel ≤ machine.old.fuel }
 {
     run_items(machine, alloc, program.imports_dataclass, &program.items)?;

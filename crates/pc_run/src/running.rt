@@ -38,7 +38,8 @@ fn end_of_stop(stop: Stop) -> End
 
 /// `main` is entered, without an event.
 pub fn enter_main<'m>(machine: &mut Machine<'m>, alloc: Allocator) -> Result<Value, Halt>
-    ensures plain { (n : ℕ) → machine.old.fuel < n → TellsProgress value_of result machine.new (main_entered n (progress_of machine.old)) }
+    ensures plain { (n : ℕ) → machine.old.fuel < n
+        → TellsProgress value_of result machine.new (main_entered n (progress_of machine.old)) }
     ensures fuel { machine.new.fuel ≤ machine.old.fuel }
 {
     let called = machine.look_up_callee(alloc, "main")?;
@@ -47,7 +48,8 @@ pub fn enter_main<'m>(machine: &mut Machine<'m>, alloc: Allocator) -> Result<Val
 
 /// The trace of a run that came to its end.
 fn trace_of(machine: Machine<'_>, ended: Result<Value, Halt>) -> Result<Trace, OutOfMemory>
-    ensures { (l : After ValueOf) → TellsProgress value_of ended machine.entry l → IfOk result (λ trace. Leaves l trace.events.items (end_of_rust trace.end)) }
+    ensures { (l : After ValueOf) → TellsProgress value_of ended machine.entry l
+        → IfOk result (λ trace. Leaves l trace.events.items (end_of_rust trace.end)) }
 {
     match ended {
         Ok(_) => Ok(Trace {
@@ -76,7 +78,8 @@ pub fn run(
     fuel: u64,
     choices: &[u8],
 ) -> Result<Trace, OutOfMemory>
-    ensures { IfOk result (λ trace. PlainRun (module_of program.now) fuel choices.now trace.events.items (end_of_rust trace.end)) }
+    ensures { IfOk result (λ trace.
+        PlainRun (module_of program.now) fuel choices.now trace.events.items (end_of_rust trace.end)) }
 {
     let found = stops(alloc, keys, program)?;
     if !found.is_empty() {

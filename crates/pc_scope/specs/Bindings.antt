@@ -1,7 +1,8 @@
 -- The positions at which a module, a function and a class bind names.
 -- Language Reference 3.12, 4.2.1 "Binding of names".
 use Rattle.std.specs.Prelude.{ℕ, suc, List, [], ◌∷◌, ◌++◌, map, Option, Some, None, filter_map}
-use Rattle.pc_tree.specs.Tree.{Name, Param, FuncDef, Member, field_member, method_member, ClassDef, Constant, Item, constant_item, class_item, def_item, Module}
+use Rattle.pc_tree.specs.Tree.{Name, Param, FuncDef, Member, field_member, method_member, ClassDef, Constant, Item}
+use Rattle.pc_tree.specs.Tree.{constant_item, class_item, def_item, Module}
 use Rattle.pc_scope.specs.declared.resolution.Owner.{Owner}
 use Rattle.pc_scope.specs.declared.resolution.Owner.TheVariants as owners
 

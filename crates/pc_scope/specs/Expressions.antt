@@ -1,8 +1,14 @@
 -- The expressions of statements, and the parts of an expression.
 -- Language Reference 3.12, 6 "Expressions", 7 "Simple statements", 8 "Compound statements".
-use Rattle.std.specs.Prelude.{ℕ, List, [], ◌∷◌, ◌++◌, Bool, true, false, ◌&&◌, ◌||◌, not, if◌then◌else◌, Option, Some, None, codes, bytes_eq}
+use Rattle.std.specs.Prelude.{ℕ, List, [], ◌∷◌, ◌++◌, Bool, true, false, ◌&&◌, ◌||◌, not, if◌then◌else◌, Option, Some}
+use Rattle.std.specs.Prelude.{None, codes, bytes_eq}
 use Rattle.pc_source.specs.declared.place.Place.{Place}
-use Rattle.pc_tree.specs.Tree.{Name, Expr, Exprs, Entries, Keywords, name, number, text, truth, nothing, tuple, list, dict, negative, negation, binary, compare, is_none, is_not_none, conjunction, disjunction, attribute, index, call, no_exprs, more_exprs, no_entries, more_entries, no_keywords, more_keywords, Target, to_name, to_attribute, to_index, Stmt, Stmts, Branches, pass, breaks, continues, returns, asserts, annotated, assigns, evaluates, while_loop, for_loop, conditional, no_stmts, more_stmts, no_branches, more_branches}
+use Rattle.pc_tree.specs.Tree.{Name, Expr, Exprs, Entries, Keywords, name, number, text, truth, nothing, tuple, list}
+use Rattle.pc_tree.specs.Tree.{dict, negative, negation, binary, compare, is_none, is_not_none, conjunction}
+use Rattle.pc_tree.specs.Tree.{disjunction, attribute, index, call, no_exprs, more_exprs, no_entries, more_entries}
+use Rattle.pc_tree.specs.Tree.{no_keywords, more_keywords, Target, to_name, to_attribute, to_index, Stmt, Stmts}
+use Rattle.pc_tree.specs.Tree.{Branches, pass, breaks, continues, returns, asserts, annotated, assigns, evaluates}
+use Rattle.pc_tree.specs.Tree.{while_loop, for_loop, conditional, no_stmts, more_stmts, no_branches, more_branches}
 use Rattle.pc_tree.specs.Depth.{place_of}
 use Rattle.pc_scope.specs.Reach.{completes}
 
@@ -53,7 +59,8 @@ abbrev mutual
   parts_in j (index p e i) = index p e i ∷ (parts_in j e ++ parts_in j i)
   parts_in j (call p callee arguments keywords) =
       call p callee arguments keywords
-      ∷ (parts_in j callee ++ (first_or_all (parts_in_first j arguments) (parts_in_all j arguments) (j && is_instance_test callee arguments keywords) ++ parts_in_keywords j keywords))
+      ∷ (parts_in j callee ++ (first_or_all (parts_in_first j arguments) (parts_in_all j arguments)
+      (j && is_instance_test callee arguments keywords) ++ parts_in_keywords j keywords))
 
   pub parts_in_all : (judged : Bool) → Exprs → List Expr
   parts_in_all j no_exprs = []
@@ -113,4 +120,5 @@ abbrev mutual
 
   pub exprs_in_branches : (reached : Bool) → Branches → List Expr
   exprs_in_branches r no_branches = []
-  exprs_in_branches r (more_branches condition body rest) = condition ∷ (exprs_in_all r body ++ exprs_in_branches r rest)
+  exprs_in_branches r (more_branches condition body rest) =
+      condition ∷ (exprs_in_all r body ++ exprs_in_branches r rest)

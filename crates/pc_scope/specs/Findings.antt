@@ -36,11 +36,15 @@ pub record IsUnknownIn (m : Module) (owner : Owner) (e : Expr) (f : Finding) : T
 
 -- E02: a name in an expression means nothing, or `dataclass` behind `@` has no header
 pub data IsUnknown (m : Module) (f : Finding) : Type 0 where
-  in_constant : (c : Constant) → Contains (constants_in m.items) c → IsUnknownIn m owners.Module c.value f → IsUnknown m f
-  in_body : (b : Body) (e : Expr) → Contains (bodies m) b → Contains (exprs_in_all true b.function.body) e → IsUnknownIn m b.owner e f → IsUnknown m f
-  decorator : (c : ClassDef) → m.imports_dataclass ≡ false → Contains (classes_in m.items) c → f ≡ finding c.decorator E02 → IsUnknown m f
+  in_constant : (c : Constant) → Contains (constants_in m.items) c → IsUnknownIn m owners.Module c.value f
+      → IsUnknown m f
+  in_body : (b : Body) (e : Expr) → Contains (bodies m) b → Contains (exprs_in_all true b.function.body) e
+      → IsUnknownIn m b.owner e f → IsUnknown m f
+  decorator : (c : ClassDef) → m.imports_dataclass ≡ false → Contains (classes_in m.items) c
+      → f ≡ finding c.decorator E02 → IsUnknown m f
 
--- what an initializer may not name behind so many constants and classes: a function, and a constant or class that is not one of them
+-- what an initializer may not name behind so many constants and classes: a function, and a constant or class that is
+-- not one of them
 abbrev pub IsEarlyMeaning : (constants classes : ℕ) → Res → Type 0
 IsEarlyMeaning k c (res.Func i) = Unit {0}
 IsEarlyMeaning k c (res.Const i) = k ≤ i
@@ -66,7 +70,8 @@ pub record IsEarly (m : Module) (f : Finding) : Type 0 where
   pub first : Place
   pub constant : Constant
   pub item : slice_get m.items at ≡ Some (constant_item first constant)
-  pub found : IsEarlyName m (length (constants_in (take at m.items))) (length (classes_in (take at m.items))) constant.value f ⊎ IsEarlyCallee constant.value f
+  pub found : IsEarlyName m (length (constants_in (take at m.items)))
+      (length (classes_in (take at m.items))) constant.value f ⊎ IsEarlyCallee constant.value f
 
 -- E30: the first statement of a suite behind one that cannot complete
 pub record IsUnreachable (m : Module) (f : Finding) : Type 0 where

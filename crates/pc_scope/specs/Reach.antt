@@ -2,7 +2,9 @@
 -- Own rule of the profile.
 use Rattle.std.specs.Prelude.{List, [], ◌∷◌, ◌++◌, Bool, true, false, ◌&&◌, ◌||◌, if◌then◌else◌}
 use Rattle.pc_source.specs.declared.place.Place.{Place}
-use Rattle.pc_tree.specs.Tree.{Stmt, Stmts, Branches, pass, breaks, continues, returns, asserts, annotated, assigns, evaluates, while_loop, for_loop, conditional, no_stmts, more_stmts, no_branches, more_branches}
+use Rattle.pc_tree.specs.Tree.{Stmt, Stmts, Branches, pass, breaks, continues, returns, asserts, annotated, assigns}
+use Rattle.pc_tree.specs.Tree.{evaluates, while_loop, for_loop, conditional, no_stmts, more_stmts, no_branches}
+use Rattle.pc_tree.specs.Tree.{more_branches}
 
 -- the place of a statement's first token
 abbrev pub first_of : Stmt → Place
@@ -36,7 +38,8 @@ abbrev mutual
   completes (evaluates p value) = true
   completes (while_loop p condition body) = true
   completes (for_loop p n iterable body) = true
-  completes (conditional p branches otherwise) = is_empty otherwise || (some_completes branches || completes_all otherwise)
+  completes (conditional p branches otherwise) = is_empty otherwise
+      || (some_completes branches || completes_all otherwise)
 
   pub completes_all : Stmts → Bool
   completes_all no_stmts = true
@@ -61,7 +64,8 @@ abbrev mutual
 
   pub unreached_places : Stmts → List Place
   unreached_places no_stmts = []
-  unreached_places (more_stmts s rest) = unreached_in s ++ (if completes s then unreached_places rest else first_places rest)
+  unreached_places (more_stmts s rest) = unreached_in s
+      ++ (if completes s then unreached_places rest else first_places rest)
 
   pub unreached_in_branches : Branches → List Place
   unreached_in_branches no_branches = []

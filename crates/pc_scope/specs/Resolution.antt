@@ -1,6 +1,7 @@
 -- What a name means: a local, what the module binds first by it, a built-in, or nothing.
 -- Language Reference 3.12, 4.2.2 "Resolution of names".
-use Rattle.std.specs.Prelude.{ℕ, suc, List, [], ◌∷◌, ◌++◌, Bool, ◌||◌, if◌then◌else◌, Option, Some, None, codes, bytes_eq, slice_get}
+use Rattle.std.specs.Prelude.{ℕ, suc, List, [], ◌∷◌, ◌++◌, Bool, ◌||◌, if◌then◌else◌, Option, Some, None, codes}
+use Rattle.std.specs.Prelude.{bytes_eq, slice_get}
 use Rattle.std.specs.List.{list_any}
 use Rattle.std.specs.Option.{option_map}
 use Rattle.pc_tree.specs.Tree.{FuncDef, ClassDef, Item, constant_item, class_item, def_item, Module}
@@ -25,7 +26,8 @@ is_one_of text names = list_any (bytes_eq text) names
 -- each text once, in the order in which it stands first, without reserved names and those that stand before
 abbrev pub first_of_each : List (List ℕ) → List (List ℕ) → List (List ℕ)
 first_of_each before [] = []
-first_of_each before (t ∷ ts) = if is_builtin_name t || is_one_of t before then first_of_each before ts else t ∷ first_of_each (t ∷ before) ts
+first_of_each before (t ∷ ts) = if is_builtin_name t || is_one_of t before then first_of_each before ts
+    else t ∷ first_of_each (t ∷ before) ts
 
 -- the text of what a method is entered with before its parameters: `self`
 abbrev pub receiver : Owner → List (List ℕ)
@@ -64,9 +66,12 @@ locals_of m owner = locals_of_function owner (function_of m owner)
 -- what items bind first by a name, numbered behind so many constants, functions and classes
 abbrev pub bound_first : (constants functions classes : ℕ) → List Item → List ℕ → Option Res
 bound_first k f c [] text = None
-bound_first k f c (constant_item p i ∷ rest) text = if bytes_eq i.name.text text then Some (res.Const k) else bound_first (suc k) f c rest text
-bound_first k f c (def_item p i ∷ rest) text = if bytes_eq i.name.text text then Some (res.Func f) else bound_first k (suc f) c rest text
-bound_first k f c (class_item p i ∷ rest) text = if bytes_eq i.name.text text then Some (res.Class c) else bound_first k f (suc c) rest text
+bound_first k f c (constant_item p i ∷ rest) text = if bytes_eq i.name.text text then Some (res.Const k)
+    else bound_first (suc k) f c rest text
+bound_first k f c (def_item p i ∷ rest) text = if bytes_eq i.name.text text then Some (res.Func f)
+    else bound_first k (suc f) c rest text
+bound_first k f c (class_item p i ∷ rest) text = if bytes_eq i.name.text text then Some (res.Class c)
+    else bound_first k f (suc c) rest text
 
 -- a first answer, else the next
 abbrev pub or_meaning : Option Res → Res → Res
@@ -85,7 +90,8 @@ builtin_meaning (Some b) = Some (res.Builtin b)
 
 -- what a name means in the module, where no function has it as a local
 abbrev pub resolve_in_module : Module → List ℕ → Res
-resolve_in_module m text = or_meaning (builtin_meaning (builtin_of text)) (or_meaning (bound_first 0 0 0 m.items text) res.None)
+resolve_in_module m text =
+    or_meaning (builtin_meaning (builtin_of text)) (or_meaning (bound_first 0 0 0 m.items text) res.None)
 
 -- what a name means where these are the locals
 abbrev pub resolve_among : Module → (names : List (List ℕ)) → List ℕ → Res

@@ -12,7 +12,8 @@ use Rattle.pc_scope.specs.Resolution.{first_of_each, index_of, bound_first, or_m
 
 -- the locals of a function or a method, by its parameters and its body
 abbrev pub locals_by : (is_method : Bool) → FuncDef → List (List ℕ)
-locals_by is_method f = first_of_each [] (self_before is_method ++ (texts (param_names f.params) ++ texts (bound_by f.body)))
+locals_by is_method f = first_of_each []
+    (self_before is_method ++ (texts (param_names f.params) ++ texts (bound_by f.body)))
 
 -- the locals of the methods of a class
 abbrev pub methods_locals : ClassDef → List (List (List ℕ))
@@ -42,7 +43,9 @@ locals_for t (owners.Method c i) = method_locals (slice_get t.methods c) i
 
 -- what a name means by tables: a local, a built-in, what the module binds first, or nothing
 abbrev pub meaning_by_tables : Tables → Owner → List ℕ → Res
-meaning_by_tables t owner text = or_meaning (local_meaning (index_of text (locals_for t owner))) (or_meaning (builtin_meaning (builtin_of text)) (or_meaning (beside t.globals text) res.None))
+meaning_by_tables t owner text =
+    or_meaning (local_meaning (index_of text (locals_for t owner)))
+    (or_meaning (builtin_meaning (builtin_of text)) (or_meaning (beside t.globals text) res.None))
 
 -- the tables are those of the module
 pub record AreTables (m : Module) (t : Tables) : Type 0 where

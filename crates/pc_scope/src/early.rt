@@ -24,7 +24,9 @@ fn find_early(
     classes: usize,
     e: &Expr,
 ) -> Result<(), OutOfMemory>
-    ensures { OnOk result (found.new.items ≡ found.old.items ++ at_code E03 (early_among constants classes (meaning_by_tables names.now owners.Module) (parts_in false (expr_of e.now)))) }
+    ensures { OnOk result (found.new.items
+        ≡ found.old.items ++ at_code E03
+        (early_among constants classes (meaning_by_tables names.now owners.Module) (parts_in false (expr_of e.now)))) }
 {
     seek(found, names, Sought::Early(constants, classes), e)
 }
@@ -35,7 +37,9 @@ pub fn find_early_names(
     names: &Names,
     items: &[Item],
 ) -> Result<(), OutOfMemory>
-    ensures { OnOk result (found.new.items ≡ found.old.items ++ at_code E03 (early_in 0 0 (meaning_by_tables names.now owners.Module) (map item_of items.now))) }
+    ensures { OnOk result (found.new.items
+        ≡ found.old.items ++ at_code E03
+        (early_in 0 0 (meaning_by_tables names.now owners.Module) (map item_of items.now))) }
 {
     let mut constants = 0;
     let mut classes = 0;

@@ -22,7 +22,8 @@ fn bind_first(
     name: &str,
     meaning: Res,
 ) -> Result<(), OutOfMemory>
-    ensures { OnOk result ((text : List ℕ) → at_text globals.new text ≡ first_of (at_text globals.old text) (bound_as name.now meaning text)) }
+    ensures { OnOk result ((text : List ℕ)
+        → at_text globals.new text ≡ first_of (at_text globals.old text) (bound_as name.now meaning text)) }
 {
     if globals.contains_key(name) {
         return Ok(());

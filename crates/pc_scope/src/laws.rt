@@ -12,10 +12,12 @@ ghost use Rattle.pc_scope.specs.Tables.{meaning_by_tables};
 
 /// The law that a reserved name means its built-in, whatever a module binds.
 pub fn reserved_names_are_unbound()
-    ensures { (m : Module) (owner : Owner) (name : List ℕ) (b : Builtin) → builtin_of name ≡ Some b → resolve m owner name ≡ res.Builtin b }
+    ensures { (m : Module) (owner : Owner) (name : List ℕ) (b : Builtin) → builtin_of name ≡ Some b
+        → resolve m owner name ≡ res.Builtin b }
 {}
 
 /// The law that by the tables of a module's scopes each name means what it means in the module.
 pub fn tables_resolve_names()
-    ensures { (m : Module) (s : ModuleScopes) → AreScopes m s → (owner : Owner) (name : List ℕ) → meaning_by_tables s.tables owner name ≡ resolve m owner name }
+    ensures { (m : Module) (s : ModuleScopes) → AreScopes m s → (owner : Owner) (name : List ℕ)
+        → meaning_by_tables s.tables owner name ≡ resolve m owner name }
 {}

@@ -19,7 +19,8 @@ pub type Locals = IndexSet<String>;
 
 /// One more local, unless the name is reserved or a local already.
 fn bind(locals: &mut Locals, alloc: Allocator, name: &str) -> Result<(), OutOfMemory>
-    ensures { OnOk result (map string_bytes locals.new.keys ≡ with_new_local (map string_bytes locals.old.keys) name.now) }
+    ensures { OnOk result (map string_bytes locals.new.keys
+        ≡ with_new_local (map string_bytes locals.old.keys) name.now) }
 {
     if builtin(name).is_some() || locals.contains(name) {
         return Ok(());
@@ -30,7 +31,8 @@ fn bind(locals: &mut Locals, alloc: Allocator, name: &str) -> Result<(), OutOfMe
 
 /// The object of a method as a local.
 fn bind_self(locals: &mut Locals, alloc: Allocator, is_method: bool) -> Result<(), OutOfMemory>
-    ensures { OnOk result (map string_bytes locals.new.keys ≡ fold with_new_local (map string_bytes locals.old.keys) (self_before is_method)) }
+    ensures { OnOk result (map string_bytes locals.new.keys
+        ≡ fold with_new_local (map string_bytes locals.old.keys) (self_before is_method)) }
 {
     if is_method {
         bind(locals, alloc, "self")?;
@@ -44,7 +46,8 @@ fn bind_parameters(
     alloc: Allocator,
     params: &[Param],
 ) -> Result<(), OutOfMemory>
-    ensures { OnOk result (map string_bytes locals.new.keys ≡ fold with_new_local (map string_bytes locals.old.keys) (texts (param_names (map param_of params.now)))) }
+    ensures { OnOk result (map string_bytes locals.new.keys
+        ≡ fold with_new_local (map string_bytes locals.old.keys) (texts (param_names (map param_of params.now)))) }
 {
     for param in params {
         bind(locals, alloc, param.name.text.as_str())?;
@@ -54,7 +57,8 @@ fn bind_parameters(
 
 /// Names as locals.
 fn bind_all(locals: &mut Locals, alloc: Allocator, names: &[&Name]) -> Result<(), OutOfMemory>
-    ensures { OnOk result (map string_bytes locals.new.keys ≡ fold with_new_local (map string_bytes locals.old.keys) (texts (map name_seen names.now))) }
+    ensures { OnOk result (map string_bytes locals.new.keys
+        ≡ fold with_new_local (map string_bytes locals.old.keys) (texts (map name_seen names.now))) }
 {
     for name in names {
         bind(locals, alloc, name.text.as_str())?;

@@ -17,7 +17,8 @@ use std::alloc::Global as Allocator;
 
 /// Finds names that mean nothing or stand too early: E02, E03.
 fn find_names(found: &mut Findings, names: &Names, program: &Module) -> Result<(), OutOfMemory>
-    ensures { OnOk result (found.new.items ≡ found.old.items ++ name_findings (meaning_by_tables names.now) (module_of program.now)) }
+    ensures { OnOk result (found.new.items
+        ≡ found.old.items ++ name_findings (meaning_by_tables names.now) (module_of program.now)) }
 {
     find_unknown_in_constants(found, names, &program.items)?;
     find_unknown_in_bodies(found, names, &program.items)?;

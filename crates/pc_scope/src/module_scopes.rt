@@ -13,7 +13,8 @@ use crate::tables::Names;
 use pc_tree::Findings;
 use std::marker::Model;
 
-/// The scopes of a module: what each name of it means, and what is found of its names and of the places of its statements.
+/// The scopes of a module: what each name of it means, and what is found of its names and of the places of its
+/// statements.
 #[derive(Drop)]
 pub struct Scopes {
     pub(crate) names: Names,
@@ -47,7 +48,8 @@ impl Scopes {
     /// What is found of the module's names and of the places of its statements, in any order: E01, E02, E03, E05, E28,
     /// E29, E30, E31. Own rules of the profile.
     pub fn findings(&self) -> &Findings
-        ensures found { (m : Tree) → AreScopes m self.now → (f : FindingOf) → Contains result.now.items f ↔ ScopeFinds m f }
+        ensures found { (m : Tree) → AreScopes m self.now → (f : FindingOf)
+            → Contains result.now.items f ↔ ScopeFinds m f }
     {
         &self.found
     }

@@ -12,7 +12,8 @@ use crate::reserved::builtin;
 use crate::resolution::{Owner, Res};
 use std::marker::Model;
 
-/// What each name of a module means: what the module binds first by each name, and the locals of its functions and methods.
+/// What each name of a module means: what the module binds first by each name, and the locals of its functions and
+/// methods.
 #[derive(Drop)]
 pub struct Names {
     pub globals: Globals,
@@ -23,7 +24,11 @@ pub struct Names {
 impl Model for Names {
     ghost Value = { Tables };
 
-    ghost view = { λ s. record { globals = map text_entry s.globals.entries; functions = map texts_in s.functions.items; methods = map methods_texts s.methods.items } };
+    ghost view = { λ s. record {
+      globals = map text_entry s.globals.entries;
+      functions = map texts_in s.functions.items;
+      methods = map methods_texts s.methods.items;
+    } };
 }
 
 impl Names {

@@ -4,12 +4,16 @@
 ghost use Rattle.std.specs.Prelude.{◌≡◌, ◌++◌, map, OnOk, true};
 ghost use Rattle.pc_tree.specs.declared.code.Code.TheVariants.{E02};
 ghost use Rattle.pc_source.specs.declared.place.Place.{Place as PlaceOf};
-ghost use Rattle.pc_tree.specs.Tree.{expr_of, option_expr_of, target_of, stmt_of_kind, stmts_of_list, member_of, item_of};
+ghost use Rattle.pc_tree.specs.Tree.{expr_of, option_expr_of, target_of, stmt_of_kind, stmts_of_list, member_of};
+ghost use Rattle.pc_tree.specs.Tree.{item_of};
 ghost use Rattle.pc_tree.specs.Lists.{branches_of_list};
 ghost use Rattle.pc_scope.specs.declared.resolution.Owner.TheVariants as owners;
-ghost use Rattle.pc_scope.specs.Expressions.{parts_in, option_exprs, target_exprs, exprs_in, exprs_in_all, exprs_in_branches};
+ghost use Rattle.pc_scope.specs.Expressions.{parts_in, option_exprs, target_exprs, exprs_in, exprs_in_all};
+ghost use Rattle.pc_scope.specs.Expressions.{exprs_in_branches};
 ghost use Rattle.pc_stop.specs.Found.{at_code};
-ghost use Rattle.pc_scope.specs.Internal.FindingLists.{unknown_among, unknown_in, unknown_in_constants, unknown_in_methods, unknown_in_bodies, decorators_in, unknown_decorators};
+ghost use Rattle.pc_scope.specs.Internal.FindingLists.{unknown_among, unknown_in, unknown_in_constants};
+ghost use Rattle.pc_scope.specs.Internal.FindingLists.{unknown_in_methods, unknown_in_bodies, decorators_in};
+ghost use Rattle.pc_scope.specs.Internal.FindingLists.{unknown_decorators};
 ghost use Rattle.pc_scope.specs.Tables.{meaning_by_tables};
 
 use crate::completion::completes;
@@ -27,7 +31,9 @@ fn find_unknown(
     owner: Owner,
     e: &Expr,
 ) -> Result<(), OutOfMemory>
-    ensures { OnOk result (found.new.items ≡ found.old.items ++ at_code E02 (unknown_among (meaning_by_tables names.now owner) (parts_in true (expr_of e.now)))) }
+    ensures { OnOk result (found.new.items
+        ≡ found.old.items ++ at_code E02
+        (unknown_among (meaning_by_tables names.now owner) (parts_in true (expr_of e.now)))) }
 {
     seek(found, names, Sought::Unknown(owner), e)
 }
@@ -39,7 +45,9 @@ fn find_unknown_in_option(
     owner: Owner,
     e: &Option<Expr>,
 ) -> Result<(), OutOfMemory>
-    ensures { OnOk result (found.new.items ≡ found.old.items ++ at_code E02 (unknown_in (meaning_by_tables names.now owner) (option_exprs (option_expr_of e.now)))) }
+    ensures { OnOk result (found.new.items
+        ≡ found.old.items ++ at_code E02
+        (unknown_in (meaning_by_tables names.now owner) (option_exprs (option_expr_of e.now)))) }
 {
     match e {
         Some(e) => find_unknown(found, names, owner, e),
@@ -54,7 +62,9 @@ fn find_unknown_in_target(
     owner: Owner,
     target: &Target,
 ) -> Result<(), OutOfMemory>
-    ensures { OnOk result (found.new.items ≡ found.old.items ++ at_code E02 (unknown_in (meaning_by_tables names.now owner) (target_exprs (target_of target.now)))) }
+    ensures { OnOk result (found.new.items
+        ≡ found.old.items ++ at_code E02
+        (unknown_in (meaning_by_tables names.now owner) (target_exprs (target_of target.now)))) }
 {
     match target {
         Target::Name(_) => Ok(()),
@@ -74,7 +84,9 @@ fn find_unknown_in_body(
     owner: Owner,
     body: &[Stmt],
 ) -> Result<(), OutOfMemory>
-    ensures { OnOk result (found.new.items ≡ found.old.items ++ at_code E02 (unknown_in (meaning_by_tables names.now owner) (exprs_in_all true (stmts_of_list body.now)))) }
+    ensures { OnOk result (found.new.items
+        ≡ found.old.items ++ at_code E02
+        (unknown_in (meaning_by_tables names.now owner) (exprs_in_all true (stmts_of_list body.now)))) }
 {
     for statement in body {
         find_unknown_in_statement(found, names, owner, &statement.kind)?;
@@ -93,7 +105,10 @@ fn find_unknown_in_statement(
     owner: Owner,
     kind: &StmtKind,
 ) -> Result<(), OutOfMemory>
-    ensures { (first : PlaceOf) → OnOk result (found.new.items ≡ found.old.items ++ at_code E02 (unknown_in (meaning_by_tables names.now owner) (exprs_in true (stmt_of_kind first kind.now)))) }
+    ensures { (first : PlaceOf)
+        → OnOk result (found.new.items
+        ≡ found.old.items ++ at_code E02
+        (unknown_in (meaning_by_tables names.now owner) (exprs_in true (stmt_of_kind first kind.now)))) }
 {
     match kind {
         StmtKind::Pass => Ok(()),
@@ -133,7 +148,9 @@ fn find_unknown_in_branches(
     owner: Owner,
     branches: &[Branch],
 ) -> Result<(), OutOfMemory>
-    ensures { OnOk result (found.new.items ≡ found.old.items ++ at_code E02 (unknown_in (meaning_by_tables names.now owner) (exprs_in_branches true (branches_of_list branches.now)))) }
+    ensures { OnOk result (found.new.items
+        ≡ found.old.items ++ at_code E02
+        (unknown_in (meaning_by_tables names.now owner) (exprs_in_branches true (branches_of_list branches.now)))) }
 {
     for branch in branches {
         find_unknown(found, names, owner, &branch.condition)?;
@@ -148,7 +165,9 @@ pub fn find_unknown_in_constants(
     names: &Names,
     items: &[Item],
 ) -> Result<(), OutOfMemory>
-    ensures { OnOk result (found.new.items ≡ found.old.items ++ at_code E02 (unknown_in_constants (meaning_by_tables names.now owners.Module) (map item_of items.now))) }
+    ensures { OnOk result (found.new.items
+        ≡ found.old.items ++ at_code E02
+        (unknown_in_constants (meaning_by_tables names.now owners.Module) (map item_of items.now))) }
 {
     for item in items {
         match &item.kind {
@@ -172,7 +191,9 @@ fn find_unknown_in_methods(
     class: usize,
     members: &[Member],
 ) -> Result<(), OutOfMemory>
-    ensures { OnOk result (found.new.items ≡ found.old.items ++ at_code E02 (unknown_in_methods (meaning_by_tables names.now) class 0 (map member_of members.now))) }
+    ensures { OnOk result (found.new.items
+        ≡ found.old.items ++ at_code E02
+        (unknown_in_methods (meaning_by_tables names.now) class 0 (map member_of members.now))) }
 {
     let mut methods = 0;
     for member in members {
@@ -193,7 +214,8 @@ pub fn find_unknown_in_bodies(
     names: &Names,
     items: &[Item],
 ) -> Result<(), OutOfMemory>
-    ensures { OnOk result (found.new.items ≡ found.old.items ++ at_code E02 (unknown_in_bodies (meaning_by_tables names.now) 0 0 (map item_of items.now))) }
+    ensures { OnOk result (found.new.items
+        ≡ found.old.items ++ at_code E02 (unknown_in_bodies (meaning_by_tables names.now) 0 0 (map item_of items.now))) }
 {
     let mut functions = 0;
     let mut classes = 0;
@@ -233,7 +255,8 @@ pub fn find_unknown_decorators(
     imported: bool,
     items: &[Item],
 ) -> Result<(), OutOfMemory>
-    ensures { OnOk result (found.new.items ≡ found.old.items ++ at_code E02 (unknown_decorators imported (map item_of items.now))) }
+    ensures { OnOk result (found.new.items
+        ≡ found.old.items ++ at_code E02 (unknown_decorators imported (map item_of items.now))) }
 {
     if imported {
         return Ok(());

@@ -36,7 +36,8 @@ fn find_unreached(found: &mut Findings, body: &[Stmt]) -> Result<(), OutOfMemory
 /// Finds those in the suites of a statement.
 #[cycle(unreached)]
 fn find_unreached_in(found: &mut Findings, kind: &StmtKind) -> Result<(), OutOfMemory>
-    ensures { (p : PlaceOf) → OnOk result (found.new.items ≡ found.old.items ++ at_code E30 (unreached_in (stmt_of_kind p kind.now))) }
+    ensures { (p : PlaceOf) → OnOk result
+        (found.new.items ≡ found.old.items ++ at_code E30 (unreached_in (stmt_of_kind p kind.now))) }
 {
     match kind {
         StmtKind::Pass => Ok(()),
@@ -59,7 +60,8 @@ fn find_unreached_in(found: &mut Findings, kind: &StmtKind) -> Result<(), OutOfM
 /// Finds those in the suites of conditions.
 #[cycle(unreached)]
 fn find_unreached_among(found: &mut Findings, branches: &[Branch]) -> Result<(), OutOfMemory>
-    ensures { OnOk result (found.new.items ≡ found.old.items ++ at_code E30 (unreached_in_branches (branches_of_list branches.now))) }
+    ensures { OnOk result (found.new.items
+        ≡ found.old.items ++ at_code E30 (unreached_in_branches (branches_of_list branches.now))) }
 {
     for branch in branches {
         find_unreached(found, &branch.body)?;
@@ -69,7 +71,8 @@ fn find_unreached_among(found: &mut Findings, branches: &[Branch]) -> Result<(),
 
 /// Finds those in the methods of a class.
 fn find_unreached_in_methods(found: &mut Findings, members: &[Member]) -> Result<(), OutOfMemory>
-    ensures { OnOk result (found.new.items ≡ found.old.items ++ at_code E30 (of_members unreached_def (map member_of members.now))) }
+    ensures { OnOk result (found.new.items
+        ≡ found.old.items ++ at_code E30 (of_members unreached_def (map member_of members.now))) }
 {
     for member in members {
         match member {

@@ -67,7 +67,8 @@ OutcomeHas bases k t (stops Outside) = ⊥
 OutcomeHas bases k t (stops (Raised e)) = ⊥
 
 -- after an action a heap typing that extends the one before types the heap, and the outcome is of the type
-pub record ActsWell (bases : Bases) (classes : List ClassFacts) (k : HeapTyping) (t : Tree) (a : ActionResult) : Type 0 where
+pub record ActsWell (bases : Bases) (classes : List ClassFacts) (k : HeapTyping) (t : Tree)
+    (a : ActionResult) : Type 0 where
   pub typing : HeapTyping
   pub grows : Extends k typing
   pub well : IsWell bases classes typing a.heap

@@ -15,7 +15,10 @@ use Rattle.pc_tree.specs.declared.tree.BinaryOperator.TheVariants.{Add}
 use Rattle.pc_tree.specs.declared.code.Code.TheVariants.{E13}
 use Rattle.pc_tree.specs.declared.code.Finding.{Finding}
 use Rattle.pc_tree.specs.Code.{finding}
-use Rattle.pc_tree.specs.Tree.{Ann, Stmts, FuncDef, Module, name, number, nothing, truth, binary, is_none, call, no_exprs, more_exprs, no_keywords, named, none_type, union, no_anns, more_anns, to_name, returns, evaluates, assigns, while_loop, conditional, no_stmts, more_stmts, no_branches, more_branches, def_item}
+use Rattle.pc_tree.specs.Tree.{Ann, Stmts, FuncDef, Module, name, number, nothing, truth, binary, is_none, call}
+use Rattle.pc_tree.specs.Tree.{no_exprs, more_exprs, no_keywords, named, none_type, union, no_anns, more_anns, to_name}
+use Rattle.pc_tree.specs.Tree.{returns, evaluates, assigns, while_loop, conditional, no_stmts, more_stmts, no_branches}
+use Rattle.pc_tree.specs.Tree.{more_branches, def_item}
 use Rattle.pc_value.specs.Value.{Raised, TypeError}
 use Rattle.pc_machine.specs.Runs.{End, stopped}
 use Rattle.pc_sound.specs.Examples.{at, word}
@@ -26,7 +29,8 @@ int_or_none = union (at 44 54) (more_anns (named (word 44 (codes "int"))) (more_
 
 -- the body of the loop: `x + 1`, then `x = None`
 abbrev pub turn : Stmts
-turn = more_stmts (evaluates (at 114 115) (binary (at 114 119) Add (name (word 114 (codes "x"))) (number (at 118 119) (codes "1"))))
+turn = more_stmts (evaluates (at 114 115)
+    (binary (at 114 119) Add (name (word 114 (codes "x"))) (number (at 118 119) (codes "1"))))
     (more_stmts (assigns (at 128 129) (to_name (word 128 (codes "x"))) (nothing (at 132 136))) no_stmts)
 
 -- `f`, which returns where `x` is None, and else runs the loop
@@ -35,7 +39,9 @@ f = record {
   name = word 39 (codes "f");
   params = record { name = word 41 (codes "x"); annotation = Some int_or_none; default = None } ∷ [];
   returns = None;
-  body = more_stmts (conditional (at 61 63) (more_branches (is_none (at 64 73) (name (word 64 (codes "x")))) (more_stmts (returns (at 83 89) None) no_stmts) no_branches) no_stmts)
+  body = more_stmts (conditional (at 61 63)
+      (more_branches (is_none (at 64 73) (name (word 64 (codes "x"))))
+      (more_stmts (returns (at 83 89) None) no_stmts) no_branches) no_stmts)
       (more_stmts (while_loop (at 94 99) (truth (at 100 104) true) turn) no_stmts);
 }
 
@@ -45,12 +51,19 @@ main = record {
   name = word 141 (codes "main");
   params = [];
   returns = None;
-  body = more_stmts (evaluates (at 153 154) (call (at 153 157) (name (word 153 (codes "f"))) (more_exprs (number (at 155 156) (codes "1")) no_exprs) no_keywords)) no_stmts;
+  body = more_stmts (evaluates (at 153 154)
+      (call (at 153 157) (name (word 153 (codes "f")))
+      (more_exprs (number (at 155 156) (codes "1")) no_exprs) no_keywords)) no_stmts;
 }
 
 -- the tree of the text above
 abbrev pub program : Module
-program = record { imports_dataclass = false; imports_any = false; items = def_item (at 35 38) f ∷ def_item (at 137 140) main ∷ []; main = at 158 162 }
+program = record {
+  imports_dataclass = false;
+  imports_any = false;
+  items = def_item (at 35 38) f ∷ def_item (at 137 140) main ∷ [];
+  main = at 158 162;
+}
 
 -- the sum in the loop, at its line 6 and column 9
 abbrev pub findings : List Finding

@@ -19,6 +19,8 @@ pub record HasEvaluated (m : Module) (events : List Place) : Type 0 where
   pub dynamic : ¬ (IsError finding.code)
   pub event : Contains events finding.place
 
--- where no finding of a module is an error, each run of it that ends in a fault has by then evaluated a listed dynamic place
+-- where no finding of a module is an error, each run of it that ends in a fault has by then evaluated a listed dynamic
+-- place
 abbrev pub Sound : Type 0
-Sound = (m : Module) → HasNoError m → (events : List Place) (end : End) → Run m events end → IsFaultyEnd end → HasEvaluated m events
+Sound = (m : Module) → HasNoError m → (events : List Place) (end : End) → Run m events end → IsFaultyEnd end
+    → HasEvaluated m events

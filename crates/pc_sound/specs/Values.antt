@@ -1,11 +1,13 @@
 -- Values of a type, heap typings, and well-typed heaps.
 -- Typing specification, "Type system concepts": a type as the set of its values; own rule of the profile.
 use Rattle.std.specs.Prelude.{◌≡◌, ◌⊎◌, ℕ, List, [], ◌∷◌, length, Some, slice_get}
-use Rattle.pc_types.specs.Tree.{Tree, Trees, Any, Object, Int, Bool, Str, NoneType, Class, ListOf, DictOf, TupleOf, Union, end, more}
+use Rattle.pc_types.specs.Tree.{Tree, Trees, Any, Object, Int, Bool, Str, NoneType, Class, ListOf, DictOf, TupleOf}
+use Rattle.pc_types.specs.Tree.{Union, end, more}
 use Rattle.pc_types.specs.Below.{Bases, Below, Static}
 use Rattle.pc_class.specs.Facts as facts
 use Rattle.pc_class.specs.Facts.{TypedParameter, class_facts_at}
-use Rattle.pc_value.specs.Value.{Value, Values, whole, boolean, string, none, tuple_of, location, no_values, more_values, Entry, Slot, Cell, list_cell, dict_cell, instance_cell, Heap}
+use Rattle.pc_value.specs.Value.{Value, Values, whole, boolean, string, none, tuple_of, location, no_values}
+use Rattle.pc_value.specs.Value.{more_values, Entry, Slot, Cell, list_cell, dict_cell, instance_cell, Heap}
 
 -- what a heap typing records of a location: the type of a list's items, of a dict's keys and values, or a class
 pub data Recorded : Type 0 where
@@ -91,11 +93,13 @@ SlotsHave bases k _ _ = ⊥
 abbrev pub CellHas : Bases → List facts.ClassFacts → HeapTyping → Recorded → Cell → Type 0
 CellHas bases classes k (a_list t) (list_cell items) = AllHave bases k t items
 CellHas bases classes k (a_dict s t) (dict_cell entries) = EntriesHave bases k s t entries
-CellHas bases classes k (a_class c) (instance_cell d slots) = (d ≡ c) × SlotsHave bases k (class_facts_at classes c).fields slots
+CellHas bases classes k (a_class c) (instance_cell d slots) = (d ≡ c)
+    × SlotsHave bases k (class_facts_at classes c).fields slots
 CellHas bases classes k _ _ = ⊥
 
 -- a cell lies at the location, and it is of what is recorded of it
-pub record CellAt (bases : Bases) (classes : List facts.ClassFacts) (k : HeapTyping) (heap : Heap) (l : ℕ) (r : Recorded) : Type 0 where
+pub record CellAt (bases : Bases) (classes : List facts.ClassFacts) (k : HeapTyping) (heap : Heap) (l : ℕ)
+    (r : Recorded) : Type 0 where
   pub cell : Cell
   pub is : slice_get heap l ≡ Some cell
   pub has : CellHas bases classes k r cell

@@ -23,26 +23,37 @@ ghost use Rattle.pc_sound.specs.KeptHeaps.{ActsWell, CanFollowAll, Passes};
 
 /// The law that a value of a type is one of each type that the first is static to.
 pub fn values_flow_statically()
-    ensures { (bases : Bases) (k : HeapTyping) (s t : Tree) (v : Value) → Static bases s t → HasType bases k s v → HasType bases k t v }
+    ensures { (bases : Bases) (k : HeapTyping) (s t : Tree) (v : Value) → Static bases s t → HasType bases k s v
+        → HasType bases k t v }
 {}
 
 /// The law that what a test leaves of a type has the values of the type that pass it, and what it leaves where it
 /// fails has those that fail; of a test for a list, where no member of the type is Any or object.
 pub fn narrowing_keeps_values()
-    ensures passing { (bases : Bases) → AreSmaller bases → (k : HeapTyping) (test : Tested) (t : Tree) → CanFollowAll test (members t) → (v : Value) → HasType bases k t v → Passes bases k test v → HasType bases k (type_where_true bases test t) v }
-    ensures failing { (bases : Bases) → AreSmaller bases → (k : HeapTyping) (test : Tested) (t : Tree) → CanFollowAll test (members t) → (v : Value) → HasType bases k t v → ¬ (Passes bases k test v) → HasType bases k (type_where_false bases test t) v }
+    ensures passing { (bases : Bases) → AreSmaller bases → (k : HeapTyping) (test : Tested) (t : Tree)
+        → CanFollowAll test (members t) → (v : Value) → HasType bases k t v → Passes bases k test v
+        → HasType bases k (type_where_true bases test t) v }
+    ensures failing { (bases : Bases) → AreSmaller bases → (k : HeapTyping) (test : Tested) (t : Tree)
+        → CanFollowAll test (members t) → (v : Value) → HasType bases k t v → ¬ (Passes bases k test v)
+        → HasType bases k (type_where_false bases test t) v }
 {}
 
 /// The law that what is recorded of a list stays: an item that is appended or stored is of the type that the list was
 /// made with, under whatever name the list is reached.
 pub fn aliases_keep_heaps()
-    ensures append { (bases : Bases) (classes : List ClassFacts) (k : HeapTyping) (heap : Heap) (t : Tree) (list item : Value) → IsWell bases classes k heap → HasType bases k (ListOf t) list → HasType bases k t item → ActsWell bases classes k NoneType (append_outcome heap (seen heap list) item) }
-    ensures store { (bases : Bases) (classes : List ClassFacts) (k : HeapTyping) (heap : Heap) (t : Tree) (list index item : Value) → IsWell bases classes k heap → HasType bases k (ListOf t) list → HasType bases k Int index → HasType bases k t item → ActsWell bases classes k NoneType (store_outcome heap (seen heap list) (seen heap index) index item) }
+    ensures append { (bases : Bases) (classes : List ClassFacts) (k : HeapTyping) (heap : Heap) (t : Tree)
+        (list item : Value) → IsWell bases classes k heap → HasType bases k (ListOf t) list → HasType bases k t item
+        → ActsWell bases classes k NoneType (append_outcome heap (seen heap list) item) }
+    ensures store { (bases : Bases) (classes : List ClassFacts) (k : HeapTyping) (heap : Heap) (t : Tree)
+        (list index item : Value) → IsWell bases classes k heap → HasType bases k (ListOf t) list
+        → HasType bases k Int index → HasType bases k t item
+        → ActsWell bases classes k NoneType (store_outcome heap (seen heap list) (seen heap index) index item) }
 {}
 
 /// The law that a value of either of two types is one of their join, whatever the two are.
 pub fn joins_keep_values()
-    ensures { (bases : Bases) → AreSmaller bases → (k : HeapTyping) (s t u : Tree) → join bases s t ≡ Some u → (v : Value) → HasType bases k s v ⊎ HasType bases k t v → HasType bases k u v }
+    ensures { (bases : Bases) → AreSmaller bases → (k : HeapTyping) (s t u : Tree) → join bases s t ≡ Some u
+        → (v : Value) → HasType bases k s v ⊎ HasType bases k t v → HasType bases k u v }
 {}
 
 /// The law that no flow is dynamic without need: where a type that holds no `Never` is not static to another one, both

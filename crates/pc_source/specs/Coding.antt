@@ -1,5 +1,7 @@
--- Coding comments. Python Language Reference 3.12, 2.1.4 "Encoding declarations"; that `utf-8` alone is taken is an own rule of the profile.
-use Rattle.std.specs.Prelude.{◌≡◌, ◌≢◌, ℕ, ◌+◌, ◌<◌, ◌⊎◌, Bool, IsTrue, not, ◌&&◌, ◌||◌, ◌==◌, nat_eq, List, length, drop, slice_index, codes}
+-- Coding comments. Python Language Reference 3.12, 2.1.4 "Encoding declarations"; that `utf-8` alone is taken is an own
+-- rule of the profile.
+use Rattle.std.specs.Prelude.{◌≡◌, ◌≢◌, ℕ, ◌+◌, ◌<◌, ◌⊎◌, Bool, IsTrue, not, ◌&&◌, ◌||◌, ◌==◌, nat_eq, List, length}
+use Rattle.std.specs.Prelude.{drop, slice_index, codes}
 use Rattle.std.specs.List.{starts_with, prefix_len, before_first, after_first}
 
 -- the text begins with `coding:` or `coding=`

@@ -4,4 +4,5 @@ use Rattle.std.specs.Prelude.{◌≡◌, ◌≢◌, ℕ, ◌+◌, ◌<◌, ◌�
 -- at the byte stands a NUL, a form feed, or a carriage return that no line feed follows
 pub record IsControl (text : List ℕ) (byte : ℕ) : Type 0 where
   pub within : byte < length text
-  pub control : (slice_index text byte ≡ 0) ⊎ (slice_index text byte ≡ 12) ⊎ ((slice_index text byte ≡ 13) × (slice_index text (byte + 1) ≢ 10))
+  pub control : (slice_index text byte ≡ 0) ⊎ (slice_index text byte ≡ 12)
+      ⊎ ((slice_index text byte ≡ 13) × (slice_index text (byte + 1) ≢ 10))

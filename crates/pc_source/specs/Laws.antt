@@ -5,7 +5,8 @@ use Rattle.pc_source.specs.Text.{IsSourceRefusal}
 
 -- bytes have one refusal as a source at most
 abbrev pub OneRefusal : Type 0
-OneRefusal = (bytes : List ℕ) (refusal other : Refusal) → IsSourceRefusal bytes refusal → IsSourceRefusal bytes other → refusal ≡ other
+OneRefusal = (bytes : List ℕ) (refusal other : Refusal) → IsSourceRefusal bytes refusal → IsSourceRefusal bytes other
+    → refusal ≡ other
 
 -- a refusal's byte lies from 0 to the length of the bytes
 abbrev pub RefusalsWithin : Type 0

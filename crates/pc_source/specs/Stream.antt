@@ -18,4 +18,5 @@ module _ {S A : Type 0} (steps : S → Option (Result A Fault) → S → Type 0)
 
   -- each refusal that comes of a state stands from 0 to this length
   abbrev pub RefusesWithin : ℕ → S → Type 0
-  RefusesWithin len s = (xs : List A) (refusal : Refusal) → Yields steps s (map Ok xs ++ Err (Refused refusal) ∷ []) → refusal.byte ≤ len
+  RefusesWithin len s = (xs : List A) (refusal : Refusal) → Yields steps s (map Ok xs ++ Err (Refused refusal) ∷ [])
+      → refusal.byte ≤ len

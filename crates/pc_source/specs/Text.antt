@@ -1,12 +1,14 @@
 -- The source text: which bytes spell one, and which refusal stands in its place.
--- Python Language Reference 3.12, 2.1.4 "Encoding declarations"; the limit and the refusals are own rules of the profile.
+-- Python Language Reference 3.12, 2.1.4 "Encoding declarations"; the limit and the refusals are own rules of the
+-- profile.
 use Rattle.std.specs.Prelude.{◌≡◌, ℕ, ◌<◌, ◌≤◌, List, ◌∷◌, length, IsUtf8}
 use Rattle.std.specs.Str.Lossy.{utf8_valid_len}
 use Rattle.pc_source.specs.Control.{IsControl}
 use Rattle.pc_source.specs.Coding.{IsCoding}
 use Rattle.pc_source.specs.declared.fault.Refusal.{Refusal}
 use Rattle.pc_source.specs.declared.fault.RefusalCode.{RefusalCode}
-use Rattle.pc_source.specs.declared.fault.RefusalCode.TheVariants.{S1, S2, S3, S4, S5, L1, L2, L3, L4, L5, L6, L7, L8, I1, I2, I3, N1, N2, N3, N4, N5, G1, G2}
+use Rattle.pc_source.specs.declared.fault.RefusalCode.TheVariants.{S1, S2, S3, S4, S5, L1, L2, L3, L4, L5, L6, L7, L8}
+use Rattle.pc_source.specs.declared.fault.RefusalCode.TheVariants.{I1, I2, I3, N1, N2, N3, N4, N5, G1, G2}
 
 -- the greatest length of a source, in bytes
 abbrev pub source_limit : ℕ
@@ -53,7 +55,8 @@ IsCharacterFault bytes _ byte = ⊥
 -- else the first fault among the characters
 abbrev pub IsSourceFault : List ℕ → RefusalCode → ℕ → Type 0
 IsSourceFault bytes S1 byte = (source_limit < length bytes) × (byte ≡ source_limit)
-IsSourceFault bytes S2 byte = (length bytes ≤ source_limit) × (¬ (IsMarked bytes)) × (¬ (IsUtf8 bytes)) × (byte ≡ utf8_valid_len bytes)
+IsSourceFault bytes S2 byte = (length bytes ≤ source_limit) × (¬ (IsMarked bytes)) × (¬ (IsUtf8 bytes))
+    × (byte ≡ utf8_valid_len bytes)
 IsSourceFault bytes S3 byte = (length bytes ≤ source_limit) × IsMarked bytes × (byte ≡ 0)
 IsSourceFault bytes code byte = IsReadable bytes × IsCharacterFault bytes code byte
 

@@ -1,7 +1,8 @@
 //! Coding comments.
 ghost use Rattle.std.specs.Prelude.{◌≡◌, ℕ, ◌+◌, ◌<◌, ◌≤◌, ◌==◌, ◌↔◌, length, drop, MatchOption, IfSome, IsTrue};
 ghost use Rattle.std.specs.List.{prefix_len, position_or_len};
-ghost use Rattle.pc_source.specs.Coding.{IsCoding, IsCodingComment, first_line, later_lines, names_other_coding, after_spaces};
+ghost use Rattle.pc_source.specs.Coding.{IsCoding, IsCodingComment, first_line, later_lines, names_other_coding};
+ghost use Rattle.pc_source.specs.Coding.{after_spaces};
 
 /// How many spaces stand at the front.
 fn space_count(bytes: &[u8]) -> usize
@@ -38,7 +39,8 @@ fn names_other_coding(bytes: &[u8]) -> bool
 
 /// Whether another coding is named after a byte.
 fn names_other_after(line: &[u8], byte: usize) -> bool
-    ensures { IsTrue result ↔ ((k : ℕ) × (k < length line.now) × (byte < k) × IsTrue (names_other_coding (drop k line.now))) }
+    ensures { IsTrue result ↔
+        ((k : ℕ) × (k < length line.now) × (byte < k) × IsTrue (names_other_coding (drop k line.now))) }
 {
     'bytes: for k in 0..line.len() {
         if k > byte && names_other_coding(&line[k..]) {

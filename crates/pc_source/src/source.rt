@@ -1,6 +1,7 @@
 //! The source text.
 
-ghost use Rattle.std.specs.Prelude.{◌≡◌, ◌==◌, ◌<◌, List, ℕ, string_bytes, take, length, ◌≤◌, IfOk, IfErr, IfSome, MatchOption};
+ghost use Rattle.std.specs.Prelude.{◌≡◌, ◌==◌, ◌<◌, List, ℕ, string_bytes, take, length, ◌≤◌, IfOk, IfErr, IfSome};
+ghost use Rattle.std.specs.Prelude.{MatchOption};
 ghost use Rattle.std.specs.List.{after_last};
 ghost use Rattle.pc_source.specs.Text.{IsText, IsSourceRefusal, IsFirstControl, IsFirstCoding, IsCharacterFault};
 ghost use Rattle.pc_source.specs.Control.{IsControl};

@@ -7,7 +7,9 @@ use Rattle.pc_tree.specs.declared.code.Code.TheVariants.{E01, E05, E06, E28, E29
 use Rattle.pc_tree.specs.declared.code.Finding.{Finding}
 use Rattle.pc_tree.specs.Code.{finding}
 use Rattle.pc_tree.specs.Tree.{FuncDef, Item, Module}
-use Rattle.pc_tree.specs.Stopping.{params_again, self_before, given_in_def, loose_in_def, reserved_in_def, late_plain_in, of_defs, twice, outside_loop, clashing_members, no_main, reserved_bound, default_order}
+use Rattle.pc_tree.specs.Stopping.{params_again, self_before, given_in_def, loose_in_def, reserved_in_def}
+use Rattle.pc_tree.specs.Stopping.{late_plain_in, of_defs, twice, outside_loop, clashing_members, no_main}
+use Rattle.pc_tree.specs.Stopping.{reserved_bound, default_order}
 use Rattle.pc_stop.specs.declared.defs.FunctionRule.{FunctionRule}
 use Rattle.pc_stop.specs.declared.defs.FunctionRule.TheVariants as rule
 
@@ -41,7 +43,9 @@ in_defs r items = of_defs (places_by r false) (places_by r true) items
 
 -- E01, E05, E28, E29, E31: conditions on names and on the places of statements
 abbrev pub found_in_scopes : Module → List Finding
-found_in_scopes m = at_code E01 (twice m) ++ (at_code E05 (outside_loop m) ++ (at_code E28 (no_main m) ++ (at_code E29 (reserved_bound m) ++ at_code E31 (default_order m))))
+found_in_scopes m = at_code E01 (twice m)
+    ++ (at_code E05 (outside_loop m)
+    ++ (at_code E28 (no_main m) ++ (at_code E29 (reserved_bound m) ++ at_code E31 (default_order m))))
 
 -- E06: members that clash
 abbrev pub found_in_classes : Module → List Finding

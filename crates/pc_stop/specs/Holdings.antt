@@ -1,6 +1,7 @@
 -- What classes have by which names, as tables hold it.
 -- Own device; what a class has: own rule of the profile (the codes that stop a run).
-use Rattle.std.specs.Prelude.{◌≡◌, ◌<◌, ◌^◌, ℕ, zero, suc, Bool, true, false, List, length, map, Option, Some, None, slice_get}
+use Rattle.std.specs.Prelude.{◌≡◌, ◌<◌, ◌^◌, ℕ, zero, suc, Bool, true, false, List, length, map, Option, Some, None}
+use Rattle.std.specs.Prelude.{slice_get}
 use Rattle.std.specs.List.{list_any}
 use Rattle.pc_tree.specs.Stopping.{HeldMember, held_text, is_field_of, is_among}
 use Rattle.pc_names.specs.Names.{texts_in}
@@ -54,7 +55,8 @@ abbrev pub AreOnce : List (List ℕ) → Type 0
 AreOnce names = (j k : ℕ) (text : List ℕ) → slice_get names j ≡ Some text → slice_get names k ≡ Some text → j ≡ k
 
 -- a table has just what these members are, by the numbers of their names
-pub record Has (digits : ℕ) (names : List (List ℕ)) (nodes : List Node) (table : ℕ) (hs : List HeldMember) : Type 0 where
+pub record Has (digits : ℕ) (names : List (List ℕ)) (nodes : List Node) (table : ℕ)
+    (hs : List HeldMember) : Type 0 where
   pub ready : IsReady nodes
   pub once : AreOnce names
   pub within : table < length nodes

@@ -1,6 +1,7 @@
 -- What the walk over classes knows of the items before.
 -- Own device; which members clash: own rule of the profile (the codes that stop a run).
-use Rattle.std.specs.Prelude.{◌≡◌, ℕ, Bool, true, false, List, [], ◌∷◌, map, if◌then◌else◌, Option, Some, None, is_some, unwrap_or, bytes_eq}
+use Rattle.std.specs.Prelude.{◌≡◌, ℕ, Bool, true, false, List, [], ◌∷◌, map, if◌then◌else◌, Option, Some, None, is_some}
+use Rattle.std.specs.Prelude.{unwrap_or, bytes_eq}
 use Rattle.std.specs.Borrow.{Bor}
 use Rattle.indexmap.specs.IndexMap.{IndexMap}
 use Rattle.pc_tree.specs.Tree.{Member, Item}
@@ -30,7 +31,8 @@ base_at bound (Some n) = unwrap_or (at_text bound n) 0
 abbrev pub names_before : List Item → List (List ℕ)
 names_before before = map (λ i. (name_of_item i).text) before
 
--- each name that the items before bind has a table, that of what the class of the name has; other names have the empty table's
+-- each name that the items before bind has a table, that of what the class of the name has; other names have the empty
+-- table's
 pub record Stands {S : Type 0} (h : Holdings) (bound : IndexMap (Bor (List ℕ)) ℕ S) (before : List Item) : Type 0 where
   pub empty : HasIn h 0 []
   pub named : (n : List ℕ) → is_some (at_text bound n) ≡ is_among (names_before before) n
@@ -38,4 +40,5 @@ pub record Stands {S : Type 0} (h : Holdings) (bound : IndexMap (Bor (List ℕ))
 
 -- the table of an item's name, where no item before binds it
 abbrev pub IsTableOf : Holdings → List Item → Item → ℕ → Type 0
-IsTableOf h before item table = is_among (names_before before) (name_of_item item).text ≡ false → HasIn h table (members_of (item ∷ before) (Some (name_of_item item).text))
+IsTableOf h before item table = is_among (names_before before) (name_of_item item).text ≡ false
+    → HasIn h table (members_of (item ∷ before) (Some (name_of_item item).text))

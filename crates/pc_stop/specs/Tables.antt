@@ -1,6 +1,7 @@
 -- Tables from numbers to numbers, as nodes that lie in a list: the number of a table is that of its first node.
 -- Own device: a table with one entry changed shares all other nodes with the one that it was made from.
-use Rattle.std.specs.Prelude.{◌≡◌, ◌<◌, ◌≤◌, ◌^◌, ◌%◌, ◌/◌, ℕ, zero, suc, nat_eq, Bool, true, false, if◌then◌else◌, List, length, Option, Some, None, slice_get}
+use Rattle.std.specs.Prelude.{◌≡◌, ◌<◌, ◌≤◌, ◌^◌, ◌%◌, ◌/◌, ℕ, zero, suc, nat_eq, Bool, true, false, if◌then◌else◌}
+use Rattle.std.specs.Prelude.{List, length, Option, Some, None, slice_get}
 use Rattle.pc_stop.specs.declared.tables.Node.{Node}
 
 -- the node that follows a node at an even number or at an odd one; the first where there is no such node
@@ -28,4 +29,5 @@ pub record IsWith (old new : List Node) (digits table number value added : ℕ) 
   pub within : added < length new
   pub more : length old ≤ length new
   pub kept : (d t k : ℕ) → t < length old → value_at new d t k ≡ value_at old d t k
-  pub has : (k : ℕ) → k < 2 ^ digits → number < 2 ^ digits → value_at new digits added k ≡ (if nat_eq k number then value else value_at old digits table k)
+  pub has : (k : ℕ) → k < 2 ^ digits → number < 2 ^ digits
+      → value_at new digits added k ≡ (if nat_eq k number then value else value_at old digits table k)

@@ -6,7 +6,9 @@ ghost use Rattle.pc_source.specs.declared.place.Place.{Place as PlaceOf};
 ghost use Rattle.pc_tree.specs.declared.code.Code.TheVariants.{E01};
 ghost use Rattle.pc_tree.specs.Tree.{item_of, expr_of, option_expr_of, target_of, stmt_of_kind, stmts_of_list};
 ghost use Rattle.pc_tree.specs.Lists.{exprs_of_list, entries_of_list, keywords_of_list, branches_of_list};
-ghost use Rattle.pc_tree.specs.Stopping.{given_again, given_in_constants, given_in, given_in_all, given_in_entries, given_in_keywords, given_in_optional, given_in_target, given_in_stmt, given_in_stmts, given_in_branches};
+ghost use Rattle.pc_tree.specs.Stopping.{given_again, given_in_constants, given_in, given_in_all, given_in_entries};
+ghost use Rattle.pc_tree.specs.Stopping.{given_in_keywords, given_in_optional, given_in_target, given_in_stmt};
+ghost use Rattle.pc_tree.specs.Stopping.{given_in_stmts, given_in_branches};
 ghost use Rattle.pc_stop.specs.Found.{at_code};
 
 use crate::found::find_if;
@@ -26,7 +28,8 @@ fn find_given_again(
     keys: RandomState,
     by_name: &[KeywordArgument],
 ) -> Result<(), OutOfMemory>
-    ensures { OnOk result (found.new.items ≡ found.old.items ++ at_code E01 (given_again [] (keywords_of_list by_name.now))) }
+    ensures { OnOk result (found.new.items
+        ≡ found.old.items ++ at_code E01 (given_again [] (keywords_of_list by_name.now))) }
 {
     let mut before = IndexSet::with_hasher(alloc, keys);
     for argument in by_name {
@@ -109,7 +112,8 @@ fn find_given_in_entries(
     keys: RandomState,
     entries: &[Entry],
 ) -> Result<(), OutOfMemory>
-    ensures { OnOk result (found.new.items ≡ found.old.items ++ at_code E01 (given_in_entries (entries_of_list entries.now))) }
+    ensures { OnOk result (found.new.items
+        ≡ found.old.items ++ at_code E01 (given_in_entries (entries_of_list entries.now))) }
 {
     for entry in entries {
         find_given(found, alloc, keys, &entry.key)?;
@@ -126,7 +130,8 @@ fn find_given_in_values(
     keys: RandomState,
     by_name: &[KeywordArgument],
 ) -> Result<(), OutOfMemory>
-    ensures { OnOk result (found.new.items ≡ found.old.items ++ at_code E01 (given_in_keywords (keywords_of_list by_name.now))) }
+    ensures { OnOk result (found.new.items
+        ≡ found.old.items ++ at_code E01 (given_in_keywords (keywords_of_list by_name.now))) }
 {
     for argument in by_name {
         find_given(found, alloc, keys, &argument.value)?;
@@ -192,7 +197,8 @@ fn find_given_in_statement(
     keys: RandomState,
     kind: &StmtKind,
 ) -> Result<(), OutOfMemory>
-    ensures { (p : PlaceOf) → OnOk result (found.new.items ≡ found.old.items ++ at_code E01 (given_in_stmt (stmt_of_kind p kind.now))) }
+    ensures { (p : PlaceOf) → OnOk result
+        (found.new.items ≡ found.old.items ++ at_code E01 (given_in_stmt (stmt_of_kind p kind.now))) }
 {
     match kind {
         StmtKind::Pass | StmtKind::Break | StmtKind::Continue => Ok(()),
@@ -230,7 +236,8 @@ fn find_given_in_branches(
     keys: RandomState,
     branches: &[Branch],
 ) -> Result<(), OutOfMemory>
-    ensures { OnOk result (found.new.items ≡ found.old.items ++ at_code E01 (given_in_branches (branches_of_list branches.now))) }
+    ensures { OnOk result (found.new.items
+        ≡ found.old.items ++ at_code E01 (given_in_branches (branches_of_list branches.now))) }
 {
     for branch in branches {
         find_given(found, alloc, keys, &branch.condition)?;
@@ -246,7 +253,8 @@ pub fn find_given_in_constants(
     keys: RandomState,
     items: &[Item],
 ) -> Result<(), OutOfMemory>
-    ensures { OnOk result (found.new.items ≡ found.old.items ++ at_code E01 (given_in_constants (map item_of items.now))) }
+    ensures { OnOk result (found.new.items
+        ≡ found.old.items ++ at_code E01 (given_in_constants (map item_of items.now))) }
 {
     for item in items {
         match &item.kind {

@@ -11,7 +11,8 @@ use pc_tree::{Code, Findings, Param};
 
 /// Finds the parameters without default that stand after one with default.
 pub fn find_late_plain(found: &mut Findings, params: &[Param]) -> Result<(), OutOfMemory>
-    ensures { OnOk result (found.new.items ≡ found.old.items ++ at_code E31 (late_plain false (map param_of params.now))) }
+    ensures { OnOk result (found.new.items
+        ≡ found.old.items ++ at_code E31 (late_plain false (map param_of params.now))) }
 {
     let mut defaulted = false;
     for param in params {

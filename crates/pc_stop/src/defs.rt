@@ -40,7 +40,8 @@ fn find_by(
     is_method: bool,
     def: &FuncDef,
 ) -> Result<(), OutOfMemory>
-    ensures { OnOk result (found.new.items ≡ found.old.items ++ at_code (code_of rule) (places_by rule is_method (func_of def.now))) }
+    ensures { OnOk result (found.new.items
+        ≡ found.old.items ++ at_code (code_of rule) (places_by rule is_method (func_of def.now))) }
 {
     match rule {
         FunctionRule::ParametersAgain => find_parameters_again(
@@ -65,7 +66,8 @@ fn find_in_methods(
     rule: FunctionRule,
     members: &[Member],
 ) -> Result<(), OutOfMemory>
-    ensures { OnOk result (found.new.items ≡ found.old.items ++ at_code (code_of rule) (of_members (places_by rule true) (map member_of members.now))) }
+    ensures { OnOk result (found.new.items
+        ≡ found.old.items ++ at_code (code_of rule) (of_members (places_by rule true) (map member_of members.now))) }
 {
     for member in members {
         match member {
@@ -84,7 +86,8 @@ pub fn find_in_defs(
     rule: FunctionRule,
     items: &[Item],
 ) -> Result<(), OutOfMemory>
-    ensures { OnOk result (found.new.items ≡ found.old.items ++ at_code (code_of rule) (in_defs rule (map item_of items.now))) }
+    ensures { OnOk result (found.new.items
+        ≡ found.old.items ++ at_code (code_of rule) (in_defs rule (map item_of items.now))) }
 {
     for item in items {
         match &item.kind {

@@ -122,7 +122,10 @@ impl<'m> Holdings<'m> {
         member: &Member,
     ) -> Result<usize, OutOfMemory>
         requires { IsReady self.old.nodes.items }
-        ensures held { IfOk result (λ t. (hs : List HeldMember) → number < 2 ^ DIGITS → slice_get (texts_in self.old.numbers) number ≡ Some (name_of_member (member_of member.now)).text → HasIn self.old table hs → HasIn self.new t (hs ++ held_by (member_of member.now) ∷ [])) }
+        ensures held { IfOk result
+            (λ t. (hs : List HeldMember) → number < 2 ^ DIGITS
+            → slice_get (texts_in self.old.numbers) number ≡ Some (name_of_member (member_of member.now)).text
+            → HasIn self.old table hs → HasIn self.new t (hs ++ held_by (member_of member.now) ∷ [])) }
         ensures keeps { OnOk result (Keeps self.old self.new) }
     {
         let had = self.held(table, number);

@@ -24,7 +24,8 @@ pub fn find_loose(found: &mut Findings, body: &[Stmt]) -> Result<(), OutOfMemory
 /// Finds those of a statement: itself, or in the suites of an `if`.
 #[cycle(loose)]
 fn find_loose_by(found: &mut Findings, first: Place, kind: &StmtKind) -> Result<(), OutOfMemory>
-    ensures { OnOk result (found.new.items ≡ found.old.items ++ at_code E05 (loose_in_stmt (stmt_of_kind first kind.now))) }
+    ensures { OnOk result (found.new.items
+        ≡ found.old.items ++ at_code E05 (loose_in_stmt (stmt_of_kind first kind.now))) }
 {
     match kind {
         StmtKind::Pass => Ok(()),
@@ -47,7 +48,8 @@ fn find_loose_by(found: &mut Findings, first: Place, kind: &StmtKind) -> Result<
 /// Finds those in the suites of conditions.
 #[cycle(loose)]
 fn find_loose_in(found: &mut Findings, branches: &[Branch]) -> Result<(), OutOfMemory>
-    ensures { OnOk result (found.new.items ≡ found.old.items ++ at_code E05 (loose_in_branches (branches_of_list branches.now))) }
+    ensures { OnOk result (found.new.items
+        ≡ found.old.items ++ at_code E05 (loose_in_branches (branches_of_list branches.now))) }
 {
     for branch in branches {
         find_loose(found, &branch.body)?;

@@ -3,7 +3,8 @@
 ghost use Rattle.std.specs.Prelude.{◌≡◌, ◌<◌, ◌^◌, ◌||◌, ◌++◌, ◌∷◌, [], map, IfOk, OnOk, List, ℕ, Some, slice_get};
 ghost use Rattle.pc_tree.specs.declared.code.Code.TheVariants.{E06};
 ghost use Rattle.pc_tree.specs.Tree.{Item as ItemOf, item_of, member_of, module_of, option_name_of};
-ghost use Rattle.pc_tree.specs.Stopping.{HeldMember, is_field, is_among, is_reserved_member, name_of_member, clashes_among, clashing_in, clashing_members, own_members, option_text};
+ghost use Rattle.pc_tree.specs.Stopping.{HeldMember, is_field, is_among, is_reserved_member, name_of_member};
+ghost use Rattle.pc_tree.specs.Stopping.{clashes_among, clashing_in, clashing_members, own_members, option_text};
 ghost use Rattle.pc_names.specs.Names.{texts_in};
 ghost use Rattle.pc_stop.specs.Found.{at_code};
 ghost use Rattle.pc_stop.specs.Holdings.{HasIn, IsReady, Keeps};
@@ -54,7 +55,12 @@ fn table_behind(
 ) -> Result<usize, OutOfMemory>
     requires { IsReady holdings.old.nodes.items }
     ensures keeps { OnOk result (Keeps holdings.old holdings.new) }
-    ensures has { IfOk result (λ t. (all : List HeldMember) → number < 2 ^ DIGITS → slice_get (texts_in holdings.old.numbers) number ≡ Some (name_of_member (member_of member.now)).text → HasIn holdings.old table all → HasIn holdings.new t (all ++ held_unless (is_reserved_member (member_of member.now) || clash) (member_of member.now))) }
+    ensures has { IfOk result
+        (λ t. (all : List HeldMember) → number < 2 ^ DIGITS
+        → slice_get (texts_in holdings.old.numbers) number ≡ Some (name_of_member (member_of member.now)).text
+        → HasIn holdings.old table all
+        → HasIn holdings.new t (all
+        ++ held_unless (is_reserved_member (member_of member.now) || clash) (member_of member.now))) }
 {
     if has_reserved_name(member) {
         return Ok(table);
@@ -77,9 +83,15 @@ fn find_member<'m>(
 ) -> Result<usize, OutOfMemory>
     requires { IsReady holdings.old.nodes.items }
     ensures keeps { OnOk result (Keeps holdings.old holdings.new) }
-    ensures passed { OnOk result ((text : List ℕ) → is_among (texts_in before.new) text ≡ is_among ((name_of_member (member_of member.now)).text ∷ texts_in before.old) text) }
-    ensures found { (hs : List HeldMember) → HasIn holdings.old inherited hs → OnOk result (found.new.items ≡ found.old.items ++ at_code E06 (clashes_among (texts_in before.old) hs (member_of member.now ∷ []))) }
-    ensures has { IfOk result (λ t. (hs all : List HeldMember) → HasIn holdings.old inherited hs → HasIn holdings.old table all → HasIn holdings.new t (all ++ own_members (texts_in before.old) hs (member_of member.now ∷ []))) }
+    ensures passed { OnOk result
+        ((text : List ℕ) → is_among (texts_in before.new) text
+        ≡ is_among ((name_of_member (member_of member.now)).text ∷ texts_in before.old) text) }
+    ensures found { (hs : List HeldMember) → HasIn holdings.old inherited hs
+        → OnOk result (found.new.items
+        ≡ found.old.items ++ at_code E06 (clashes_among (texts_in before.old) hs (member_of member.now ∷ []))) }
+    ensures has { IfOk result
+        (λ t. (hs all : List HeldMember) → HasIn holdings.old inherited hs → HasIn holdings.old table all
+        → HasIn holdings.new t (all ++ own_members (texts_in before.old) hs (member_of member.now ∷ []))) }
 {
     let name = member.name();
     let again = put(before, name.text.as_str())?;
@@ -100,8 +112,12 @@ fn find_in_class<'m>(
 ) -> Result<usize, OutOfMemory>
     requires { IsReady holdings.old.nodes.items }
     ensures keeps { OnOk result (Keeps holdings.old holdings.new) }
-    ensures found { (hs : List HeldMember) → HasIn holdings.old inherited hs → OnOk result (found.new.items ≡ found.old.items ++ at_code E06 (clashes_among [] hs (map member_of members.now))) }
-    ensures has { IfOk result (λ t. (hs : List HeldMember) → HasIn holdings.old inherited hs → HasIn holdings.new t (hs ++ own_members [] hs (map member_of members.now))) }
+    ensures found { (hs : List HeldMember) → HasIn holdings.old inherited hs
+        → OnOk result (found.new.items
+        ≡ found.old.items ++ at_code E06 (clashes_among [] hs (map member_of members.now))) }
+    ensures has { IfOk result
+        (λ t. (hs : List HeldMember) → HasIn holdings.old inherited hs
+        → HasIn holdings.new t (hs ++ own_members [] hs (map member_of members.now))) }
 {
     let mut before = IndexSet::with_hasher(alloc, keys);
     let mut table = inherited;
@@ -124,8 +140,8 @@ fn base_table(bound: &NameMap<'_, usize>, base: &Option<Name>) -> usize
     }
 }
 
-/// Finds the members of an item that clash, if it is a class, and gives the table of its name where no item before binds
-/// it.
+/// Finds the members of an item that clash, if it is a class, and gives the table of its name where no item before
+/// binds it.
 fn find_in_item<'m>(
     found: &mut Findings,
     alloc: Allocator,
@@ -136,8 +152,11 @@ fn find_in_item<'m>(
 ) -> Result<usize, OutOfMemory>
     requires { IsReady holdings.old.nodes.items }
     ensures keeps { OnOk result (Keeps holdings.old holdings.new) }
-    ensures found { (before : List ItemOf) → Stands holdings.old bound.now before → OnOk result (found.new.items ≡ found.old.items ++ at_code E06 (clashing_in before (item_of item.now ∷ []))) }
-    ensures has { IfOk result (λ t. (before : List ItemOf) → Stands holdings.old bound.now before → IsTableOf holdings.new before (item_of item.now) t) }
+    ensures found { (before : List ItemOf) → Stands holdings.old bound.now before
+        → OnOk result (found.new.items ≡ found.old.items ++ at_code E06 (clashing_in before (item_of item.now ∷ []))) }
+    ensures has { IfOk result
+        (λ t. (before : List ItemOf) → Stands holdings.old bound.now before
+        → IsTableOf holdings.new before (item_of item.now) t) }
 {
     match &item.kind {
         ItemKind::Constant(_) => Ok(EMPTY),

@@ -21,7 +21,8 @@ pub fn names_of<'m>(alloc: Allocator, items: &'m [Item]) -> Result<Vec<&'m Name>
 
 /// Adds the names of parameters.
 pub fn add_params<'m>(names: &mut Vec<&'m Name>, params: &'m [Param]) -> Result<(), OutOfMemory>
-    ensures { OnOk result (map name_seen names.new.items ≡ map name_seen names.old.items ++ map name_of_param (map param_of params.now)) }
+    ensures { OnOk result (map name_seen names.new.items
+        ≡ map name_seen names.old.items ++ map name_of_param (map param_of params.now)) }
 {
     for param in params {
         names.push(&param.name)?;

@@ -5,7 +5,8 @@ ghost use Rattle.std.specs.Prelude.{◌≡◌, ◌++◌, ◌∷◌, [], map, OnO
 ghost use Rattle.pc_tree.specs.declared.code.Code.TheVariants.{E29};
 ghost use Rattle.pc_tree.specs.Lists.{name_seen};
 ghost use Rattle.pc_tree.specs.Tree.{func_of, member_of, item_of};
-ghost use Rattle.pc_tree.specs.Stopping.{name_of_item, reserved_among, reserved_members, reserved_in_classes, reserved_in_def, is_reserved_member};
+ghost use Rattle.pc_tree.specs.Stopping.{name_of_item, reserved_among, reserved_members, reserved_in_classes};
+ghost use Rattle.pc_tree.specs.Stopping.{reserved_in_def, is_reserved_member};
 ghost use Rattle.pc_stop.specs.Found.{at_code};
 
 use crate::found::find_if;
@@ -35,7 +36,8 @@ pub fn find_reserved_items(
     alloc: Allocator,
     items: &[Item],
 ) -> Result<(), OutOfMemory>
-    ensures { OnOk result (found.new.items ≡ found.old.items ++ at_code E29 (reserved_among (map name_of_item (map item_of items.now)))) }
+    ensures { OnOk result (found.new.items
+        ≡ found.old.items ++ at_code E29 (reserved_among (map name_of_item (map item_of items.now)))) }
 {
     let names = names_of(alloc, items)?;
     find_reserved(found, &names)
@@ -56,7 +58,8 @@ pub fn has_reserved_name(member: &Member) -> bool
 
 /// Finds such members of a class.
 fn find_reserved_members(found: &mut Findings, members: &[Member]) -> Result<(), OutOfMemory>
-    ensures { OnOk result (found.new.items ≡ found.old.items ++ at_code E29 (reserved_members (map member_of members.now))) }
+    ensures { OnOk result (found.new.items
+        ≡ found.old.items ++ at_code E29 (reserved_members (map member_of members.now))) }
 {
     for member in members {
         find_if(
@@ -71,7 +74,8 @@ fn find_reserved_members(found: &mut Findings, members: &[Member]) -> Result<(),
 
 /// Finds such members of the classes of a module.
 pub fn find_reserved_in_classes(found: &mut Findings, items: &[Item]) -> Result<(), OutOfMemory>
-    ensures { OnOk result (found.new.items ≡ found.old.items ++ at_code E29 (reserved_in_classes (map item_of items.now))) }
+    ensures { OnOk result (found.new.items
+        ≡ found.old.items ++ at_code E29 (reserved_in_classes (map item_of items.now))) }
 {
     for item in items {
         match &item.kind {

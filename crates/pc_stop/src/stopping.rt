@@ -86,7 +86,8 @@ pub fn find_in_scopes(
 ///
 /// `OutOfMemory` where the findings, or the names that were passed, have no room.
 pub fn stops(alloc: Allocator, keys: RandomState, program: &Module) -> Result<Findings, OutOfMemory>
-    ensures found { IfOk result (λ fs. (f : FindingOf) → Contains fs.items f ↔ IsStopping (module_of program.now) f.place f.code) }
+    ensures found { IfOk result
+        (λ fs. (f : FindingOf) → Contains fs.items f ↔ IsStopping (module_of program.now) f.place f.code) }
     ensures none { IfOk result (λ fs. has_none fs.items ≡ is_runnable (module_of program.now)) }
 {
     let mut found = Vec::new(alloc);

@@ -19,7 +19,9 @@ use std::hash::RandomState;
 
 /// Finds a name that stands among those before it, unless it is reserved.
 fn find_again(found: &mut Findings, again: bool, name: &Name) -> Result<(), OutOfMemory>
-    ensures { OnOk result (found.new.items ≡ found.old.items ++ at_code E01 (one_if (again && not (is_reserved (name_of name.now).text)) (name_of name.now).place)) }
+    ensures { OnOk result (found.new.items
+        ≡ found.old.items ++ at_code E01
+        (one_if (again && not (is_reserved (name_of name.now).text)) (name_of name.now).place)) }
 {
     if is_reserved(name.text.as_str()) {
         return Ok(());
@@ -33,7 +35,8 @@ fn find_bound_again<'m>(
     before: &mut NameSet<'m>,
     names: &[&'m Name],
 ) -> Result<(), OutOfMemory>
-    ensures { OnOk result (found.new.items ≡ found.old.items ++ at_code E01 (bound_again (texts_in before.old) (map name_seen names.now))) }
+    ensures { OnOk result (found.new.items
+        ≡ found.old.items ++ at_code E01 (bound_again (texts_in before.old) (map name_seen names.now))) }
 {
     for name in names {
         let again = put(before, name.text.as_str())?;
@@ -49,7 +52,8 @@ pub fn find_items_again(
     keys: RandomState,
     items: &[Item],
 ) -> Result<(), OutOfMemory>
-    ensures { OnOk result (found.new.items ≡ found.old.items ++ at_code E01 (bound_again [] (map name_of_item (map item_of items.now)))) }
+    ensures { OnOk result (found.new.items
+        ≡ found.old.items ++ at_code E01 (bound_again [] (map name_of_item (map item_of items.now)))) }
 {
     let names = names_of(alloc, items)?;
     let mut before = IndexSet::with_hasher(alloc, keys);
@@ -58,7 +62,8 @@ pub fn find_items_again(
 
 /// The object of a method stands before its parameters.
 fn put_self(before: &mut NameSet<'_>, is_method: bool) -> Result<(), OutOfMemory>
-    ensures { OnOk result ((text : List ℕ) → is_among (texts_in before.new) text ≡ is_among (self_before is_method ++ texts_in before.old) text) }
+    ensures { OnOk result ((text : List ℕ)
+        → is_among (texts_in before.new) text ≡ is_among (self_before is_method ++ texts_in before.old) text) }
 {
     if is_method {
         put(before, "self")?;
@@ -74,7 +79,9 @@ pub fn find_parameters_again(
     is_method: bool,
     params: &[Param],
 ) -> Result<(), OutOfMemory>
-    ensures { OnOk result (found.new.items ≡ found.old.items ++ at_code E01 (bound_again (self_before is_method) (map name_of_param (map param_of params.now)))) }
+    ensures { OnOk result (found.new.items
+        ≡ found.old.items ++ at_code E01
+        (bound_again (self_before is_method) (map name_of_param (map param_of params.now)))) }
 {
     let mut names = Vec::new(alloc);
     add_params(&mut names, params)?;

@@ -1,5 +1,6 @@
 -- What the text before a byte says about what may stand there.
-use Rattle.std.specs.Prelude.{ℕ, ◌+◌, ◌-◌, Bool, true, false, ◌&&◌, ◌==◌, List, [], ◌∷◌, ◌++◌, Option, Some, None, length, take}
+use Rattle.std.specs.Prelude.{ℕ, ◌+◌, ◌-◌, Bool, true, false, ◌&&◌, ◌==◌, List, [], ◌∷◌, ◌++◌, Option, Some, None}
+use Rattle.std.specs.Prelude.{length, take}
 use Rattle.pc_token.specs.declared.token.Operator.{Operator}
 use Rattle.pc_token.specs.declared.token.TokenKind.{TokenKind}
 use Rattle.pc_token.specs.declared.token.TokenKind.TheVariants as t
@@ -62,7 +63,12 @@ form_by_kind _ bytes = bytes
 -- the token that these bytes are
 abbrev pub lexeme_at : ℕ → TokenKind → List ℕ → Lexeme
 lexeme_at at kind bytes =
-    record { kind = kind; place = record { start = at; end = at + length bytes }; text = bytes; form = form_by_kind kind bytes }
+    record {
+      kind = kind;
+      place = record { start = at; end = at + length bytes };
+      text = bytes;
+      form = form_by_kind kind bytes;
+    }
 
 -- after a token
 abbrev pub after_token : LexicalContext → TokenKind → List ℕ → LexicalContext

@@ -1,5 +1,6 @@
 -- The lexical refusals, each as a condition on what stands at a byte. Own rules of the profile.
-use Rattle.std.specs.Prelude.{◌≡◌, ℕ, ◌-◌, ◌<◌, ◌≤◌, true, false, ◌==◌, ◌⊎◌, List, ◌++◌, Option, Some, None, length, take, slice_index, slice_get}
+use Rattle.std.specs.Prelude.{◌≡◌, ℕ, ◌-◌, ◌<◌, ◌≤◌, true, false, ◌==◌, ◌⊎◌, List, ◌++◌, Option, Some, None, length}
+use Rattle.std.specs.Prelude.{take, slice_index, slice_get}
 use Rattle.std.specs.List.{list_all}
 use Rattle.std.specs.Char.{is_ascii_digit}
 use Rattle.pc_source.specs.declared.fault.RefusalCode.{RefusalCode}
@@ -36,15 +37,18 @@ NoString text = (bytes rest : List ℕ) → text ≡ bytes ++ rest → IsString 
 -- L2: a quote at which no string begins, or that stands directly after a word or number,
 -- or that begins an empty string with the same quote directly after it
 abbrev pub IsBadString : LexicalContext → List ℕ → Type 0
-IsBadString c text = (is_quote (slice_index text 0) ≡ true) × (NoString text ⊎ (touches_word c ≡ true) ⊎ (is_tripled text ≡ true))
+IsBadString c text = (is_quote (slice_index text 0) ≡ true)
+    × (NoString text ⊎ (touches_word c ≡ true) ⊎ (is_tripled text ≡ true))
 
 -- L3: a digit at which no number stands as it may, or a point with a digit directly after it
 abbrev pub IsBadDigits : List ℕ → Type 0
-IsBadDigits text = ((is_ascii_digit (slice_index text 0) ≡ true) × (is_bad_number text ≡ true)) ⊎ (is_bad_point text ≡ true)
+IsBadDigits text = ((is_ascii_digit (slice_index text 0) ≡ true) × (is_bad_number text ≡ true))
+    ⊎ (is_bad_point text ≡ true)
 
 -- L4: a name that may not stand here
 abbrev pub IsBadName : LexicalContext → List ℕ → Type 0
-IsBadName c text = (bytes : List ℕ) × (rest : List ℕ) × (text ≡ bytes ++ rest) × IsLongest t.Name bytes rest × (is_bad_name c.last bytes ≡ true)
+IsBadName c text = (bytes : List ℕ) × (rest : List ℕ) × (text ≡ bytes ++ rest) × IsLongest t.Name bytes rest
+    × (is_bad_name c.last bytes ≡ true)
 
 -- the innermost open bracket
 abbrev pub innermost : List Operator → Option Operator
@@ -53,11 +57,13 @@ innermost brackets = slice_get brackets (length brackets - 1)
 -- L5: a bracket closes what is not the innermost open one, or the text ends in a bracket
 abbrev pub IsBadClosing : LexicalContext → List ℕ → Type 0
 IsBadClosing c text = ((length text ≡ 0) × (length c.brackets ≡ 0 → ⊥))
-    ⊎ ((o : Operator) × (opener : Operator) × (rest : List ℕ) × (text ≡ operator_text o ++ rest) × (role_of o ≡ Closes opener) × (innermost c.brackets ≡ Some opener → ⊥))
+    ⊎ ((o : Operator) × (opener : Operator) × (rest : List ℕ) × (text ≡ operator_text o ++ rest)
+    × (role_of o ≡ Closes opener) × (innermost c.brackets ≡ Some opener → ⊥))
 
 -- L6: a bracket opens where as many are open as may be
 abbrev pub IsBadOpening : LexicalContext → List ℕ → Type 0
-IsBadOpening c text = (o : Operator) × (rest : List ℕ) × (text ≡ operator_text o ++ rest) × (role_of o ≡ Opens) × (bracket_limit ≤ length c.brackets)
+IsBadOpening c text = (o : Operator) × (rest : List ℕ) × (text ≡ operator_text o ++ rest) × (role_of o ≡ Opens)
+    × (bracket_limit ≤ length c.brackets)
 
 -- L7: the first tab in the indentation of a line that has more than a comment
 pub record IsBadTab (c : LexicalContext) (text : List ℕ) (k : ℕ) : Type 0 where
@@ -69,7 +75,8 @@ pub record IsBadTab (c : LexicalContext) (text : List ℕ) (k : ℕ) : Type 0 wh
 
 -- L8: a number of too many digits
 abbrev pub IsLongNumber : List ℕ → Type 0
-IsLongNumber text = (is_ascii_digit (slice_index text 0) ≡ true) × (is_bad_number text ≡ false) × (digit_limit < digit_count (number_run text))
+IsLongNumber text = (is_ascii_digit (slice_index text 0) ≡ true) × (is_bad_number text ≡ false)
+    × (digit_limit < digit_count (number_run text))
 
 -- the refusal that stands k bytes after what stands here
 abbrev pub IsFault : LexicalContext → List ℕ → RefusalCode → ℕ → Type 0

@@ -1,5 +1,7 @@
--- What stands between tokens. Python Language Reference 3.12, 2.1.2 "Physical lines", 2.1.3 "Comments", 2.1.9 "Whitespace between tokens".
-use Rattle.std.specs.Prelude.{◌≡◌, ℕ, Bool, true, false, not, ◌&&◌, ◌||◌, ◌==◌, ◌⊎◌, List, [], ◌∷◌, length, drop, slice_index}
+-- What stands between tokens. Python Language Reference 3.12, 2.1.2 "Physical lines", 2.1.3 "Comments", 2.1.9
+-- "Whitespace between tokens".
+use Rattle.std.specs.Prelude.{◌≡◌, ℕ, Bool, true, false, not, ◌&&◌, ◌||◌, ◌==◌, ◌⊎◌, List, [], ◌∷◌, length, drop}
+use Rattle.std.specs.Prelude.{slice_index}
 use Rattle.std.specs.List.{prefix_len, list_all}
 
 -- a space or a tab

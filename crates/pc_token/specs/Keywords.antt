@@ -1,4 +1,5 @@
--- Keywords and reserved names. Python Language Reference 3.12, 2.3.1 "Keywords"; which names are reserved is an own rule of the profile.
+-- Keywords and reserved names. Python Language Reference 3.12, 2.3.1 "Keywords"; which names are reserved is an own
+-- rule of the profile.
 use Rattle.std.specs.Prelude.{ℕ, Bool, List, [], ◌∷◌, codes, bytes_eq}
 use Rattle.std.specs.List.{list_any}
 use Rattle.pc_token.specs.declared.token.Keyword.{Keyword}
@@ -44,7 +45,9 @@ keyword_text k.Yield = codes "yield"
 
 -- every keyword
 abbrev pub keywords : List Keyword
-keywords = k.False ∷ k.None ∷ k.True ∷ k.And ∷ k.As ∷ k.Assert ∷ k.Async ∷ k.Await ∷ k.Break ∷ k.Class ∷ k.Continue ∷ k.Def ∷ k.Del ∷ k.Elif ∷ k.Else ∷ k.Except ∷ k.Finally ∷ k.For ∷ k.From ∷ k.Global ∷ k.If ∷ k.Import ∷ k.In ∷ k.Is ∷ k.Lambda ∷ k.Nonlocal ∷ k.Not ∷ k.Or ∷ k.Pass ∷ k.Raise ∷ k.Return ∷ k.Try ∷ k.While ∷ k.With ∷ k.Yield ∷ []
+keywords = k.False ∷ k.None ∷ k.True ∷ k.And ∷ k.As ∷ k.Assert ∷ k.Async ∷ k.Await ∷ k.Break ∷ k.Class ∷ k.Continue
+    ∷ k.Def ∷ k.Del ∷ k.Elif ∷ k.Else ∷ k.Except ∷ k.Finally ∷ k.For ∷ k.From ∷ k.Global ∷ k.If ∷ k.Import ∷ k.In ∷ k.Is
+    ∷ k.Lambda ∷ k.Nonlocal ∷ k.Not ∷ k.Or ∷ k.Pass ∷ k.Raise ∷ k.Return ∷ k.Try ∷ k.While ∷ k.With ∷ k.Yield ∷ []
 
 -- the text is a keyword's
 abbrev pub is_keyword : List ℕ → Bool
@@ -53,7 +56,8 @@ is_keyword text = list_any (λ k. bytes_eq (keyword_text k) text) keywords
 -- the names that are reserved
 abbrev pub reserved_names : List (List ℕ)
 reserved_names =
-    codes "Any" ∷ codes "annotations" ∷ codes "bool" ∷ codes "dataclass" ∷ codes "dict" ∷ codes "int" ∷ codes "isinstance"
+    codes "Any" ∷ codes "annotations" ∷ codes "bool" ∷ codes "dataclass" ∷ codes "dict" ∷ codes "int"
+    ∷ codes "isinstance"
     ∷ codes "len" ∷ codes "list" ∷ codes "object" ∷ codes "print" ∷ codes "range" ∷ codes "str" ∷ codes "tuple" ∷ []
 
 -- the text is one of them

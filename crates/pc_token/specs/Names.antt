@@ -1,5 +1,7 @@
--- Names. Python Language Reference 3.12, 2.3 "Identifiers and keywords"; which names are refused is an own rule of the profile.
-use Rattle.std.specs.Prelude.{◌≡◌, ℕ, Bool, true, false, not, ◌&&◌, ◌||◌, ◌==◌, nat_eq, nat_lt, List, ◌∷◌, Option, Some, codes, chars, bytes_eq, encode_utf8_all, slice_get}
+-- Names. Python Language Reference 3.12, 2.3 "Identifiers and keywords"; which names are refused is an own rule of the
+-- profile.
+use Rattle.std.specs.Prelude.{◌≡◌, ℕ, Bool, true, false, not, ◌&&◌, ◌||◌, ◌==◌, nat_eq, nat_lt, List, ◌∷◌, Option, Some}
+use Rattle.std.specs.Prelude.{codes, chars, bytes_eq, encode_utf8_all, slice_get}
 use Rattle.std.specs.List.{list_all, starts_with}
 use Rattle.std.specs.Option.{option_map_or}
 use Rattle.unicode_ident.specs.Ident.{is_xid_start, is_xid_continue}
@@ -23,7 +25,8 @@ continues_word text = option_map_or is_xid_continue (slice_get (chars text) 0) f
 
 -- a character that may begin a name, and characters that may continue one
 abbrev pub IsName : List ℕ → Type 0
-IsName bytes = (c : ℕ) × (cs : List ℕ) × (begins_name c ≡ true) × (list_all is_xid_continue cs ≡ true) × (bytes ≡ encode_utf8_all (c ∷ cs))
+IsName bytes = (c : ℕ) × (cs : List ℕ) × (begins_name c ≡ true) × (list_all is_xid_continue cs ≡ true)
+    × (bytes ≡ encode_utf8_all (c ∷ cs))
 
 -- the form NFKC, by which names are compared
 unfoldable pub name_form : List ℕ → List ℕ

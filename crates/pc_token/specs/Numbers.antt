@@ -1,5 +1,7 @@
--- Whole numbers. Python Language Reference 3.12, 2.4.5 "Integer literals"; the refusals and the limit are own rules of the profile.
-use Rattle.std.specs.Prelude.{ℕ, Bool, true, not, ◌&&◌, ◌||◌, ◌==◌, List, [], ◌∷◌, drop, slice_index, codes, bytes_eq, count_by, take_while}
+-- Whole numbers. Python Language Reference 3.12, 2.4.5 "Integer literals"; the refusals and the limit are own rules of
+-- the profile.
+use Rattle.std.specs.Prelude.{ℕ, Bool, true, not, ◌&&◌, ◌||◌, ◌==◌, List, [], ◌∷◌, drop, slice_index, codes, bytes_eq}
+use Rattle.std.specs.Prelude.{count_by, take_while}
 use Rattle.std.specs.List.{prefix_len, list_all}
 use Rattle.std.specs.Char.{is_ascii_digit}
 use Rattle.pc_token.specs.Names.{continues_word}
@@ -17,7 +19,8 @@ underscores_fit (b ∷ bs) = (not (b == 95) || is_ascii_digit (slice_index bs 0)
 abbrev pub is_number : List ℕ → Bool
 is_number bytes =
     bytes_eq bytes (codes "0")
-    || ((is_ascii_digit (slice_index bytes 0) && not (slice_index bytes 0 == 48)) && (list_all is_number_byte bytes && underscores_fit bytes))
+    || ((is_ascii_digit (slice_index bytes 0) && not (slice_index bytes 0 == 48))
+    && (list_all is_number_byte bytes && underscores_fit bytes))
 
 -- the digits and underscores at the front
 abbrev pub number_run : List ℕ → List ℕ

@@ -57,7 +57,12 @@ operator_text o.Ellipsis = codes "..."
 
 -- every operator, the longer before the shorter
 abbrev pub operators : List Operator
-operators = o.DoubleSlashEqual ∷ o.DoubleStarEqual ∷ o.LeftShiftEqual ∷ o.RightShiftEqual ∷ o.Ellipsis ∷ o.DoubleSlash ∷ o.EqualEqual ∷ o.NotEqual ∷ o.LessEqual ∷ o.GreaterEqual ∷ o.Arrow ∷ o.DoubleStar ∷ o.LeftShift ∷ o.RightShift ∷ o.ColonEqual ∷ o.PlusEqual ∷ o.MinusEqual ∷ o.StarEqual ∷ o.SlashEqual ∷ o.PercentEqual ∷ o.AmpersandEqual ∷ o.BarEqual ∷ o.CircumflexEqual ∷ o.AtEqual ∷ o.Plus ∷ o.Minus ∷ o.Star ∷ o.Percent ∷ o.Less ∷ o.Greater ∷ o.Equal ∷ o.LeftParenthesis ∷ o.RightParenthesis ∷ o.LeftBracket ∷ o.RightBracket ∷ o.LeftBrace ∷ o.RightBrace ∷ o.Comma ∷ o.Colon ∷ o.Dot ∷ o.Bar ∷ o.At ∷ o.Slash ∷ o.Ampersand ∷ o.Circumflex ∷ o.Tilde ∷ o.Semicolon ∷ []
+operators = o.DoubleSlashEqual ∷ o.DoubleStarEqual ∷ o.LeftShiftEqual ∷ o.RightShiftEqual ∷ o.Ellipsis ∷ o.DoubleSlash
+    ∷ o.EqualEqual ∷ o.NotEqual ∷ o.LessEqual ∷ o.GreaterEqual ∷ o.Arrow ∷ o.DoubleStar ∷ o.LeftShift ∷ o.RightShift
+    ∷ o.ColonEqual ∷ o.PlusEqual ∷ o.MinusEqual ∷ o.StarEqual ∷ o.SlashEqual ∷ o.PercentEqual ∷ o.AmpersandEqual
+    ∷ o.BarEqual ∷ o.CircumflexEqual ∷ o.AtEqual ∷ o.Plus ∷ o.Minus ∷ o.Star ∷ o.Percent ∷ o.Less ∷ o.Greater ∷ o.Equal
+    ∷ o.LeftParenthesis ∷ o.RightParenthesis ∷ o.LeftBracket ∷ o.RightBracket ∷ o.LeftBrace ∷ o.RightBrace ∷ o.Comma
+    ∷ o.Colon ∷ o.Dot ∷ o.Bar ∷ o.At ∷ o.Slash ∷ o.Ampersand ∷ o.Circumflex ∷ o.Tilde ∷ o.Semicolon ∷ []
 
 -- what an operator is as a bracket: it opens, it closes what another opens, or it is none
 abbrev pub role_of : Operator → Role

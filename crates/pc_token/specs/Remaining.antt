@@ -1,5 +1,6 @@
 -- What the iterator over logical lines has left, and what it gives.
-use Rattle.std.specs.Prelude.{◌≡◌, ◌+◌, ◌-◌, true, MatchBool, List, [], ◌∷◌, Option, Result, Ok, Err, MatchOption, MatchResult, length, drop, map, if◌then◌else◌}
+use Rattle.std.specs.Prelude.{◌≡◌, ◌+◌, ◌-◌, true, MatchBool, List, [], ◌∷◌, Option, Result, Ok, Err, MatchOption}
+use Rattle.std.specs.Prelude.{MatchResult, length, drop, map, if◌then◌else◌}
 use Rattle.std.specs.Iterator.{Count, at_most}
 use Rattle.pc_source.specs.Answers.{OnRefusal}
 use Rattle.pc_source.specs.declared.fault.Fault.{Fault}
@@ -14,7 +15,8 @@ use Rattle.pc_token.specs.Splitting.{GoesOn}
 abbrev pub HasLeft : Lines → List (Result LogicalLine Refusal) → Type 0
 HasLeft s items = MatchBool s.done (items ≡ []) (GoesOn (line_start s.at) (drop s.at s.text.now) items)
 
--- the first of the lines that are left comes, or the refusal there, or an allocation failed; after a fault, and at the end, nothing is left
+-- the first of the lines that are left comes, or the refusal there, or an allocation failed; after a fault, and at the
+-- end, nothing is left
 abbrev pub gives : Lines → Option (Result Line Fault) → Lines → Type 0
 gives s r t = MatchOption r (HasLeft s [] × (t.done ≡ true))
     (λ i. MatchResult i

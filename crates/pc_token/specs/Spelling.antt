@@ -1,4 +1,5 @@
--- Which bytes spell a token. Python Language Reference 3.12, 2.1.7 "Other tokens" and 2.1.9: where several do, the longest is read.
+-- Which bytes spell a token. Python Language Reference 3.12, 2.1.7 "Other tokens" and 2.1.9: where several do, the
+-- longest is read.
 use Rattle.std.specs.Prelude.{◌≡◌, ℕ, true, List, [], ◌++◌}
 use Rattle.pc_token.specs.declared.token.Keyword.{Keyword}
 use Rattle.pc_token.specs.declared.token.TokenKind.{TokenKind}
@@ -21,4 +22,5 @@ IsToken _ bytes = ⊥
 -- the bytes spell a token, and no longer front of what stands there is one
 pub record IsLongest (kind : TokenKind) (bytes rest : List ℕ) : Type 0 where
   pub token : IsToken kind bytes
-  pub longest : (other : TokenKind) (more after : List ℕ) → rest ≡ more ++ after → IsToken other (bytes ++ more) → more ≡ []
+  pub longest : (other : TokenKind) (more after : List ℕ) → rest ≡ more ++ after → IsToken other (bytes ++ more)
+      → more ≡ []

@@ -1,5 +1,7 @@
--- The lexemes of a text: a split of the whole text into gaps, line ends and tokens. Python Language Reference 3.12, 2.1.1 "Logical lines".
-use Rattle.std.specs.Prelude.{◌≡◌, ℕ, ◌+◌, ◌-◌, ◌<◌, ◌≤◌, true, false, ◌==◌, List, [], ◌∷◌, ◌++◌, Some, None, Result, Ok, Err, length}
+-- The lexemes of a text: a split of the whole text into gaps, line ends and tokens. Python Language Reference 3.12,
+-- 2.1.1 "Logical lines".
+use Rattle.std.specs.Prelude.{◌≡◌, ℕ, ◌+◌, ◌-◌, ◌<◌, ◌≤◌, true, false, ◌==◌, List, [], ◌∷◌, ◌++◌, Some, None, Result}
+use Rattle.std.specs.Prelude.{Ok, Err, length}
 use Rattle.std.specs.List.{list_all}
 use Rattle.pc_source.specs.declared.fault.Refusal.{Refusal}
 use Rattle.pc_source.specs.declared.fault.RefusalCode.{RefusalCode}
@@ -44,10 +46,11 @@ IsAllowed c t.Str bytes rest = (touches_word c ≡ false) × (is_tripled (bytes 
 IsAllowed c (t.Operator o) bytes rest = MayOpenOrClose (role_of o) c.brackets × (is_bad_point (bytes ++ rest) ≡ false)
 IsAllowed c _ bytes rest = Unit {0}
 
--- the piece may stand here, before this rest: spaces and tabs, with a tab in no indentation but that of a line without tokens;
--- a comment; a line end; or a token, the longest here, at which no refusal stands
+-- the piece may stand here, before this rest: spaces and tabs, with a tab in no indentation but that of a line without
+-- tokens; a comment; a line end; or a token, the longest here, at which no refusal stands
 abbrev pub FitsBySort : LexicalContext → Sort → List ℕ → List ℕ → Type 0
-FitsBySort c Blanks bytes rest = IsBlanks bytes rest × (c.last ≡ None → ends_line rest ≡ false → list_all (λ b. b == 32) bytes ≡ true)
+FitsBySort c Blanks bytes rest = IsBlanks bytes rest
+    × (c.last ≡ None → ends_line rest ≡ false → list_all (λ b. b == 32) bytes ≡ true)
 FitsBySort c Comment bytes rest = IsComment bytes rest
 FitsBySort c LineEnd bytes rest = IsLineEnd bytes
 FitsBySort c (Lexical kind) bytes rest = IsLongest kind bytes rest × IsAllowed c kind bytes rest
@@ -72,11 +75,13 @@ pub data Ending : Type 0 where
   Whole : Ending
   Faulty : RefusalCode → ℕ → Ending
 
--- the text is these pieces one after the other, each of which may stand where it does; then it ends with no open bracket, or at a fault
+-- the text is these pieces one after the other, each of which may stand where it does; then it ends with no open
+-- bracket, or at a fault
 abbrev pub Splits : LexicalContext → List Piece → List ℕ → Ending → Type 0
 Splits c [] text Whole = (text ≡ []) × (c.brackets ≡ [])
 Splits c [] text (Faulty code k) = IsFault c text code k
-Splits c (p ∷ ps) text ending = (rest : List ℕ) × (text ≡ p.bytes ++ rest) × Fits c p rest × Splits (after c p) ps rest ending
+Splits c (p ∷ ps) text ending = (rest : List ℕ) × (text ≡ p.bytes ++ rest) × Fits c p rest
+    × Splits (after c p) ps rest ending
 
 -- the logical line that ends here, if it has a token, before the others
 abbrev pub close_line : ℕ → List Lexeme → List (Result LogicalLine Refusal) → List (Result LogicalLine Refusal)
@@ -84,7 +89,8 @@ close_line start [] others = others
 close_line start (x ∷ xs) others = Ok (record { column = x.place.start - start; lexemes = x ∷ xs }) ∷ others
 
 -- a line end ends the logical line where no bracket is open
-abbrev pub at_line_end : List Operator → LexicalContext → List (Result LogicalLine Refusal) → List (Result LogicalLine Refusal)
+abbrev pub at_line_end : List Operator → LexicalContext → List (Result LogicalLine Refusal)
+    → List (Result LogicalLine Refusal)
 at_line_end [] c others = close_line c.start c.done others
 at_line_end (_ ∷ _) c others = others
 
@@ -93,8 +99,8 @@ abbrev pub at_sort : Sort → LexicalContext → List (Result LogicalLine Refusa
 at_sort LineEnd c others = at_line_end c.brackets c others
 at_sort _ c others = others
 
--- the logical lines that end in these pieces, each with its column, the number of bytes, which are spaces, before its first token;
--- then the refusal, where they end at a fault
+-- the logical lines that end in these pieces, each with its column, the number of bytes, which are spaces, before its
+-- first token; then the refusal, where they end at a fault
 abbrev pub items_of : LexicalContext → List Piece → Ending → List (Result LogicalLine Refusal)
 items_of c [] Whole = close_line c.start c.done []
 items_of c [] (Faulty code k) = Err (record { code = code; byte = c.at + k }) ∷ []
@@ -110,4 +116,5 @@ HasLines text items = GoesOn (line_start 0) text items
 
 -- these are the logical lines of a text, and no others are
 abbrev pub HasOnly : List ℕ → List (Result LogicalLine Refusal) → Type 0
-HasOnly text items = HasLines text items × ((others : List (Result LogicalLine Refusal)) → HasLines text others → others ≡ items)
+HasOnly text items = HasLines text items
+    × ((others : List (Result LogicalLine Refusal)) → HasLines text others → others ≡ items)

@@ -1,4 +1,5 @@
--- Strings. Python Language Reference 3.12, 2.4.1 "String and Bytes literals"; the refusals are own rules of the profile.
+-- Strings. Python Language Reference 3.12, 2.4.1 "String and Bytes literals"; the refusals are own rules of the
+-- profile.
 use Rattle.std.specs.Prelude.{◌≡◌, ℕ, Bool, true, not, ◌&&◌, ◌||◌, ◌==◌, List, [], ◌∷◌, ◌++◌, slice_index}
 
 -- a quotation mark or an apostrophe
@@ -21,7 +22,8 @@ pub data IsBody (quote : ℕ) : List ℕ → Type 0 where
 
 -- a quote, what may stand between such quotes, and the quote again
 abbrev pub IsString : List ℕ → Type 0
-IsString bytes = (quote : ℕ) × (body : List ℕ) × (is_quote quote ≡ true) × IsBody quote body × (bytes ≡ quote ∷ (body ++ (quote ∷ [])))
+IsString bytes = (quote : ℕ) × (body : List ℕ) × (is_quote quote ≡ true) × IsBody quote body
+    × (bytes ≡ quote ∷ (body ++ (quote ∷ [])))
 
 -- an empty string and the same quote directly after it
 abbrev pub is_tripled : List ℕ → Bool

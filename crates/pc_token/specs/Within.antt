@@ -23,4 +23,5 @@ ItemsWithin len (Err refusal ∷ items) = (refusal.byte ≤ len) × ItemsWithin 
 
 -- the logical lines of a text, up to its first fault, stand within it
 abbrev pub TextHoldsItems : Type 0
-TextHoldsItems = (text : List ℕ) (items : List (Result LogicalLine Refusal)) → HasLines text items → ItemsWithin (length text) items
+TextHoldsItems = (text : List ℕ) (items : List (Result LogicalLine Refusal)) → HasLines text items
+    → ItemsWithin (length text) items

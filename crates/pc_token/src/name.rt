@@ -1,10 +1,12 @@
 //! Names and their forms.
-ghost use Rattle.std.specs.Prelude.{◌≡◌, ℕ, ◌+◌, ◌-◌, ◌≤◌, ◌<◌, ◌==◌, ◌||◌, List, [], ◌++◌, true, false, length, drop, take, slice_get, slice_range, chars, encode_utf8_all, IfOk, MatchOption, IsUtf8};
+ghost use Rattle.std.specs.Prelude.{◌≡◌, ℕ, ◌+◌, ◌-◌, ◌≤◌, ◌<◌, ◌==◌, ◌||◌, List, [], ◌++◌, true, false, length, drop};
+ghost use Rattle.std.specs.Prelude.{take, slice_get, slice_range, chars, encode_utf8_all, IfOk, MatchOption, IsUtf8};
 ghost use Rattle.std.specs.List.{list_all};
 ghost use Rattle.std.specs.Str.{IsCharBoundary};
 ghost use Rattle.unicode_ident.specs.Ident.{is_xid_continue};
 ghost use Rattle.pc_token.specs.Lexeme.{form_of};
-ghost use Rattle.pc_token.specs.Names.{begins_name, begins_word, continues_word, name_form, is_ascii, is_from, is_bad_name};
+ghost use Rattle.pc_token.specs.Names.{begins_name, begins_word, continues_word, name_form, is_ascii, is_from};
+ghost use Rattle.pc_token.specs.Names.{is_bad_name};
 
 use crate::bytes::char_at;
 use crate::keywords::{is_keyword, is_reserved};
@@ -48,8 +50,10 @@ pub(crate) fn name_end(text: &str, start: usize) -> usize
     ensures utf8 { IsUtf8 text.now }
     ensures boundary { IsCharBoundary text.now result }
     ensures later { start ≤ result }
-    ensures run { (cs : List ℕ) × (list_all is_xid_continue cs ≡ true) × (slice_range text.now start result ≡ encode_utf8_all cs) }
-    ensures all { MatchOption (slice_get (chars (drop result text.now)) 0) (length text.now ≡ result) (λ c. is_xid_continue c ≡ false) }
+    ensures run { (cs : List ℕ) × (list_all is_xid_continue cs ≡ true)
+        × (slice_range text.now start result ≡ encode_utf8_all cs) }
+    ensures all { MatchOption (slice_get (chars (drop result text.now)) 0) (length text.now ≡ result)
+        (λ c. is_xid_continue c ≡ false) }
 {
     let mut end = start;
     while let Some(c) = char_at(text, end) {

@@ -2,7 +2,8 @@
 ghost use Rattle.std.specs.Prelude.{◌≡◌, ◌≤◌, ◌<◌, ◌==◌, ◌&&◌, not, length, drop, slice_index, count_by};
 ghost use Rattle.std.specs.List.{prefix_len, list_all};
 ghost use Rattle.std.specs.Str.{IsCharBoundary};
-ghost use Rattle.pc_token.specs.Numbers.{is_number_byte, underscores_fit, is_number, is_bad_number, is_bad_point, digit_count};
+ghost use Rattle.pc_token.specs.Numbers.{is_number_byte, underscores_fit, is_number, is_bad_number, is_bad_point};
+ghost use Rattle.pc_token.specs.Numbers.{digit_count};
 
 use crate::bytes::byte_at;
 use crate::name::continues_word;

@@ -132,7 +132,8 @@ impl<'a> Reading<'a> {
     /// The logical line that was read, if it has a token.
     pub(crate) fn into_line(self) -> Option<Line<'a>>
         ensures { MatchOption result (self.entry.tokens.items ≡ [])
-            (λ l. (items : List (Result LogicalLine Refusal)) → close_line self.entry.start (map lexeme_of self.entry.tokens.items) items ≡ Ok (line_of l) ∷ items) }
+            (λ l. (items : List (Result LogicalLine Refusal))
+            → close_line self.entry.start (map lexeme_of self.entry.tokens.items) items ≡ Ok (line_of l) ∷ items) }
     {
         let first = self.tokens.first()?;
         let column = first.place.start.saturating_sub(self.start);

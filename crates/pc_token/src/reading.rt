@@ -1,5 +1,6 @@
 //! What stands at a byte of a logical line.
-ghost use Rattle.std.specs.Prelude.{◌≡◌, ◌<◌, ◌≤◌, ◌↔◌, ◌++◌, IsTrue, true, false, length, drop, slice_index, IsUtf8, IfOk, IfErr, MatchOption};
+ghost use Rattle.std.specs.Prelude.{◌≡◌, ◌<◌, ◌≤◌, ◌↔◌, ◌++◌, IsTrue, true, false, length, drop, slice_index, IsUtf8};
+ghost use Rattle.std.specs.Prelude.{IfOk, IfErr, MatchOption};
 ghost use Rattle.std.specs.Char.{is_ascii_digit};
 ghost use Rattle.std.specs.Str.{IsCharBoundary};
 ghost use Rattle.pc_source.specs.Answers.{OnRefusal};
@@ -65,7 +66,8 @@ fn is_bad_tab(bytes: &[u8], spaces: usize, len: usize) -> bool
 }
 
 impl<'a> Reading<'a> {
-    ghost use Rattle.pc_token.specs.Internal.LineReading.{context_of, GoesTo, IsFound, IsNext, IsRefusedHere, IsBracketFault};
+    ghost use Rattle.pc_token.specs.Internal.LineReading.{context_of, GoesTo, IsFound, IsNext, IsRefusedHere};
+    ghost use Rattle.pc_token.specs.Internal.LineReading.{IsBracketFault};
     ghost use Rattle.pc_token.specs.Splitting.{Blanks, Comment, LineEnd, MayOpenOrClose};
 
     /// The bytes from here on.
@@ -231,7 +233,8 @@ impl<'a> Reading<'a> {
 
     /// Why an operator may not open or close a bracket here.
     fn bracket_fault(&self, operator: Operator) -> Option<RefusalCode>
-        ensures { MatchOption result (MayOpenOrClose (role_of operator) self.now.brackets.items) (IsBracketFault (role_of operator) self.now.brackets.items) }
+        ensures { MatchOption result (MayOpenOrClose (role_of operator) self.now.brackets.items)
+            (IsBracketFault (role_of operator) self.now.brackets.items) }
     {
         match operator.role() {
             Role::Opens => (self.brackets.len() >= BRACKET_LIMIT).then_some(RefusalCode::L6),
@@ -247,8 +250,10 @@ impl<'a> Reading<'a> {
     fn operator(&self, operator: Operator) -> Result<Found, Fault>
         requires within { self.now.at < length self.now.text.now }
         requires boundary { IsCharBoundary self.now.text.now self.now.at }
-        requires front { drop self.now.at self.now.text.now ≡ operator_text operator ++ drop (length (operator_text operator)) (drop self.now.at self.now.text.now) }
-        requires here { IsLongest (TokenKind.Operator operator) (operator_text operator) (drop (length (operator_text operator)) (drop self.now.at self.now.text.now)) }
+        requires front { drop self.now.at self.now.text.now
+            ≡ operator_text operator ++ drop (length (operator_text operator)) (drop self.now.at self.now.text.now) }
+        requires here { IsLongest (TokenKind.Operator operator) (operator_text operator)
+            (drop (length (operator_text operator)) (drop self.now.at self.now.text.now)) }
         ensures next { IfOk result (IsFound (context_of self.now) self.now.text.now) }
         ensures refused { IfErr result (OnRefusal (IsRefusedHere (context_of self.now) self.now.text.now)) }
     {

@@ -23,7 +23,8 @@ use std::alloc::Global;
 /// An item may be `OutOfMemory`, or the refusal that stands at the least byte. After an `Err`, and
 /// at the end, `next` gives `None` for good.
 pub fn lines(alloc: Global, source: &Source) -> Lines<'_>
-    ensures one { (xs ys : List (Result LogicalLine Refusal)) → HasLines source.now xs → HasLines source.now ys → xs ≡ ys }
+    ensures one { (xs ys : List (Result LogicalLine Refusal)) → HasLines source.now xs → HasLines source.now ys
+        → xs ≡ ys }
     ensures left { (items : List (Result LogicalLine Refusal)) → (HasLeft result items ↔ HasLines source.now items) }
     ensures within { RefusesWithin gives (length source.now) result }
 {
@@ -45,7 +46,8 @@ pub fn lines(alloc: Global, source: &Source) -> Lines<'_>
 /// The refusal that stands at the least byte; `OutOfMemory` where the tokens have no room.
 pub fn tokens(alloc: Global, source: &Source) -> Result<Vec<Line<'_>>, Fault>
     ensures read { IfOk result (λ v. HasOnly source.now (all_read v.items)) }
-    ensures refused { IfErr result (OnRefusal (λ refusal. (before : List LogicalLine) × HasOnly source.now (map Ok before ++ Err refusal ∷ []))) }
+    ensures refused { IfErr result
+        (OnRefusal (λ refusal. (before : List LogicalLine) × HasOnly source.now (map Ok before ++ Err refusal ∷ []))) }
     ensures within { IfErr result (IsWithin (length source.now)) }
 {
     let mut found = Vec::new(alloc);

@@ -1,5 +1,6 @@
 //! Strings.
-ghost use Rattle.std.specs.Prelude.{◌≡◌, ℕ, ◌+◌, ◌<◌, ◌≤◌, true, false, List, ◌++◌, length, take, slice_index, MatchOption};
+ghost use Rattle.std.specs.Prelude.{◌≡◌, ℕ, ◌+◌, ◌<◌, ◌≤◌, true, false, List, ◌++◌, length, take, slice_index};
+ghost use Rattle.std.specs.Prelude.{MatchOption};
 ghost use Rattle.pc_token.specs.Strings.{is_quote, is_escape, is_plain, is_tripled, IsString};
 ghost use Rattle.pc_token.specs.Faults.{NoString};
 

@@ -35,24 +35,29 @@ pub record HasEvaluatedRow (rows : List Row) (events : List Place) : Type 0 wher
 -- the texts are those of the two types of a dynamic flow
 abbrev pub AreTextsOf : Module → Option (Tree × Tree) → FlowTexts → Type 0
 AreTextsOf m None texts = ⊥
-AreTextsOf m (Some flow) texts = (string_bytes texts.from ≡ type_text m flow.0) × (string_bytes texts.to ≡ type_text m flow.1)
+AreTextsOf m (Some flow) texts = (string_bytes texts.from ≡ type_text m flow.0)
+    × (string_bytes texts.to ≡ type_text m flow.1)
 
 -- a row of a dynamic flow has the texts of its two types, and no other row has texts
 abbrev pub IsExplainedRow : Module → Row → Type 0
 IsExplainedRow m row =
-    MatchOption row.flow (¬ (row.finding.code ≡ A1)) (λ texts. (row.finding.code ≡ A1) × AreTextsOf m (dynamic_flow m row.finding.place) texts)
+    MatchOption row.flow (¬ (row.finding.code ≡ A1))
+    (λ texts. (row.finding.code ≡ A1) × AreTextsOf m (dynamic_flow m row.finding.place) texts)
 
--- What a report says. The bytes spell exactly one module; the rows list exactly the findings of its typing, each dynamic flow
--- with its two types; and where no row is an error, each run of the module that ends in a fault has by then evaluated a listed dynamic place.
+-- What a report says. The bytes spell exactly one module; the rows list exactly the findings of its typing, each
+-- dynamic flow with its two types; and where no row is an error, each run of the module that ends in a fault has by
+-- then evaluated a listed dynamic place.
 pub record Headline (bytes : List ℕ) (rows : List Row) : Type 0 where
   pub whole : Module
   pub spelled : IsModuleOf bytes whole
   pub only : (other : Module) → IsModuleOf bytes other → other ≡ whole
-  -- of its types there is a labelling, so its findings are those of one; the law `one_labelling` says that there is no other
+  -- of its types there is a labelling, so its findings are those of one; the law `one_labelling` says that there is no
+  -- other
   pub labelled : HasLabelling whole
   pub listed : Lists bytes (IsFinding whole) rows
   pub explained : AllByRecursion (IsExplainedRow whole) rows
-  pub sound : HasNoErrorRow rows → (events : List Place) (end : End) → Run whole events end → IsFaultyEnd end → HasEvaluatedRow rows events
+  pub sound : HasNoErrorRow rows → (events : List Place) (end : End) → Run whole events end → IsFaultyEnd end
+      → HasEvaluatedRow rows events
 
 -- of a fault: where it is a refusal, P holds of it; an allocation may fail at any time, and no device is used
 abbrev pub OnCheckFault : (Refusal → Type 0) → CheckFault → Type 0

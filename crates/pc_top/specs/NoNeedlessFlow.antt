@@ -12,8 +12,8 @@ use Rattle.pc_labels.specs.DynamicFlows.{dynamic_flow}
 use Rattle.pc_sound.specs.Needed.{HasNoNever, IsNeeded}
 use Rattle.pc_front.specs.Bytes.{IsModuleOf}
 
--- The first type is assignable to the second, and is not static to it; and where the first holds no Never, some well-typed heap of the
--- module's classes has a value of the first that is not of the second.
+-- The first type is assignable to the second, and is not static to it; and where the first holds no Never, some
+-- well-typed heap of the module's classes has a value of the first that is not of the second.
 pub record IsNeededFlow (m : Module) (s t : Tree) : Type 0 where
   pub assignable : Assignable (bases_of m) s t
   pub not_static : ¬ (Static (bases_of m) s t)
@@ -21,4 +21,5 @@ pub record IsNeededFlow (m : Module) (s t : Tree) : Type 0 where
 
 -- each dynamic flow of a module that bytes spell is needed
 abbrev pub NoNeedlessFlow : Type 0
-NoNeedlessFlow = (bytes : List ℕ) (m : Module) → IsModuleOf bytes m → (p : Place) (s t : Tree) → dynamic_flow m p ≡ Some (s, t) → IsNeededFlow m s t
+NoNeedlessFlow = (bytes : List ℕ) (m : Module) → IsModuleOf bytes m → (p : Place) (s t : Tree)
+    → dynamic_flow m p ≡ Some (s, t) → IsNeededFlow m s t

@@ -69,7 +69,8 @@ pub record IsRefusedStream (told : Option (List ℕ)) (refusal : Refusal) : Type
 
 module _ {W : Type 0} (contents : W → Option (List ℕ)) where
   -- the report of the bytes of the reader was written whole, and these are its numbers of errors and of dynamic places
-  pub record IsReported (told : Option (List ℕ)) (json : Bool) (format : Format) (old new : Counted W) (errors dynamic : ℕ) : Type 0 where
+  pub record IsReported (told : Option (List ℕ)) (json : Bool) (format : Format) (old new : Counted W)
+      (errors dynamic : ℕ) : Type 0 where
     pub bytes : List ℕ
     pub given : AreBytesOf told bytes
     pub rows : List Row

@@ -20,8 +20,9 @@ use pc_tree::Module;
 use pc_types::{Parents, TypeStore};
 use std::alloc::Global;
 
-/// What is found in a module, over any store of types: in its signatures, constants and bodies, each dynamic flow with its types;
-/// of its names; of its classes. It is the same over each store, since the contract names none. Own rule of the profile.
+/// What is found in a module, over any store of types: in its signatures, constants and bodies, each dynamic flow with
+/// its types; of its names; of its classes. It is the same over each store, since the contract names none. Own rule of
+/// the profile.
 ///
 /// # Errors
 ///
@@ -35,8 +36,10 @@ pub fn findings_by<S: TypeStore>(
 ) -> Result<Notes, OutOfMemory>
     requires scopes { AreScopes (module_of «module».now) scopes.now }
     requires parents { parents.now ≡ bases_of (module_of «module».now) }
-    ensures found { IfOk result (λ v. (f : Finding) → Contains (findings_of (notes_of v)) f ↔ IsFinding (module_of «module».now) f) }
-    ensures flows { IfOk result (λ v. (p : Place) → flow_noted p (notes_of v) ≡ dynamic_flow (module_of «module».now) p) }
+    ensures found { IfOk result
+        (λ v. (f : Finding) → Contains (findings_of (notes_of v)) f ↔ IsFinding (module_of «module».now) f) }
+    ensures flows { IfOk result
+        (λ v. (p : Place) → flow_noted p (notes_of v) ≡ dynamic_flow (module_of «module».now) p) }
 {
     let mut of_classes = Vec::new(alloc);
     let classes = class_table(store, alloc, parents, module, scopes, &mut of_classes)?;
@@ -50,8 +53,10 @@ pub fn findings_by<S: TypeStore>(
 
 /// What is found in a module, by types that are kept once each.
 pub(crate) fn findings(alloc: Global, module: &Module) -> Result<Notes, OutOfMemory>
-    ensures found { IfOk result (λ v. (f : Finding) → Contains (findings_of (notes_of v)) f ↔ IsFinding (module_of «module».now) f) }
-    ensures flows { IfOk result (λ v. (p : Place) → flow_noted p (notes_of v) ≡ dynamic_flow (module_of «module».now) p) }
+    ensures found { IfOk result
+        (λ v. (f : Finding) → Contains (findings_of (notes_of v)) f ↔ IsFinding (module_of «module».now) f) }
+    ensures flows { IfOk result
+        (λ v. (p : Place) → flow_noted p (notes_of v) ≡ dynamic_flow (module_of «module».now) p) }
 {
     let scopes = scopes(alloc, module)?;
     let parents = Parents::of(alloc, module, &scopes)?;

@@ -3,7 +3,8 @@
 ghost use Rattle.std.specs.Prelude.{◌≡◌, IfOk, IfErr};
 ghost use Rattle.pc_source.specs.Devices.{failures_after};
 ghost use Rattle.pc_report.specs.Writing.{IsWritten};
-ghost use Rattle.pc_top.specs.Streaming.{IsReported, IsRefusedStream, IsBegun, WhenRefused, WhenWriteFails, UnlessWriteFails, reader_fails, writer_fails, report_bytes};
+ghost use Rattle.pc_top.specs.Streaming.{IsReported, IsRefusedStream, IsBegun, WhenRefused, WhenWriteFails};
+ghost use Rattle.pc_top.specs.Streaming.{UnlessWriteFails, reader_fails, writer_fails, report_bytes};
 
 use crate::fault::CheckFault;
 use crate::top::check;
@@ -49,9 +50,12 @@ pub fn check_stream<R: Read + Drop, W: Write + Drop>(
     json: bool,
     format: Format,
 ) -> Result<(u64, u64), CheckFault>
-    ensures reported { IfOk result (λ counts. IsReported W.contents (R.remaining reader.old.device) json format writer.old writer.new counts.0 counts.1) }
+    ensures reported { IfOk result
+        (λ counts. IsReported W.contents
+        (R.remaining reader.old.device) json format writer.old writer.new counts.0 counts.1) }
     ensures refused { IfErr result (WhenRefused (IsRefusedStream (R.remaining reader.old.device))) }
-    ensures begun { IfErr result (WhenWriteFails (IsBegun W.contents (R.remaining reader.old.device) json format writer.old writer.new)) }
+    ensures begun { IfErr result
+        (WhenWriteFails (IsBegun W.contents (R.remaining reader.old.device) json format writer.old writer.new)) }
     ensures untouched { IfErr result (UnlessWriteFails (writer.new ≡ writer.old)) }
     ensures read_failures { reader.new.failures ≡ failures_after (reader_fails result) reader.old.failures }
     ensures write_failures { writer.new.failures ≡ failures_after (writer_fails result) writer.old.failures }

@@ -14,9 +14,9 @@ use std::alloc::Global;
 /// The report of the module that the bytes spell.
 ///
 /// Where a report is answered, the bytes spell exactly one module and the report lists exactly the
-/// findings of its typing, each dynamic flow with its two types. Where it lists no error, each run of that module that raises `TypeError`,
-/// `AttributeError`, `NameError` or `UnboundLocalError`, or leaves the profile, has by then evaluated
-/// a listed dynamic place.
+/// findings of its typing, each dynamic flow with its two types. Where it lists no error, each run of that module that
+/// raises `TypeError`, `AttributeError`, `NameError` or `UnboundLocalError`, or leaves the profile, has by then
+/// evaluated a listed dynamic place.
 ///
 /// # Errors
 ///

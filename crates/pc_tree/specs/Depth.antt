@@ -1,7 +1,14 @@
 -- How deep expressions and annotations are. Own rule of the profile: no whole one is deeper than 64.
 use Rattle.std.specs.Prelude.{ℕ, ◌+◌, max, nat_lt, List, [], ◌∷◌, ◌++◌, Option, Some, None, if◌then◌else◌}
 use Rattle.pc_source.specs.declared.place.Place.{Place}
-use Rattle.pc_tree.specs.Tree.{Expr, name, number, text, truth, nothing, tuple, list, dict, negative, negation, binary, compare, is_none, is_not_none, conjunction, disjunction, attribute, index, call, Exprs, no_exprs, more_exprs, Entries, no_entries, more_entries, Keywords, no_keywords, more_keywords, Ann, named, none_type, applied, applied_empty, union, Anns, no_anns, more_anns, Target, to_name, to_attribute, to_index, Stmt, pass, breaks, continues, returns, asserts, annotated, assigns, evaluates, while_loop, for_loop, conditional, Stmts, no_stmts, more_stmts, Branches, no_branches, more_branches, Param, FuncDef, Member, field_member, method_member, Item, constant_item, class_item, def_item, Module}
+use Rattle.pc_tree.specs.Tree.{Expr, name, number, text, truth, nothing, tuple, list, dict, negative, negation, binary}
+use Rattle.pc_tree.specs.Tree.{compare, is_none, is_not_none, conjunction, disjunction, attribute, index, call, Exprs}
+use Rattle.pc_tree.specs.Tree.{no_exprs, more_exprs, Entries, no_entries, more_entries, Keywords, no_keywords}
+use Rattle.pc_tree.specs.Tree.{more_keywords, Ann, named, none_type, applied, applied_empty, union, Anns, no_anns}
+use Rattle.pc_tree.specs.Tree.{more_anns, Target, to_name, to_attribute, to_index, Stmt, pass, breaks, continues}
+use Rattle.pc_tree.specs.Tree.{returns, asserts, annotated, assigns, evaluates, while_loop, for_loop, conditional}
+use Rattle.pc_tree.specs.Tree.{Stmts, no_stmts, more_stmts, Branches, no_branches, more_branches, Param, FuncDef}
+use Rattle.pc_tree.specs.Tree.{Member, field_member, method_member, Item, constant_item, class_item, def_item, Module}
 
 -- the greatest depth of a whole expression or annotation
 abbrev pub depth_limit : ℕ
@@ -158,7 +165,8 @@ abbrev mutual
   -- of conditions, each with its suite
   pub wholes_of_branches : Branches → List Whole
   wholes_of_branches no_branches = []
-  wholes_of_branches (more_branches condition body rest) = (whole_expr condition ∷ wholes_of_stmts body) ++ wholes_of_branches rest
+  wholes_of_branches (more_branches condition body rest) = (whole_expr condition ∷ wholes_of_stmts body)
+      ++ wholes_of_branches rest
 
 -- of parameters: their annotations alone, since a default is a literal
 abbrev pub wholes_of_params : List Param → List Whole

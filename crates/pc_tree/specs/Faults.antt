@@ -37,7 +37,8 @@ pub record IsTooDeep (ts : List Lexeme) (byte : ℕ) : Type 0 where
 
 -- G1 where the tokens spell no module, and else G2 where it is too deep
 abbrev pub IsRefusal : List Lexeme → Refusal → Type 0
-IsRefusal ts r = ((r.code ≡ code.G1) × (IsMisfit ts r.byte ⊎ EndsEarly ts r.byte)) ⊎ ((r.code ≡ code.G2) × IsTooDeep ts r.byte)
+IsRefusal ts r = ((r.code ≡ code.G1) × (IsMisfit ts r.byte ⊎ EndsEarly ts r.byte))
+    ⊎ ((r.code ≡ code.G2) × IsTooDeep ts r.byte)
 
 -- a list of tokens spells at most one module
 abbrev pub OneModule : Type 0

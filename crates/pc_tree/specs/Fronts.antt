@@ -9,17 +9,26 @@ use Rattle.pc_tree.specs.Grammar.{Spelling, ◌⟫◌, Just, Sign, Word, IsName}
 use Rattle.pc_tree.specs.Grammar.Annotations.{SpellsAnn}
 use Rattle.pc_tree.specs.Grammar.Modules.{SpellsMembers, SpellsLiteral, Parameters, SpellsModule, IsFront}
 use Rattle.pc_tree.specs.Machine.Kinds.{SpellsAllFixed}
-use Rattle.pc_tree.specs.Machine.States.{ClassStart, of_class, of_module, Owner, DefStart, State, fixed, items, importing, item_named, decorator_due, class_due, class_named, base_due, members, def_due, self_read, param_due, param_named, params_read, literal_due, minus_read, literal_read, stmts, return_due, target_due, after_branch, part_due, part_named, part_read, argument_due, empty_opened, empty_closed, operand, have, denied, identified, unidentified, dotted, group_due, item_due, keyword_due, keyword_named, key_due, ended}
+use Rattle.pc_tree.specs.Machine.States.{ClassStart, of_class, of_module, Owner, DefStart, State, fixed, items}
+use Rattle.pc_tree.specs.Machine.States.{importing, item_named, decorator_due, class_due, class_named, base_due}
+use Rattle.pc_tree.specs.Machine.States.{members, def_due, self_read, param_due, param_named, params_read, literal_due}
+use Rattle.pc_tree.specs.Machine.States.{minus_read, literal_read, stmts, return_due, target_due, after_branch}
+use Rattle.pc_tree.specs.Machine.States.{part_due, part_named, part_read, argument_due, empty_opened, empty_closed}
+use Rattle.pc_tree.specs.Machine.States.{operand, have, denied, identified, unidentified, dotted, group_due, item_due}
+use Rattle.pc_tree.specs.Machine.States.{keyword_due, keyword_named, key_due, ended}
 use Rattle.pc_tree.specs.Machine.Expressions.{rank}
 use Rattle.pc_tree.specs.Machine.Lines.{takes_header}
-use Rattle.pc_tree.specs.Fronts.Lines.{WordAt, SignAt, Kept, AtStage, BeforeItems, BeforeOwner, ClassWord, ClassName, BeforeMembers, DefWord, BeforeParams, BeforeParam, ParamsRead, BeforeLiteral, BeforeStmts, IfBranches, BeforeAnn, Parts, SelfRead}
+use Rattle.pc_tree.specs.Fronts.Lines.{WordAt, SignAt, Kept, AtStage, BeforeItems, BeforeOwner, ClassWord, ClassName}
+use Rattle.pc_tree.specs.Fronts.Lines.{BeforeMembers, DefWord, BeforeParams, BeforeParam, ParamsRead, BeforeLiteral}
+use Rattle.pc_tree.specs.Fronts.Lines.{BeforeStmts, IfBranches, BeforeAnn, Parts, SelfRead}
 use Rattle.pc_tree.specs.Fronts.Expressions.{Before, Holds, ItemsBefore, KeywordsBefore, EntriesBefore}
 
 -- these tokens led to the state
 abbrev pub LedTo : State → Spelling
 LedTo (fixed w ws next) = λ ts. (us : List Lexeme) → SpellsAllFixed (w ∷ ws) us → LedTo next (ts ++ us)
 LedTo (items stage top) = λ ts. AtStage stage top × BeforeItems top ts
-LedTo (importing stage top) = λ ts. (takes_header stage ≡ true) × AtStage stage top × (BeforeItems top ⟫ Word word.From) ts
+LedTo (importing stage top) = λ ts. (takes_header stage ≡ true) × AtStage stage top
+    × (BeforeItems top ⟫ Word word.From) ts
 LedTo (item_named n top) = BeforeItems top ⟫ IsName n
 LedTo (decorator_due first top) = BeforeItems top ⟫ SignAt sign.At first
 LedTo (class_due first decorator top) = BeforeItems top ⟫ ClassWord first decorator
@@ -42,8 +51,10 @@ LedTo (part_due parts before s) = Parts parts before s
 LedTo (part_named n us parts before s) = Parts parts before s ⟫ Kept us (IsName n)
 LedTo (part_read a us parts before s) = Parts parts before s ⟫ Kept us (SpellsAnn a false)
 LedTo (argument_due head us parts before s) = Parts parts before s ⟫ Kept us (IsName head ⟫ Sign sign.LeftBracket)
-LedTo (empty_opened head us parts before s) = Parts parts before s ⟫ Kept us ((IsName head ⟫ Sign sign.LeftBracket) ⟫ Sign sign.LeftParenthesis)
-LedTo (empty_closed head us parts before s) = Parts parts before s ⟫ Kept us (((IsName head ⟫ Sign sign.LeftBracket) ⟫ Sign sign.LeftParenthesis) ⟫ Sign sign.RightParenthesis)
+LedTo (empty_opened head us parts before s) = Parts parts before s
+    ⟫ Kept us ((IsName head ⟫ Sign sign.LeftBracket) ⟫ Sign sign.LeftParenthesis)
+LedTo (empty_closed head us parts before s) = Parts parts before s
+    ⟫ Kept us (((IsName head ⟫ Sign sign.LeftBracket) ⟫ Sign sign.LeftParenthesis) ⟫ Sign sign.RightParenthesis)
 LedTo (operand s) = Before s
 LedTo (have level p s) = λ ts. (rank s ≤ level) × (level ≤ 7) × (Before s ⟫ Holds level p) ts
 LedTo (denied p us s) = λ ts. (rank s ≤ 3) × ((Before s ⟫ Holds 4 p) ⟫ Kept us (Word word.Not)) ts

@@ -6,7 +6,9 @@ use Rattle.pc_tree.specs.declared.tree.Expr.{Expr as RustExpr}
 use Rattle.pc_tree.specs.declared.tree.Entry.{Entry as RustEntry}
 use Rattle.pc_tree.specs.declared.tree.KeywordArgument.{KeywordArgument as RustKeyword}
 use Rattle.pc_tree.specs.declared.tree.Branch.{Branch as RustBranch, Branch'}
-use Rattle.pc_tree.specs.Tree.{Name, Exprs, no_exprs, more_exprs, Entries, no_entries, more_entries, Keywords, no_keywords, more_keywords, Branches, no_branches, more_branches, expr_of, name_of, stmts_of}
+use Rattle.pc_tree.specs.Tree.{Name, Exprs, no_exprs, more_exprs, Entries, no_entries, more_entries, Keywords}
+use Rattle.pc_tree.specs.Tree.{no_keywords, more_keywords, Branches, no_branches, more_branches, expr_of, name_of}
+use Rattle.pc_tree.specs.Tree.{stmts_of}
 
 -- a list of expressions
 abbrev pub exprs_of_list : List RustExpr → Exprs

@@ -10,10 +10,21 @@ use Rattle.pc_token.specs.declared.token.TokenKind.{TokenKind}
 use Rattle.pc_token.specs.Lexeme.{Lexeme}
 use Rattle.pc_tree.specs.Tree.{Module}
 use Rattle.pc_tree.specs.Machine.Kinds.{start_of, follow_of}
-use Rattle.pc_tree.specs.Machine.States.{State, fixed, items, importing, item_named, decorator_due, class_due, class_named, base_due, members, def_due, self_read, param_due, param_named, params_read, literal_due, minus_read, literal_read, stmts, return_due, target_due, after_branch, part_due, part_named, part_read, argument_due, empty_opened, empty_closed, operand, have, denied, identified, unidentified, dotted, group_due, item_due, keyword_due, keyword_named, key_due, ended, Turn, stuck, go}
-use Rattle.pc_tree.specs.Machine.Expressions.{operand_turn, have_turn, denied_turn, identified_turn, unidentified_turn, dotted_turn, group_turn, item_turn, keyword_turn, named_turn, key_turn}
-use Rattle.pc_tree.specs.Machine.Annotations.{part_turn, part_named_turn, part_read_turn, argument_turn, empty_opened_turn, empty_closed_turn}
-use Rattle.pc_tree.specs.Machine.Lines.{start, fixed_turn, items_turn, importing_turn, item_named_turn, decorator_turn, class_turn, class_named_turn, base_turn, members_turn, def_turn, self_turn, param_turn, param_named_turn, params_read_turn, literal_turn, minus_turn, literal_read_turn, stmts_turn, return_turn, target_turn, branch_turn}
+use Rattle.pc_tree.specs.Machine.States.{State, fixed, items, importing, item_named, decorator_due, class_due}
+use Rattle.pc_tree.specs.Machine.States.{class_named, base_due, members, def_due, self_read, param_due, param_named}
+use Rattle.pc_tree.specs.Machine.States.{params_read, literal_due, minus_read, literal_read, stmts, return_due}
+use Rattle.pc_tree.specs.Machine.States.{target_due, after_branch, part_due, part_named, part_read, argument_due}
+use Rattle.pc_tree.specs.Machine.States.{empty_opened, empty_closed, operand, have, denied, identified, unidentified}
+use Rattle.pc_tree.specs.Machine.States.{dotted, group_due, item_due, keyword_due, keyword_named, key_due, ended, Turn}
+use Rattle.pc_tree.specs.Machine.States.{stuck, go}
+use Rattle.pc_tree.specs.Machine.Expressions.{operand_turn, have_turn, denied_turn, identified_turn, unidentified_turn}
+use Rattle.pc_tree.specs.Machine.Expressions.{dotted_turn, group_turn, item_turn, keyword_turn, named_turn, key_turn}
+use Rattle.pc_tree.specs.Machine.Annotations.{part_turn, part_named_turn, part_read_turn, argument_turn}
+use Rattle.pc_tree.specs.Machine.Annotations.{empty_opened_turn, empty_closed_turn}
+use Rattle.pc_tree.specs.Machine.Lines.{start, fixed_turn, items_turn, importing_turn, item_named_turn, decorator_turn}
+use Rattle.pc_tree.specs.Machine.Lines.{class_turn, class_named_turn, base_turn, members_turn, def_turn, self_turn}
+use Rattle.pc_tree.specs.Machine.Lines.{param_turn, param_named_turn, params_read_turn, literal_turn, minus_turn}
+use Rattle.pc_tree.specs.Machine.Lines.{literal_read_turn, stmts_turn, return_turn, target_turn, branch_turn}
 
 -- where a token of this kind leads
 abbrev pub turn : State → Lexeme → TokenKind → Turn

@@ -1,12 +1,21 @@
--- The findings that stop a run before its first event: conditions on the tree alone. Python Language Reference 3.12, 4.2 "Naming and binding",
+-- The findings that stop a run before its first event: conditions on the tree alone. Python Language Reference 3.12,
+-- 4.2 "Naming and binding",
 -- 6.3.4 "Calls", 7.9, 7.10, 8.7; the reserved names, `main` and the members of classes are own rules of the profile.
-use Rattle.std.specs.Prelude.{ℕ, ◌&&◌, ◌||◌, not, Bool, true, false, if◌then◌else◌, List, [], ◌∷◌, ◌++◌, map, Option, Some, None, is_some, is_none, Contains, bytes_eq, codes}
+use Rattle.std.specs.Prelude.{ℕ, ◌&&◌, ◌||◌, not, Bool, true, false, if◌then◌else◌, List, [], ◌∷◌, ◌++◌, map, Option}
+use Rattle.std.specs.Prelude.{Some, None, is_some, is_none, Contains, bytes_eq, codes}
 use Rattle.std.specs.List.{list_any}
 use Rattle.pc_source.specs.declared.place.Place.{Place}
 use Rattle.pc_token.specs.Keywords.{is_reserved}
 use Rattle.pc_tree.specs.declared.code.Code.{Code}
 use Rattle.pc_tree.specs.declared.code.Code.TheVariants.{E01, E05, E06, E28, E29, E31}
-use Rattle.pc_tree.specs.Tree.{Name, Expr, name, number, text, truth, nothing, tuple, list, dict, negative, negation, binary, compare, is_none as is_none_of, is_not_none, conjunction, disjunction, attribute, index, call, Exprs, no_exprs, more_exprs, Entries, no_entries, more_entries, Keywords, no_keywords, more_keywords, Target, to_name, to_attribute, to_index, Stmt, pass, breaks, continues, returns, asserts, annotated, assigns, evaluates, while_loop, for_loop, conditional, Stmts, no_stmts, more_stmts, Branches, no_branches, more_branches, Param, FuncDef, Member, field_member, method_member, Item, constant_item, class_item, def_item, Module}
+use Rattle.pc_tree.specs.Tree.{Name, Expr, name, number, text, truth, nothing, tuple, list, dict, negative, negation}
+use Rattle.pc_tree.specs.Tree.{binary, compare, is_none as is_none_of, is_not_none, conjunction, disjunction, attribute}
+use Rattle.pc_tree.specs.Tree.{index, call, Exprs, no_exprs, more_exprs, Entries, no_entries, more_entries, Keywords}
+use Rattle.pc_tree.specs.Tree.{no_keywords, more_keywords, Target, to_name, to_attribute, to_index, Stmt, pass, breaks}
+use Rattle.pc_tree.specs.Tree.{continues, returns, asserts, annotated, assigns, evaluates, while_loop, for_loop}
+use Rattle.pc_tree.specs.Tree.{conditional, Stmts, no_stmts, more_stmts, Branches, no_branches, more_branches, Param}
+use Rattle.pc_tree.specs.Tree.{FuncDef, Member, field_member, method_member, Item, constant_item, class_item, def_item}
+use Rattle.pc_tree.specs.Tree.{Module}
 
 -- ---- names
 
@@ -63,7 +72,8 @@ of_defs function method (def_item first f ∷ is) = function f ++ of_defs functi
 -- the names that stand among those before them; a reserved name is bound by nothing, so never again
 abbrev pub bound_again : List (List ℕ) → List Name → List Place
 bound_again before [] = []
-bound_again before (n ∷ ns) = one_if (is_among before n.text && not (is_reserved n.text)) n.place ++ bound_again (n.text ∷ before) ns
+bound_again before (n ∷ ns) = one_if (is_among before n.text && not (is_reserved n.text)) n.place
+    ++ bound_again (n.text ∷ before) ns
 
 -- the names that were given before in the same call
 abbrev pub given_again : List (List ℕ) → Keywords → List Place
@@ -144,7 +154,8 @@ abbrev mutual
   -- in those of conditions and their suites
   pub given_in_branches : Branches → List Place
   given_in_branches no_branches = []
-  given_in_branches (more_branches condition body rest) = given_in condition ++ (given_in_stmts body ++ given_in_branches rest)
+  given_in_branches (more_branches condition body rest) = given_in condition
+      ++ (given_in_stmts body ++ given_in_branches rest)
 
 -- in the calls of the values of constants
 abbrev pub given_in_constants : List Item → List Place
@@ -168,7 +179,8 @@ given_in_def f = given_in_stmts f.body
 
 -- E01: a name that the module or a parameter list binds again, or that a call is given again, at the later name
 abbrev pub twice : Module → List Place
-twice m = bound_again [] (map name_of_item m.items) ++ (of_defs (params_again (self_before false)) (params_again (self_before true)) m.items
+twice m = bound_again [] (map name_of_item m.items)
+    ++ (of_defs (params_again (self_before false)) (params_again (self_before true)) m.items
     ++ (given_in_constants m.items ++ of_defs given_in_def given_in_def m.items))
 
 -- ---- E05: `break` or `continue` outside a loop
@@ -257,7 +269,8 @@ reserved_in_classes (def_item first f ∷ is) = reserved_in_classes is
 
 -- E29: at the name
 abbrev pub reserved_bound : Module → List Place
-reserved_bound m = reserved_among (map name_of_item m.items) ++ (reserved_in_classes m.items ++ of_defs reserved_in_def reserved_in_def m.items)
+reserved_bound m = reserved_among (map name_of_item m.items)
+    ++ (reserved_in_classes m.items ++ of_defs reserved_in_def reserved_in_def m.items)
 
 -- ---- E06: members
 
@@ -295,14 +308,16 @@ held_by m = record { text = (name_of_member m).text; is_field = is_field m }
 -- the members that bind their names
 abbrev pub own_members : List (List ℕ) → List HeldMember → List Member → List HeldMember
 own_members before inherited [] = []
-own_members before inherited (m ∷ ms) = (if is_reserved_member m || is_clash before inherited m then [] else held_by m ∷ [])
+own_members before inherited (m ∷ ms) =
+    (if is_reserved_member m || is_clash before inherited m then [] else held_by m ∷ [])
     ++ own_members ((name_of_member m).text ∷ before) inherited ms
 
 -- the items before it have another name, and it is no reserved one
 abbrev pub is_first_binding : List Item → Name → Bool
 is_first_binding before n = not (is_among (map (λ i. (name_of_item i).text) before) n.text) && not (is_reserved n.text)
 
--- what the class of this name has, with these items before the point of use, the nearest first; nothing where the name is no class's
+-- what the class of this name has, with these items before the point of use, the nearest first; nothing where the name
+-- is no class's
 abbrev pub members_of : List Item → Option (List ℕ) → List HeldMember
 members_of [] n = []
 members_of (i ∷ before) None = []
@@ -315,16 +330,19 @@ members_of (class_item first c ∷ before) (Some n) = if bytes_eq c.name.text n 
 -- the members of a class that clash
 abbrev pub clashes_among : List (List ℕ) → List HeldMember → List Member → List Place
 clashes_among before inherited [] = []
-clashes_among before inherited (m ∷ ms) = one_if (is_clash before inherited m) (name_of_member m).place ++ clashes_among ((name_of_member m).text ∷ before) inherited ms
+clashes_among before inherited (m ∷ ms) = one_if (is_clash before inherited m) (name_of_member m).place
+    ++ clashes_among ((name_of_member m).text ∷ before) inherited ms
 
 -- the clashing members of each class, with the items before it, the nearest first
 abbrev pub clashing_in : (before : List Item) → List Item → List Place
 clashing_in before [] = []
 clashing_in before (constant_item first c ∷ is) = clashing_in (constant_item first c ∷ before) is
 clashing_in before (def_item first f ∷ is) = clashing_in (def_item first f ∷ before) is
-clashing_in before (class_item first c ∷ is) = clashes_among [] (members_of before (option_text c.base)) c.members ++ clashing_in (class_item first c ∷ before) is
+clashing_in before (class_item first c ∷ is) = clashes_among [] (members_of before (option_text c.base)) c.members
+    ++ clashing_in (class_item first c ∷ before) is
 
--- E06: a member's name twice in a class, a field's name that an ancestor has, a method's name that an ancestor has as a field; at the name
+-- E06: a member's name twice in a class, a field's name that an ancestor has, a method's name that an ancestor has as a
+-- field; at the name
 abbrev pub clashing_members : Module → List Place
 clashing_members m = clashing_in [] m.items
 
@@ -346,7 +364,8 @@ no_main m = one_if (not (is_plain_def (codes "main") m.items)) m.main
 -- the parameters without default that stand after one with default; `defaulted` says that one came before these
 abbrev pub late_plain : (defaulted : Bool) → List Param → List Place
 late_plain defaulted [] = []
-late_plain defaulted (p ∷ ps) = one_if (defaulted && is_none p.default) p.name.place ++ late_plain (defaulted || is_some p.default) ps
+late_plain defaulted (p ∷ ps) = one_if (defaulted && is_none p.default) p.name.place
+    ++ late_plain (defaulted || is_some p.default) ps
 
 -- the parameters of a function without default that stand after one with default
 abbrev pub late_plain_in : FuncDef → List Place
@@ -374,7 +393,8 @@ IsStopping m place code = Contains (stopping_places m code) place
 
 -- all places where a code stops a run
 abbrev pub all_stopping_places : Module → List Place
-all_stopping_places m = twice m ++ (outside_loop m ++ (clashing_members m ++ (no_main m ++ (reserved_bound m ++ default_order m))))
+all_stopping_places m = twice m
+    ++ (outside_loop m ++ (clashing_members m ++ (no_main m ++ (reserved_bound m ++ default_order m))))
 
 -- whether none does
 abbrev pub is_runnable : Module → Bool

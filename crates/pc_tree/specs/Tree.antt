@@ -7,7 +7,9 @@ use Rattle.pc_tree.specs.declared.tree.ComparisonOperator.{ComparisonOperator}
 use Rattle.pc_tree.specs.declared.tree.Name.{Name as RustName}
 use Rattle.pc_tree.specs.declared.tree.Ann.{Ann as RustAnn, Row_of-Ann, end_of-Ann, more_of-Ann}
 use Rattle.pc_tree.specs.declared.tree.Ann.TheVariants as rust_ann
-use Rattle.pc_tree.specs.declared.tree.Expr.{Expr as RustExpr, Row_of-Expr, end_of-Expr, more_of-Expr, Row_of-Entry, end_of-Entry, more_of-Entry, Row_of-KeywordArgument, end_of-KeywordArgument, more_of-KeywordArgument}
+use Rattle.pc_tree.specs.declared.tree.Expr.{Expr as RustExpr, Row_of-Expr, end_of-Expr, more_of-Expr, Row_of-Entry}
+use Rattle.pc_tree.specs.declared.tree.Expr.{end_of-Entry, more_of-Entry, Row_of-KeywordArgument}
+use Rattle.pc_tree.specs.declared.tree.Expr.{end_of-KeywordArgument, more_of-KeywordArgument}
 use Rattle.pc_tree.specs.declared.tree.Expr.TheVariants as rust
 use Rattle.pc_tree.specs.declared.tree.Target.{Target as RustTarget}
 use Rattle.pc_tree.specs.declared.tree.Target.TheVariants as rust_target
@@ -26,7 +28,8 @@ use Rattle.pc_tree.specs.declared.tree.ItemKind.{ItemKind}
 use Rattle.pc_tree.specs.declared.tree.ItemKind.TheVariants as rust_item
 use Rattle.pc_tree.specs.declared.tree.Module.{Module as RustModule}
 use Rattle.pc_tree.specs.declared.tree.Stmt.{Stmt as RustStmt}
-use Rattle.pc_tree.specs.declared.tree.StmtKind.{StmtKind, Row_of-Stmt, end_of-Stmt, more_of-Stmt, Row_of-Branch, end_of-Branch, more_of-Branch}
+use Rattle.pc_tree.specs.declared.tree.StmtKind.{StmtKind, Row_of-Stmt, end_of-Stmt, more_of-Stmt, Row_of-Branch}
+use Rattle.pc_tree.specs.declared.tree.StmtKind.{end_of-Branch, more_of-Branch}
 use Rattle.pc_tree.specs.declared.tree.Branch.{Branch'}
 use Rattle.pc_tree.specs.declared.tree.StmtKind.TheVariants as rust_stmt
 
@@ -209,7 +212,8 @@ abbrev mutual
   expr_of (rust.Or' p q l s r) = disjunction p (expr_of l) (expr_of r)
   expr_of (rust.Attribute' p q e field) = attribute p (expr_of e) (name_of field)
   expr_of (rust.Index' p q e s i) = index p (expr_of e) (expr_of i)
-  expr_of (rust.Call' p q e shape arguments shape' keywords) = call p (expr_of e) (exprs_of arguments) (keywords_of keywords)
+  expr_of (rust.Call' p q e shape arguments shape' keywords) =
+      call p (expr_of e) (exprs_of arguments) (keywords_of keywords)
 
   -- the trees of a row of expressions
   pub exprs_of : {m : _} → Row_of-Expr m → Exprs
@@ -224,7 +228,8 @@ abbrev mutual
   -- the trees of a row of arguments by name
   pub keywords_of : {m : _} → Row_of-KeywordArgument m → Keywords
   keywords_of end_of-KeywordArgument = no_keywords
-  keywords_of (more_of-KeywordArgument parameter value rest) = more_keywords (name_of parameter) (expr_of value) (keywords_of rest)
+  keywords_of (more_of-KeywordArgument parameter value rest) =
+      more_keywords (name_of parameter) (expr_of value) (keywords_of rest)
 
 -- the trees of annotations of the program, and of rows of them
 abbrev mutual
@@ -289,12 +294,15 @@ abbrev mutual
   stmt_of_kind p rust_stmt.Continue = continues p
   stmt_of_kind p (rust_stmt.Return value) = returns p (option_expr_of value)
   stmt_of_kind p (rust_stmt.Assert condition message) = asserts p (expr_of condition) (option_expr_of message)
-  stmt_of_kind p (rust_stmt.Annotated target annotation value) = annotated p (name_of target) (ann_of annotation) (option_expr_of value)
+  stmt_of_kind p (rust_stmt.Annotated target annotation value) =
+      annotated p (name_of target) (ann_of annotation) (option_expr_of value)
   stmt_of_kind p (rust_stmt.Assign target value) = assigns p (target_of target) (expr_of value)
   stmt_of_kind p (rust_stmt.Expr value) = evaluates p (expr_of value)
   stmt_of_kind p (rust_stmt.While' condition shape body) = while_loop p (expr_of condition) (stmts_of body)
-  stmt_of_kind p (rust_stmt.For' target iterable shape body) = for_loop p (name_of target) (expr_of iterable) (stmts_of body)
-  stmt_of_kind p (rust_stmt.If' shape branches shape' otherwise) = conditional p (branches_of branches) (stmts_of otherwise)
+  stmt_of_kind p (rust_stmt.For' target iterable shape body) =
+      for_loop p (name_of target) (expr_of iterable) (stmts_of body)
+  stmt_of_kind p (rust_stmt.If' shape branches shape' otherwise) =
+      conditional p (branches_of branches) (stmts_of otherwise)
 
   -- the trees of a row of statements
   pub stmts_of : {m : _} → Row_of-Stmt m → Stmts
@@ -304,7 +312,8 @@ abbrev mutual
   -- the trees of a row of branches
   pub branches_of : {m : _} → Row_of-Branch m → Branches
   branches_of end_of-Branch = no_branches
-  branches_of (more_of-Branch (Branch' condition shape body) rest) = more_branches (expr_of condition) (stmts_of body) (branches_of rest)
+  branches_of (more_of-Branch (Branch' condition shape body) rest) =
+      more_branches (expr_of condition) (stmts_of body) (branches_of rest)
 
 -- the tree of a statement
 abbrev pub stmt_of : RustStmt → Stmt
@@ -317,11 +326,20 @@ stmts_of_list (s ∷ rest) = more_stmts (stmt_of s) (stmts_of_list rest)
 
 -- the tree of a parameter
 abbrev pub param_of : RustParam → Param
-param_of p = record { name = name_of p.name; annotation = option_ann_of p.annotation; default = option_literal_of p.default }
+param_of p = record {
+  name = name_of p.name;
+  annotation = option_ann_of p.annotation;
+  default = option_literal_of p.default;
+}
 
 -- the tree of a function
 abbrev pub func_of : RustFuncDef → FuncDef
-func_of f = record { name = name_of f.name; params = map param_of f.params.items; returns = option_ann_of f.returns; body = stmts_of_list f.body.items }
+func_of f = record {
+  name = name_of f.name;
+  params = map param_of f.params.items;
+  returns = option_ann_of f.returns;
+  body = stmts_of_list f.body.items;
+}
 
 -- the tree of a field
 abbrev pub field_of : RustField → Field
@@ -334,7 +352,12 @@ member_of (rust_member.Method f) = method_member (func_of f)
 
 -- the tree of a class
 abbrev pub class_of : RustClassDef → ClassDef
-class_of c = record { decorator = c.decorator; name = name_of c.name; base = option_name_of c.base; members = map member_of c.members.items }
+class_of c = record {
+  decorator = c.decorator;
+  name = name_of c.name;
+  base = option_name_of c.base;
+  members = map member_of c.members.items;
+}
 
 -- the tree of a constant
 abbrev pub constant_of : RustConstant → Constant
@@ -352,4 +375,9 @@ item_of i = item_of_kind i.first i.kind
 
 -- the tree of a module
 abbrev pub module_of : RustModule → Module
-module_of m = record { imports_dataclass = m.imports_dataclass; imports_any = m.imports_any; items = map item_of m.items.items; main = m.main }
+module_of m = record {
+  imports_dataclass = m.imports_dataclass;
+  imports_any = m.imports_any;
+  items = map item_of m.items.items;
+  main = m.main;
+}

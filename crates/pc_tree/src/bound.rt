@@ -11,7 +11,8 @@ use pc_source::OutOfMemory;
 /// Adds the names that statements bind, in text order. Language Reference 4.2.1 "Binding of names".
 #[cycle(bound)]
 pub fn add_bound<'m>(names: &mut Vec<&'m Name>, body: &'m [Stmt]) -> Result<(), OutOfMemory>
-    ensures { OnOk result (map name_seen names.new.items ≡ map name_seen names.old.items ++ bound_by (stmts_of_list body.now)) }
+    ensures { OnOk result (map name_seen names.new.items
+        ≡ map name_seen names.old.items ++ bound_by (stmts_of_list body.now)) }
 {
     for statement in body {
         add_bound_by(names, &statement.kind)?;
@@ -22,7 +23,8 @@ pub fn add_bound<'m>(names: &mut Vec<&'m Name>, body: &'m [Stmt]) -> Result<(), 
 /// Adds those that a statement binds.
 #[cycle(bound)]
 fn add_bound_by<'m>(names: &mut Vec<&'m Name>, kind: &'m StmtKind) -> Result<(), OutOfMemory>
-    ensures { (p : PlaceOf) → OnOk result (map name_seen names.new.items ≡ map name_seen names.old.items ++ bound_by_stmt (stmt_of_kind p kind.now)) }
+    ensures { (p : PlaceOf) → OnOk result
+        (map name_seen names.new.items ≡ map name_seen names.old.items ++ bound_by_stmt (stmt_of_kind p kind.now)) }
 {
     match kind {
         StmtKind::Pass => Ok(()),
@@ -48,7 +50,8 @@ fn add_bound_by<'m>(names: &mut Vec<&'m Name>, kind: &'m StmtKind) -> Result<(),
 /// Adds those that the suites of conditions bind.
 #[cycle(bound)]
 fn add_bound_in<'m>(names: &mut Vec<&'m Name>, branches: &'m [Branch]) -> Result<(), OutOfMemory>
-    ensures { OnOk result (map name_seen names.new.items ≡ map name_seen names.old.items ++ bound_by_branches (branches_of_list branches.now)) }
+    ensures { OnOk result (map name_seen names.new.items
+        ≡ map name_seen names.old.items ++ bound_by_branches (branches_of_list branches.now)) }
 {
     for branch in branches {
         add_bound(names, &branch.body)?;
@@ -58,7 +61,8 @@ fn add_bound_in<'m>(names: &mut Vec<&'m Name>, branches: &'m [Branch]) -> Result
 
 /// Adds the name that a target is, if it is one.
 fn add_target<'m>(names: &mut Vec<&'m Name>, target: &'m Target) -> Result<(), OutOfMemory>
-    ensures { OnOk result (map name_seen names.new.items ≡ map name_seen names.old.items ++ name_of_target (target_of target.now)) }
+    ensures { OnOk result (map name_seen names.new.items
+        ≡ map name_seen names.old.items ++ name_of_target (target_of target.now)) }
 {
     match target {
         Target::Name(name) => add_name(names, name),

@@ -1,6 +1,7 @@
 -- Annotations read as types, and what is found in them: E09, E10, E26.
 -- Typing specification, "Type annotations"; PEP 484, PEP 563, PEP 604; the codes are own rules of the profile.
-use Rattle.std.specs.Prelude.{◌≡◌, ◌⊎◌, ◌<◌, List, [], ◌∷◌, Bool as Test, true, false, ◌&&◌, not, if◌then◌else◌, nat_le, ◌==◌, Option, Some, None, unwrap_or, MatchOption}
+use Rattle.std.specs.Prelude.{◌≡◌, ◌⊎◌, ◌<◌, List, [], ◌∷◌, Bool as Test, true, false, ◌&&◌, not, if◌then◌else◌, nat_le}
+use Rattle.std.specs.Prelude.{◌==◌, Option, Some, None, unwrap_or, MatchOption}
 use Rattle.std.specs.List.{list_all}
 use Rattle.pc_tree.specs.declared.code.Code.TheVariants.{E09, E10, E26}
 use Rattle.pc_tree.specs.declared.code.Finding.{Finding}
@@ -13,7 +14,8 @@ use Rattle.pc_scope.specs.declared.resolution.Builtin.TheVariants as builtin
 use Rattle.pc_scope.specs.declared.resolution.Res.{Res}
 use Rattle.pc_scope.specs.declared.resolution.Res.TheVariants as res
 use Rattle.pc_scope.specs.Resolution.{resolve_in_module}
-use Rattle.pc_types.specs.Tree.{Tree, Any, Object, Never, Int, Bool, Str, NoneType, Class, ListOf, DictOf, TupleOf, Union, end}
+use Rattle.pc_types.specs.Tree.{Tree, Any, Object, Never, Int, Bool, Str, NoneType, Class, ListOf, DictOf, TupleOf}
+use Rattle.pc_types.specs.Tree.{Union, end}
 use Rattle.pc_types.specs.Below.{Bases}
 use Rattle.pc_types.specs.Shape.{nodes, node_limit, trees, union}
 use Rattle.pc_types.specs.Normal.{member_rank}
@@ -116,9 +118,11 @@ module _ (m : Module) (bases : Bases) where
     pub PartFinds : Ann → Finding → Type 0
     PartFinds (named n) f = MatchOption (named_type m.imports_any (meaning n)) (f ≡ finding n.place E09) (λ t. ⊥)
     PartFinds (none_type p) f = ⊥
-    PartFinds (applied p head arguments) f = MatchOption (applied_type (meaning head) (readings arguments)) (f ≡ finding p E09) (λ t. PartsFind arguments f)
+    PartFinds (applied p head arguments) f =
+        MatchOption (applied_type (meaning head) (readings arguments)) (f ≡ finding p E09) (λ t. PartsFind arguments f)
     PartFinds (applied_empty p head) f = MatchOption (empty_type (meaning head)) (f ≡ finding p E09) (λ t. ⊥)
-    PartFinds (tree.union p parts) f = MatchOption (union_type bases (readings parts)) (f ≡ finding p E10) (λ t. ⊥) ⊎ PartsFind parts f
+    PartFinds (tree.union p parts) f = MatchOption (union_type bases (readings parts)) (f ≡ finding p E10) (λ t. ⊥)
+        ⊎ PartsFind parts f
 
     -- what is found in several annotations
     pub PartsFind : Anns → Finding → Type 0

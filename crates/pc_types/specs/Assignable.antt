@@ -1,7 +1,8 @@
 -- Consistent subtyping: when some reading of Any puts a type below another.
 -- Typing specification, "Type system concepts", materialization and consistent subtyping; PEP 484, "The Any type".
 use Rattle.std.specs.Prelude.{ℕ}
-use Rattle.pc_types.specs.Tree.{Tree, Trees, Any, Object, Never, Int, Bool, Str, NoneType, Class, ListOf, DictOf, TupleOf, Union, end, more}
+use Rattle.pc_types.specs.Tree.{Tree, Trees, Any, Object, Never, Int, Bool, Str, NoneType, Class, ListOf, DictOf}
+use Rattle.pc_types.specs.Tree.{TupleOf, Union, end, more}
 use Rattle.pc_types.specs.Below.{Bases, Below}
 
 -- a tree without Any

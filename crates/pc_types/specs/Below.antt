@@ -1,7 +1,9 @@
 -- Subtyping: when a type without Any is below another, and static subtyping.
--- Typing specification, "Type system concepts", subtype relations; PEP 484, "Generics" (lists and dicts are invariant); PEP 604.
+-- Typing specification, "Type system concepts", subtype relations; PEP 484, "Generics" (lists and dicts are invariant);
+-- PEP 604.
 use Rattle.std.specs.Prelude.{◌≡◌, ◌<◌, ℕ, List, Option, Some, None, slice_index_or}
-use Rattle.pc_types.specs.Tree.{Tree, Trees, Object, Never, Int, Bool, Class, ListOf, DictOf, TupleOf, Union, end, more, erase}
+use Rattle.pc_types.specs.Tree.{Tree, Trees, Object, Never, Int, Bool, Class, ListOf, DictOf, TupleOf, Union, end, more}
+use Rattle.pc_types.specs.Tree.{erase}
 
 -- for each class its base's number, or none
 abbrev pub Bases : Type 0
@@ -30,12 +32,14 @@ mutual
     both : {a b u : Tree} → Below bases a u → Below bases b u → Below bases (Union a b) u
     tuple : {ss ts : Trees} → EachBelow bases ss ts → Below bases (TupleOf ss) (TupleOf ts)
     list : {s t : Tree} → Below bases s t → Below bases t s → Below bases (ListOf s) (ListOf t)
-    dict : {j k v w : Tree} → Below bases j k → Below bases k j → Below bases v w → Below bases w v → Below bases (DictOf j v) (DictOf k w)
+    dict : {j k v w : Tree} → Below bases j k → Below bases k j → Below bases v w → Below bases w v
+        → Below bases (DictOf j v) (DictOf k w)
 
   -- the parts of two tuples of one length are below each other, one by one
   pub data EachBelow (bases : Bases) : Trees → Trees → Type 0 where
     none : EachBelow bases end end
-    one : {s t : Tree} {ss ts : Trees} → Below bases s t → EachBelow bases ss ts → EachBelow bases (more s ss) (more t ts)
+    one : {s t : Tree} {ss ts : Trees} → Below bases s t → EachBelow bases ss ts
+        → EachBelow bases (more s ss) (more t ts)
 
 -- the first with each Any read as object is below the second, read likewise
 abbrev pub Static : Bases → Tree → Tree → Type 0

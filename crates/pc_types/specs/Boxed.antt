@@ -5,7 +5,8 @@ use Rattle.pc_types.specs.Tree as tree
 use Rattle.pc_types.specs.Shape.{trees, nodes, node_limit}
 use Rattle.pc_types.specs.Normal.{IsNormal}
 use Rattle.pc_types.specs.declared.boxed.BoxType.{BoxType, Row_of-BoxType, end_of-BoxType, more_of-BoxType}
-use Rattle.pc_types.specs.declared.boxed.BoxType.TheVariants.{Any, Object, Never, Int, Bool, Str, NoneType, Class, List', Dict', Tuple', Union'}
+use Rattle.pc_types.specs.declared.boxed.BoxType.TheVariants.{Any, Object, Never, Int, Bool, Str, NoneType, Class}
+use Rattle.pc_types.specs.declared.boxed.BoxType.TheVariants.{List', Dict', Tuple', Union'}
 
 -- the trees of types in boxes, and of their parts
 abbrev mutual

@@ -1,8 +1,9 @@
--- Static and consistent subtyping computed, of types in normal form: the computed twins of Static and Assignable, which the law
--- `subtyping_is_decided` ties to them. They are to be believed for that law alone.
+-- Static and consistent subtyping computed, of types in normal form: the computed twins of Static and Assignable, which
+-- the law `subtyping_is_decided` ties to them. They are to be believed for that law alone.
 -- Own rule of the profile.
 use Rattle.std.specs.Prelude.{◌↔◌, Bool as Test, true, false, IsTrue, ◌&&◌, ◌||◌, ◌==◌}
-use Rattle.pc_types.specs.Tree.{Tree, Trees, Any, Object, Never, Int, Bool, Str, NoneType, Class, ListOf, DictOf, TupleOf, Union, end, more, erase}
+use Rattle.pc_types.specs.Tree.{Tree, Trees, Any, Object, Never, Int, Bool, Str, NoneType, Class, ListOf, DictOf}
+use Rattle.pc_types.specs.Tree.{TupleOf, Union, end, more, erase}
 use Rattle.pc_types.specs.Below.{Bases, AreSmaller, Static}
 use Rattle.pc_types.specs.Assignable.{Assignable}
 use Rattle.pc_types.specs.Shape.{count}
@@ -48,7 +49,8 @@ list_fits bases into s _ = false
 
 -- whether a dict of the key and value flows into a dict
 abbrev pub dict_fits : Bases → (key_into value_into : Tree → Test) → (key value : Tree) → Tree → Test
-dict_fits bases key_into value_into j v (DictOf k w) = (key_into k && is_covered bases k j) && (value_into w && is_covered bases w v)
+dict_fits bases key_into value_into j v (DictOf k w) = (key_into k && is_covered bases k j)
+    && (value_into w && is_covered bases w v)
 dict_fits bases key_into value_into j v _ = false
 
 -- whether a tuple flows into a tuple
@@ -71,7 +73,8 @@ abbrev mutual
   -- so for the parts of two tuples of one length
   pub each_flows : Bases → Trees → (both : Test) → Trees → Test
   each_flows bases end both end = true
-  each_flows bases (more s ss) both (more t ts) = (flows bases s both t && is_covered_back bases both s t) && each_flows bases ss both ts
+  each_flows bases (more s ss) both (more t ts) = (flows bases s both t && is_covered_back bases both s t)
+      && each_flows bases ss both ts
   each_flows bases _ both _ = false
 
 -- whether the first is static to the second: the computed twin of Static
@@ -84,8 +87,10 @@ assignable_test bases s t = flows bases s false t
 
 -- of types in normal form the test of static subtyping is true exactly where it holds
 abbrev pub StaticIsDecided : Type 0
-StaticIsDecided = (bases : Bases) (s t : Tree) → AreSmaller bases → IsNormal s → IsNormal t → IsTrue (static_test bases s t) ↔ Static bases s t
+StaticIsDecided = (bases : Bases) (s t : Tree) → AreSmaller bases → IsNormal s → IsNormal t
+    → IsTrue (static_test bases s t) ↔ Static bases s t
 
 -- and the test of consistent subtyping exactly where that holds
 abbrev pub AssignableIsDecided : Type 0
-AssignableIsDecided = (bases : Bases) (s t : Tree) → AreSmaller bases → IsNormal s → IsNormal t → IsTrue (assignable_test bases s t) ↔ Assignable bases s t
+AssignableIsDecided = (bases : Bases) (s t : Tree) → AreSmaller bases → IsNormal s → IsNormal t
+    → IsTrue (assignable_test bases s t) ↔ Assignable bases s t

@@ -1,7 +1,8 @@
 -- The head of a type, as a store tells it.
 -- Own rule of the profile.
 use Rattle.std.specs.Prelude.{ℕ, length}
-use Rattle.pc_types.specs.Tree.{Tree, Any, Object, Never, Int, Bool, Str, NoneType, Class, ListOf, DictOf, TupleOf, Union}
+use Rattle.pc_types.specs.Tree.{Tree, Any, Object, Never, Int, Bool, Str, NoneType, Class, ListOf, DictOf, TupleOf}
+use Rattle.pc_types.specs.Tree.{Union}
 use Rattle.pc_types.specs.Shape.{count, members}
 use Rattle.pc_types.specs.declared.head.Head.{Head}
 use Rattle.pc_types.specs.declared.head.Head.TheVariants as heads

@@ -1,9 +1,11 @@
 -- The join of two types: by cases on the two, else member by member.
 -- Own rule of the profile; typing specification, "Type system concepts", union types; PEP 604.
-use Rattle.std.specs.Prelude.{◌≡◌, ℕ, zero, suc, ◌==◌, ◌&&◌, ◌||◌, Bool as Test, true, false, not, nat_lt, nat_le, if◌then◌else◌, List, [], ◌∷◌, filter, Option, Some, None, option_and_then}
+use Rattle.std.specs.Prelude.{◌≡◌, ℕ, zero, suc, ◌==◌, ◌&&◌, ◌||◌, Bool as Test, true, false, not, nat_lt, nat_le}
+use Rattle.std.specs.Prelude.{if◌then◌else◌, List, [], ◌∷◌, filter, Option, Some, None, option_and_then}
 use Rattle.std.specs.List.{list_any}
 use Rattle.std.specs.Option.{option_map, option_map_or}
-use Rattle.pc_types.specs.Tree.{Tree, Trees, Any, Object, Never, Int, Bool, Str, NoneType, Class, ListOf, DictOf, TupleOf, Union, end, more}
+use Rattle.pc_types.specs.Tree.{Tree, Trees, Any, Object, Never, Int, Bool, Str, NoneType, Class, ListOf, DictOf}
+use Rattle.pc_types.specs.Tree.{TupleOf, Union, end, more}
 use Rattle.pc_types.specs.Below.{Bases, base_of}
 use Rattle.pc_types.specs.Shape.{nodes, node_limit, members, ahead, union}
 use Rattle.pc_types.specs.Normal.{member_rank}
@@ -52,13 +54,15 @@ unabsorbed_members bases t other = filter (λ m. not (is_absorbed bases m other)
 
 -- whether the first member has its place before the second's
 abbrev pub is_before : Tree → Tree → Test
-is_before m n = nat_lt (member_rank m).0 (member_rank n).0 || (((member_rank m).0 == (member_rank n).0) && nat_lt (member_rank m).1 (member_rank n).1)
+is_before m n = nat_lt (member_rank m).0 (member_rank n).0
+    || (((member_rank m).0 == (member_rank n).0) && nat_lt (member_rank m).1 (member_rank n).1)
 
 -- a member put at its place among others: made one with one of its head, where that can be done
 abbrev pub put_among : Tree → (Tree → Option Tree) → List Tree → Option (List Tree)
 put_among m one [] = Some (m ∷ [])
 put_among m one (n ∷ ns) =
-    if is_before m n then Some (m ∷ n ∷ ns) else (if is_before n m then option_map (λ l. n ∷ l) (put_among m one ns) else option_map (λ f. f ∷ ns) (one n))
+    if is_before m n then Some (m ∷ n ∷ ns)
+    else (if is_before n m then option_map (λ l. n ∷ l) (put_among m one ns) else option_map (λ f. f ∷ ns) (one n))
 
 -- the parts of a tuple, none of another type
 abbrev pub parts_of : Tree → Trees
@@ -74,7 +78,8 @@ abbrev pub both_parts : Option Tree → Option Trees → Option Trees
 both_parts (Some t) (Some ts) = Some (more t ts)
 both_parts _ _ = None
 
--- equal types give themselves; Never gives the other; Any where either is; else object where either is; else the join by members
+-- equal types give themselves; Never gives the other; Any where either is; else object where either is; else the join
+-- by members
 abbrev pub by_rule : Tree → Tree → Option Tree → Option Tree
 by_rule Never t join_of = Some t
 by_rule s Never join_of = Some s
@@ -96,7 +101,8 @@ abbrev mutual
   put_all bases other Never ms = Some ms
   put_all bases other (Union a b) ms = option_and_then (λ l. put_all bases other a l) (put_all bases other b ms)
   put_all bases other (TupleOf ss) ms =
-      if is_absorbed bases (TupleOf ss) other then Some ms else put_among (TupleOf ss) (λ n. option_map TupleOf (join_each bases ss (parts_of n))) ms
+      if is_absorbed bases (TupleOf ss) other then Some ms
+      else put_among (TupleOf ss) (λ n. option_map TupleOf (join_each bases ss (parts_of n))) ms
   put_all bases other m ms = if is_absorbed bases m other then Some ms else put_among m (equal_one m) ms
 
   -- the parts of two tuples joined one by one
@@ -142,4 +148,5 @@ ahead_of (Some m) rest = option_map (ahead m) rest
 -- two members of one head as one ahead of others, but for those that the other side absorbs (private to this crate)
 abbrev pub one_with : Bases → Tree → Tree → Tree → Tree → Option Tree → Option Tree
 one_with bases left right a b rest =
-    if is_absorbed bases b left then kept_with bases a right rest else (if is_absorbed bases a right then option_map (ahead b) rest else ahead_of (one_of bases a b) rest)
+    if is_absorbed bases b left then kept_with bases a right rest
+    else (if is_absorbed bases a right then option_map (ahead b) rest else ahead_of (one_of bases a b) rest)

@@ -16,7 +16,8 @@ module _ {Store Ty : Type 0} (has : Store → Ty → Type 0) (tree : Ty → Tree
 
   -- a type of the store with this tree, of at most so many nodes as a type may have, or none where the tree has more
   abbrev pub MeansWithin : Store → Option Ty → Tree → Type 0
-  MeansWithin store answer t = MatchOption answer (node_limit < nodes t) (λ ty. has store ty × (tree ty ≡ t) × (nodes t ≤ node_limit))
+  MeansWithin store answer t =
+      MatchOption answer (node_limit < nodes t) (λ ty. has store ty × (tree ty ≡ t) × (nodes t ≤ node_limit))
 
   -- a type of the store with the tree that there is, or none where there is none
   abbrev pub MeansAny : Store → Option Ty → Option Tree → Type 0

@@ -15,12 +15,15 @@ IsWellFormed bases t = IsNormal t × IsReduced bases t × (nodes t ≤ node_limi
 
 -- the join of two types in normal form, without absorbed members, is well-formed, if there is one
 abbrev pub JoinsAreWellFormed : Type 0
-JoinsAreWellFormed = (bases : Bases) (s t u : Tree) → AreSmaller bases → IsNormal s → IsNormal t → IsReduced bases s → IsReduced bases t → join bases s t ≡ Some u → IsWellFormed bases u
+JoinsAreWellFormed = (bases : Bases) (s t u : Tree) → AreSmaller bases → IsNormal s → IsNormal t → IsReduced bases s
+    → IsReduced bases t → join bases s t ≡ Some u → IsWellFormed bases u
 
 -- what an annotation is read as is well-formed
 abbrev pub AnnotationsAreWellFormed : Type 0
-AnnotationsAreWellFormed = (m : Module) (bases : Bases) → AreSmaller bases → (a : Ann) → IsWellFormed bases (read_ann m bases a)
+AnnotationsAreWellFormed = (m : Module) (bases : Bases) → AreSmaller bases → (a : Ann)
+    → IsWellFormed bases (read_ann m bases a)
 
 -- and so is what stands for an annotation that is left out
 abbrev pub OptionalAnnotationsAreWellFormed : Type 0
-OptionalAnnotationsAreWellFormed = (m : Module) (bases : Bases) → AreSmaller bases → (a : Option Ann) → IsWellFormed bases (read_option m bases a)
+OptionalAnnotationsAreWellFormed = (m : Module) (bases : Bases) → AreSmaller bases → (a : Option Ann)
+    → IsWellFormed bases (read_option m bases a)

@@ -4,7 +4,8 @@ ghost use Rattle.std.specs.Prelude.{◌≡◌, ◌↔◌, length, IsTrue, true};
 ghost use Rattle.pc_types.specs.Below.{Static};
 ghost use Rattle.pc_types.specs.Assignable.{Assignable};
 ghost use Rattle.pc_types.specs.Computed.{static_test, assignable_test};
-ghost use Rattle.pc_types.specs.Internal.HeadFlow.{Covers, HeadFlow, FlowsBack, EachFlow, FlowFits, HeadFits, seen, seen_each};
+ghost use Rattle.pc_types.specs.Internal.HeadFlow.{Covers, HeadFlow, FlowsBack, EachFlow, FlowFits, HeadFits, seen};
+ghost use Rattle.pc_types.specs.Internal.HeadFlow.{seen_each};
 ghost use Rattle.pc_types.specs.Normal.{IsNormal};
 ghost use Rattle.pc_types.specs.Boxed.{tree_of, trees_in, IsNoUnion};
 
@@ -117,7 +118,8 @@ fn agree(parents: &Parents, gradual: bool, both: bool, s: &BoxType, t: &BoxType)
 /// Whether the parts of two tuples of one length flow into each other's, one by one.
 #[cycle(flow)]
 fn each_flows(parents: &Parents, gradual: bool, both: bool, ss: &[BoxType], ts: &[BoxType]) -> bool
-    ensures { IsTrue result ↔ EachFlow parents.now both (seen_each gradual (trees_in ss.now)) (seen_each gradual (trees_in ts.now)) }
+    ensures { IsTrue result ↔ EachFlow parents.now both (seen_each gradual (trees_in ss.now))
+        (seen_each gradual (trees_in ts.now)) }
 {
     if ss.len() != ts.len() {
         return false;

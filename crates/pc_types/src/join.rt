@@ -5,7 +5,9 @@ ghost use Rattle.std.specs.Option.{option_map};
 ghost use Rattle.pc_types.specs.Tree.{Never};
 ghost use Rattle.pc_types.specs.Normal.{member_rank, IsNormal, AreNormal, IsOfMembers};
 ghost use Rattle.pc_types.specs.Shape.{ahead, union};
-ghost use Rattle.pc_types.specs.Join.{IsSplit, same_tree, same_trees, absorbs, is_absorbed, unabsorbed_members, is_before, by_rule, kept_with, one_with, one_of, parts_of, put_all, join_each, join_of, join, within_limit};
+ghost use Rattle.pc_types.specs.Join.{IsSplit, same_tree, same_trees, absorbs, is_absorbed, unabsorbed_members};
+ghost use Rattle.pc_types.specs.Join.{is_before, by_rule, kept_with, one_with, one_of, parts_of, put_all, join_each};
+ghost use Rattle.pc_types.specs.Join.{join_of, join, within_limit};
 ghost use Rattle.pc_types.specs.Boxed.{tree_of, trees_in, IsGiven};
 
 use crate::shape::{LIMIT, copy, count_nodes, put_ahead};
@@ -121,7 +123,8 @@ fn rank(t: &BoxType) -> (usize, usize)
 /// A type's first member and a type with the others, or none for Never.
 fn split<'a>(t: &'a BoxType, never: &'a BoxType) -> Option<(&'a BoxType, &'a BoxType)>
     requires { tree_of never.now ≡ Never }
-    ensures { MatchOption result (tree_of t.now ≡ Never) (λ p. IsSplit (tree_of t.now) (tree_of p.0.now) (tree_of p.1.now)) }
+    ensures { MatchOption result (tree_of t.now ≡ Never)
+        (λ p. IsSplit (tree_of t.now) (tree_of p.0.now) (tree_of p.1.now)) }
 {
     match t {
         BoxType::Never => None,
@@ -155,7 +158,8 @@ fn kept_ahead(
     other: &BoxType,
     rest: Option<BoxType>,
 ) -> Result<Option<BoxType>, OutOfMemory>
-    ensures { IfOk result (λ o. option_map tree_of o ≡ kept_with parents.now (tree_of m.now) (tree_of other.now) (option_map tree_of rest)) }
+    ensures { IfOk result (λ o. option_map tree_of o
+        ≡ kept_with parents.now (tree_of m.now) (tree_of other.now) (option_map tree_of rest)) }
 {
     if is_member_absorbed(parents, m, other) {
         Ok(rest)
@@ -191,7 +195,9 @@ pub(crate) fn join(
 ) -> Result<Option<BoxType>, OutOfMemory>
     requires left { IsGiven s.now }
     requires right { IsGiven t.now }
-    ensures { IfOk result (λ o. MatchOption o (join parents.now (tree_of s.now) (tree_of t.now) ≡ None) (λ u. IsGiven u × (join parents.now (tree_of s.now) (tree_of t.now) ≡ Some (tree_of u)))) }
+    ensures { IfOk result (λ o.
+        MatchOption o (join parents.now (tree_of s.now) (tree_of t.now) ≡ None)
+        (λ u. IsGiven u × (join parents.now (tree_of s.now) (tree_of t.now) ≡ Some (tree_of u)))) }
 {
     let u = joined(alloc, parents, s, t)?;
     Ok(within_limit(u))
@@ -247,7 +253,10 @@ fn ruled(
 ) -> Result<Option<BoxType>, OutOfMemory>
     requires left { IsNormal (tree_of s.now) }
     requires right { IsNormal (tree_of t.now) }
-    ensures { IfOk result (λ o. option_map tree_of o ≡ by_rule (tree_of s.now) (tree_of t.now) (option_map union (put_all parents.now (tree_of t.now) (tree_of s.now) (unabsorbed_members parents.now (tree_of t.now) (tree_of s.now))))) }
+    ensures { IfOk result (λ o. option_map tree_of o
+        ≡ by_rule (tree_of s.now) (tree_of t.now)
+        (option_map union (put_all parents.now (tree_of t.now) (tree_of s.now)
+        (unabsorbed_members parents.now (tree_of t.now) (tree_of s.now))))) }
 {
     match s {
         BoxType::Never => Ok(Some(copy(alloc, t)?)),
@@ -285,7 +294,9 @@ fn merged(
     requires empty { tree_of sides.now.never.now ≡ Never }
     requires left { IsOfMembers (tree_of s.now) }
     requires right { IsOfMembers (tree_of t.now) }
-    ensures { IfOk result (λ o. option_map tree_of o ≡ option_map union (put_all parents.now (tree_of sides.now.right.now) (tree_of s.now) (unabsorbed_members parents.now (tree_of t.now) (tree_of sides.now.left.now)))) }
+    ensures { IfOk result (λ o. option_map tree_of o
+        ≡ option_map union (put_all parents.now (tree_of sides.now.right.now) (tree_of s.now)
+        (unabsorbed_members parents.now (tree_of t.now) (tree_of sides.now.left.now)))) }
 {
     match split(s, sides.never) {
         None => match split(t, sides.never) {
@@ -329,7 +340,9 @@ fn one_ahead(
 ) -> Result<Option<BoxType>, OutOfMemory>
     requires left { IsNormal (tree_of a.now) }
     requires right { IsNormal (tree_of b.now) }
-    ensures { IfOk result (λ o. option_map tree_of o ≡ one_with parents.now (tree_of sides.now.left.now) (tree_of sides.now.right.now) (tree_of a.now) (tree_of b.now) (option_map tree_of rest)) }
+    ensures { IfOk result (λ o. option_map tree_of o
+        ≡ one_with parents.now (tree_of sides.now.left.now) (tree_of sides.now.right.now) (tree_of a.now)
+        (tree_of b.now) (option_map tree_of rest)) }
 {
     if is_member_absorbed(parents, b, sides.left) {
         return kept_ahead(alloc, parents, a, sides.right, rest);
@@ -383,7 +396,8 @@ fn joined_parts(
 ) -> Result<Option<Vec<BoxType>>, OutOfMemory>
     requires left { AreNormal (trees_in ss.now) }
     requires right { AreNormal (trees_in ts.now) }
-    ensures { IfOk result (λ o. option_map (λ v. trees_in v.items) o ≡ join_each parents.now (trees_in ss.now) (trees_in ts.now)) }
+    ensures { IfOk result (λ o. option_map (λ v. trees_in v.items) o
+        ≡ join_each parents.now (trees_in ss.now) (trees_in ts.now)) }
 {
     if ss.len() != ts.len() {
         return Ok(None);

@@ -4,7 +4,8 @@ ghost use Rattle.pc_tree.specs.Tree.{Module};
 ghost use Rattle.pc_types.specs.Bases.{bases_of};
 ghost use Rattle.pc_types.specs.Below.{AreSmaller};
 ghost use Rattle.pc_types.specs.Computed.{StaticIsDecided, AssignableIsDecided};
-ghost use Rattle.pc_types.specs.WellFormed.{JoinsAreWellFormed, AnnotationsAreWellFormed, OptionalAnnotationsAreWellFormed};
+ghost use Rattle.pc_types.specs.WellFormed.{JoinsAreWellFormed, AnnotationsAreWellFormed};
+ghost use Rattle.pc_types.specs.WellFormed.{OptionalAnnotationsAreWellFormed};
 
 /// The law that the join of two types in normal form, without absorbed members, is in normal form too, has no absorbed
 /// member and at most 256 nodes, if there is one.

@@ -1,7 +1,9 @@
 //! The trait of stores of types.
 
-ghost use Rattle.std.specs.Prelude.{◌≡◌, ◌↔◌, ◌<◌, ◌≤◌, List, Option, ℕ, length, map, slice_get, All, IsTrue, IfOk, Some};
-ghost use Rattle.pc_types.specs.Tree.{Tree, Any, Object, Never, Int, Bool, Str, NoneType, Class, ListOf, DictOf, TupleOf};
+ghost use Rattle.std.specs.Prelude.{◌≡◌, ◌↔◌, ◌<◌, ◌≤◌, List, Option, ℕ, length, map, slice_get, All, IsTrue, IfOk};
+ghost use Rattle.std.specs.Prelude.{Some};
+ghost use Rattle.pc_types.specs.Tree.{Tree, Any, Object, Never, Int, Bool, Str, NoneType, Class, ListOf, DictOf};
+ghost use Rattle.pc_types.specs.Tree.{TupleOf};
 ghost use Rattle.pc_types.specs.Below.{Static};
 ghost use Rattle.pc_types.specs.Assignable.{Assignable};
 ghost use Rattle.pc_types.specs.Computed.{static_test, assignable_test};

@@ -14,7 +14,8 @@ field_value name (s ∷ rest) = if same_text s.name name then Some s.value else 
 -- the fields after one of them was set
 abbrev pub with_field : List ℕ → Value → List Slot → List Slot
 with_field name v [] = []
-with_field name v (s ∷ rest) = if same_text s.name name then record { name = s.name; value = v } ∷ rest else s ∷ with_field name v rest
+with_field name v (s ∷ rest) = if same_text s.name name then record { name = s.name; value = v } ∷ rest
+    else s ∷ with_field name v rest
 
 -- a field; else the name of a method is out of the profile, and another name is AttributeError
 abbrev pub field_outcome : Option Value → Bool → Outcome
@@ -35,5 +36,6 @@ store_field heap l class fields name v None = keeps heap (stops Outside)
 
 -- `e.f = v`: a field of an instance; another name on an instance is out of the profile, other kinds are AttributeError
 abbrev pub store_attribute_outcome : Heap → Seen → List ℕ → Value → ActionResult
-store_attribute_outcome heap (an_instance l class fields) name v = store_field heap l class fields name v (field_value name fields)
+store_attribute_outcome heap (an_instance l class fields) name v =
+    store_field heap l class fields name v (field_value name fields)
 store_attribute_outcome heap o name v = keeps heap (raises AttributeError)

@@ -1,8 +1,11 @@
 -- Lists, dicts, tuples and texts: their lengths, items and keys, and their changes.
 -- Language Reference 6.2.5 "List displays", 6.2.7 "Dictionary displays", 6.3.2 "Subscriptions"; Library Reference,
 -- "Sequence Types" and "Mapping Types".
-use Rattle.std.specs.Prelude.{◌≡◌, ℕ, suc, ◌-◌, Bool, true, false, List, [], ◌∷◌, ◌++◌, length, take, ℤ, pos, negsuc, nat_lt, if◌then◌else◌, Option, Some, None, is_some, slice_get, slice_set, refl}
-use Rattle.pc_value.specs.Value.{Value, whole, boolean, string, none, location, list_of, Entry, Cell, list_cell, dict_cell, Heap, TypeError, Outside, Other, Stop, Raised, Seen, a_number, a_text, a_none, a_tuple, a_list, a_dict, seen, number_of_truth}
+use Rattle.std.specs.Prelude.{◌≡◌, ℕ, suc, ◌-◌, Bool, true, false, List, [], ◌∷◌, ◌++◌, length, take, ℤ, pos, negsuc}
+use Rattle.std.specs.Prelude.{nat_lt, if◌then◌else◌, Option, Some, None, is_some, slice_get, slice_set, refl}
+use Rattle.pc_value.specs.Value.{Value, whole, boolean, string, none, location, list_of, Entry, Cell, list_cell}
+use Rattle.pc_value.specs.Value.{dict_cell, Heap, TypeError, Outside, Other, Stop, Raised, Seen, a_number, a_text}
+use Rattle.pc_value.specs.Value.{a_none, a_tuple, a_list, a_dict, seen, number_of_truth}
 use Rattle.pc_value.specs.Actions.{Outcome, gives, stops, raises, ActionResult, keeps}
 use Rattle.pc_value.specs.Numbers.{same_number}
 use Rattle.pc_value.specs.Texts.{same_text}
@@ -48,7 +51,8 @@ value_at key (e ∷ rest) = if same_key e.key key then Some e.value else value_a
 -- the entries after a key was set: an entry of that key keeps its place and its key, a new one goes to the end
 abbrev pub with_entry : Value → Value → List Entry → List Entry
 with_entry key v [] = record { key = key; value = v } ∷ []
-with_entry key v (e ∷ rest) = if same_key e.key key then record { key = e.key; value = v } ∷ rest else e ∷ with_entry key v rest
+with_entry key v (e ∷ rest) = if same_key e.key key then record { key = e.key; value = v } ∷ rest
+    else e ∷ with_entry key v rest
 
 -- the entries of a display, set one after another
 abbrev pub with_entries : List Entry → List Entry → List Entry
@@ -154,7 +158,10 @@ last_of items = slice_get items (length items - 1)
 -- the list at a location loses its last item and gives it; another exception where it has none
 abbrev pub pop_from : Heap → ℕ → List Value → Option Value → ActionResult
 pop_from heap l items None = keeps heap (stops Other)
-pop_from heap l items (Some v) = record { outcome = gives v; heap = slice_set heap l (list_cell (take (length items - 1) items)) }
+pop_from heap l items (Some v) = record {
+  outcome = gives v;
+  heap = slice_set heap l (list_cell (take (length items - 1) items));
+}
 
 -- `e.pop()` on a list: its last item; another exception where it is empty
 abbrev pub pop_outcome : Heap → Seen → ActionResult
@@ -186,9 +193,13 @@ behind_the_last : item_numbered {A = ℕ} (4 ∷ 5 ∷ 6 ∷ []) (pos 3) ≡ Non
 behind_the_last = refl
 
 -- `{True: None, 1: 7}` has the one key True, with 7
-true_is_the_key_one : with_entries [] (record { key = boolean true; value = none } ∷ record { key = whole (pos 1); value = whole (pos 7) } ∷ []) ≡ record { key = boolean true; value = whole (pos 7) } ∷ []
+true_is_the_key_one : with_entries []
+    (record { key = boolean true; value = none } ∷ record { key = whole (pos 1); value = whole (pos 7) } ∷ [])
+    ≡ record { key = boolean true; value = whole (pos 7) } ∷ []
 true_is_the_key_one = refl
 
 -- a key that is set again keeps its place
-keeps_its_place : with_entry (whole (pos 1)) none (record { key = whole (pos 1); value = whole (pos 5) } ∷ record { key = whole (pos 2); value = whole (pos 6) } ∷ []) ≡ record { key = whole (pos 1); value = none } ∷ record { key = whole (pos 2); value = whole (pos 6) } ∷ []
+keeps_its_place : with_entry (whole (pos 1)) none
+    (record { key = whole (pos 1); value = whole (pos 5) } ∷ record { key = whole (pos 2); value = whole (pos 6) } ∷ [])
+    ≡ record { key = whole (pos 1); value = none } ∷ record { key = whole (pos 2); value = whole (pos 6) } ∷ []
 keeps_its_place = refl

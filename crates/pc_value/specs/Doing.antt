@@ -8,8 +8,13 @@ use Rattle.pc_value.specs.declared.action.Action.{Action as RustAction}
 use Rattle.pc_value.specs.declared.action.Action.TheVariants as rust
 use Rattle.pc_value.specs.declared.action.Outcome.{Outcome as RustOutcome}
 use Rattle.pc_value.specs.declared.action.Outcome.TheVariants as rust_outcome
-use Rattle.pc_value.specs.Value.{Exception, TypeError, AttributeError, NameError, UnboundLocalError, Raised, Other, Outside, Cut, values_of}
-use Rattle.pc_value.specs.Actions.{Action, number, binary, compare, negative, negation, truth_of, new_list, new_dict, new_instance, read_item, store_item, read_attribute, store_attribute, append, pop, get, length_of, text_of, iterate, iterate_range, turn, Iteration, over_list, over_dict, over_text, over_tuple, over_range, Outcome, gives, iterates, finished, stops, ActionResult}
+use Rattle.pc_value.specs.Value.{Exception, TypeError, AttributeError, NameError, UnboundLocalError, Raised, Other}
+use Rattle.pc_value.specs.Value.{Outside, Cut, values_of}
+use Rattle.pc_value.specs.Actions.{Action, number, binary, compare, negative, negation, truth_of, new_list, new_dict}
+use Rattle.pc_value.specs.Actions.{new_instance, read_item, store_item, read_attribute, store_attribute, append, pop}
+use Rattle.pc_value.specs.Actions.{get, length_of, text_of, iterate, iterate_range, turn, Iteration, over_list}
+use Rattle.pc_value.specs.Actions.{over_dict, over_text, over_tuple, over_range, Outcome, gives, iterates, finished}
+use Rattle.pc_value.specs.Actions.{stops, ActionResult}
 use Rattle.pc_value.specs.Numbers.{number_of_digits, negative_of_digits}
 use Rattle.pc_source.specs.declared.fault.OutOfMemory.{OutOfMemory}
 use Rattle.pc_value.specs.declared.value.Heap.{Heap as RustHeap}

@@ -1,8 +1,10 @@
 -- What a `for` goes over, turn by turn.
 -- Language Reference 8.3 "The for statement".
 use Rattle.std.specs.Prelude.{ℕ, [], ◌∷◌, length, map, pos, nat_eq, if◌then◌else◌, Option, Some, None, slice_get}
-use Rattle.pc_value.specs.Value.{Value, whole, string, list_of, Entry, Heap, TypeError, Other, Seen, a_number, a_text, a_tuple, a_list, a_dict, seen_cell}
-use Rattle.pc_value.specs.Actions.{Iteration, over_list, over_dict, over_text, over_tuple, over_range, Outcome, gives, iterates, finished, stops, raises}
+use Rattle.pc_value.specs.Value.{Value, whole, string, list_of, Entry, Heap, TypeError, Other, Seen, a_number, a_text}
+use Rattle.pc_value.specs.Value.{a_tuple, a_list, a_dict, seen_cell}
+use Rattle.pc_value.specs.Actions.{Iteration, over_list, over_dict, over_text, over_tuple, over_range, Outcome, gives}
+use Rattle.pc_value.specs.Actions.{iterates, finished, stops, raises}
 use Rattle.pc_value.specs.Numbers.{number_below}
 
 -- what a value gives to go over
@@ -35,7 +37,8 @@ list_turn v i = finished
 
 -- the keys of a dict; one whose size changed ends in another exception
 abbrev pub dict_turn : Seen → ℕ → ℕ → Outcome
-dict_turn (a_dict l entries) size i = if nat_eq (length entries) size then turn_item (slice_get (map (λ (e : Entry). e.key) entries) i) else stops Other
+dict_turn (a_dict l entries) size i = if nat_eq (length entries) size
+    then turn_item (slice_get (map (λ (e : Entry). e.key) entries) i) else stops Other
 dict_turn v size i = finished
 
 -- a turn, counted from 0

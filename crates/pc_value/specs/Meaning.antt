@@ -7,7 +7,8 @@ use Rattle.pc_value.specs.declared.value.Slot.{Slot as RustSlot}
 use Rattle.pc_value.specs.declared.value.Cell.{Cell as RustCell}
 use Rattle.pc_value.specs.declared.value.Cell.TheVariants as rust_cell
 use Rattle.pc_value.specs.declared.value.Heap.{Heap as RustHeap}
-use Rattle.pc_value.specs.Value.{Value, Values, whole, boolean, string, none, tuple_of, location, no_values, more_values, Entry, Slot, Cell, list_cell, dict_cell, instance_cell, Heap}
+use Rattle.pc_value.specs.Value.{Value, Values, whole, boolean, string, none, tuple_of, location, no_values}
+use Rattle.pc_value.specs.Value.{more_values, Entry, Slot, Cell, list_cell, dict_cell, instance_cell, Heap}
 
 -- a value and the items of its tuples, as the program holds them
 abbrev mutual

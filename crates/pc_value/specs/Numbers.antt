@@ -1,6 +1,7 @@
 -- Whole numbers without bound: what digits stand for, floor division, and order.
 -- Language Reference 2.4.4 "Numeric literals", 6.7 "Binary arithmetic operations".
-use Rattle.std.specs.Prelude.{◌≡◌, ℕ, zero, suc, ◌+◌, ◌-◌, ◌*◌, ◌/◌, ◌%◌, ◌^◌, Bool, true, false, List, [], ◌∷◌, ℤ, pos, negsuc, ◌+ℤ◌, ◌*ℤ◌, neg_ℤ, nat_eq, nat_lt, refl}
+use Rattle.std.specs.Prelude.{◌≡◌, ℕ, zero, suc, ◌+◌, ◌-◌, ◌*◌, ◌/◌, ◌%◌, ◌^◌, Bool, true, false, List, [], ◌∷◌, ℤ, pos}
+use Rattle.std.specs.Prelude.{negsuc, ◌+ℤ◌, ◌*ℤ◌, neg_ℤ, nat_eq, nat_lt, refl}
 
 -- the number that digits stand for, behind those that stand for n
 abbrev pub number_behind : ℕ → List ℕ → ℕ

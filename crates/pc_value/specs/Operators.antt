@@ -5,8 +5,10 @@ use Rattle.std.specs.Prelude.{Bool, true, false, not, ◌++◌, ◌+ℤ◌, ◌-
 use Rattle.pc_tree.specs.declared.tree.BinaryOperator.{BinaryOperator}
 use Rattle.pc_tree.specs.declared.tree.BinaryOperator.TheVariants.{Add, Sub, Mul, FloorDiv, Mod}
 use Rattle.pc_tree.specs.declared.tree.ComparisonOperator.{ComparisonOperator}
-use Rattle.pc_tree.specs.declared.tree.ComparisonOperator.TheVariants.{Equal, NotEqual, Less, LessEqual, Greater, GreaterEqual, In, NotIn}
-use Rattle.pc_value.specs.Value.{Value, whole, boolean, string, none, tuple_of, location, TypeError, Outside, Other, Seen, a_number, a_text, a_none, a_tuple, a_list, a_dict, an_instance}
+use Rattle.pc_tree.specs.declared.tree.ComparisonOperator.TheVariants.{Equal, NotEqual, Less, LessEqual, Greater}
+use Rattle.pc_tree.specs.declared.tree.ComparisonOperator.TheVariants.{GreaterEqual, In, NotIn}
+use Rattle.pc_value.specs.Value.{Value, whole, boolean, string, none, tuple_of, location, TypeError, Outside, Other}
+use Rattle.pc_value.specs.Value.{Seen, a_number, a_text, a_none, a_tuple, a_list, a_dict, an_instance}
 use Rattle.pc_value.specs.Actions.{Outcome, gives, stops, raises, Free}
 use Rattle.pc_value.specs.Numbers.{floor_div, floor_mod, is_zero, same_number, number_below}
 use Rattle.pc_value.specs.Texts.{same_text, text_below, occurs_in, text_of_truth, text_of_number}

@@ -1,9 +1,14 @@
 -- What each action comes to, and the heap after it, where the free answers are given.
 use Rattle.std.specs.Prelude.{Bool, false, not}
 use Rattle.pc_value.specs.Value.{whole, boolean, Heap, list_cell, instance_cell, seen, is_true}
-use Rattle.pc_value.specs.Actions.{Action, number, binary, compare, negative, negation, truth_of, new_list, new_dict, new_instance, read_item, store_item, read_attribute, store_attribute, append, pop, get, length_of, text_of, iterate, iterate_range, turn, gives, ActionResult, keeps, Free}
-use Rattle.pc_value.specs.Operators.{binary_outcome, compare_outcome, negative_of, text_outcome, is_comparison_free, is_text_free}
-use Rattle.pc_value.specs.Containers.{item_outcome, store_outcome, with_new_cell, dict_display, first_key_fault, append_outcome, pop_outcome, get_outcome, length_outcome}
+use Rattle.pc_value.specs.Actions.{Action, number, binary, compare, negative, negation, truth_of, new_list, new_dict}
+use Rattle.pc_value.specs.Actions.{new_instance, read_item, store_item, read_attribute, store_attribute, append, pop}
+use Rattle.pc_value.specs.Actions.{get, length_of, text_of, iterate, iterate_range, turn, gives, ActionResult, keeps}
+use Rattle.pc_value.specs.Actions.{Free}
+use Rattle.pc_value.specs.Operators.{binary_outcome, compare_outcome, negative_of, text_outcome, is_comparison_free}
+use Rattle.pc_value.specs.Operators.{is_text_free}
+use Rattle.pc_value.specs.Containers.{item_outcome, store_outcome, with_new_cell, dict_display, first_key_fault}
+use Rattle.pc_value.specs.Containers.{append_outcome, pop_outcome, get_outcome, length_outcome}
 use Rattle.pc_value.specs.Attributes.{attribute_outcome, store_attribute_outcome}
 use Rattle.pc_value.specs.Iteration.{iterate_outcome, range_outcome, turn_outcome}
 
@@ -20,7 +25,8 @@ action_result free (new_dict entries) heap = dict_display heap entries (first_ke
 action_result free (new_instance class fields) heap = with_new_cell heap (instance_cell class fields)
 action_result free (read_item object key) heap = keeps heap (item_outcome (seen heap object) (seen heap key))
 action_result free (store_item object key v) heap = store_outcome heap (seen heap object) (seen heap key) key v
-action_result free (read_attribute object name is_method) heap = keeps heap (attribute_outcome (seen heap object) name is_method)
+action_result free (read_attribute object name is_method) heap =
+    keeps heap (attribute_outcome (seen heap object) name is_method)
 action_result free (store_attribute object name v) heap = store_attribute_outcome heap (seen heap object) name v
 action_result free (append object v) heap = append_outcome heap (seen heap object) v
 action_result free (pop object) heap = pop_outcome heap (seen heap object)

@@ -2,7 +2,9 @@
 -- Own rule of the profile.
 use Rattle.std.specs.Prelude.{◌≡◌, ℕ, ◌%◌, Bool, true, false, replicate, nat_eq, if◌then◌else◌}
 use Rattle.pc_value.specs.Value.{Value, whole, Heap, Cut}
-use Rattle.pc_value.specs.Actions.{Action, number, binary, negative, length_of, new_list, new_dict, new_instance, store_item, store_attribute, append, pop, Outcome, gives, iterates, finished, stops, ActionResult, Free}
+use Rattle.pc_value.specs.Actions.{Action, number, binary, negative, length_of, new_list, new_dict, new_instance}
+use Rattle.pc_value.specs.Actions.{store_item, store_attribute, append, pop, Outcome, gives, iterates, finished, stops}
+use Rattle.pc_value.specs.Actions.{ActionResult, Free}
 use Rattle.pc_value.specs.Numbers.{fits}
 use Rattle.pc_value.specs.Outcomes.{action_result}
 

@@ -2,7 +2,8 @@
 use Rattle.std.specs.Prelude.{map}
 use Rattle.pc_value.specs.declared.seen.Seen.{Seen as RustSeen}
 use Rattle.pc_value.specs.declared.seen.Seen.TheVariants as rust
-use Rattle.pc_value.specs.Value.{Seen, a_number, a_text, a_none, a_tuple, a_list, a_dict, an_instance, a_stray, values_of}
+use Rattle.pc_value.specs.Value.{Seen, a_number, a_text, a_none, a_tuple, a_list, a_dict, an_instance, a_stray}
+use Rattle.pc_value.specs.Value.{values_of}
 use Rattle.pc_value.specs.Meaning.{value_of, entry_of, slot_of}
 
 -- a value by its kind, as the program tells it

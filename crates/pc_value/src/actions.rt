@@ -9,7 +9,8 @@ ghost use Rattle.pc_value.specs.Internal.DisplayFaults.{fault_of};
 ghost use Rattle.pc_value.specs.Doing.{outcome_of, action_of, written_number, ComesTo};
 ghost use Rattle.pc_value.specs.Attributes.{store_attribute_outcome};
 ghost use Rattle.pc_value.specs.Internal.Changes.{stored_at, stored_key, heap_changed, sets_key};
-ghost use Rattle.pc_value.specs.Containers.{with_new_cell, append_outcome, pop_outcome, store_outcome, key_fault, first_key_fault, with_entries, dict_display};
+ghost use Rattle.pc_value.specs.Containers.{with_new_cell, append_outcome, pop_outcome, store_outcome, key_fault};
+ghost use Rattle.pc_value.specs.Containers.{first_key_fault, with_entries, dict_display};
 ghost use Rattle.pc_value.specs.Outcomes.{takes_choice};
 ghost use Rattle.pc_value.specs.Plain.{limited_outcome, plainly_acted, IsAnswer};
 
@@ -43,7 +44,8 @@ fn append(
     object: &Value,
     value: &Value,
 ) -> Result<Outcome, OutOfMemory>
-    ensures { ComesTo result heap.old heap.new (append_outcome (heap_of heap.old) (seen (heap_of heap.old) (value_of object.now)) (value_of value.now)) }
+    ensures { ComesTo result heap.old heap.new
+        (append_outcome (heap_of heap.old) (seen (heap_of heap.old) (value_of object.now)) (value_of value.now)) }
 {
     let place = match see(heap, object) {
         Seen::List(place, _) => place,
@@ -55,7 +57,8 @@ fn append(
 
 /// `e.pop()`. Library Reference, "Mutable Sequence Types".
 fn pop(heap: &mut Heap, object: &Value) -> Result<Outcome, OutOfMemory>
-    ensures { ComesTo result heap.old heap.new (pop_outcome (heap_of heap.old) (seen (heap_of heap.old) (value_of object.now))) }
+    ensures { ComesTo result heap.old heap.new
+        (pop_outcome (heap_of heap.old) (seen (heap_of heap.old) (value_of object.now))) }
 {
     let place = match see(heap, object) {
         Seen::List(place, _) => place,
@@ -72,7 +75,9 @@ fn store_item(
     key: &Value,
     value: &Value,
 ) -> Result<Outcome, OutOfMemory>
-    ensures { ComesTo result heap.old heap.new (store_outcome (heap_of heap.old) (seen (heap_of heap.old) (value_of object.now)) (seen (heap_of heap.old) (value_of key.now)) (value_of key.now) (value_of value.now)) }
+    ensures { ComesTo result heap.old heap.new
+        (store_outcome (heap_of heap.old) (seen (heap_of heap.old) (value_of object.now))
+        (seen (heap_of heap.old) (value_of key.now)) (value_of key.now) (value_of value.now)) }
 {
     match see(heap, object) {
         Seen::List(place, items) => {
@@ -114,7 +119,9 @@ fn store_in_dict(
     key: &Value,
     value: &Value,
 ) -> Result<Outcome, OutOfMemory>
-    ensures { ComesTo result heap.old heap.new (stored_key (heap_of heap.old) place (seen (heap_of heap.old) (value_of key.now)) (value_of key.now) (value_of value.now)) }
+    ensures { ComesTo result heap.old heap.new
+        (stored_key (heap_of heap.old) place (seen (heap_of heap.old) (value_of key.now)) (value_of key.now)
+        (value_of value.now)) }
 {
     match see(heap, key) {
         Seen::Number(_) => set_in_dict(alloc, heap, place, key, value),
@@ -133,7 +140,8 @@ fn set_in_dict(
     key: &Value,
     value: &Value,
 ) -> Result<Outcome, OutOfMemory>
-    ensures { ComesTo result heap.old heap.new (heap_changed (heap_of heap.old) place (sets_key (value_of key.now) (value_of value.now))) }
+    ensures { ComesTo result heap.old heap.new
+        (heap_changed (heap_of heap.old) place (sets_key (value_of key.now) (value_of value.now))) }
 {
     let key = key.copy(alloc)?;
     let value = value.copy(alloc)?;
@@ -148,7 +156,9 @@ fn store_attribute(
     name: &str,
     value: &Value,
 ) -> Result<Outcome, OutOfMemory>
-    ensures { ComesTo result heap.old heap.new (store_attribute_outcome (heap_of heap.old) (seen (heap_of heap.old) (value_of object.now)) name.now (value_of value.now)) }
+    ensures { ComesTo result heap.old heap.new
+        (store_attribute_outcome (heap_of heap.old) (seen (heap_of heap.old) (value_of object.now)) name.now
+        (value_of value.now)) }
 {
     let place = match see(heap, object) {
         Seen::Instance(place, _, fields) => {
@@ -212,7 +222,9 @@ fn entries_of(alloc: Global, entries: &[Entry]) -> Result<Vec<Entry>, OutOfMemor
 
 /// `{k: v, ..}`. Language Reference 6.2.7 "Dictionary displays".
 fn new_dict(alloc: Global, heap: &mut Heap, entries: &[Entry]) -> Result<Outcome, OutOfMemory>
-    ensures { ComesTo result heap.old heap.new (dict_display (heap_of heap.old) (map entry_of entries.now) (first_key_fault (heap_of heap.old) (map entry_of entries.now))) }
+    ensures { ComesTo result heap.old heap.new
+        (dict_display (heap_of heap.old) (map entry_of entries.now)
+        (first_key_fault (heap_of heap.old) (map entry_of entries.now))) }
 {
     match first_key_fault(heap, entries) {
         Some(KeyFault::Outside) => Ok(Outcome::Outside),
@@ -239,7 +251,8 @@ fn new_instance(
     class: usize,
     fields: &[Slot],
 ) -> Result<Outcome, OutOfMemory>
-    ensures { ComesTo result heap.old heap.new (with_new_cell (heap_of heap.old) (instance_cell class (map slot_of fields.now))) }
+    ensures { ComesTo result heap.old heap.new
+        (with_new_cell (heap_of heap.old) (instance_cell class (map slot_of fields.now))) }
 {
     let fields = copy_slots(alloc, fields)?;
     placed(heap, Cell::Instance(class, fields))
@@ -316,8 +329,10 @@ pub fn act(
     action: &Action,
     choice: u8,
 ) -> Result<Outcome, OutOfMemory>
-    ensures outcome { IfOk result (λ o. outcome_of o ≡ (plainly_acted choice (action_of action.now) (heap_of heap.old)).outcome) }
-    ensures after { OnOk result (heap_of heap.new ≡ (plainly_acted choice (action_of action.now) (heap_of heap.old)).heap) }
+    ensures outcome { IfOk result
+        (λ o. outcome_of o ≡ (plainly_acted choice (action_of action.now) (heap_of heap.old)).outcome) }
+    ensures after { OnOk result
+        (heap_of heap.new ≡ (plainly_acted choice (action_of action.now) (heap_of heap.old)).heap) }
     ensures unchanged { OnErr result (heap_of heap.new ≡ heap_of heap.old) }
 {
     perform(alloc, heap, action, choice)

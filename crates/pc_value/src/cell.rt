@@ -7,7 +7,8 @@ ghost use Rattle.pc_value.specs.Actions.{gives};
 ghost use Rattle.pc_value.specs.Doing.{outcome_of};
 ghost use Rattle.pc_value.specs.Containers.{same_key, with_entry, last_of};
 ghost use Rattle.pc_value.specs.Attributes.{with_field};
-ghost use Rattle.pc_value.specs.Internal.Changes.{change_of, change_result, pop_result, heap_changed, key_place, field_place};
+ghost use Rattle.pc_value.specs.Internal.Changes.{change_of, change_result, pop_result, heap_changed, key_place};
+ghost use Rattle.pc_value.specs.Internal.Changes.{field_place};
 
 use crate::action::Outcome;
 use crate::text::{same_characters, same_name};
@@ -66,7 +67,8 @@ fn field_place(name: &str, fields: &[Slot]) -> usize
 
 /// A key of a dict is set.
 pub fn set_key(entries: &mut Vec<Entry>, key: Value, value: Value) -> Result<(), OutOfMemory>
-    ensures set { OnOk result (map entry_of entries.new.items ≡ with_entry (value_of key) (value_of value) (map entry_of entries.old.items)) }
+    ensures set { OnOk result
+        (map entry_of entries.new.items ≡ with_entry (value_of key) (value_of value) (map entry_of entries.old.items)) }
     ensures unchanged { OnErr result (entries.new.items ≡ entries.old.items) }
 {
     let place = key_place(&key, entries);
@@ -101,8 +103,10 @@ fn push_item(items: &mut Vec<Value>, value: Value) -> Result<Outcome, OutOfMemor
 
 /// A list loses its last item.
 fn pop_item(items: &mut Vec<Value>) -> Outcome
-    ensures outcome { outcome_of result ≡ (pop_result (map value_of items.old.items) (last_of (map value_of items.old.items))).outcome }
-    ensures after { list_cell (map value_of items.new.items) ≡ (pop_result (map value_of items.old.items) (last_of (map value_of items.old.items))).cell }
+    ensures outcome { outcome_of result
+        ≡ (pop_result (map value_of items.old.items) (last_of (map value_of items.old.items))).outcome }
+    ensures after { list_cell (map value_of items.new.items)
+        ≡ (pop_result (map value_of items.old.items) (last_of (map value_of items.old.items))).cell }
 {
     match items.pop() {
         None => Outcome::Other,
@@ -146,7 +150,8 @@ fn change_cell(cell: &mut Cell, change: Change) -> Result<Outcome, OutOfMemory>
 
 /// A change of what lies at a location of the heap.
 pub fn change_at(heap: &mut Heap, place: usize, change: Change) -> Result<Outcome, OutOfMemory>
-    ensures outcome { IfOk result (λ o. outcome_of o ≡ (heap_changed (heap_of heap.old) place (change_of change)).outcome) }
+    ensures outcome { IfOk result
+        (λ o. outcome_of o ≡ (heap_changed (heap_of heap.old) place (change_of change)).outcome) }
     ensures after { OnOk result (heap_of heap.new ≡ (heap_changed (heap_of heap.old) place (change_of change)).heap) }
     ensures unchanged { OnErr result (heap_of heap.new ≡ heap_of heap.old) }
 {

@@ -4,7 +4,8 @@ ghost use Rattle.std.specs.Prelude.{◌≡◌, IfOk, map, slice_get};
 ghost use Rattle.pc_value.specs.Meaning.{value_of, entry_of, heap_of};
 ghost use Rattle.pc_value.specs.Seeing.{seen_of};
 ghost use Rattle.pc_value.specs.Doing.{outcome_of, iteration_of};
-ghost use Rattle.pc_value.specs.Iteration.{iterate_outcome, range_outcome, turn_item, turn_character, list_turn, dict_turn, turn_outcome};
+ghost use Rattle.pc_value.specs.Iteration.{iterate_outcome, range_outcome, turn_item, turn_character, list_turn};
+ghost use Rattle.pc_value.specs.Iteration.{dict_turn, turn_outcome};
 ghost use Rattle.pc_value.specs.Internal.Keys.{option_value};
 
 use crate::action::{Exception, Iteration, Outcome};

@@ -8,7 +8,10 @@ ghost use Rattle.pc_value.specs.Actions.{gives};
 ghost use Rattle.pc_value.specs.Seeing.{seen_of};
 ghost use Rattle.pc_value.specs.Doing.{outcome_of};
 ghost use Rattle.pc_value.specs.Plain.{limited_outcome, free_of};
-ghost use Rattle.pc_value.specs.Operators.{sum_of, difference_of, product_of, quotient_of, remainder_of, binary_outcome, negative_of, is_equality_free, is_same, is_equal, below, is_membership_free, membership_of, opposite, compare_outcome, is_comparison_free, is_text_free, text_outcome};
+ghost use Rattle.pc_value.specs.Operators.{sum_of, difference_of, product_of, quotient_of, remainder_of};
+ghost use Rattle.pc_value.specs.Operators.{binary_outcome, negative_of, is_equality_free, is_same, is_equal, below};
+ghost use Rattle.pc_value.specs.Operators.{is_membership_free, membership_of, opposite, compare_outcome};
+ghost use Rattle.pc_value.specs.Operators.{is_comparison_free, is_text_free, text_outcome};
 
 use crate::action::{Exception, Outcome};
 use crate::containers::contains_key;
@@ -119,7 +122,8 @@ pub fn binary(
     left: Seen<'_>,
     right: Seen<'_>,
 ) -> Result<Outcome, OutOfMemory>
-    ensures { IfOk result (λ o. outcome_of o ≡ limited_outcome (binary_outcome operator (seen_of left.entry) (seen_of right.entry))) }
+    ensures { IfOk result (λ o. outcome_of o
+        ≡ limited_outcome (binary_outcome operator (seen_of left.entry) (seen_of right.entry))) }
 {
     match operator {
         BinaryOperator::Add => sum_of(alloc, left, right),

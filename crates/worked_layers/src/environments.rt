@@ -321,7 +321,8 @@ fn condition_of(def: &FuncDef) -> Option<&Expr> {
     }
 }
 
-/// What the condition of a row leaves of the first way, by one walk over it, and by two where these tell something else.
+/// What the condition of a row leaves of the first way, by one walk over it, and by two where these tell something
+/// else.
 fn narrowed(setting: &Setting, alloc: Global, condition: &Expr) -> Result<String, Fault>
     requires { AreScopes (module_of setting.now.tree.now) setting.now.scopes.now }
 {
@@ -470,8 +471,8 @@ pub fn row_answer(alloc: Global, before: &str, row: &str) -> Result<String, Tabl
     }
 }
 
-/// Counts the rows of a table: what stands before each, a line of four dashes, and then the rows: what is done with which
-/// locals, an arrow, and what comes of it.
+/// Counts the rows of a table: what stands before each, a line of four dashes, and then the rows: what is done with
+/// which locals, an arrow, and what comes of it.
 pub fn count_environments(alloc: Global, table: &str, tally: &mut Tally) -> Result<(), TableFault> {
     let (before, rows) = table.split_once("----\n").ok_or(TableFault::Form)?;
     for line in rows.lines() {

@@ -25,8 +25,8 @@ from dataclasses import dataclass
 /// What stands last in it.
 const TAIL: &str = "def main():\n    pass\nmain()\n";
 
-/// So many classes, each but the first with the one before as its base, and each with a field and a method; the last has the
-/// first field once more.
+/// So many classes, each but the first with the one before as its base, and each with a field and a method; the last
+/// has the first field once more.
 fn chain(alloc: Global, classes: usize) -> Result<String, AllocError> {
     let mut text = String::from_str(alloc, HEADERS)?;
     text.push_str(
@@ -141,8 +141,8 @@ fn shape_of(shape: &str) -> Result<(&str, usize), TableFault> {
     Ok((word, size))
 }
 
-/// A module of a shape and a size, as `chain 10000`: a chain of so many classes; `members`, a class of so many fields and as
-/// many methods; `union`, so many classes and their union; or `condition`, a condition that is so deep.
+/// A module of a shape and a size, as `chain 10000`: a chain of so many classes; `members`, a class of so many fields
+/// and as many methods; `union`, so many classes and their union; or `condition`, a condition that is so deep.
 ///
 /// # Errors
 ///

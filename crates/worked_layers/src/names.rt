@@ -42,8 +42,8 @@ fn answer(alloc: Global, text: &str, owner: Owner, name: &str) -> Result<String,
     }
 }
 
-/// Counts the names of a table: a module, a line of four dashes, and then a row for each: whose name it is, the name, and
-/// what it means.
+/// Counts the names of a table: a module, a line of four dashes, and then a row for each: whose name it is, the name,
+/// and what it means.
 pub fn count_names(alloc: Global, table: &str, tally: &mut Tally) -> Result<(), TableFault> {
     let (text, rows) = table.split_once("----\n").ok_or(TableFault::Form)?;
     for row in rows.lines() {

@@ -125,8 +125,8 @@ fn store_for(alloc: Global, head: &str) -> Result<InternStore, Fault> {
     Ok(InternStore::new(alloc, parents)?)
 }
 
-/// Counts the rows of a table, twice over, so that each is asked again when the others were asked. One store of each kind is
-/// asked all of them; its parents are those of the first part.
+/// Counts the rows of a table, twice over, so that each is asked again when the others were asked. One store of each
+/// kind is asked all of them; its parents are those of the first part.
 pub fn count_types(alloc: Global, table: &str, tally: &mut Tally) -> Result<(), TableFault> {
     let (head, _) = table.split_once(ROWS).ok_or(TableFault::Form)?;
     let mut numbers = store_for(alloc, head).map_err(|_| TableFault::Form)?;

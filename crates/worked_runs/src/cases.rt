@@ -53,8 +53,8 @@ fn case_end(line: &str) -> (&str, Option<&str>) {
     }
 }
 
-/// The cases of a table: each is some lines, the last of which has a comment that says what comes. Empty lines before a case
-/// are no part of it.
+/// The cases of a table: each is some lines, the last of which has a comment that says what comes. Empty lines before a
+/// case are no part of it.
 ///
 /// # Errors
 ///

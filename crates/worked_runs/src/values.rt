@@ -71,8 +71,9 @@ fn simple(alloc: Global, name: &str) -> Result<Value, TableFault> {
     }
 }
 
-/// The value that a name in a table stands for: a list, a dict or an instance is made in the heap, `@0` is what was made
-/// there first, `least` and `greatest` are whole numbers, `''` is the empty text, and every other word is itself a text.
+/// The value that a name in a table stands for: a list, a dict or an instance is made in the heap, `@0` is what was
+/// made there first, `least` and `greatest` are whole numbers, `''` is the empty text, and every other word is itself a
+/// text.
 pub fn named(alloc: Global, heap: &mut Heap, name: &str) -> Result<Value, TableFault> {
     let Some(action) = made(alloc, name)? else {
         return simple(alloc, name);

@@ -38,8 +38,9 @@ fn judge_words<R: Print + Env + Files + AllocGlobal>(rt: &R) -> io::Result<bool>
     Ok(agree && tables > 0)
 }
 
-/// Judges each table that the words of the command line name, prints a line on each, and tells of every case that differs
-/// from its table. The exit status is 0 where there are tables, each was read and has cases, and no case differs, and else 1.
+/// Judges each table that the words of the command line name, prints a line on each, and tells of every case that
+/// differs from its table. The exit status is 0 where there are tables, each was read and has cases, and no case
+/// differs, and else 1.
 pub fn judge_files<R: Print + Eprint + Env + Files + AllocGlobal>(rt: &R) -> u8 {
     match judge_words(rt) {
         Ok(true) => 0,

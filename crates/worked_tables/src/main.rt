@@ -1,4 +1,5 @@
-//! Goes through worked texts, runs, layers and reports, and compares what comes of each with its table: `worked_tables FOLDER/FILE..`.
+//! Goes through worked texts, runs, layers and reports, and compares what comes of each with its table: `worked_tables
+//! FOLDER/FILE..`.
 #![tactic(auto)]
 
 mod bytes;

@@ -41,8 +41,8 @@ fn told(
     }
 }
 
-/// What the checker answers to bytes, by types that are numbers: their report in a format, or their refusal. Where types in
-/// boxes give another answer, that one stands behind it, so that no table agrees.
+/// What the checker answers to bytes, by types that are numbers: their report in a format, or their refusal. Where
+/// types in boxes give another answer, that one stands behind it, so that no table agrees.
 pub fn answer_to_bytes(alloc: Global, bytes: &[u8], format: Format) -> Result<String, AllocError> {
     let mut answer = told(alloc, check(alloc, bytes), format)?;
     let other = told(alloc, report_by_boxes(alloc, bytes), format)?;
@@ -58,8 +58,8 @@ pub fn answer_to(alloc: Global, text: &str, format: Format) -> Result<String, Al
     answer_to_bytes(alloc, text.as_bytes(), format)
 }
 
-/// Counts the modules of a table, which says of each that it has a report, or how it is refused: what the report is, the two
-/// stores tell each other.
+/// Counts the modules of a table, which says of each that it has a report, or how it is refused: what the report is,
+/// the two stores tell each other.
 pub fn count_stores(alloc: Global, table: &str, tally: &mut Tally) -> Result<(), TableFault> {
     for case in table.split(BETWEEN) {
         let (text, row) = case.rsplit_once(LAST_ROW).ok_or(TableFault::Form)?;

@@ -80,8 +80,8 @@ fn taken_text(alloc: Global, taken: &[u8], report: &str) -> Result<String, Alloc
     }
 }
 
-/// What comes of a check of these bytes with such a reader and such a writer: the answer; the calls of the reader and of the
-/// writer that failed; the bytes that were read and the calls that were left; what the writer took.
+/// What comes of a check of these bytes with such a reader and such a writer: the answer; the calls of the reader and
+/// of the writer that failed; the bytes that were read and the calls that were left; what the writer took.
 fn told(
     alloc: Global,
     mut reader: Counted<FailingReader>,
@@ -101,8 +101,8 @@ fn told(
     )
 }
 
-/// What comes of a row: the bytes that the reader gives a call and its calls, the bytes that the writer takes a call and in
-/// all, and whether the report is written as JSON.
+/// What comes of a row: the bytes that the reader gives a call and its calls, the bytes that the writer takes a call
+/// and in all, and whether the report is written as JSON.
 fn answer(alloc: Global, text: &str, report: &str, row: &str) -> Result<String, TableFault> {
     let words: Vec<&str> = row.split(' ').collect(alloc)?;
     let reader = FailingReader {

@@ -86,7 +86,8 @@ fn frame_of(name: &str) -> Result<Frame, TableFault> {
     }
 }
 
-/// What a row comes to in its frame: a module, or the code of its refusal and the byte, counted from the row's first one.
+/// What a row comes to in its frame: a module, or the code of its refusal and the byte, counted from the row's first
+/// one.
 fn answer(alloc: Global, frame: Frame, row: &str) -> Result<String, AllocError> {
     let (before, after) = frame;
     let text = format!(in alloc; "{before}{row}{after}")?;

@@ -1,5 +1,6 @@
 -- What the reader of annotations carries of the types that it reads: private to this crate.
-use Rattle.std.specs.Prelude.{◌≡◌, ◌<◌, ◌==◌, ◌&&◌, not, ℕ, Bool as Test, true, false, List, [], ◌∷◌, ◌++◌, map, All, Option, Some, None, MatchOption, Vec, length}
+use Rattle.std.specs.Prelude.{◌≡◌, ◌<◌, ◌==◌, ◌&&◌, not, ℕ, Bool as Test, true, false, List, [], ◌∷◌, ◌++◌, map, All}
+use Rattle.std.specs.Prelude.{Option, Some, None, MatchOption, Vec, length}
 use Rattle.std.specs.List.{list_all}
 use Rattle.std.specs.declared.alloc.Global.{Global}
 use Rattle.pc_types.specs.Tree.{Tree}
@@ -18,9 +19,11 @@ module _ {Store Ty : Type 0} (has : Store → Ty → Type 0) (tree : Ty → Tree
     pub type_is : MeansWithin has tree store type t
 
   -- the heads of trees, and types of the store that mean them, none where they have too many nodes together
-  pub record AreRead (store : Store) (kinds : List Head) (types : Option (Vec Ty Global)) (ts : List Tree) : Type 0 where
+  pub record AreRead (store : Store) (kinds : List Head) (types : Option (Vec Ty Global))
+      (ts : List Tree) : Type 0 where
     pub heads_are : kinds ≡ map head_of ts
-    pub types_are : MatchOption types (node_limit < nodes_of (trees ts)) (λ v. All (has store) v.items × (map tree v.items ≡ ts))
+    pub types_are : MatchOption types (node_limit < nodes_of (trees ts))
+        (λ v. All (has store) v.items × (map tree v.items ≡ ts))
 
 -- what may stand in a union, by its head
 abbrev pub is_member_head : Head → Test
@@ -51,7 +54,8 @@ head_absorbs bases _ _ = false
 -- members of two heads may stand in one union
 abbrev pub heads_apart : Bases → Head → Head → Test
 heads_apart bases h k =
-    not (((rank_of_head h).0 == (rank_of_head k).0) && ((rank_of_head h).1 == (rank_of_head k).1)) && (not (head_absorbs bases h k) && not (head_absorbs bases k h))
+    not (((rank_of_head h).0 == (rank_of_head k).0) && ((rank_of_head h).1 == (rank_of_head k).1))
+    && (not (head_absorbs bases h k) && not (head_absorbs bases k h))
 
 -- types with these heads make a union
 abbrev pub heads_make_union : Bases → List Head → Test

@@ -14,7 +14,8 @@ abbrev pub HoldsParameter : {Ty : Type 0} (has : Ty → Type 0) (tree : Ty → T
 HoldsParameter has tree bases p = HoldsType has tree bases p.ty
 
 -- declared types and an environment that mean these
-pub record GivesEntry {Ty : Type 0} (has : Ty → Type 0) (tree : Ty → Tree) (bases : Bases) (declared env : List (Option Ty)) (e : Table × Env) : Type 0 where
+pub record GivesEntry {Ty : Type 0} (has : Ty → Type 0) (tree : Ty → Tree) (bases : Bases)
+    (declared env : List (Option Ty)) (e : Table × Env) : Type 0 where
   pub declared_holds : HoldsTypes has tree bases declared
   pub env_holds : HoldsTypes has tree bases env
   pub is : (env_of tree declared, env_of tree env) ≡ e

@@ -27,7 +27,8 @@ signature_for s owners.Module = None
 signature_for s (owners.Func i) = slice_get s.functions i
 signature_for s (owners.Method c i) = method_numbered s.methods c i
 
--- what bodies stand in is that of their module: its scopes, bases and classes, the types of its constants, and its signatures
+-- what bodies stand in is that of their module: its scopes, bases and classes, the types of its constants, and its
+-- signatures
 pub record IsModuleSetting {Ty : Type 0} (has : Ty → Type 0) (tree : Ty → Tree) (s : ModuleSetting Ty) : Type 0 where
   pub scopes : AreScopes (module_in s) s.scopes.now
   pub parents : s.parents.now ≡ bases_of (module_in s)

@@ -19,7 +19,8 @@ use Rattle.pc_rules.specs.Context.{Context}
 use Rattle.pc_rules.specs.Standing.{HasSignature, IsMark, signature_with}
 use Rattle.pc_rules.specs.WellFormed.{ContextWellFormed}
 use Rattle.pc_rules.specs.declared.label.Label.{Label}
-use Rattle.pc_labels.specs.ComputedStatements.{BodyFrame, Table, Walk, BindingResult, BranchesResult, with_declared, bound_type}
+use Rattle.pc_labels.specs.ComputedStatements.{BodyFrame, Table, Walk, BindingResult, BranchesResult, with_declared}
+use Rattle.pc_labels.specs.ComputedStatements.{bound_type}
 use Rattle.pc_check.specs.declared.frame.Frame.{Frame as RustFrame}
 
 module _ {Ty R : Type 0} (tree : Ty → Tree) (meaning : R → List ℕ → Res) where
@@ -50,17 +51,21 @@ HoldsTypeIfAny has tree bases None = Unit {0}
 HoldsTypeIfAny has tree bases (Some ty) = HoldsType has tree bases ty
 
 -- so are the types of locals, declared or current, of each that has one
-pub record HoldsTypes {Ty : Type 0} (has : Ty → Type 0) (tree : Ty → Tree) (bases : Bases) (types : List (Option Ty)) : Type 0 where
+pub record HoldsTypes {Ty : Type 0} (has : Ty → Type 0) (tree : Ty → Tree) (bases : Bases)
+    (types : List (Option Ty)) : Type 0 where
   pub given : HasEach has types
   pub well_formed : IsWellFormedEnv bases (env_of tree types)
 
 -- so are those of an environment that there may be
-abbrev pub HoldsTypesIfAny : {Ty : Type 0} (has : Ty → Type 0) (tree : Ty → Tree) (bases : Bases) → Option (List (Option Ty)) → Type 0
+abbrev pub HoldsTypesIfAny : {Ty : Type 0} (has : Ty → Type 0) (tree : Ty → Tree) (bases : Bases)
+    → Option (List (Option Ty)) → Type 0
 HoldsTypesIfAny has tree bases None = Unit {0}
 HoldsTypesIfAny has tree bases (Some types) = HoldsTypes has tree bases types
 
--- the store gave all types of what statements stand in, all of them are well-formed, and names mean what the module's scopes say
-pub record HoldsFrame {Ty R : Type 0} (has : Ty → Type 0) (tree : Ty → Tree) (meaning : R → List ℕ → Res) (f : RustFrame Ty R) : Type 0 where
+-- the store gave all types of what statements stand in, all of them are well-formed, and names mean what the module's
+-- scopes say
+pub record HoldsFrame {Ty R : Type 0} (has : Ty → Type 0) (tree : Ty → Tree) (meaning : R → List ℕ → Res)
+    (f : RustFrame Ty R) : Type 0 where
   pub classes : HasEntries has f.classes.now
   pub functions : All (HasSignature has) f.functions.now
   pub constants : All has f.constants.now
@@ -69,16 +74,23 @@ pub record HoldsFrame {Ty R : Type 0} (has : Ty → Type 0) (tree : Ty → Tree)
   pub scopes : AreScopes (module_of f.tree.now) f.scopes.now
 
 module _ {Ty : Type 0} (tree : Ty → Tree) where
-  -- what a walk has come to: the declared types, an environment if a run comes here, the way out of a loop, and what was found
+  -- what a walk has come to: the declared types, an environment if a run comes here, the way out of a loop, and what
+  -- was found
   abbrev pub walk_with : (declared : List (Option Ty)) → (env broken : Option (List (Option Ty))) → List Note → Walk
-  walk_with declared env broken found = record { table = env_of tree declared; env = option_map (env_of tree) env; broken = option_map (env_of tree) broken; found = found }
+  walk_with declared env broken found = record {
+    table = env_of tree declared;
+    env = option_map (env_of tree) env;
+    broken = option_map (env_of tree) broken;
+    found = found;
+  }
 
   -- what a name bound comes to
   abbrev pub bound_with : (declared env : List (Option Ty)) → List Note → BindingResult
   bound_with declared env found = record { table = env_of tree declared; env = env_of tree env; found = found }
 
   -- what a walk over branches has come to
-  abbrev pub forked_with : (declared last : List (Option Ty)) → (ways broken : Option (List (Option Ty))) → List Note → BranchesResult
+  abbrev pub forked_with : (declared last : List (Option Ty)) → (ways broken : Option (List (Option Ty))) → List Note
+      → BranchesResult
   forked_with declared last ways broken found = record {
     table = env_of tree declared;
     last = env_of tree last;
@@ -99,20 +111,23 @@ module _ {Store Ty : Type 0} (has : Store → Ty → Type 0) (tree : Ty → Tree
     pub is : env_of tree types ≡ env
 
   -- a walk has come to this
-  pub record GivesWalk (store : Store) (declared : List (Option Ty)) (env broken : Option (List (Option Ty))) (found : List Note) (w : Walk) : Type 0 where
+  pub record GivesWalk (store : Store) (declared : List (Option Ty)) (env broken : Option (List (Option Ty)))
+      (found : List Note) (w : Walk) : Type 0 where
     pub declared_holds : HoldsTypes (has store) tree bases declared
     pub env_holds : HoldsTypesIfAny (has store) tree bases env
     pub broken_holds : HoldsTypesIfAny (has store) tree bases broken
     pub is : walk_with tree declared env broken found ≡ w
 
   -- a name bound has come to this
-  pub record GivesBound (store : Store) (declared env : List (Option Ty)) (found : List Note) (b : BindingResult) : Type 0 where
+  pub record GivesBound (store : Store) (declared env : List (Option Ty)) (found : List Note)
+      (b : BindingResult) : Type 0 where
     pub declared_holds : HoldsTypes (has store) tree bases declared
     pub env_holds : HoldsTypes (has store) tree bases env
     pub is : bound_with tree declared env found ≡ b
 
   -- a walk over branches has come to this
-  pub record GivesForked (store : Store) (declared last : List (Option Ty)) (ways broken : Option (List (Option Ty))) (found : List Note) (w : BranchesResult) : Type 0 where
+  pub record GivesForked (store : Store) (declared last : List (Option Ty)) (ways broken : Option (List (Option Ty)))
+      (found : List Note) (w : BranchesResult) : Type 0 where
     pub declared_holds : HoldsTypes (has store) tree bases declared
     pub last_holds : HoldsTypes (has store) tree bases last
     pub ways_holds : HoldsTypesIfAny (has store) tree bases ways
@@ -120,7 +135,8 @@ module _ {Store Ty : Type 0} (has : Store → Ty → Type 0) (tree : Ty → Tree
     pub is : forked_with tree declared last ways broken found ≡ w
 
   -- well-formed types of the store that mean an environment that there may be
-  pub record GivesTypesIfAny (store : Store) (types : Option (List (Option Ty))) (env : Option (List (Option Tree))) : Type 0 where
+  pub record GivesTypesIfAny (store : Store) (types : Option (List (Option Ty)))
+      (env : Option (List (Option Tree))) : Type 0 where
     pub holds : HoldsTypesIfAny (has store) tree bases types
     pub is : option_map (env_of tree) types ≡ env
 

@@ -1,5 +1,5 @@
--- What overrides are judged in, and the tests of a method against one that it overrides, by the relation that they ask for.
--- Own rule of the profile.
+-- What overrides are judged in, and the tests of a method against one that it overrides, by the relation that they ask
+-- for. Own rule of the profile.
 use Rattle.std.specs.Prelude.{◌≡◌, ℕ, List, Bool, ◌&&◌, Option}
 use Rattle.std.specs.List.{list_all}
 use Rattle.pc_tree.specs.Tree.{Module, module_of}
@@ -21,7 +21,8 @@ flow_fits Assignable = flow_is_good
 
 -- whether a method is in the relation to the one that it overrides
 abbrev pub overrides_by : Relation → Bases → Method → Method → Bool
-overrides_by relation bases new old = has_shape_of old.parameters new.parameters && list_all (flow_fits relation bases) (override_flows old new)
+overrides_by relation bases new old = has_shape_of old.parameters new.parameters
+    && list_all (flow_fits relation bases) (override_flows old new)
 
 module _ {Ty : Type 0} where
   -- the module of what overrides are judged in

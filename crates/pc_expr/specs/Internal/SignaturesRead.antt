@@ -38,7 +38,11 @@ module _ {Ty : Type 0} (tree : Ty → Tree) where
 
   -- what a walk has reached
   abbrev pub reached_with : Walk Ty → ItemsReached
-  reached_with w = record { constants = map tree w.constants.items; classes = length w.methods.items; bound = bound_in w.bound }
+  reached_with w = record {
+    constants = map tree w.constants.items;
+    classes = length w.methods.items;
+    bound = bound_in w.bound;
+  }
 
 module _ {Ty : Type 0} (has : Ty → Type 0) where
   -- the store gave what signatures take and return

@@ -12,4 +12,5 @@ lines_left s = map line_of (drop s.at s.lines.now)
 
 -- the first of the lines that are left comes, or an allocation failed
 abbrev pub gives_line : Listed → Option (Result Line Fault) → Listed → Type 0
-gives_line s r t = MatchOption r ((lines_left s ≡ []) × (lines_left t ≡ [])) (λ i. MatchResult i (λ l. lines_left s ≡ line_of l ∷ lines_left t) (λ e. e ≡ OutOfMemory))
+gives_line s r t = MatchOption r ((lines_left s ≡ []) × (lines_left t ≡ []))
+    (λ i. MatchResult i (λ l. lines_left s ≡ line_of l ∷ lines_left t) (λ e. e ≡ OutOfMemory))

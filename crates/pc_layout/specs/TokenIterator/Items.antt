@@ -24,12 +24,15 @@ token_item_of (Err e) = Err e
 
 -- how many tokens are left at most: those at hand, and for each line that is left one for each byte and more
 abbrev pub tokens_left : Hand → Count → Count
-tokens_left h lines = count_add (at_most (at_hand h)) (count_unless (not (asks h.due)) (count_map (λ n. (n + 1) * (2 ^ 65 + 3)) lines))
+tokens_left h lines = count_add (at_most (at_hand h))
+    (count_unless (not (asks h.due)) (count_map (λ n. (n + 1) * (2 ^ 65 + 3)) lines))
 
 module _ {I : Type 0} (steps : I → Option (Result Line Fault) → I → Type 0) where
   -- these tokens are left, over the lines that come
   abbrev pub Left : Hand → I → List (Result Lexeme Fault) → Type 0
-  Left h it ys = ((asks h.due ≡ false) × (pending h [] ≡ ys)) ⊎ ((asks h.due ≡ true) × ((ks : List (Result Line Fault)) × Yields steps it ks × (pending h (map line_item_of ks) ≡ ys)))
+  Left h it ys = ((asks h.due ≡ false) × (pending h [] ≡ ys))
+      ⊎ ((asks h.due ≡ true) ×
+      ((ks : List (Result Line Fault)) × Yields steps it ks × (pending h (map line_item_of ks) ≡ ys)))
 
   -- a refusal counts so over the lines that come
   abbrev pub SettlesTo : Refusal → I → Fault → Type 0

@@ -23,4 +23,5 @@ line_at column xs = record { column = column; lexemes = xs }
 -- a line is placed so and its context follows, or it is refused
 abbrev pub StepsTo : ℕ → LayoutContext → LogicalLine → Result Signs Refusal → LayoutContext → Type 0
 StepsTo len x l r y =
-    MatchResult r (λ s. (step len x l ≡ Ok (placed_by y.levels s)) × (y ≡ after (placed_by y.levels s) l.lexemes)) (λ e. step len x l ≡ Err e)
+    MatchResult r (λ s. (step len x l ≡ Ok (placed_by y.levels s)) × (y ≡ after (placed_by y.levels s) l.lexemes))
+    (λ e. step len x l ≡ Err e)

@@ -10,7 +10,8 @@ use Rattle.pc_layout.specs.declared.hand.Hand.{Hand}
 use Rattle.pc_layout.specs.declared.hand.Due.TheVariants.{Nothing}
 
 -- the first of the tokens that are left comes, or the fault there; after a fault and after the end nothing comes
-abbrev pub gives_next_token : {I : Type 0} → (I → Option (Result Line Fault) → I → Type 0) → Hand → I → Option (Result (Token (Bor (List ℕ))) Fault) → Hand → I → Type 0
+abbrev pub gives_next_token : {I : Type 0} → (I → Option (Result Line Fault) → I → Type 0) → Hand → I
+    → Option (Result (Token (Bor (List ℕ))) Fault) → Hand → I → Type 0
 gives_next_token steps h it r h' it' = MatchOption r
     ((h'.due ≡ Nothing) × Left steps h it [])
     (λ i. MatchResult i

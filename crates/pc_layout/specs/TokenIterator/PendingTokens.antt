@@ -24,7 +24,9 @@ left_of h = map lexeme_of (into_iter_items h.tokens)
 abbrev pub pending_by : Due → Hand → List (Result LogicalLine Fault) → List (Result Lexeme Fault)
 pending_by due.Lines h ls = layout_lexemes h.text.now (context_of h.levels) ls
 pending_by due.Line h ls =
-    give (dedents h.dedents h.mark) (give (indents h.indent h.mark) (give (left_of h) (Ok (end_of_line h.end) ∷ layout_lexemes h.text.now (context_of h.levels) ls)))
+    give (dedents h.dedents h.mark)
+    (give (indents h.indent h.mark)
+    (give (left_of h) (Ok (end_of_line h.end) ∷ layout_lexemes h.text.now (context_of h.levels) ls)))
 pending_by due.End h ls = give (dedents h.dedents h.mark) (Ok (mark End (length h.text.now)) ∷ [])
 pending_by due.Nothing h ls = []
 

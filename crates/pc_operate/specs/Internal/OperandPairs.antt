@@ -1,11 +1,12 @@
--- Operators on two operands, by the kind that all members of a type have in common: computed twin of the rows on pairs of members.
--- Own rule of the profile.
+-- Operators on two operands, by the kind that all members of a type have in common: computed twin of the rows on pairs
+-- of members. Own rule of the profile.
 use Rattle.std.specs.Prelude.{List, [], ◌∷◌, Bool as Test, true, false, if◌then◌else◌, Option, Some, None}
 use Rattle.pc_tree.specs.declared.tree.BinaryOperator.{BinaryOperator}
 use Rattle.pc_tree.specs.declared.code.Code.TheVariants.{A2, E13}
 use Rattle.pc_types.specs.Tree.{Tree, Any, Bool}
 use Rattle.pc_types.specs.Below.{Bases}
-use Rattle.pc_rules.specs.Operations.{Kind, whole_kind, text_kind, kind_of, Mark, clean, in_error, takes_kind, kind_type, pairs_mark}
+use Rattle.pc_rules.specs.Operations.{Kind, whole_kind, text_kind, kind_of, Mark, clean, in_error, takes_kind}
+use Rattle.pc_rules.specs.Operations.{kind_type, pairs_mark}
 use Rattle.pc_operate.specs.declared.pairs.Kind.{Kind as RustKind}
 use Rattle.pc_operate.specs.declared.pairs.Kind.TheVariants as kinds
 use Rattle.pc_operate.specs.declared.pairs.Operator.{Operator}

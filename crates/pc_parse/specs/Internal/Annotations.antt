@@ -44,7 +44,8 @@ MakesAnn o make start end = (ts : List Lexeme) → Starts ts start → Ends ts e
 abbrev pub Opened : Type 0
 Opened = (head : Name) (tokens : List Lexeme) (parts : Anns) (before : List Lexeme) (s : AnnStack) → State
 
-module _ {X I : Type 0} (text : X → List ℕ) (steps : I → Option (Result (Token X) Fault) → I → Type 0) (can : I → Type 0) (left : I → Count) where
+module _ {X I : Type 0} (text : X → List ℕ) (steps : I → Option (Result (Token X) Fault) → I → Type 0)
+    (can : I → Type 0) (left : I → Count) where
   -- an annotation was read
   pub record GivesUnion (a b : Reader X I) (o : Annotation) : Type 0 where
     pub tree : Ann
@@ -52,11 +53,13 @@ module _ {X I : Type 0} (text : X → List ℕ) (steps : I → Option (Result (T
     pub keeps : KeepsAnn o tree tokens
     pub ready : IsReady can left b
     pub later : left_in left b < left_in left a
-    pub leads : (s : AnnStack) → Onward text steps a b (at (part_due no_anns [] s)) (at (part_read tree tokens no_anns [] s))
+    pub leads : (s : AnnStack)
+        → Onward text steps a b (at (part_due no_anns [] s)) (at (part_read tree tokens no_anns [] s))
 
   -- an annotation was read, or the refusal is that to which the tokens lead
   abbrev pub ReadsUnion : Reader X I → Reader X I → Result Annotation Fault → Type 0
-  ReadsUnion a b r = MatchResult r (λ o. GivesUnion a b o) (λ e. Blames e (λ x. (s : AnnStack) → Came text steps a (at (part_due no_anns [] s)) x))
+  ReadsUnion a b r = MatchResult r (λ o. GivesUnion a b o)
+      (λ e. Blames e (λ x. (s : AnnStack) → Came text steps a (at (part_due no_anns [] s)) x))
 
   -- a part was read, behind any other parts of its union
   pub record GivesPart (a b : Reader X I) (o : Annotation) : Type 0 where
@@ -65,19 +68,23 @@ module _ {X I : Type 0} (text : X → List ℕ) (steps : I → Option (Result (T
     pub keeps : KeepsAnn o tree tokens
     pub ready : IsReady can left b
     pub later : left_in left b < left_in left a
-    pub leads : (parts : Anns) (before : List Lexeme) (s : AnnStack) → Onward text steps a b (at (part_due parts before s)) (at (part_read tree tokens parts before s))
+    pub leads : (parts : Anns) (before : List Lexeme) (s : AnnStack)
+        → Onward text steps a b (at (part_due parts before s)) (at (part_read tree tokens parts before s))
 
   -- a part was read, or the refusal is that to which the tokens lead
   abbrev pub ReadsPart : Reader X I → Reader X I → Result Annotation Fault → Type 0
   ReadsPart a b r = MatchResult r (λ o. GivesPart a b o)
-      (λ e. Blames e (λ x. (parts : Anns) (before : List Lexeme) (s : AnnStack) → Came text steps a (at (part_due parts before s)) x))
+      (λ e. Blames e (λ x. (parts : Anns) (before : List Lexeme) (s : AnnStack)
+      → Came text steps a (at (part_due parts before s)) x))
 
   -- what stands behind a name and its bracket was read, after these tokens of the part
-  pub record AppliesOn (from : Opened) (a b : Reader X I) (o : Annotation) (head : Name) (ts : List Lexeme) : Type 0 where
+  pub record AppliesOn (from : Opened) (a b : Reader X I) (o : Annotation) (head : Name)
+      (ts : List Lexeme) : Type 0 where
     pub tree : Ann
     pub tokens : List Lexeme
     pub keeps : KeepsAnn o tree tokens
-    pub leads : (parts : Anns) (before : List Lexeme) (s : AnnStack) → Onward text steps a b (at (from head ts parts before s)) (at (part_read tree tokens parts before s))
+    pub leads : (parts : Anns) (before : List Lexeme) (s : AnnStack)
+        → Onward text steps a b (at (from head ts parts before s)) (at (part_read tree tokens parts before s))
 
   -- what stands behind a name and its bracket was read, whatever tokens of the part begin with the name
   pub record GivesApplied (from : Opened) (a b : Reader X I) (head : RustName) (o : Annotation) : Type 0 where
@@ -88,7 +95,9 @@ module _ {X I : Type 0} (text : X → List ℕ) (steps : I → Option (Result (T
   -- what stands behind a name and its bracket was read, or the refusal is that to which the tokens lead
   abbrev pub ReadsApplied : Opened → Reader X I → Reader X I → RustName → Result Annotation Fault → Type 0
   ReadsApplied from a b head r = MatchResult r (λ o. GivesApplied from a b head o)
-      (λ e. Blames e (λ x. (ts : List Lexeme) → Starts ts head.place.start → (parts : Anns) (before : List Lexeme) (s : AnnStack) → Came text steps a (at (from (name_of head) ts parts before s)) x))
+      (λ e. Blames e (λ x. (ts : List Lexeme) → Starts ts head.place.start
+      → (parts : Anns) (before : List Lexeme) (s : AnnStack)
+      → Came text steps a (at (from (name_of head) ts parts before s)) x))
 
   -- parts with `|` behind each were read
   pub record PartsSoFar (a b : Reader X I) (now : Annotations) (start : ℕ) : Type 0 where
@@ -97,7 +106,8 @@ module _ {X I : Type 0} (text : X → List ℕ) (steps : I → Option (Result (T
     pub tokens : List Lexeme
     pub keeps : KeepsAnns now (more_anns first rest)
     pub starts : Starts tokens start
-    pub leads : (s : AnnStack) → Onward text steps a b (at (part_due no_anns [] s)) (at (part_due (more_anns first rest) tokens s))
+    pub leads : (s : AnnStack)
+        → Onward text steps a b (at (part_due no_anns [] s)) (at (part_due (more_anns first rest) tokens s))
 
   -- arguments with a comma behind each were read
   pub record ArgumentsSoFar (a b : Reader X I) (now : Annotations) (head : RustName) (ts : List Lexeme) : Type 0 where
@@ -106,4 +116,5 @@ module _ {X I : Type 0} (text : X → List ℕ) (steps : I → Option (Result (T
     pub keeps : KeepsAnns now arguments
     pub starts : Starts tokens head.place.start
     pub leads : (parts : Anns) (before : List Lexeme) (s : AnnStack)
-        → Onward text steps a b (at (argument_due (name_of head) ts parts before s)) (at (part_due no_anns [] (ann_inside (name_of head) arguments tokens parts before s)))
+        → Onward text steps a b (at (argument_due (name_of head) ts parts before s))
+        (at (part_due no_anns [] (ann_inside (name_of head) arguments tokens parts before s)))

@@ -1,5 +1,6 @@
 -- What the functions promise that read classes.
-use Rattle.std.specs.Prelude.{ℕ, ◌≡◌, ◌≤◌, ◌<◌, false, List, [], ◌∷◌, ◌++◌, map, Option, Some, None, Result, MatchResult, Vec}
+use Rattle.std.specs.Prelude.{ℕ, ◌≡◌, ◌≤◌, ◌<◌, false, List, [], ◌∷◌, ◌++◌, map, Option, Some, None, Result}
+use Rattle.std.specs.Prelude.{MatchResult, Vec}
 use Rattle.std.specs.declared.alloc.Global.{Global}
 use Rattle.std.specs.Iterator.{Count}
 use Rattle.pc_source.specs.declared.fault.Fault.{Fault}
@@ -11,10 +12,12 @@ use Rattle.pc_tree.specs.declared.tree.Name.{Name as RustName}
 use Rattle.pc_tree.specs.declared.tree.Field.{Field as RustField}
 use Rattle.pc_tree.specs.declared.tree.Member.{Member as RustMember}
 use Rattle.pc_tree.specs.declared.tree.ClassDef.{ClassDef as RustClassDef}
-use Rattle.pc_tree.specs.Tree.{Field, Member, field_member, ClassDef, class_item, option_name_of, field_of, member_of, class_of}
+use Rattle.pc_tree.specs.Tree.{Field, Member, field_member, ClassDef, class_item, option_name_of, field_of, member_of}
+use Rattle.pc_tree.specs.Tree.{class_of}
 use Rattle.pc_tree.specs.Depth.{whole_ann, wholes_of_members}
 use Rattle.pc_tree.specs.Machine.{at}
-use Rattle.pc_tree.specs.Machine.States.{after_headers, Top, ClassStart, items, decorator_due, class_named, members, stuck}
+use Rattle.pc_tree.specs.Machine.States.{after_headers, Top, ClassStart, items, decorator_due, class_named, members}
+use Rattle.pc_tree.specs.Machine.States.{stuck}
 use Rattle.pc_tree.specs.Machine.Finishing.{after_class, add_item}
 use Rattle.pc_tree.specs.Machine.Lines.{members_end}
 use Rattle.pc_reader.specs.declared.reader.Reader.{Reader}
@@ -30,16 +33,19 @@ with_base c base = record c { base = option_name_of base }
 abbrev pub GoOn : {X I : Type 0} → Reader X I → ClassStart → List Member → Type 0
 GoOn {X} a c ms = (t : Token X) → a.ahead ≡ Some t → members_end c ms t.kind ≡ stuck
 
-module _ {X I : Type 0} (text : X → List ℕ) (steps : I → Option (Result (Token X) Fault) → I → Type 0) (can : I → Type 0) (left : I → Count) where
+module _ {X I : Type 0} (text : X → List ℕ) (steps : I → Option (Result (Token X) Fault) → I → Type 0)
+    (can : I → Type 0) (left : I → Count) where
   -- what stands between the name of a class and its first member was read
   pub record GivesBase (a b : Reader X I) (base : Option RustName) : Type 0 where
     pub ready : IsReady can left b
     pub later : left_in left b ≤ left_in left a
-    pub leads : (c : ClassStart) → c.base ≡ None → Onward text steps a b (at (class_named c)) (at (members (with_base c base) []))
+    pub leads : (c : ClassStart) → c.base ≡ None
+        → Onward text steps a b (at (class_named c)) (at (members (with_base c base) []))
 
   -- what stands between a class's name and its members was read, or the refusal is that to which the tokens lead
   abbrev pub ReadsBase : Reader X I → Reader X I → Result (Option RustName) Fault → Type 0
-  ReadsBase a b r = MatchResult r (λ n. GivesBase a b n) (λ e. Blames e (λ o. (c : ClassStart) → c.base ≡ None → Came text steps a (at (class_named c)) o))
+  ReadsBase a b r = MatchResult r (λ n. GivesBase a b n)
+      (λ e. Blames e (λ o. (c : ClassStart) → c.base ≡ None → Came text steps a (at (class_named c)) o))
 
   -- a field was read
   pub record GivesField (a b : Parser X I) (f : RustField) : Type 0 where
@@ -47,12 +53,15 @@ module _ {X I : Type 0} (text : X → List ℕ) (steps : I → Option (Result (T
     pub keeps : KeepsTree field_of (λ x. whole_ann x.annotation ∷ []) a.deep b.deep f field
     pub ready : IsReady can left b.reader
     pub later : left_in left b.reader < left_in left a.reader
-    pub leads : (c : ClassStart) (ms : List Member) → Onward text steps a.reader b.reader (at (members c ms)) (at (members c (ms ++ (field_member field ∷ []))))
+    pub leads : (c : ClassStart) (ms : List Member)
+        → Onward text steps a.reader b.reader (at (members c ms)) (at (members c (ms ++ (field_member field ∷ []))))
 
-  -- a field was read, or the refusal is that to which the tokens lead where neither `def` nor an end of the members is ahead
+  -- a field was read, or the refusal is that to which the tokens lead where neither `def` nor an end of the members is
+  -- ahead
   abbrev pub ReadsField : Parser X I → Parser X I → Result RustField Fault → Type 0
   ReadsField a b r = MatchResult r (λ f. GivesField a b f)
-      (λ e. Blames e (λ o. (c : ClassStart) (ms : List Member) → IsAhead (kind.Keyword word.Def) a.reader.ahead ≡ false → GoOn a.reader c ms → Came text steps a.reader (at (members c ms)) o))
+      (λ e. Blames e (λ o. (c : ClassStart) (ms : List Member) → IsAhead (kind.Keyword word.Def) a.reader.ahead ≡ false
+      → GoOn a.reader c ms → Came text steps a.reader (at (members c ms)) o))
 
   -- a member was read, behind others
   pub record GivesMember (a b : Parser X I) (m : RustMember) : Type 0 where
@@ -60,12 +69,14 @@ module _ {X I : Type 0} (text : X → List ℕ) (steps : I → Option (Result (T
     pub keeps : KeepsTree member_of (λ x. wholes_of_members (x ∷ [])) a.deep b.deep m member
     pub ready : IsReady can left b.reader
     pub later : left_in left b.reader < left_in left a.reader
-    pub leads : (c : ClassStart) (ms : List Member) → Onward text steps a.reader b.reader (at (members c ms)) (at (members c (ms ++ (member ∷ []))))
+    pub leads : (c : ClassStart) (ms : List Member)
+        → Onward text steps a.reader b.reader (at (members c ms)) (at (members c (ms ++ (member ∷ []))))
 
   -- a member was read, or the refusal is that to which the tokens lead where no end of the members is ahead
   abbrev pub ReadsMember : Parser X I → Parser X I → Result RustMember Fault → Type 0
   ReadsMember a b r = MatchResult r (λ m. GivesMember a b m)
-      (λ e. Blames e (λ o. (c : ClassStart) (ms : List Member) → GoOn a.reader c ms → Came text steps a.reader (at (members c ms)) o))
+      (λ e. Blames e (λ o. (c : ClassStart) (ms : List Member) → GoOn a.reader c ms
+      → Came text steps a.reader (at (members c ms)) o))
 
   -- the members of a class were read, and the end of its suite
   pub record GivesMembers (a b : Parser X I) (v : Vec RustMember Global) : Type 0 where
@@ -77,7 +88,8 @@ module _ {X I : Type 0} (text : X → List ℕ) (steps : I → Option (Result (T
 
   -- the members of a class and the end of its suite were read, or the refusal is that to which the tokens lead
   abbrev pub ReadsMembers : Parser X I → Parser X I → Result (Vec RustMember Global) Fault → Type 0
-  ReadsMembers a b r = MatchResult r (λ v. GivesMembers a b v) (λ e. Blames e (λ o. (c : ClassStart) → Came text steps a.reader (at (members c [])) o))
+  ReadsMembers a b r = MatchResult r (λ v. GivesMembers a b v)
+      (λ e. Blames e (λ o. (c : ClassStart) → Came text steps a.reader (at (members c [])) o))
 
   -- members were read so far
   pub record MembersSoFar (a b : Parser X I) (v : Vec RustMember Global) : Type 0 where
@@ -92,8 +104,11 @@ module _ {X I : Type 0} (text : X → List ℕ) (steps : I → Option (Result (T
     pub keeps : KeepsTree class_of (λ x. wholes_of_members x.members) a.deep b.deep c class
     pub ready : IsReady can left b.reader
     pub later : left_in left b.reader < left_in left a.reader
-    pub leads : (first : Place) (top : Top) → Onward text steps a.reader b.reader (at (decorator_due first top)) (at (items after_headers (add_item top (class_item first class))))
+    pub leads : (first : Place) (top : Top)
+        → Onward text steps a.reader b.reader (at (decorator_due first top))
+        (at (items after_headers (add_item top (class_item first class))))
 
   -- a class was read from behind its `@`, or the refusal is that to which the tokens lead
   abbrev pub ReadsClass : Parser X I → Parser X I → Result RustClassDef Fault → Type 0
-  ReadsClass a b r = MatchResult r (λ c. GivesClass a b c) (λ e. Blames e (λ o. (first : Place) (top : Top) → Came text steps a.reader (at (decorator_due first top)) o))
+  ReadsClass a b r = MatchResult r (λ c. GivesClass a b c)
+      (λ e. Blames e (λ o. (first : Place) (top : Top) → Came text steps a.reader (at (decorator_due first top)) o))

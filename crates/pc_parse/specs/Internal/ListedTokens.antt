@@ -13,4 +13,5 @@ tokens_left s = map lexeme_of (drop s.at s.tokens.now)
 
 -- the first of the tokens that are left comes, or an allocation failed
 abbrev pub gives_token : Listed → Option (Result (Token (Bor (List ℕ))) Fault) → Listed → Type 0
-gives_token s r t = MatchOption r ((tokens_left s ≡ []) × (tokens_left t ≡ [])) (λ i. MatchResult i (λ x. tokens_left s ≡ lexeme_of x ∷ tokens_left t) (λ e. e ≡ OutOfMemory))
+gives_token s r t = MatchOption r ((tokens_left s ≡ []) × (tokens_left t ≡ []))
+    (λ i. MatchResult i (λ x. tokens_left s ≡ lexeme_of x ∷ tokens_left t) (λ e. e ≡ OutOfMemory))

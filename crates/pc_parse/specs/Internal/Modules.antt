@@ -1,5 +1,6 @@
 -- What the functions promise that read a module.
-use Rattle.std.specs.Prelude.{ℕ, ◌≡◌, ◌<◌, ◌&&◌, false, List, [], ◌∷◌, ◌++◌, map, Option, Some, Result, Ok, MatchResult, Vec, codes, bytes_eq}
+use Rattle.std.specs.Prelude.{ℕ, ◌≡◌, ◌<◌, ◌&&◌, false, List, [], ◌∷◌, ◌++◌, map, Option, Some, Result, Ok, MatchResult}
+use Rattle.std.specs.Prelude.{Vec, codes, bytes_eq}
 use Rattle.std.specs.declared.alloc.Global.{Global}
 use Rattle.std.specs.Iterator.{Count}
 use Rattle.pc_source.specs.declared.fault.Fault.{Fault}
@@ -28,7 +29,8 @@ use Rattle.pc_parse.specs.Internal.WholeTrees.{KeepsTree}
 
 -- `M import N` and the end of the line
 abbrev pub import_words : List ℕ → List ℕ → List Fixed
-import_words source imported = a_form source ∷ a_kind (kind.Keyword word.Import) ∷ a_form imported ∷ a_kind kind.Newline ∷ []
+import_words source imported =
+    a_form source ∷ a_kind (kind.Keyword word.Import) ∷ a_form imported ∷ a_kind kind.Newline ∷ []
 
 -- a module with these headers and items
 abbrev pub top_of : Headers → List Item → Top
@@ -36,9 +38,11 @@ top_of h is = record { imports_dataclass = h.dataclass; imports_any = h.any; ite
 
 -- behind this name no last line goes on
 abbrev pub IsNoLastLine : {X I : Type 0} → Reader X I → Name → Type 0
-IsNoLastLine {X} a n = (t : Token X) → a.ahead ≡ Some t → (same_kind t.kind (kind.Operator sign.LeftParenthesis) && bytes_eq n.text (codes "main")) ≡ false
+IsNoLastLine {X} a n = (t : Token X) → a.ahead ≡ Some t
+    → (same_kind t.kind (kind.Operator sign.LeftParenthesis) && bytes_eq n.text (codes "main")) ≡ false
 
-module _ {X I : Type 0} (text : X → List ℕ) (steps : I → Option (Result (Token X) Fault) → I → Type 0) (can : I → Type 0) (left : I → Count) where
+module _ {X I : Type 0} (text : X → List ℕ) (steps : I → Option (Result (Token X) Fault) → I → Type 0)
+    (can : I → Type 0) (left : I → Count) where
   -- the headers were read
   pub record GivesHeaders (a b : Reader X I) (h : Headers) : Type 0 where
     pub ready : IsReady can left b
@@ -52,14 +56,19 @@ module _ {X I : Type 0} (text : X → List ℕ) (steps : I → Option (Result (T
   -- a constant was read from behind its name
   pub record GivesConstant (a b : Parser X I) (n : Name) (v : RustConstant) : Type 0 where
     pub constant : Constant
-    pub keeps : KeepsTree constant_of (λ c. optional_anns c.annotation ++ (whole_expr c.value ∷ [])) a.deep b.deep v constant
+    pub keeps : KeepsTree constant_of
+        (λ c. optional_anns c.annotation ++ (whole_expr c.value ∷ [])) a.deep b.deep v constant
     pub ready : IsReady can left b.reader
     pub later : left_in left b.reader < left_in left a.reader
-    pub leads : (top : Top) → Onward text steps a.reader b.reader (at (item_named n top)) (at (items after_headers (add_item top (constant_item n.place constant))))
+    pub leads : (top : Top) → Onward text steps a.reader b.reader (at (item_named n top))
+        (at (items after_headers (add_item top (constant_item n.place constant))))
 
-  -- where no last line goes on, a constant was read from behind its name, or the refusal is that to which the tokens lead
+  -- where no last line goes on, a constant was read from behind its name, or the refusal is that to which the tokens
+  -- lead
   abbrev pub ReadsConstant : Parser X I → Parser X I → Name → Result RustConstant Fault → Type 0
-  ReadsConstant a b n r = IsNoLastLine a.reader n → MatchResult r (λ v. GivesConstant a b n v) (λ e. Blames e (λ o. (top : Top) → Came text steps a.reader (at (item_named n top)) o))
+  ReadsConstant a b n r = IsNoLastLine a.reader n
+      → MatchResult r (λ v. GivesConstant a b n v)
+      (λ e. Blames e (λ o. (top : Top) → Came text steps a.reader (at (item_named n top)) o))
 
   -- an item was read
   pub record GivesItem (a b : Parser X I) (v : RustItem) : Type 0 where
@@ -67,13 +76,15 @@ module _ {X I : Type 0} (text : X → List ℕ) (steps : I → Option (Result (T
     pub keeps : KeepsTree item_of wholes_of_item a.deep b.deep v item
     pub ready : IsReady can left b.reader
     pub later : left_in left b.reader < left_in left a.reader
-    pub leads : (top : Top) → Onward text steps a.reader b.reader (at (items after_headers top)) (at (items after_headers (add_item top item)))
+    pub leads : (top : Top) → Onward text steps a.reader b.reader (at (items after_headers top))
+        (at (items after_headers (add_item top item)))
 
   -- the last line was read
   pub record GivesLast (a b : Parser X I) (main : Place) : Type 0 where
     pub same : b.deep ≡ a.deep
     pub ready : IsReady can left b.reader
-    pub leads : (top : Top) → Onward text steps a.reader b.reader (at (items after_headers top)) (at (ended (module_over top main)))
+    pub leads : (top : Top) → Onward text steps a.reader b.reader (at (items after_headers top))
+        (at (ended (module_over top main)))
 
   -- an item was read, or the last line
   abbrev pub GivesPiece : Parser X I → Parser X I → Piece → Type 0
@@ -82,7 +93,8 @@ module _ {X I : Type 0} (text : X → List ℕ) (steps : I → Option (Result (T
 
   -- an item or the last line was read, or the refusal is that to which the tokens lead
   abbrev pub ReadsPiece : Parser X I → Parser X I → Result Piece Fault → Type 0
-  ReadsPiece a b r = MatchResult r (λ v. GivesPiece a b v) (λ e. Blames e (λ o. (top : Top) → Came text steps a.reader (at (items after_headers top)) o))
+  ReadsPiece a b r = MatchResult r (λ v. GivesPiece a b v)
+      (λ e. Blames e (λ o. (top : Top) → Came text steps a.reader (at (items after_headers top)) o))
 
   -- items were read so far
   pub record ItemsSoFar (a b : Parser X I) (h : Headers) (v : Vec RustItem Global) : Type 0 where
@@ -98,4 +110,5 @@ module _ {X I : Type 0} (text : X → List ℕ) (steps : I → Option (Result (T
 
   -- a module was read, or the refusal is that to which the tokens lead
   abbrev pub ReadsModule : Parser X I → Parser X I → Result RustModule Fault → Type 0
-  ReadsModule a b r = MatchResult r (λ v. GivesModule a b v) (λ e. Blames e (λ o. Came text steps a.reader (at start) o))
+  ReadsModule a b r = MatchResult r (λ v. GivesModule a b v)
+      (λ e. Blames e (λ o. Came text steps a.reader (at start) o))

@@ -1,5 +1,6 @@
 -- What the functions promise that read parameters and functions.
-use Rattle.std.specs.Prelude.{ℕ, ◌≡◌, ◌≤◌, ◌<◌, Bool, false, List, [], map, Option, Some, None, Result, MatchResult, Vec, codes}
+use Rattle.std.specs.Prelude.{ℕ, ◌≡◌, ◌≤◌, ◌<◌, Bool, false, List, [], map, Option, Some, None, Result, MatchResult}
+use Rattle.std.specs.Prelude.{Vec, codes}
 use Rattle.std.specs.declared.alloc.Global.{Global}
 use Rattle.std.specs.Iterator.{Count}
 use Rattle.pc_source.specs.declared.fault.Fault.{Fault}
@@ -16,7 +17,8 @@ use Rattle.pc_tree.specs.Tree.{Ann, no_anns, Param, FuncDef, option_ann_of, para
 use Rattle.pc_tree.specs.Depth.{optional_anns, wholes_of_params, wholes_of_def}
 use Rattle.pc_tree.specs.Machine.{at}
 use Rattle.pc_tree.specs.Machine.Kinds.{same_kind, a_form}
-use Rattle.pc_tree.specs.Machine.States.{Owner, DefStart, AnnotationPosition, ann_whole, State, fixed, def_due, self_read, param_due, params_read, part_due, Turn, on}
+use Rattle.pc_tree.specs.Machine.States.{Owner, DefStart, AnnotationPosition, ann_whole, State, fixed, def_due}
+use Rattle.pc_tree.specs.Machine.States.{self_read, param_due, params_read, part_due, Turn, on}
 use Rattle.pc_tree.specs.Machine.Finishing.{finish_ann, param_end, after_def}
 use Rattle.pc_tree.specs.Machine.Lines.{params_of}
 use Rattle.pc_tree.specs.Fronts.Lines.{is_method}
@@ -34,19 +36,23 @@ abbrev pub or_ann : AnnotationPosition → (TokenKind → Turn) → Option Ann �
 or_ann c other None k = other k
 or_ann c other (Some a) k = finish_ann c a k
 
-module _ {X I : Type 0} (text : X → List ℕ) (steps : I → Option (Result (Token X) Fault) → I → Type 0) (can : I → Type 0) (left : I → Count) where
+module _ {X I : Type 0} (text : X → List ℕ) (steps : I → Option (Result (Token X) Fault) → I → Type 0)
+    (can : I → Type 0) (left : I → Count) where
   -- an annotation that may be left out was read
   pub record GivesOpened (opener : Opener) (a b : Parser X I) (n : Option RustAnn) : Type 0 where
     pub annotation : Option Ann
     pub keeps : KeepsTree option_ann_of optional_anns a.deep b.deep n annotation
     pub ready : IsReady can left b.reader
     pub later : left_in left b.reader ≤ left_in left a.reader
-    pub leads : (st : State) (c : AnnotationPosition) (other : TokenKind → Turn) → StandsBefore text a.reader st (opens_ann opener c other) → LeadsTo text steps a.reader b.reader st (or_ann c other annotation)
+    pub leads : (st : State) (c : AnnotationPosition) (other : TokenKind → Turn)
+        → StandsBefore text a.reader st (opens_ann opener c other)
+        → LeadsTo text steps a.reader b.reader st (or_ann c other annotation)
 
   -- an annotation that may be left out was read, or the refusal is that to which the tokens lead
   abbrev pub ReadsOpened : Opener → Parser X I → Parser X I → Result (Option RustAnn) Fault → Type 0
   ReadsOpened opener a b r = MatchResult r (λ n. GivesOpened opener a b n)
-      (λ e. Blames e (λ o. (st : State) (c : AnnotationPosition) (other : TokenKind → Turn) → StandsBefore text a.reader st (opens_ann opener c other) → Came text steps a.reader (at st) o))
+      (λ e. Blames e (λ o. (st : State) (c : AnnotationPosition) (other : TokenKind → Turn)
+      → StandsBefore text a.reader st (opens_ann opener c other) → Came text steps a.reader (at st) o))
 
   -- a parameter was read, behind others
   pub record GivesParam (a b : Parser X I) (p : RustParam) : Type 0 where
@@ -54,12 +60,15 @@ module _ {X I : Type 0} (text : X → List ℕ) (steps : I → Option (Result (T
     pub keeps : KeepsTree param_of (λ q. optional_anns q.annotation) a.deep b.deep p parameter
     pub ready : IsReady can left b.reader
     pub later : left_in left b.reader < left_in left a.reader
-    pub leads : (d : DefStart) (ps : List Param) → LeadsTo text steps a.reader b.reader (param_due d ps) (param_end d ps parameter)
+    pub leads : (d : DefStart) (ps : List Param)
+        → LeadsTo text steps a.reader b.reader (param_due d ps) (param_end d ps parameter)
 
   -- a parameter was read, or the refusal is that to which the tokens lead where no `)` is ahead
   abbrev pub ReadsParam : Parser X I → Parser X I → Result RustParam Fault → Type 0
   ReadsParam a b r = MatchResult r (λ p. GivesParam a b p)
-      (λ e. Blames e (λ o. (d : DefStart) (ps : List Param) → IsAhead (kind.Operator sign.RightParenthesis) a.reader.ahead ≡ false → Came text steps a.reader (at (param_due d ps)) o))
+      (λ e. Blames e (λ o. (d : DefStart) (ps : List Param)
+      → IsAhead (kind.Operator sign.RightParenthesis) a.reader.ahead ≡ false
+      → Came text steps a.reader (at (param_due d ps)) o))
 
   -- parameters and the closing parenthesis were read, from a state that waits for them
   pub record GivesParams (from : DefStart → State) (a b : Parser X I) (v : Vec RustParam Global) : Type 0 where
@@ -70,8 +79,11 @@ module _ {X I : Type 0} (text : X → List ℕ) (steps : I → Option (Result (T
     pub leads : (d : DefStart) → Onward text steps a.reader b.reader (at (from d)) (at (params_read d params))
 
   -- parameters and `)` were read from such a state, or the refusal is that to which the tokens lead
-  abbrev pub ReadsParamsFrom : (DefStart → State) → Parser X I → Parser X I → Result (Vec RustParam Global) Fault → Type 0
-  ReadsParamsFrom from a b r = MatchResult r (λ v. GivesParams from a b v) (λ e. Blames e (λ o. (d : DefStart) → Came text steps a.reader (at (from d)) o))
+  abbrev pub ReadsParamsFrom : (DefStart → State) → Parser X I → Parser X I → Result (Vec RustParam Global) Fault
+      → Type 0
+  ReadsParamsFrom from a b r =
+      MatchResult r (λ v. GivesParams from a b v)
+      (λ e. Blames e (λ o. (d : DefStart) → Came text steps a.reader (at (from d)) o))
 
   -- so behind the opening parenthesis of a function
   abbrev pub ReadsParams : Parser X I → Parser X I → Result (Vec RustParam Global) Fault → Type 0
@@ -93,12 +105,15 @@ module _ {X I : Type 0} (text : X → List ℕ) (steps : I → Option (Result (T
     pub keeps : KeepsTree (λ w. map param_of w.items) wholes_of_params a.deep b.deep v params
     pub ready : IsReady can left b.reader
     pub later : left_in left b.reader < left_in left a.reader
-    pub leads : (owner : Owner) (d : DefStart) → is_method owner ≡ method → Onward text steps a.reader b.reader (at (params_of owner d)) (at (params_read d params))
+    pub leads : (owner : Owner) (d : DefStart) → is_method owner ≡ method
+        → Onward text steps a.reader b.reader (at (params_of owner d)) (at (params_read d params))
 
-  -- the parameters of a function or method and their parentheses were read, or the refusal is that to which the tokens lead
+  -- the parameters of a function or method and their parentheses were read, or the refusal is that to which the tokens
+  -- lead
   abbrev pub ReadsSignature : Bool → Parser X I → Parser X I → Result (Vec RustParam Global) Fault → Type 0
   ReadsSignature method a b r = MatchResult r (λ v. GivesSignature method a b v)
-      (λ e. Blames e (λ o. (owner : Owner) (d : DefStart) → is_method owner ≡ method → Came text steps a.reader (at (params_of owner d)) o))
+      (λ e. Blames e (λ o. (owner : Owner) (d : DefStart) → is_method owner ≡ method
+      → Came text steps a.reader (at (params_of owner d)) o))
 
   -- a function, or a method, was read from behind its `def`
   pub record GivesFunction (method : Bool) (a b : Parser X I) (f : RustFuncDef) : Type 0 where
@@ -106,9 +121,11 @@ module _ {X I : Type 0} (text : X → List ℕ) (steps : I → Option (Result (T
     pub keeps : KeepsTree func_of wholes_of_def a.deep b.deep f function
     pub ready : IsReady can left b.reader
     pub later : left_in left b.reader < left_in left a.reader
-    pub leads : (owner : Owner) (first : Place) → is_method owner ≡ method → Onward text steps a.reader b.reader (at (def_due owner first)) (at (after_def owner first function))
+    pub leads : (owner : Owner) (first : Place) → is_method owner ≡ method
+        → Onward text steps a.reader b.reader (at (def_due owner first)) (at (after_def owner first function))
 
   -- a function or a method was read from behind its `def`, or the refusal is that to which the tokens lead
   abbrev pub ReadsFunction : Bool → Parser X I → Parser X I → Result RustFuncDef Fault → Type 0
   ReadsFunction method a b r = MatchResult r (λ f. GivesFunction method a b f)
-      (λ e. Blames e (λ o. (owner : Owner) (first : Place) → is_method owner ≡ method → Came text steps a.reader (at (def_due owner first)) o))
+      (λ e. Blames e (λ o. (owner : Owner) (first : Place) → is_method owner ≡ method
+      → Came text steps a.reader (at (def_due owner first)) o))

@@ -13,12 +13,17 @@ use Rattle.pc_tree.specs.declared.tree.Stmt.{Stmt as RustStmt}
 use Rattle.pc_tree.specs.declared.tree.StmtKind.{StmtKind}
 use Rattle.pc_tree.specs.declared.tree.StmtKind.TheVariants as statement
 use Rattle.pc_tree.specs.declared.tree.Branch.{Branch as RustBranch}
-use Rattle.pc_tree.specs.Tree.{Expr, no_anns, Stmt, conditional, Stmts, no_stmts, Branches, name_of, expr_of, stmt_of, stmt_of_kind, stmts_of_list}
+use Rattle.pc_tree.specs.Tree.{Expr, no_anns, Stmt, conditional, Stmts, no_stmts, Branches, name_of, expr_of, stmt_of}
+use Rattle.pc_tree.specs.Tree.{stmt_of_kind, stmts_of_list}
 use Rattle.pc_tree.specs.Depth.{whole_expr, wholes_of_stmt, wholes_of_stmts, wholes_of_branches}
 use Rattle.pc_tree.specs.Machine.{at, turn, stop_at, short}
-use Rattle.pc_tree.specs.Machine.Kinds.{Lead as Joint, leads_pass, leads_break, leads_continue, leads_return, leads_assert, leads_while, leads_for, leads_if, leads_out, leads_other, lead_of, same_kind, Ending}
-use Rattle.pc_tree.specs.Machine.States.{Part, Nest, Block, Site, Begun, branching, in_statement, of_local, whole, ann_whole, State, stmts, after_branch, part_due, operand, stuck, go, on}
-use Rattle.pc_tree.specs.Machine.Finishing.{add_stmt, suite_of, after_suite, after_stmt, nested_in, at_colon, finish_stmt}
+use Rattle.pc_tree.specs.Machine.Kinds.{Lead as Joint, leads_pass, leads_break, leads_continue, leads_return}
+use Rattle.pc_tree.specs.Machine.Kinds.{leads_assert, leads_while, leads_for, leads_if, leads_out, leads_other, lead_of}
+use Rattle.pc_tree.specs.Machine.Kinds.{same_kind, Ending}
+use Rattle.pc_tree.specs.Machine.States.{Part, Nest, Block, Site, Begun, branching, in_statement, of_local, whole}
+use Rattle.pc_tree.specs.Machine.States.{ann_whole, State, stmts, after_branch, part_due, operand, stuck, go, on}
+use Rattle.pc_tree.specs.Machine.Finishing.{add_stmt, suite_of, after_suite, after_stmt, nested_in, at_colon}
+use Rattle.pc_tree.specs.Machine.Finishing.{finish_stmt}
 use Rattle.pc_tree.specs.Machine.Lines.{line_ends, lead_turn}
 use Rattle.pc_tree.specs.Lists.{branches_of_list}
 use Rattle.pc_parse.specs.declared.parser.Parser.{Parser}
@@ -48,7 +53,8 @@ site_at first done block = record { first = first; done = done; block = block }
 
 -- these words begin the suite of this, behind an expression
 abbrev pub Heads : Begun → (Expr → Nest) → Type 0
-Heads begun nest = (p : Part) (site : Site) (e : Ending) → finish_stmt begun p site e ≡ at_colon (suite_of (nested_in site (nest p.tree))) e
+Heads begun nest = (p : Part) (site : Site) (e : Ending)
+    → finish_stmt begun p site e ≡ at_colon (suite_of (nested_in site (nest p.tree))) e
 
 -- the statement that is this word
 abbrev pub kind_of_word : Word → StmtKind
@@ -67,14 +73,18 @@ MayGoOn done a = (done ≡ no_stmts) ⊎ (IsAhead kind.Dedent a.reader.ahead ≡
 module _ {X I : Type 0} (text : X → List ℕ) where
   -- the token ahead is all of this statement
   abbrev pub HasWord : StmtKind → Parser X I → Type 0
-  HasWord k a = (t : Token X) (site : Site) → a.reader.ahead ≡ Some t → lead_turn site (lexeme text t) t.kind (lead_of t.kind) ≡ go (line_ends (after_stmt site (stmt_of_kind site.first k)))
+  HasWord k a = (t : Token X) (site : Site) → a.reader.ahead ≡ Some t
+      → lead_turn site (lexeme text t) t.kind (lead_of t.kind)
+      ≡ go (line_ends (after_stmt site (stmt_of_kind site.first k)))
 
   -- a line end leads from one state to another, and nothing else goes on from it
   pub record LineEnds (a : Parser X I) (st next : State) : Type 0 where
     pub unfinished : stop_at st ≡ short
-    pub turns : (t : Token X) → a.reader.ahead ≡ Some t → turn st (lexeme text t) t.kind ≡ on (same_kind t.kind kind.Newline) next stuck
+    pub turns : (t : Token X) → a.reader.ahead ≡ Some t
+        → turn st (lexeme text t) t.kind ≡ on (same_kind t.kind kind.Newline) next stuck
 
-module _ {X I : Type 0} (text : X → List ℕ) (steps : I → Option (Result (Token X) Fault) → I → Type 0) (can : I → Type 0) (left : I → Count) where
+module _ {X I : Type 0} (text : X → List ℕ) (steps : I → Option (Result (Token X) Fault) → I → Type 0)
+    (can : I → Type 0) (left : I → Count) where
   -- a line end was read
   pub record EndsLine (a b : Parser X I) : Type 0 where
     pub deep : b.deep ≡ a.deep
@@ -84,19 +94,26 @@ module _ {X I : Type 0} (text : X → List ℕ) (steps : I → Option (Result (T
 
   -- a line end was read behind what was read of the line, or the refusal is that to which the tokens lead
   abbrev pub ReadsLineEnd : {T : Type 0} → Parser X I → Parser X I → T → Result T Fault → Type 0
-  ReadsLineEnd a b s r = MatchResult r (λ s'. (s' ≡ s) × EndsLine a b) (λ e. Blames e (λ o. (st next : State) → LineEnds text a st next → Came text steps a.reader (at st) o))
+  ReadsLineEnd a b s r = MatchResult r (λ s'. (s' ≡ s) × EndsLine a b)
+      (λ e. Blames e (λ o. (st next : State) → LineEnds text a st next → Came text steps a.reader (at st) o))
 
   -- a statement was read, from a state behind other statements of which this holds
-  pub record GivesStmt (start : Stmts → Block → State) (fits : Stmts → Type 0) (a b : Parser X I) (s : RustStmt) : Type 0 where
+  pub record GivesStmt (start : Stmts → Block → State) (fits : Stmts → Type 0) (a b : Parser X I)
+      (s : RustStmt) : Type 0 where
     pub statement : Stmt
     pub keeps : KeepsTree stmt_of wholes_of_stmt a.deep b.deep s statement
     pub ready : IsReady can left b.reader
     pub later : left_in left b.reader < left_in left a.reader
-    pub leads : (done : Stmts) (block : Block) → fits done → Onward text steps a.reader b.reader (at (start done block)) (at (stmts (add_stmt done statement) block))
+    pub leads : (done : Stmts) (block : Block) → fits done
+        → Onward text steps a.reader b.reader (at (start done block)) (at (stmts (add_stmt done statement) block))
 
   -- a statement was read from such a state, or the refusal is that to which the tokens lead
-  abbrev pub ReadsFrom : (Stmts → Block → State) → (Stmts → Type 0) → Parser X I → Parser X I → Result RustStmt Fault → Type 0
-  ReadsFrom start fits a b r = MatchResult r (λ s. GivesStmt start fits a b s) (λ e. Blames e (λ o. (done : Stmts) (block : Block) → fits done → Came text steps a.reader (at (start done block)) o))
+  abbrev pub ReadsFrom : (Stmts → Block → State) → (Stmts → Type 0) → Parser X I → Parser X I → Result RustStmt Fault
+      → Type 0
+  ReadsFrom start fits a b r =
+      MatchResult r (λ s. GivesStmt start fits a b s)
+      (λ e. Blames e (λ o. (done : Stmts) (block : Block) → fits done
+      → Came text steps a.reader (at (start done block)) o))
 
   -- a whole statement
   abbrev pub ReadsStmt : (Stmts → Type 0) → Parser X I → Parser X I → Result RustStmt Fault → Type 0
@@ -104,19 +121,24 @@ module _ {X I : Type 0} (text : X → List ℕ) (steps : I → Option (Result (T
 
   -- what stands behind the `:` of an annotated local, in a statement that begins at this place
   abbrev pub ReadsLocal : Place → RustName → Parser X I → Parser X I → Result RustStmt Fault → Type 0
-  ReadsLocal first n a b r = ReadsFrom (λ done block. part_due no_anns [] (ann_whole (of_local (name_of n) (site_at first done block)))) (λ _. Unit {0}) a b r
+  ReadsLocal first n a b r =
+      ReadsFrom (λ done block. part_due no_anns [] (ann_whole (of_local (name_of n) (site_at first done block))))
+      (λ _. Unit {0}) a b r
 
   -- the statements of a suite were read, from behind its `:` up to and with its end
   pub record GivesSuite (a b : Parser X I) (v : Vec RustStmt Global) : Type 0 where
     pub statements : Stmts
-    pub keeps : KeepsTree (λ (w : Vec RustStmt Global). stmts_of_list w.items) wholes_of_stmts a.deep b.deep v statements
+    pub keeps : KeepsTree (λ (w : Vec RustStmt Global). stmts_of_list w.items)
+        wholes_of_stmts a.deep b.deep v statements
     pub ready : IsReady can left b.reader
     pub later : left_in left b.reader < left_in left a.reader
-    pub leads : (block : Block) → Onward text steps a.reader b.reader (at (suite_of block)) (at (after_suite block statements))
+    pub leads : (block : Block)
+        → Onward text steps a.reader b.reader (at (suite_of block)) (at (after_suite block statements))
 
   -- the statements of a suite and its end were read, or the refusal is that to which the tokens lead
   abbrev pub ReadsSuite : Parser X I → Parser X I → Result (Vec RustStmt Global) Fault → Type 0
-  ReadsSuite a b r = MatchResult r (λ v. GivesSuite a b v) (λ e. Blames e (λ o. (block : Block) → Came text steps a.reader (at (suite_of block)) o))
+  ReadsSuite a b r = MatchResult r (λ v. GivesSuite a b v)
+      (λ e. Blames e (λ o. (block : Block) → Came text steps a.reader (at (suite_of block)) o))
 
   -- an expression and a suite behind it were read
   pub record GivesHeaded (a b : Parser X I) (value : RustExpr) (v : List RustStmt) : Type 0 where
@@ -128,12 +150,14 @@ module _ {X I : Type 0} (text : X → List ℕ) (steps : I → Option (Result (T
     pub ready : IsReady can left b.reader
     pub later : left_in left b.reader < left_in left a.reader
     pub leads : (begun : Begun) (nest : Expr → Nest) (site : Site) → Heads begun nest
-        → Onward text steps a.reader b.reader (at (operand (whole (in_statement begun site)))) (at (after_suite (nested_in site (nest head)) body))
+        → Onward text steps a.reader b.reader (at (operand (whole (in_statement begun site))))
+        (at (after_suite (nested_in site (nest head)) body))
 
   -- an expression and a suite behind it were read, or the refusal is that to which the tokens lead
   abbrev pub ReadsHeaded : Parser X I → Parser X I → Result ((e : RustExpr) × Vec RustStmt Global) Fault → Type 0
   ReadsHeaded a b r = MatchResult r (λ h. GivesHeaded a b h.0 h.1.items)
-      (λ e. Blames e (λ o. (begun : Begun) (nest : Expr → Nest) (site : Site) → Heads begun nest → Came text steps a.reader (at (operand (whole (in_statement begun site)))) o))
+      (λ e. Blames e (λ o. (begun : Begun) (nest : Expr → Nest) (site : Site) → Heads begun nest
+      → Came text steps a.reader (at (operand (whole (in_statement begun site)))) o))
 
   -- the suite of `else` was read, if there is one
   pub record GivesElse (a b : Parser X I) (v : List RustStmt) : Type 0 where
@@ -142,12 +166,15 @@ module _ {X I : Type 0} (text : X → List ℕ) (steps : I → Option (Result (T
     pub ready : IsReady can left b.reader
     pub later : left_in left b.reader ≤ left_in left a.reader
     pub leads : (branches : Branches) (site : Site) → IsAhead (kind.Keyword word.Elif) a.reader.ahead ≡ false
-        → Onward text steps a.reader b.reader (at (after_branch branches site)) (at (after_stmt site (conditional site.first branches statements)))
+        → Onward text steps a.reader b.reader (at (after_branch branches site))
+        (at (after_stmt site (conditional site.first branches statements)))
 
-  -- the suite of `else` was read, if there is one, or the refusal is that to which the tokens lead where no `elif` is ahead
+  -- the suite of `else` was read, if there is one, or the refusal is that to which the tokens lead where no `elif` is
+  -- ahead
   abbrev pub ReadsElse : Parser X I → Parser X I → Result (Vec RustStmt Global) Fault → Type 0
   ReadsElse a b r = MatchResult r (λ v. GivesElse a b v.items)
-      (λ e. Blames e (λ o. (branches : Branches) (site : Site) → IsAhead (kind.Keyword word.Elif) a.reader.ahead ≡ false → Came text steps a.reader (at (after_branch branches site)) o))
+      (λ e. Blames e (λ o. (branches : Branches) (site : Site) → IsAhead (kind.Keyword word.Elif) a.reader.ahead ≡ false
+      → Came text steps a.reader (at (after_branch branches site)) o))
 
   -- ---- loops
 
@@ -158,7 +185,8 @@ module _ {X I : Type 0} (text : X → List ℕ) (steps : I → Option (Result (T
     pub ready : IsReady can left b.reader
     pub later : left_in left b.reader < left_in left a.reader
     pub stands : MayGoOn statements b
-    pub leads : (block : Block) → Onward text steps a.reader b.reader (at (suite_of block)) (at (stmts statements block))
+    pub leads : (block : Block)
+        → Onward text steps a.reader b.reader (at (suite_of block)) (at (stmts statements block))
 
   -- the branches of an `if` so far, before a condition
   pub record BranchesSoFar (first : Place) (a b : Parser X I) (v : List RustBranch) : Type 0 where
@@ -166,4 +194,6 @@ module _ {X I : Type 0} (text : X → List ℕ) (steps : I → Option (Result (T
     pub keeps : KeepsTree branches_of_list wholes_of_branches a.deep b.deep v branches
     pub ready : IsReady can left b.reader
     pub later : left_in left b.reader < left_in left a.reader
-    pub leads : (done : Stmts) (block : Block) → HasLead leads_if a → Onward text steps a.reader b.reader (at (stmts done block)) (at (operand (whole (in_statement (branching branches) (site_at first done block)))))
+    pub leads : (done : Stmts) (block : Block) → HasLead leads_if a
+        → Onward text steps a.reader b.reader (at (stmts done block))
+        (at (operand (whole (in_statement (branching branches) (site_at first done block)))))

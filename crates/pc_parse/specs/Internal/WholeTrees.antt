@@ -10,7 +10,8 @@ use Rattle.pc_tree.specs.Depth.{Whole, whole_expr, whole_ann, first_too_deep}
 use Rattle.pc_tree.specs.Grammar.{first_place}
 use Rattle.pc_tree.specs.Machine.{at, turn, stop_at, short}
 use Rattle.pc_tree.specs.Machine.Kinds.{Follow, ends, follow_of, Ending, no_ending}
-use Rattle.pc_tree.specs.Machine.States.{Part, ExpressionPosition, AnnotationPosition, whole, ann_whole, State, part_due, operand, have}
+use Rattle.pc_tree.specs.Machine.States.{Part, ExpressionPosition, AnnotationPosition, whole, ann_whole, State}
+use Rattle.pc_tree.specs.Machine.States.{part_due, operand, have}
 use Rattle.pc_tree.specs.Machine.Finishing.{finish, finish_ann}
 use Rattle.pc_reader.specs.declared.operand.Operand.{Operand}
 use Rattle.pc_parse.specs.declared.parser.Parser.{Parser}
@@ -30,7 +31,8 @@ deep_after deep ws = sooner deep (first_too_deep ws)
 
 -- What a value of the program keeps of a tree, with the first byte of what is too deep before and after it was read:
 -- the tree itself, unless something was too deep by then.
-pub record KeepsTree {V T : Type 0} (of : V → T) (wholes : T → List Whole) (before after : Option ℕ) (value : V) (tree : T) : Type 0 where
+pub record KeepsTree {V T : Type 0} (of : V → T) (wholes : T → List Whole) (before after : Option ℕ) (value : V)
+    (tree : T) : Type 0 where
   pub deep : after ≡ deep_after before (wholes tree)
   pub kept : after ≡ None → of value ≡ tree
 
@@ -45,7 +47,8 @@ ending_in _ = no_ending
 abbrev pub ending_of : TokenKind → Ending
 ending_of k = ending_in (follow_of k)
 
-module _ {X I : Type 0} (text : X → List ℕ) (steps : I → Option (Result (Token X) Fault) → I → Type 0) (can : I → Type 0) (left : I → Count) where
+module _ {X I : Type 0} (text : X → List ℕ) (steps : I → Option (Result (Token X) Fault) → I → Type 0)
+    (can : I → Type 0) (left : I → Count) where
   -- a whole expression was read, and noted
   pub record GivesWhole (a b : Parser X I) (o : Operand) : Type 0 where
     pub part : Part
@@ -54,13 +57,16 @@ module _ {X I : Type 0} (text : X → List ℕ) (steps : I → Option (Result (T
     pub deep : b.deep ≡ deep_after a.deep (whole_expr part.tree ∷ [])
     pub ready : IsReady can left b.reader
     pub later : left_in left b.reader < left_in left a.reader
-    pub leads : (c : ExpressionPosition) → Onward text steps a.reader b.reader (at (operand (whole c))) (at (have o.level part (whole c)))
+    pub leads : (c : ExpressionPosition)
+        → Onward text steps a.reader b.reader (at (operand (whole c))) (at (have o.level part (whole c)))
     -- what comes behind it
-    pub goes : (c : ExpressionPosition) (t : Token X) → b.reader.ahead ≡ Some t → turn (have o.level part (whole c)) (lexeme text t) t.kind ≡ finish c part (ending_of t.kind)
+    pub goes : (c : ExpressionPosition) (t : Token X) → b.reader.ahead ≡ Some t
+        → turn (have o.level part (whole c)) (lexeme text t) t.kind ≡ finish c part (ending_of t.kind)
 
   -- a whole expression was read, or the refusal is that to which the tokens lead
   abbrev pub ReadsWhole : Parser X I → Parser X I → Result Operand Fault → Type 0
-  ReadsWhole a b r = MatchResult r (λ o. GivesWhole a b o) (λ e. Blames e (λ o. (c : ExpressionPosition) → Came text steps a.reader (at (operand (whole c))) o))
+  ReadsWhole a b r = MatchResult r (λ o. GivesWhole a b o)
+      (λ e. Blames e (λ o. (c : ExpressionPosition) → Came text steps a.reader (at (operand (whole c))) o))
 
   -- a whole annotation was read, and noted
   pub record GivesAnn (a b : Parser X I) (n : RustAnn) : Type 0 where
@@ -71,9 +77,13 @@ module _ {X I : Type 0} (text : X → List ℕ) (steps : I → Option (Result (T
     -- the state behind its last token
     pub behind : AnnotationPosition → State
     pub unfinished : (c : AnnotationPosition) → stop_at (behind c) ≡ short
-    pub leads : (c : AnnotationPosition) → Onward text steps a.reader b.reader (at (part_due no_anns [] (ann_whole c))) (at (behind c))
-    pub goes : (c : AnnotationPosition) (t : Token X) → b.reader.ahead ≡ Some t → turn (behind c) (lexeme text t) t.kind ≡ finish_ann c annotation t.kind
+    pub leads : (c : AnnotationPosition)
+        → Onward text steps a.reader b.reader (at (part_due no_anns [] (ann_whole c))) (at (behind c))
+    pub goes : (c : AnnotationPosition) (t : Token X) → b.reader.ahead ≡ Some t
+        → turn (behind c) (lexeme text t) t.kind ≡ finish_ann c annotation t.kind
 
   -- a whole annotation was read, or the refusal is that to which the tokens lead
   abbrev pub ReadsAnn : Parser X I → Parser X I → Result RustAnn Fault → Type 0
-  ReadsAnn a b r = MatchResult r (λ n. GivesAnn a b n) (λ e. Blames e (λ o. (c : AnnotationPosition) → Came text steps a.reader (at (part_due no_anns [] (ann_whole c))) o))
+  ReadsAnn a b r = MatchResult r (λ n. GivesAnn a b n)
+      (λ e. Blames e (λ o. (c : AnnotationPosition)
+      → Came text steps a.reader (at (part_due no_anns [] (ann_whole c))) o))

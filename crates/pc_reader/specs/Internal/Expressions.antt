@@ -1,5 +1,6 @@
 -- What the functions promise that read expressions.
-use Rattle.std.specs.Prelude.{ℕ, ◌≡◌, ◌≤◌, ◌<◌, ◌⊎◌, Bool, true, false, List, [], ◌∷◌, ◌++◌, Option, Some, None, Result, MatchOption, MatchResult, Vec}
+use Rattle.std.specs.Prelude.{ℕ, ◌≡◌, ◌≤◌, ◌<◌, ◌⊎◌, Bool, true, false, List, [], ◌∷◌, ◌++◌, Option, Some, None, Result}
+use Rattle.std.specs.Prelude.{MatchOption, MatchResult, Vec}
 use Rattle.std.specs.declared.alloc.Global.{Global}
 use Rattle.std.specs.Iterator.{Count}
 use Rattle.pc_source.specs.declared.fault.Fault.{Fault}
@@ -13,9 +14,12 @@ use Rattle.pc_tree.specs.declared.tree.Name.{Name as RustName}
 use Rattle.pc_tree.specs.Tree.{Name, Expr, Exprs, Keywords, no_keywords, name_of}
 use Rattle.pc_tree.specs.Grammar.{name_at, first_place}
 use Rattle.pc_tree.specs.Machine.{at}
-use Rattle.pc_tree.specs.Machine.Kinds.{Infix as Operator, Link as Joint, Follow, link, a_dot, calls, indexes, follow_of, Start, a_name, a_number, a_string, a_truth, a_none, start_of}
-use Rattle.pc_tree.specs.Machine.States.{Part, Prefix as Sign, minus, denial, Head, in_tuple, in_list, in_call, Stack, joining, naming, State, item_due, operand, have, identified, go}
-use Rattle.pc_tree.specs.Machine.Expressions.{rank, own_of, own_of_link, left_of_link, prefix_level, head_tree, call_part, operand_turn}
+use Rattle.pc_tree.specs.Machine.Kinds.{Infix as Operator, Link as Joint, Follow, link, a_dot, calls, indexes}
+use Rattle.pc_tree.specs.Machine.Kinds.{follow_of, Start, a_name, a_number, a_string, a_truth, a_none, start_of}
+use Rattle.pc_tree.specs.Machine.States.{Part, Prefix as Sign, minus, denial, Head, in_tuple, in_list, in_call, Stack}
+use Rattle.pc_tree.specs.Machine.States.{joining, naming, State, item_due, operand, have, identified, go}
+use Rattle.pc_tree.specs.Machine.Expressions.{rank, own_of, own_of_link, left_of_link, prefix_level, head_tree}
+use Rattle.pc_tree.specs.Machine.Expressions.{call_part, operand_turn}
 use Rattle.pc_reader.specs.declared.reader.Reader.{Reader}
 use Rattle.pc_reader.specs.declared.operand.Operand.{Operand}
 use Rattle.pc_reader.specs.declared.operand.Infix.{Infix}
@@ -101,7 +105,8 @@ Closes in_list o = o ≡ sign.RightBracket
 Closes (in_call e) o = ⊥
 
 -- some of the signs before an operand were put to it, the last ones, and the others are left
-pub record HasAppliedSigns (x : Sign) (ts : List Lexeme) (p : Part) (o : Operand) (rest : List ℕ) (o' : Operand) : Type 0 where
+pub record HasAppliedSigns (x : Sign) (ts : List Lexeme) (p : Part) (o : Operand) (rest : List ℕ)
+    (o' : Operand) : Type 0 where
   pub front : List Lexeme
   pub back : List Lexeme
   pub all : ts ≡ front ++ back
@@ -109,7 +114,8 @@ pub record HasAppliedSigns (x : Sign) (ts : List Lexeme) (p : Part) (o : Operand
   pub keeps : KeepsPart o' (applied_all x back p)
   pub level_is : o'.level ≡ wrapped_level x back o.level
 
-module _ {X I : Type 0} (text : X → List ℕ) (steps : I → Option (Result (Token X) Fault) → I → Type 0) (can : I → Type 0) (left : I → Count) where
+module _ {X I : Type 0} (text : X → List ℕ) (steps : I → Option (Result (Token X) Fault) → I → Type 0)
+    (can : I → Type 0) (left : I → Count) where
   -- an operand was read, on any stack of which this holds
   pub record Gives (fits : Stack → Type 0) (level : ℕ) (a b : Reader X I) (o : Operand) : Type 0 where
     pub part : Part
@@ -122,7 +128,9 @@ module _ {X I : Type 0} (text : X → List ℕ) (steps : I → Option (Result (T
 
   -- an operand that binds at least as tightly as the level was read, or the refusal is that to which the tokens lead
   abbrev pub ReadsOperand : (Stack → Type 0) → ℕ → Reader X I → Reader X I → Result Operand Fault → Type 0
-  ReadsOperand fits level a b r = MatchResult r (λ o. Gives fits level a b o) (λ e. Blames e (λ o. (s : Stack) → fits s → Came text steps a (at (operand s)) o))
+  ReadsOperand fits level a b r =
+      MatchResult r (λ o. Gives fits level a b o)
+      (λ e. Blames e (λ o. (s : Stack) → fits s → Came text steps a (at (operand s)) o))
 
   -- a link ahead of this form
   abbrev pub IsLink : Joint → Reader X I → Type 0
@@ -134,7 +142,8 @@ module _ {X I : Type 0} (text : X → List ℕ) (steps : I → Option (Result (T
     pub own : own_of op ≡ own_of_link l
     pub ready : IsReady can left b
     pub later : left_in left b < left_in left a
-    pub leads : IsLink l a → (level : ℕ) (p : Part) (s : Stack) → left_of_link l ≤ level → rank s ≤ own_of_link l → Onward text steps a b (at (have level p s)) (at (operand (joining op p tokens s)))
+    pub leads : IsLink l a → (level : ℕ) (p : Part) (s : Stack) → left_of_link l ≤ level → rank s ≤ own_of_link l
+        → Onward text steps a b (at (have level p s)) (at (operand (joining op p tokens s)))
 
   -- `is` was read
   pub record GivesIs (l : Joint) (a b : Reader X I) : Type 0 where
@@ -142,30 +151,37 @@ module _ {X I : Type 0} (text : X → List ℕ) (steps : I → Option (Result (T
     pub own : own_of_link l ≡ 3
     pub ready : IsReady can left b
     pub later : left_in left b < left_in left a
-    pub leads : IsLink l a → (level : ℕ) (p : Part) (s : Stack) → left_of_link l ≤ level → rank s ≤ own_of_link l → Onward text steps a b (at (have level p s)) (at (identified p (token ∷ []) s))
+    pub leads : IsLink l a → (level : ℕ) (p : Part) (s : Stack) → left_of_link l ≤ level → rank s ≤ own_of_link l
+        → Onward text steps a b (at (have level p s)) (at (identified p (token ∷ []) s))
 
   -- an operator between two operands, or `is`, was read, or the refusal is that to which the tokens lead
   abbrev pub ReadsInfix : Joint → Reader X I → Reader X I → Result (Option Infix) Fault → Type 0
   ReadsInfix l a b r = MatchResult r (λ i. MatchOption i (GivesIs l a b) (λ op. GivesInfix l a b (infix_of op)))
-      (λ e. Blames e (λ o. IsLink l a → (level : ℕ) (p : Part) (s : Stack) → left_of_link l ≤ level → rank s ≤ own_of_link l → Came text steps a (at (have level p s)) o))
+      (λ e. Blames e (λ o. IsLink l a → (level : ℕ) (p : Part) (s : Stack) → left_of_link l ≤ level
+      → rank s ≤ own_of_link l → Came text steps a (at (have level p s)) o))
 
   -- an operand goes on, from states that follow it
-  pub record OperandGoesOn {K : Type 0} (st : K → Part → Stack → State) (level : ℕ) (a b : Reader X I) (o o' : Operand) (k : K) (p : Part) : Type 0 where
+  pub record OperandGoesOn {K : Type 0} (st : K → Part → Stack → State) (level : ℕ) (a b : Reader X I) (o o' : Operand)
+      (k : K) (p : Part) : Type 0 where
     pub part : Part
     pub keeps : KeepsPart o' part
     pub begins : first_place part.tokens ≡ first_place p.tokens
     pub leads : (s : Stack) → Onward text steps a b (at (st k p s)) (at (have level part s))
 
   -- what goes on with an operand was read, and makes it one of this level
-  pub record GivesOn {K : Type 0} (st : K → Part → Stack → State) (level : ℕ) (a b : Reader X I) (o o' : Operand) : Type 0 where
+  pub record GivesOn {K : Type 0} (st : K → Part → Stack → State) (level : ℕ) (a b : Reader X I)
+      (o o' : Operand) : Type 0 where
     pub level_is : o'.level ≡ level
     pub ready : IsReady can left b
     pub later : left_in left b < left_in left a
     pub goes : (k : K) (p : Part) → KeepsPart o p → OperandGoesOn st level a b o o' k p
 
   -- what goes on with an operand was read, or the refusal is that to which the tokens lead
-  abbrev pub ReadsOn : {K : Type 0} (st : K → Part → Stack → State) → ℕ → Reader X I → Reader X I → Operand → Result Operand Fault → Type 0
-  ReadsOn {K} st level a b o r = MatchResult r (λ o'. GivesOn st level a b o o') (λ e. Blames e (λ x. (k : K) (p : Part) (s : Stack) → KeepsPart o p → Came text steps a (at (st k p s)) x))
+  abbrev pub ReadsOn : {K : Type 0} (st : K → Part → Stack → State) → ℕ → Reader X I → Reader X I → Operand
+      → Result Operand Fault → Type 0
+  ReadsOn {K} st level a b o r =
+      MatchResult r (λ o'. GivesOn st level a b o o')
+      (λ e. Blames e (λ x. (k : K) (p : Part) (s : Stack) → KeepsPart o p → Came text steps a (at (st k p s)) x))
 
   -- signs were read
   pub record GivesSigns (x : Sign) (a b : Reader X I) (signs : List ℕ) : Type 0 where
@@ -174,12 +190,15 @@ module _ {X I : Type 0} (text : X → List ℕ) (steps : I → Option (Result (T
     pub ready : IsReady can left b
     pub later : left_in left b ≤ left_in left a
     pub same : signs ≡ [] → b.ahead ≡ a.ahead
-    pub begins : (us : List Lexeme) → ((t : Token X) → b.ahead ≡ Some t → first_place us ≡ t.place) → (t : Token X) → a.ahead ≡ Some t → first_place (tokens ++ us) ≡ t.place
-    pub leads : (s : Stack) → TakesSign x s → Onward text steps a b (at (operand s)) (at (operand (signs_on x tokens s)))
+    pub begins : (us : List Lexeme) → ((t : Token X) → b.ahead ≡ Some t → first_place us ≡ t.place) → (t : Token X)
+        → a.ahead ≡ Some t → first_place (tokens ++ us) ≡ t.place
+    pub leads : (s : Stack) → TakesSign x s
+        → Onward text steps a b (at (operand s)) (at (operand (signs_on x tokens s)))
 
   -- signs were read, or the refusal is that to which the tokens lead
   abbrev pub ReadsSigns : Sign → Reader X I → Reader X I → Result (Vec ℕ Global) Fault → Type 0
-  ReadsSigns x a b r = MatchResult r (λ v. GivesSigns x a b v.items) (λ e. Blames e (λ o. (s : Stack) → TakesSign x s → Came text steps a (at (operand s)) o))
+  ReadsSigns x a b r = MatchResult r (λ v. GivesSigns x a b v.items)
+      (λ e. Blames e (λ o. (s : Stack) → TakesSign x s → Came text steps a (at (operand s)) o))
 
   -- a name was read
   pub record GivesName (a b : Reader X I) (n : RustName) : Type 0 where
@@ -190,7 +209,8 @@ module _ {X I : Type 0} (text : X → List ℕ) (steps : I → Option (Result (T
 
   -- a name was read, or the refusal is that to which the tokens lead from where one is due
   abbrev pub ReadsName : Reader X I → Reader X I → Result RustName Fault → Type 0
-  ReadsName a b r = MatchResult r (λ n. GivesName a b n) (λ e. Blames e (λ o. (st : State) → NeedsKind text kind.Name st a → Came text steps a (at st) o))
+  ReadsName a b r = MatchResult r (λ n. GivesName a b n)
+      (λ e. Blames e (λ o. (st : State) → NeedsKind text kind.Name st a → Came text steps a (at st) o))
 
   -- items were read after others, up to the bracket that closes them
   pub record ListsOn (a b : Reader X I) (l : Listed) (h : Head) (xs : Exprs) (ts : List Lexeme) : Type 0 where
@@ -198,7 +218,8 @@ module _ {X I : Type 0} (text : X → List ℕ) (steps : I → Option (Result (T
     pub more : List Lexeme
     pub keeps : KeepsItems l.items items
     pub ends : Ends more l.end
-    pub leads : (s : Stack) → Onward text steps a b (at (item_due h xs ts s)) (at (have 7 (Rattle.pc_tree.specs.Machine.Expressions.part (head_tree h items) (ts ++ more)) s))
+    pub leads : (s : Stack) → Onward text steps a b (at (item_due h xs ts s))
+        (at (have 7 (Rattle.pc_tree.specs.Machine.Expressions.part (head_tree h items) (ts ++ more)) s))
 
   -- items were read after those already kept, up to this bracket
   pub record GivesItems (close : Bracket) (a b : Reader X I) (some : Items) (l : Listed) : Type 0 where
@@ -209,15 +230,18 @@ module _ {X I : Type 0} (text : X → List ℕ) (steps : I → Option (Result (T
   -- items were read up to this bracket, or the refusal is that to which the tokens lead
   abbrev pub ReadsItems : Bracket → Reader X I → Reader X I → Items → Result Listed Fault → Type 0
   ReadsItems close a b some r = MatchResult r (λ l. GivesItems close a b some l)
-      (λ e. Blames e (λ o. (h : Head) (xs : Exprs) (ts : List Lexeme) (s : Stack) → Closes h close → Came text steps a (at (item_due h xs ts s)) o))
+      (λ e. Blames e (λ o. (h : Head) (xs : Exprs) (ts : List Lexeme) (s : Stack) → Closes h close
+      → Came text steps a (at (item_due h xs ts s)) o))
 
   -- arguments by name were read, up to the closing parenthesis
-  pub record NamesOn (a b : Reader X I) (l : Arguments) (e : Expr) (xs : Exprs) (ks : Keywords) (n : Name) (ts : List Lexeme) : Type 0 where
+  pub record NamesOn (a b : Reader X I) (l : Arguments) (e : Expr) (xs : Exprs) (ks : Keywords) (n : Name)
+      (ts : List Lexeme) : Type 0 where
     pub arguments : Keywords
     pub more : List Lexeme
     pub keeps : KeepsKeywords l.keywords arguments
     pub ends : Ends more l.end
-    pub leads : (s : Stack) → Onward text steps a b (at (operand (naming e xs ks n ts s))) (at (have 7 (call_part e xs arguments (ts ++ more)) s))
+    pub leads : (s : Stack) → Onward text steps a b (at (operand (naming e xs ks n ts s)))
+        (at (have 7 (call_part e xs arguments (ts ++ more)) s))
 
   -- arguments by name were read from behind the `=` of the first
   pub record GivesKeywords (a b : Reader X I) (first : RustName) (l : Arguments) : Type 0 where
@@ -228,4 +252,5 @@ module _ {X I : Type 0} (text : X → List ℕ) (steps : I → Option (Result (T
   -- arguments by name were read up to the closing parenthesis, or the refusal is that to which the tokens lead
   abbrev pub ReadsKeywords : Reader X I → Reader X I → RustName → Result Arguments Fault → Type 0
   ReadsKeywords a b first r = MatchResult r (λ l. GivesKeywords a b first l)
-      (λ e. Blames e (λ o. (f : Expr) (xs : Exprs) (ts : List Lexeme) (s : Stack) → Came text steps a (at (operand (naming f xs no_keywords (name_of first) ts s))) o))
+      (λ e. Blames e (λ o. (f : Expr) (xs : Exprs) (ts : List Lexeme) (s : Stack)
+      → Came text steps a (at (operand (naming f xs no_keywords (name_of first) ts s))) o))

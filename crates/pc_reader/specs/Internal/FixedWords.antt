@@ -19,14 +19,16 @@ IsFormAhead text form (Some t) = is_fixed (a_form form) (lexeme text t) t.kind
 -- a name of another form, or no name, does not go on from a state
 pub record NeedsForm {X I : Type 0} (text : X → List ℕ) (form : List ℕ) (st : State) (a : Reader X I) : Type 0 where
   pub unfinished : stop_at st ≡ short
-  pub stuck_at : (t : Token X) → a.ahead ≡ Some t → is_fixed (a_form form) (lexeme text t) t.kind ≡ false → turn st (lexeme text t) t.kind ≡ stuck
+  pub stuck_at : (t : Token X) → a.ahead ≡ Some t → is_fixed (a_form form) (lexeme text t) t.kind ≡ false
+      → turn st (lexeme text t) t.kind ≡ stuck
 
 -- tokens of these kinds, one after the other
 abbrev pub kinds_of : List TokenKind → List Fixed
 kinds_of [] = []
 kinds_of (k ∷ ks) = a_kind k ∷ kinds_of ks
 
-module _ {X I : Type 0} (text : X → List ℕ) (steps : I → Option (Result (Token X) Fault) → I → Type 0) (can : I → Type 0) (left : I → Count) where
+module _ {X I : Type 0} (text : X → List ℕ) (steps : I → Option (Result (Token X) Fault) → I → Type 0)
+    (can : I → Type 0) (left : I → Count) where
   -- a name of this form was taken
   pub record TakesForm (form : List ℕ) (a b : Reader X I) (t : Token X) : Type 0 where
     pub takes : Takes text steps can left a b t
@@ -34,7 +36,8 @@ module _ {X I : Type 0} (text : X → List ℕ) (steps : I → Option (Result (T
 
   -- a name of this form was taken, or the refusal is that to which the tokens lead from where one is due
   abbrev pub ReadsForm : List ℕ → Reader X I → Reader X I → Result (Token X) Fault → Type 0
-  ReadsForm form a b r = MatchResult r (λ t. TakesForm form a b t) (λ e. Blames e (λ o. (st : State) → NeedsForm text form st a → Came text steps a (at st) o))
+  ReadsForm form a b r = MatchResult r (λ t. TakesForm form a b t)
+      (λ e. Blames e (λ o. (st : State) → NeedsForm text form st a → Came text steps a (at st) o))
 
   -- these words were read
   pub record GivesFixed (ws : List Fixed) (a b : Reader X I) : Type 0 where
@@ -44,4 +47,5 @@ module _ {X I : Type 0} (text : X → List ℕ) (steps : I → Option (Result (T
 
   -- these words were read, or the refusal is that to which the tokens lead
   abbrev pub ReadsFixed : {U : Type 0} → List Fixed → Reader X I → Reader X I → Result U Fault → Type 0
-  ReadsFixed ws a b r = MatchResult r (λ _. GivesFixed ws a b) (λ e. Blames e (λ o. (next : State) → Came text steps a (at (due ws next)) o))
+  ReadsFixed ws a b r = MatchResult r (λ _. GivesFixed ws a b)
+      (λ e. Blames e (λ o. (next : State) → Came text steps a (at (due ws next)) o))

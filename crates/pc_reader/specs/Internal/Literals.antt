@@ -1,5 +1,6 @@
 -- What the functions promise that read literals.
-use Rattle.std.specs.Prelude.{ℕ, ◌≡◌, ◌≤◌, ◌<◌, Bool, true, false, List, [], ◌∷◌, Option, Some, None, Result, MatchResult}
+use Rattle.std.specs.Prelude.{ℕ, ◌≡◌, ◌≤◌, ◌<◌, Bool, true, false, List, [], ◌∷◌, Option, Some, None, Result}
+use Rattle.std.specs.Prelude.{MatchResult}
 use Rattle.std.specs.Iterator.{Count}
 use Rattle.pc_source.specs.declared.fault.Fault.{Fault}
 use Rattle.pc_token.specs.declared.token.Token.{Token}
@@ -46,7 +47,8 @@ abbrev pub or_literal : LiteralContext → (TokenKind → Turn) → Option Liter
 or_literal c other None k = other k
 or_literal c other (Some l) k = finish_literal c l k
 
-module _ {X I : Type 0} (text : X → List ℕ) (steps : I → Option (Result (Token X) Fault) → I → Type 0) (can : I → Type 0) (left : I → Count) where
+module _ {X I : Type 0} (text : X → List ℕ) (steps : I → Option (Result (Token X) Fault) → I → Type 0)
+    (can : I → Type 0) (left : I → Count) where
   -- a literal was read, from a state that waits for it
   pub record GivesLiteral (from : LiteralContext → State) (a b : Reader X I) (l : RustLiteral) : Type 0 where
     pub ready : IsReady can left b
@@ -55,7 +57,9 @@ module _ {X I : Type 0} (text : X → List ℕ) (steps : I → Option (Result (T
 
   -- a literal was read from such a state, or the refusal is that to which the tokens lead
   abbrev pub ReadsLiteralFrom : (LiteralContext → State) → Reader X I → Reader X I → Result RustLiteral Fault → Type 0
-  ReadsLiteralFrom from a b r = MatchResult r (λ l. GivesLiteral from a b l) (λ e. Blames e (λ o. (c : LiteralContext) → Came text steps a (at (from c)) o))
+  ReadsLiteralFrom from a b r =
+      MatchResult r (λ l. GivesLiteral from a b l)
+      (λ e. Blames e (λ o. (c : LiteralContext) → Came text steps a (at (from c)) o))
 
   -- so where a literal is due
   abbrev pub ReadsLiteral : Reader X I → Reader X I → Result RustLiteral Fault → Type 0
@@ -69,9 +73,12 @@ module _ {X I : Type 0} (text : X → List ℕ) (steps : I → Option (Result (T
   pub record GivesDefault (a b : Reader X I) (l : Option RustLiteral) : Type 0 where
     pub ready : IsReady can left b
     pub later : left_in left b ≤ left_in left a
-    pub leads : (st : State) (c : LiteralContext) (other : TokenKind → Turn) → StandsBefore text a st (opens_literal c other) → LeadsTo text steps a b st (or_literal c other (option_literal_of l))
+    pub leads : (st : State) (c : LiteralContext) (other : TokenKind → Turn)
+        → StandsBefore text a st (opens_literal c other)
+        → LeadsTo text steps a b st (or_literal c other (option_literal_of l))
 
   -- a default that may be left out was read, or the refusal is that to which the tokens lead
   abbrev pub ReadsDefault : Reader X I → Reader X I → Result (Option RustLiteral) Fault → Type 0
   ReadsDefault a b r = MatchResult r (λ l. GivesDefault a b l)
-      (λ e. Blames e (λ o. (st : State) (c : LiteralContext) (other : TokenKind → Turn) → StandsBefore text a st (opens_literal c other) → Came text steps a (at st) o))
+      (λ e. Blames e (λ o. (st : State) (c : LiteralContext) (other : TokenKind → Turn)
+      → StandsBefore text a st (opens_literal c other) → Came text steps a (at st) o))

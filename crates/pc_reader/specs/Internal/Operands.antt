@@ -66,7 +66,15 @@ pub record KeepsPart (o : Operand) (p : Part) : Type 0 where
 
 -- the operand of an expression at its place, in no parentheses
 abbrev pub node_of : RustExpr → Place → ℕ → ℕ → Operand
-node_of expr place level depth = record { expr = expr; start = place.start; end = place.end; first = place.start; plain = true; level = level; depth = depth }
+node_of expr place level depth = record {
+  expr = expr;
+  start = place.start;
+  end = place.end;
+  first = place.start;
+  plain = true;
+  level = level;
+  depth = depth;
+}
 
 -- the node that tokens between these bytes spell
 abbrev pub Builds : Operand → (Place → Expr) → ℕ → ℕ → Type 0

@@ -9,12 +9,14 @@ use Rattle.pc_reader.specs.declared.reader.Reader.{Reader}
 use Rattle.pc_reader.specs.Reading.{lexeme, Onward}
 
 -- the state ends no module, and the token ahead leads where this says
-pub record StandsBefore {X I : Type 0} (text : X → List ℕ) (a : Reader X I) (st : State) (next : TokenKind → Turn) : Type 0 where
+pub record StandsBefore {X I : Type 0} (text : X → List ℕ) (a : Reader X I) (st : State)
+    (next : TokenKind → Turn) : Type 0 where
   pub unfinished : stop_at st ≡ short
   pub goes : (t : Token X) → a.ahead ≡ Some t → turn st (lexeme text t) t.kind ≡ next t.kind
 
 -- what was read leads from a state to one from which the token ahead leads where this says
-pub record LeadsTo {X I : Type 0} (text : X → List ℕ) (steps : I → Option (Result (Token X) Fault) → I → Type 0) (a b : Reader X I) (st : State) (next : TokenKind → Turn) : Type 0 where
+pub record LeadsTo {X I : Type 0} (text : X → List ℕ) (steps : I → Option (Result (Token X) Fault) → I → Type 0)
+    (a b : Reader X I) (st : State) (next : TokenKind → Turn) : Type 0 where
   pub behind : State
   pub stands : StandsBefore text b behind next
   pub leads : Onward text steps a b (at st) (at behind)

@@ -45,7 +45,8 @@ members_have_values ms = list_all member_has_values ms
 
 -- the members of a class with a field, and the value of its default, before the others
 abbrev pub with_field_member : List ℕ → Option Literal → Members → Members
-with_field_member n default others = record { fields = record { name = n; default = default_value default } ∷ others.fields; methods = others.methods }
+with_field_member n default others =
+    record { fields = record { name = n; default = default_value default } ∷ others.fields; methods = others.methods }
 
 -- the members of a class with the method of a def before the others
 abbrev pub with_method : FuncDef → Members → Members

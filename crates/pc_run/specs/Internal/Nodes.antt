@@ -9,7 +9,8 @@ use Rattle.pc_value.specs.declared.value.Entry.{Entry as RustEntry}
 use Rattle.pc_machine.specs.declared.state.NamedValue.{NamedValue as RustNamedValue}
 use Rattle.pc_machine.specs.Machine.{named_of}
 use Rattle.pc_source.specs.declared.place.Place.{Place}
-use Rattle.pc_tree.specs.Tree.{Name, Expr, name, Exprs, no_exprs, more_exprs, Entries, Keywords, no_keywords, Target, Stmt, Stmts, Branches}
+use Rattle.pc_tree.specs.Tree.{Name, Expr, name, Exprs, no_exprs, more_exprs, Entries, Keywords, no_keywords, Target}
+use Rattle.pc_tree.specs.Tree.{Stmt, Stmts, Branches}
 use Rattle.pc_value.specs.Value.{Value, Entry}
 use Rattle.pc_value.specs.Actions.{Iteration}
 use Rattle.pc_machine.specs.State.{Function}
@@ -38,11 +39,13 @@ keywords_in n by_name = text.eval_keywords Step plain (plain_parts n).eval by_na
 
 -- a call in a plain run, by its form
 abbrev pub call_in : ℕ → Place → Expr → Exprs → Keywords → Step Value
-call_in n p callee arguments by_name = text.eval_call Step plain (plain_parts n) p callee arguments by_name (call_form callee arguments by_name)
+call_in n p callee arguments by_name =
+    text.eval_call Step plain (plain_parts n) p callee arguments by_name (call_form callee arguments by_name)
 
 -- a test `isinstance(e, T)` in a plain run: it asks nothing of the call but the name, e and T
 abbrev pub test_in : ℕ → Place → Name → Expr → Expr → Step Value
-test_in n p f e t = text.eval_call Step plain (plain_parts n) p (name f) (more_exprs e (more_exprs t no_exprs)) no_keywords (instance_test f e t)
+test_in n p f e t = text.eval_call Step plain (plain_parts n) p (name f)
+    (more_exprs e (more_exprs t no_exprs)) no_keywords (instance_test f e t)
 
 -- a function, or a method with its object
 abbrev pub entered_body : ℕ → Function → Option Value → List Value → List NamedValue → Step Value

@@ -1,6 +1,7 @@
 -- What the walks over a module hold, as the definitions see it.
 pub use Rattle.pc_tree.specs.Lists.{name_seen}
-use Rattle.std.specs.Prelude.{ℕ, List, [], ◌∷◌, ◌++◌, ◌||◌, map, if◌then◌else◌, Option, Some, None, bytes_eq, String, string_bytes, Vec}
+use Rattle.std.specs.Prelude.{ℕ, List, [], ◌∷◌, ◌++◌, ◌||◌, map, if◌then◌else◌, Option, Some, None, bytes_eq, String}
+use Rattle.std.specs.Prelude.{string_bytes, Vec}
 use Rattle.std.specs.Global.{Global}
 use Rattle.indexmap.specs.IndexMap.{IndexMap, get_by}
 use Rattle.indexmap.specs.IndexSet.{IndexSet}

@@ -1,5 +1,6 @@
 -- What the code's reading of a line stands for.
-use Rattle.std.specs.Prelude.{◌≡◌, ℕ, ◌+◌, ◌<◌, ◌≤◌, ◌⊎◌, Bool, MatchBool, List, [], ◌∷◌, Some, Result, Err, length, vec_len, map, drop, slice_range}
+use Rattle.std.specs.Prelude.{◌≡◌, ℕ, ◌+◌, ◌<◌, ◌≤◌, ◌⊎◌, Bool, MatchBool, List, [], ◌∷◌, Some, Result, Err, length}
+use Rattle.std.specs.Prelude.{vec_len, map, drop, slice_range}
 use Rattle.std.specs.Str.{IsCharBoundary}
 use Rattle.pc_source.specs.declared.fault.Refusal.{Refusal}
 use Rattle.pc_source.specs.declared.fault.RefusalCode.{RefusalCode}
@@ -18,7 +19,14 @@ use Rattle.pc_token.specs.Splitting.{Sort, Blanks, Comment, LineEnd, Lexical, Fi
 
 -- the context that the reading of a line stands for
 abbrev pub context_of : Reading → LexicalContext
-context_of r = record { at = r.at; start = r.start; brackets = r.brackets.items; done = map lexeme_of r.tokens.items; last = r.last; ended = r.ended }
+context_of r = record {
+  at = r.at;
+  start = r.start;
+  brackets = r.brackets.items;
+  done = map lexeme_of r.tokens.items;
+  last = r.last;
+  ended = r.ended;
+}
 
 -- a piece of this sort goes from where we are to this end
 pub record GoesTo (c : LexicalContext) (text : List ℕ) (sort : Sort) (end : ℕ) : Type 0 where
@@ -29,7 +37,8 @@ pub record GoesTo (c : LexicalContext) (text : List ℕ) (sort : Sort) (end : �
 -- such a token stands here
 pub record IsFound (c : LexicalContext) (text : List ℕ) (found : Found) : Type 0 where
   pub piece : GoesTo c text (Lexical found.kind) found.end
-  pub form : form_of (slice_range text c.at found.end) found.form ≡ form_by_kind found.kind (slice_range text c.at found.end)
+  pub form : form_of (slice_range text c.at found.end) found.form
+      ≡ form_by_kind found.kind (slice_range text c.at found.end)
 
 -- such a piece stands here
 abbrev pub IsNext : LexicalContext → List ℕ → Next → Type 0
@@ -63,7 +72,8 @@ pub record ReadsLine (old new : Reading) (more : Bool) : Type 0 where
   pub boundary : IsCharBoundary new.text.now new.at
   pub later : MatchBool more ((old.at < new.at) × (0 < vec_len new.tokens)) (Unit {0})
   pub line : MatchBool more
-      ((items : List (Result LogicalLine Refusal)) → GoesOn (line_start new.at) (drop new.at new.text.now) items → LeavesFrom old (close_line new.start (map lexeme_of new.tokens.items) items))
+      ((items : List (Result LogicalLine Refusal)) → GoesOn (line_start new.at) (drop new.at new.text.now) items
+      → LeavesFrom old (close_line new.start (map lexeme_of new.tokens.items) items))
       (LeavesFrom old (close_line new.start (map lexeme_of new.tokens.items) []))
 
 -- no logical line ends before this refusal

@@ -5,11 +5,13 @@ use Rattle.pc_token.specs.declared.token.TokenKind.TheVariants as kind
 use Rattle.pc_token.specs.declared.token.Keyword.TheVariants as word
 use Rattle.pc_token.specs.declared.token.Operator.TheVariants as sign
 use Rattle.pc_token.specs.Lexeme.{Lexeme}
-use Rattle.pc_tree.specs.Tree.{Expr, Exprs, no_exprs, more_exprs, Entries, no_entries, more_entries, Keywords, no_keywords, more_keywords}
+use Rattle.pc_tree.specs.Tree.{Expr, Exprs, no_exprs, more_exprs, Entries, no_entries, more_entries, Keywords}
+use Rattle.pc_tree.specs.Tree.{no_keywords, more_keywords}
 use Rattle.pc_tree.specs.Grammar.{Spelling, ◌⟫◌, Just, Sign, Word, IsName, Nothing}
 use Rattle.pc_tree.specs.Grammar.Expressions.{own_level, sign_of, SpellsComparison, Operand, Spells, Expression}
 use Rattle.pc_tree.specs.Machine.Kinds.{Infix, arithmetic, comparison, both, either}
-use Rattle.pc_tree.specs.Machine.States.{Part, Prefix, minus, denial, Head, in_tuple, in_list, in_call, Stack, whole, joining, applying, grouping, listing, indexing, naming, keying, valuing}
+use Rattle.pc_tree.specs.Machine.States.{Part, Prefix, minus, denial, Head, in_tuple, in_list, in_call, Stack, whole}
+use Rattle.pc_tree.specs.Machine.States.{joining, applying, grouping, listing, indexing, naming, keying, valuing}
 use Rattle.pc_tree.specs.Machine.Expressions.{own_of, left_of, prefix_level, rank}
 use Rattle.pc_tree.specs.Fronts.Lines.{Kept, BeforeContext}
 
@@ -72,7 +74,8 @@ EntriesBefore es = Sign sign.LeftBrace ⟫ EachEntry es
 -- the tokens that led to a stack
 abbrev pub Before : Stack → Spelling
 Before (whole c) = BeforeContext c
-Before (joining op l us s) = λ ts. (rank s ≤ own_of op) × ((Before s ⟫ Holds (left_of op) l) ⟫ Kept us (SpellsInfix op)) ts
+Before (joining op l us s) = λ ts. (rank s ≤ own_of op)
+    × ((Before s ⟫ Holds (left_of op) l) ⟫ Kept us (SpellsInfix op)) ts
 Before (applying x us s) = λ ts. (rank s ≤ prefix_level x) × (Before s ⟫ Kept us (Just (prefix_kind x))) ts
 Before (grouping us s) = Before s ⟫ Kept us (Sign sign.LeftParenthesis)
 Before (listing h xs us s) = Before s ⟫ Kept us (ItemsBefore h xs)

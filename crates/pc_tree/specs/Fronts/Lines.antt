@@ -8,13 +8,21 @@ use Rattle.pc_token.specs.declared.token.Keyword.TheVariants as word
 use Rattle.pc_token.specs.declared.token.Operator.{Operator}
 use Rattle.pc_token.specs.declared.token.Operator.TheVariants as sign
 use Rattle.pc_token.specs.Lexeme.{Lexeme}
-use Rattle.pc_tree.specs.Tree.{Name, Ann, Anns, no_anns, more_anns, Stmts, no_stmts, more_stmts, Branches, no_branches, more_branches, Param, Member}
+use Rattle.pc_tree.specs.Tree.{Name, Ann, Anns, no_anns, more_anns, Stmts, no_stmts, more_stmts, Branches, no_branches}
+use Rattle.pc_tree.specs.Tree.{more_branches, Param, Member}
 use Rattle.pc_tree.specs.Grammar.{Spelling, ◌⟫◌, Begins, Just, Sign, Word, IsName, Named, NamedAt, Nothing, Maybe}
 use Rattle.pc_tree.specs.Grammar.Expressions.{Expression, SpellsTarget}
 use Rattle.pc_tree.specs.Grammar.Annotations.{Annotation, SpellsAnn}
 use Rattle.pc_tree.specs.Grammar.Statements.{Suite, SpellsStmt, SpellsStmts, SpellsBranches}
 use Rattle.pc_tree.specs.Grammar.Modules.{SpellsParam, Parameters, SpellsMembers, SpellsItems, Header, OptionalHeader}
-use Rattle.pc_tree.specs.Machine.States.{Stage, after_future, after_dataclasses, after_headers, Top, ClassStart, Owner, of_module, of_class, DefStart, DefHead, Nest, while_body, for_body, branch_body, else_body, Block, def_body, nested, Begun, assigned, annotated_value, returned, asserted, asserted_with, looping, iterating, branching, ExpressionPosition, in_line, in_statement, in_constant, AnnotationPosition, of_constant, of_field, of_param, of_return, of_local, LiteralContext, default_of_param, default_of_field, AnnStack, ann_whole, ann_inside}
+use Rattle.pc_tree.specs.Machine.States.{Stage, after_future, after_dataclasses, after_headers, Top, ClassStart, Owner}
+use Rattle.pc_tree.specs.Machine.States.{of_module, of_class, DefStart, DefHead, Nest, while_body, for_body}
+use Rattle.pc_tree.specs.Machine.States.{branch_body, else_body, Block, def_body, nested, Begun, assigned}
+use Rattle.pc_tree.specs.Machine.States.{annotated_value, returned, asserted, asserted_with, looping, iterating}
+use Rattle.pc_tree.specs.Machine.States.{branching, ExpressionPosition, in_line, in_statement, in_constant}
+use Rattle.pc_tree.specs.Machine.States.{AnnotationPosition, of_constant, of_field, of_param, of_return, of_local}
+use Rattle.pc_tree.specs.Machine.States.{LiteralContext, default_of_param, default_of_field, AnnStack, ann_whole}
+use Rattle.pc_tree.specs.Machine.States.{ann_inside}
 
 -- ---- tokens
 
@@ -42,7 +50,9 @@ Opening = (Sign sign.Colon ⟫ Just kind.Newline) ⟫ Just kind.Indent
 
 -- the headers of a module: that of `annotations`, and those of `dataclass` and `Any` where it has them
 abbrev pub Headers : Bool → Bool → Spelling
-Headers dataclass any = Header (codes "__future__") (codes "annotations") ⟫ OptionalHeader dataclass (codes "dataclasses") (codes "dataclass") ⟫ OptionalHeader any (codes "typing") (codes "Any")
+Headers dataclass any = Header (codes "__future__") (codes "annotations")
+    ⟫ OptionalHeader dataclass (codes "dataclasses") (codes "dataclass")
+    ⟫ OptionalHeader any (codes "typing") (codes "Any")
 
 -- the headers of a module, and its items so far
 abbrev pub BeforeItems : Top → Spelling
@@ -58,7 +68,8 @@ AtStage after_headers top = Unit {0}
 
 -- the line `@dataclass`, of which the places of both tokens are kept, and `class`
 abbrev pub ClassWord : Place → Place → Spelling
-ClassWord first decorator = ((SignAt sign.At first ⟫ NamedAt (codes "dataclass") decorator) ⟫ Just kind.Newline) ⟫ Word word.Class
+ClassWord first decorator = ((SignAt sign.At first ⟫ NamedAt (codes "dataclass") decorator) ⟫ Just kind.Newline)
+    ⟫ Word word.Class
 
 -- a class up to its name
 abbrev pub ClassName : ClassStart → Spelling
@@ -66,7 +77,8 @@ ClassName c = ClassWord c.first c.decorator ⟫ IsName c.name
 
 -- a class up to the indent of its suite
 abbrev pub ClassHead : ClassStart → Spelling
-ClassHead c = (ClassName c ⟫ Maybe (λ b. Sign sign.LeftParenthesis ⟫ IsName b ⟫ Sign sign.RightParenthesis) c.base) ⟫ Opening
+ClassHead c = (ClassName c ⟫ Maybe (λ b. Sign sign.LeftParenthesis ⟫ IsName b ⟫ Sign sign.RightParenthesis) c.base)
+    ⟫ Opening
 
 -- the module before a class, the class up to its suite, and its members so far
 abbrev pub BeforeMembers : ClassStart → List Member → Spelling
@@ -127,7 +139,8 @@ BeforeParam n a = IsName n ⟫ Maybe (λ x. Sign sign.Colon ⟫ Annotation x) a
 -- what comes before a default, up to its `=`
 abbrev pub BeforeLiteral : LiteralContext → Spelling
 BeforeLiteral (default_of_param d ps n a) = BeforeParams d ps ⟫ (BeforeParam n a ⟫ Sign sign.Equal)
-BeforeLiteral (default_of_field c ms n a) = BeforeMembers c ms ⟫ (((IsName n ⟫ Sign sign.Colon) ⟫ Annotation a) ⟫ Sign sign.Equal)
+BeforeLiteral (default_of_field c ms n a) = BeforeMembers c ms
+    ⟫ (((IsName n ⟫ Sign sign.Colon) ⟫ Annotation a) ⟫ Sign sign.Equal)
 
 -- ---- statements
 
@@ -139,7 +152,8 @@ EachStmt (more_stmts s ss) = SpellsStmt s ⟫ EachStmt ss
 -- `if`, and each `elif`
 abbrev pub IfBranches : Place → Branches → Spelling
 IfBranches first no_branches = λ ts. ⊥
-IfBranches first (more_branches condition body rest) = (WordAt word.If first ⟫ (Expression condition ⟫ Suite (SpellsStmts body))) ⟫ SpellsBranches rest
+IfBranches first (more_branches condition body rest) =
+    (WordAt word.If first ⟫ (Expression condition ⟫ Suite (SpellsStmts body))) ⟫ SpellsBranches rest
 
 -- up to the condition of the next branch
 abbrev pub BranchWord : Place → Branches → Spelling
@@ -149,7 +163,8 @@ BranchWord first (more_branches c b rest) = IfBranches first (more_branches c b 
 -- what a suite inside a suite comes after, in its statement
 abbrev pub BeforeNest : Place → Nest → Spelling
 BeforeNest first (while_body condition) = WordAt word.While first ⟫ Expression condition
-BeforeNest first (for_body target iterable) = ((WordAt word.For first ⟫ IsName target) ⟫ Word word.In) ⟫ Expression iterable
+BeforeNest first (for_body target iterable) = ((WordAt word.For first ⟫ IsName target) ⟫ Word word.In)
+    ⟫ Expression iterable
 BeforeNest first (branch_body bs condition) = BranchWord first bs ⟫ Expression condition
 BeforeNest first (else_body bs) = IfBranches first bs ⟫ Word word.Else
 
@@ -197,7 +212,8 @@ EachAnn (more_anns a rest) o whole = SpellsAnn a whole ⟫ Sign o ⟫ EachAnn re
 -- what comes before an annotation, be it a whole one or an argument of another
 abbrev pub BeforeAnn : AnnStack → Spelling
 BeforeAnn (ann_whole c) = BeforeAnnContext c
-BeforeAnn (ann_inside head done us parts before s) = (BeforeAnn s ⟫ Kept before (EachAnn parts sign.Bar false)) ⟫ Kept us ((IsName head ⟫ Sign sign.LeftBracket) ⟫ EachAnn done sign.Comma true)
+BeforeAnn (ann_inside head done us parts before s) = (BeforeAnn s ⟫ Kept before (EachAnn parts sign.Bar false))
+    ⟫ Kept us ((IsName head ⟫ Sign sign.LeftBracket) ⟫ EachAnn done sign.Comma true)
 
 -- what comes before a part of a union
 abbrev pub Parts : Anns → List Lexeme → AnnStack → Spelling

@@ -17,14 +17,20 @@ abbrev mutual
   pub SpellsAnn : Ann → Bool → Spelling
   SpellsAnn (named n) whole = IsName n
   SpellsAnn (none_type p) whole = At p (Word word.None)
-  SpellsAnn (applied p head arguments) whole = At p (IsName head ⟫ Sign sign.LeftBracket ⟫ (λ ts. Separated arguments sign.Comma true ts) ⟫ Sign sign.RightBracket)
-  SpellsAnn (applied_empty p head) whole = At p (IsName head ⟫ Sign sign.LeftBracket ⟫ Sign sign.LeftParenthesis ⟫ Sign sign.RightParenthesis ⟫ Sign sign.RightBracket)
-  SpellsAnn (union p parts) whole = λ ts. IsTrue whole × AreSeveral parts × At p (λ us. Separated parts sign.Bar false us) ts
+  SpellsAnn (applied p head arguments) whole =
+      At p (IsName head ⟫ Sign sign.LeftBracket ⟫ (λ ts. Separated arguments sign.Comma true ts)
+      ⟫ Sign sign.RightBracket)
+  SpellsAnn (applied_empty p head) whole =
+      At p (IsName head ⟫ Sign sign.LeftBracket ⟫ Sign sign.LeftParenthesis ⟫ Sign sign.RightParenthesis
+      ⟫ Sign sign.RightBracket)
+  SpellsAnn (union p parts) whole = λ ts. IsTrue whole × AreSeveral parts
+      × At p (λ us. Separated parts sign.Bar false us) ts
 
   -- one or more with this sign between them, and none behind the last
   pub Separated : Anns → Operator → Bool → Spelling
   Separated no_anns o whole = λ ts. ⊥
-  Separated (more_anns a rest) o whole = (λ ts. SpellsAnn a whole ts) ⟫ Rest (rest ≡ no_anns) (Sign o ⟫ (λ ts. Separated rest o whole ts))
+  Separated (more_anns a rest) o whole = (λ ts. SpellsAnn a whole ts)
+      ⟫ Rest (rest ≡ no_anns) (Sign o ⟫ (λ ts. Separated rest o whole ts))
 
 -- a whole annotation, which may be a union
 abbrev pub Annotation : Ann → Spelling

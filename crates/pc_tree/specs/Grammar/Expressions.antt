@@ -1,5 +1,5 @@
--- Expressions, one level of precedence a case. Python Language Reference 3.12, 6 "Expressions", 6.17 "Operator precedence".
--- That comparisons don't chain, and what is left out, is an own rule of the profile.
+-- Expressions, one level of precedence a case. Python Language Reference 3.12, 6 "Expressions", 6.17 "Operator
+-- precedence". That comparisons don't chain, and what is left out, is an own rule of the profile.
 use Rattle.std.specs.Prelude.{◌≡◌, ◌⊎◌, ℕ, zero, suc, ◌+◌, ◌≤◌, ◌<◌, Bool, true, false, ⊤}
 use Rattle.pc_token.specs.declared.token.Keyword.{Keyword}
 use Rattle.pc_token.specs.declared.token.Keyword.TheVariants as word
@@ -9,7 +9,10 @@ use Rattle.pc_tree.specs.declared.tree.BinaryOperator.{BinaryOperator}
 use Rattle.pc_tree.specs.declared.tree.BinaryOperator.TheVariants.{Add, Sub, Mul, FloorDiv, Mod}
 use Rattle.pc_tree.specs.declared.tree.ComparisonOperator.{ComparisonOperator}
 use Rattle.pc_tree.specs.declared.tree.ComparisonOperator.TheVariants as comparison
-use Rattle.pc_tree.specs.Tree.{Expr, name, number, text, truth, nothing, tuple, list, dict, negative, negation, binary, compare, is_none, is_not_none, conjunction, disjunction, attribute, index, call, Exprs, no_exprs, more_exprs, Entries, no_entries, more_entries, Keywords, no_keywords, more_keywords, Target, to_name, to_attribute, to_index}
+use Rattle.pc_tree.specs.Tree.{Expr, name, number, text, truth, nothing, tuple, list, dict, negative, negation, binary}
+use Rattle.pc_tree.specs.Tree.{compare, is_none, is_not_none, conjunction, disjunction, attribute, index, call, Exprs}
+use Rattle.pc_tree.specs.Tree.{no_exprs, more_exprs, Entries, no_entries, more_entries, Keywords, no_keywords}
+use Rattle.pc_tree.specs.Tree.{more_keywords, Target, to_name, to_attribute, to_index}
 use Rattle.pc_tree.specs.Grammar.{Spelling, At, ◌⟫◌, Nothing, Sign, Word, IsName, AfterComma, IsNumber, IsString}
 
 -- how tightly an arithmetic operator binds: the sums, then the products
@@ -20,7 +23,8 @@ level_of Mul = 5
 level_of FloorDiv = 5
 level_of Mod = 5
 
--- how tightly a node binds without parentheses: `or`, 0, then `and`, `not`, comparisons, sums, products, unary minus, primaries
+-- how tightly a node binds without parentheses: `or`, 0, then `and`, `not`, comparisons, sums, products, unary minus,
+-- primaries
 abbrev pub own_level : Expr → ℕ
 own_level (disjunction p l r) = 0
 own_level (conjunction p l r) = 1
@@ -75,7 +79,8 @@ abbrev mutual
   Spells (truth p b) = At p (Word (truth_word b))
   Spells (nothing p) = At p (Word word.None)
   Spells (tuple p no_exprs) = At p (Sign sign.LeftParenthesis ⟫ Sign sign.RightParenthesis)
-  Spells (tuple p (more_exprs x xs)) = At p (Sign sign.LeftParenthesis ⟫ Operand 0 (own_level x) (λ ts. Spells x ts) ⟫ Sign sign.Comma
+  Spells (tuple p (more_exprs x xs)) =
+      At p (Sign sign.LeftParenthesis ⟫ Operand 0 (own_level x) (λ ts. Spells x ts) ⟫ Sign sign.Comma
       ⟫ (λ ts. Items xs Nothing ⊤ ts) ⟫ Sign sign.RightParenthesis)
   Spells (list p xs) = At p (Sign sign.LeftBracket ⟫ (λ ts. Items xs Nothing ⊤ ts) ⟫ Sign sign.RightBracket)
   Spells (dict p es) = At p (Sign sign.LeftBrace ⟫ (λ ts. SpellsEntries es ts) ⟫ Sign sign.RightBrace)
@@ -83,11 +88,16 @@ abbrev mutual
   Spells (negation p e) = At p (Word word.Not ⟫ Operand 2 (own_level e) (λ ts. Spells e ts))
   Spells (binary p o l r) = At p (Operand (level_of o) (own_level l) (λ ts. Spells l ts) ⟫ Sign (sign_of o)
       ⟫ Operand (level_of o + 1) (own_level r) (λ ts. Spells r ts))
-  Spells (compare p o l r) = At p (Operand 4 (own_level l) (λ ts. Spells l ts) ⟫ SpellsComparison o ⟫ Operand 4 (own_level r) (λ ts. Spells r ts))
+  Spells (compare p o l r) =
+      At p (Operand 4 (own_level l) (λ ts. Spells l ts) ⟫ SpellsComparison o
+      ⟫ Operand 4 (own_level r) (λ ts. Spells r ts))
   Spells (is_none p e) = At p (Operand 4 (own_level e) (λ ts. Spells e ts) ⟫ Word word.Is ⟫ Word word.None)
-  Spells (is_not_none p e) = At p (Operand 4 (own_level e) (λ ts. Spells e ts) ⟫ Word word.Is ⟫ Word word.Not ⟫ Word word.None)
-  Spells (conjunction p l r) = At p (Operand 1 (own_level l) (λ ts. Spells l ts) ⟫ Word word.And ⟫ Operand 2 (own_level r) (λ ts. Spells r ts))
-  Spells (disjunction p l r) = At p (Operand 0 (own_level l) (λ ts. Spells l ts) ⟫ Word word.Or ⟫ Operand 1 (own_level r) (λ ts. Spells r ts))
+  Spells (is_not_none p e) =
+      At p (Operand 4 (own_level e) (λ ts. Spells e ts) ⟫ Word word.Is ⟫ Word word.Not ⟫ Word word.None)
+  Spells (conjunction p l r) =
+      At p (Operand 1 (own_level l) (λ ts. Spells l ts) ⟫ Word word.And ⟫ Operand 2 (own_level r) (λ ts. Spells r ts))
+  Spells (disjunction p l r) =
+      At p (Operand 0 (own_level l) (λ ts. Spells l ts) ⟫ Word word.Or ⟫ Operand 1 (own_level r) (λ ts. Spells r ts))
   Spells (attribute p e f) = At p (Operand 7 (own_level e) (λ ts. Spells e ts) ⟫ Sign sign.Dot ⟫ IsName f)
   Spells (index p e i) = At p (Operand 7 (own_level e) (λ ts. Spells e ts) ⟫ Sign sign.LeftBracket
       ⟫ Operand 0 (own_level i) (λ ts. Spells i ts) ⟫ Sign sign.RightBracket)
@@ -103,7 +113,8 @@ abbrev mutual
   -- the entries of a dict display, with perhaps a comma behind the last
   pub SpellsEntries : Entries → Spelling
   SpellsEntries no_entries = Nothing
-  SpellsEntries (more_entries x y es) = Operand 0 (own_level x) (λ ts. Spells x ts) ⟫ Sign sign.Colon ⟫ Operand 0 (own_level y) (λ ts. Spells y ts)
+  SpellsEntries (more_entries x y es) = Operand 0 (own_level x) (λ ts. Spells x ts) ⟫ Sign sign.Colon
+      ⟫ Operand 0 (own_level y) (λ ts. Spells y ts)
       ⟫ AfterComma (es ≡ no_entries) (λ ts. SpellsEntries es ts)
 
   -- arguments by name, with perhaps a comma behind the last

@@ -1,13 +1,16 @@
--- Modules: headers, constants, classes, functions, and the last line. Python Language Reference 3.12, 7.2, 7.11, 8.7, 8.8;
--- which headers there are, their order, and the last line are own rules of the profile.
+-- Modules: headers, constants, classes, functions, and the last line. Python Language Reference 3.12, 7.2, 7.11, 8.7,
+-- 8.8; which headers there are, their order, and the last line are own rules of the profile.
 use Rattle.std.specs.Prelude.{◌≡◌, ℕ, Bool, true, false, List, [], ◌∷◌, ◌++◌, codes}
 use Rattle.pc_source.specs.declared.place.Place.{Place}
 use Rattle.pc_token.specs.declared.token.TokenKind.TheVariants as kind
 use Rattle.pc_token.specs.declared.token.Keyword.TheVariants as word
 use Rattle.pc_token.specs.declared.token.Operator.TheVariants as sign
 use Rattle.pc_token.specs.Lexeme.{Lexeme}
-use Rattle.pc_tree.specs.Tree.{Literal, number_literal, negative_literal, text_literal, truth_literal, none_literal, Param, FuncDef, Member, field_member, method_member, ClassDef, Item, constant_item, class_item, def_item, Module}
-use Rattle.pc_tree.specs.Grammar.{Spelling, At, Begins, ◌⟫◌, Nothing, Maybe, Just, Sign, Word, IsName, Named, NamedAt, AfterComma, IsNumber, IsString}
+use Rattle.pc_tree.specs.Tree.{Literal, number_literal, negative_literal, text_literal, truth_literal, none_literal}
+use Rattle.pc_tree.specs.Tree.{Param, FuncDef, Member, field_member, method_member, ClassDef, Item, constant_item}
+use Rattle.pc_tree.specs.Tree.{class_item, def_item, Module}
+use Rattle.pc_tree.specs.Grammar.{Spelling, At, Begins, ◌⟫◌, Nothing, Maybe, Just, Sign, Word, IsName, Named, NamedAt}
+use Rattle.pc_tree.specs.Grammar.{AfterComma, IsNumber, IsString}
 use Rattle.pc_tree.specs.Grammar.Expressions.{Expression, truth_word}
 use Rattle.pc_tree.specs.Grammar.Annotations.{Annotation}
 use Rattle.pc_tree.specs.Grammar.Statements.{Suite, SpellsStmts}
@@ -24,7 +27,8 @@ SpellsLiteral (none_literal p) = At p (Word word.None)
 
 -- a parameter: its name, then its annotation and its default, if it has them
 abbrev pub SpellsParam : Param → Spelling
-SpellsParam p = IsName p.name ⟫ Maybe (λ a. Sign sign.Colon ⟫ Annotation a) p.annotation ⟫ Maybe (λ l. Sign sign.Equal ⟫ SpellsLiteral l) p.default
+SpellsParam p = IsName p.name ⟫ Maybe (λ a. Sign sign.Colon ⟫ Annotation a) p.annotation
+    ⟫ Maybe (λ l. Sign sign.Equal ⟫ SpellsLiteral l) p.default
 
 -- parameters, with perhaps a comma behind the last
 abbrev pub SpellsParams : List Param → Spelling
@@ -38,14 +42,16 @@ Parameters false ps = SpellsParams ps
 
 -- a function or a method, from `def` to the end of its suite
 abbrev pub SpellsDef : (method : Bool) → FuncDef → Spelling
-SpellsDef method f = Word word.Def ⟫ IsName f.name ⟫ Sign sign.LeftParenthesis ⟫ Parameters method f.params ⟫ Sign sign.RightParenthesis
+SpellsDef method f = Word word.Def ⟫ IsName f.name ⟫ Sign sign.LeftParenthesis ⟫ Parameters method f.params
+    ⟫ Sign sign.RightParenthesis
     ⟫ Maybe (λ a. Sign sign.Arrow ⟫ Annotation a) f.returns ⟫ Suite (SpellsStmts f.body)
 
 -- ---- classes
 
 -- a member of a class: a field on its line, or a method
 abbrev pub SpellsMember : Member → Spelling
-SpellsMember (field_member f) = IsName f.name ⟫ Sign sign.Colon ⟫ Annotation f.annotation ⟫ Maybe (λ l. Sign sign.Equal ⟫ SpellsLiteral l) f.default ⟫ Just kind.Newline
+SpellsMember (field_member f) = IsName f.name ⟫ Sign sign.Colon ⟫ Annotation f.annotation
+    ⟫ Maybe (λ l. Sign sign.Equal ⟫ SpellsLiteral l) f.default ⟫ Just kind.Newline
 SpellsMember (method_member f) = SpellsDef true f
 
 -- members, one after the other
@@ -60,14 +66,18 @@ ClassBody (m ∷ ms) = SpellsMembers (m ∷ ms)
 
 -- a class, from `@dataclass` on its own line to the end of its suite
 abbrev pub SpellsClass : ClassDef → Spelling
-SpellsClass c = Sign sign.At ⟫ NamedAt (codes "dataclass") c.decorator ⟫ Just kind.Newline ⟫ Word word.Class ⟫ IsName c.name
-    ⟫ Maybe (λ b. Sign sign.LeftParenthesis ⟫ IsName b ⟫ Sign sign.RightParenthesis) c.base ⟫ Suite (ClassBody c.members)
+SpellsClass c = Sign sign.At ⟫ NamedAt (codes "dataclass") c.decorator ⟫ Just kind.Newline ⟫ Word word.Class
+    ⟫ IsName c.name
+    ⟫ Maybe (λ b. Sign sign.LeftParenthesis ⟫ IsName b ⟫ Sign sign.RightParenthesis) c.base
+    ⟫ Suite (ClassBody c.members)
 
 -- ---- the module
 
 -- an item of the module: a constant on its line, a class or a function, with the place of its first token
 abbrev pub SpellsItem : Item → Spelling
-SpellsItem (constant_item first c) = Begins first (IsName c.name ⟫ Maybe (λ a. Sign sign.Colon ⟫ Annotation a) c.annotation ⟫ Sign sign.Equal ⟫ Expression c.value ⟫ Just kind.Newline)
+SpellsItem (constant_item first c) =
+    Begins first (IsName c.name ⟫ Maybe (λ a. Sign sign.Colon ⟫ Annotation a) c.annotation ⟫ Sign sign.Equal
+    ⟫ Expression c.value ⟫ Just kind.Newline)
 SpellsItem (class_item first c) = Begins first (SpellsClass c)
 SpellsItem (def_item first f) = Begins first (SpellsDef false f)
 
@@ -87,11 +97,13 @@ OptionalHeader false source imported = Nothing
 
 -- `main()` and the end of the text
 abbrev pub LastLine : Place → Spelling
-LastLine main = NamedAt (codes "main") main ⟫ Sign sign.LeftParenthesis ⟫ Sign sign.RightParenthesis ⟫ Just kind.Newline ⟫ Just kind.End
+LastLine main = NamedAt (codes "main") main ⟫ Sign sign.LeftParenthesis ⟫ Sign sign.RightParenthesis ⟫ Just kind.Newline
+    ⟫ Just kind.End
 
 -- the tokens spell the module, however deep its expressions and annotations are
 abbrev pub SpellsModule : Module → Spelling
-SpellsModule m = Header (codes "__future__") (codes "annotations") ⟫ OptionalHeader m.imports_dataclass (codes "dataclasses") (codes "dataclass")
+SpellsModule m = Header (codes "__future__") (codes "annotations")
+    ⟫ OptionalHeader m.imports_dataclass (codes "dataclasses") (codes "dataclass")
     ⟫ OptionalHeader m.imports_any (codes "typing") (codes "Any") ⟫ SpellsItems m.items ⟫ LastLine m.main
 
 -- some module begins with these tokens

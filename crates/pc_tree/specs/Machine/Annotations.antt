@@ -8,7 +8,8 @@ use Rattle.pc_token.specs.Lexeme.{Lexeme}
 use Rattle.pc_tree.specs.Tree.{Name, Ann, named, none_type, applied, applied_empty, union, Anns, no_anns, more_anns}
 use Rattle.pc_tree.specs.Grammar.{span, name_at}
 use Rattle.pc_tree.specs.Machine.Kinds.{same_kind}
-use Rattle.pc_tree.specs.Machine.States.{AnnStack, ann_whole, ann_inside, part_due, part_named, part_read, argument_due, empty_opened, empty_closed, Turn, stuck, on}
+use Rattle.pc_tree.specs.Machine.States.{AnnStack, ann_whole, ann_inside, part_due, part_named, part_read, argument_due}
+use Rattle.pc_tree.specs.Machine.States.{empty_opened, empty_closed, Turn, stuck, on}
 use Rattle.pc_tree.specs.Machine.Finishing.{add_ann, finish_ann}
 
 -- the turn where a part of an annotation is due: a name or `None`
@@ -25,30 +26,37 @@ whole_ann (more_anns b rest) a ts = union (span ts) (add_ann (more_anns b rest) 
 abbrev pub ann_end : Ann → List Lexeme → AnnStack → Lexeme → TokenKind → Turn
 ann_end a tokens (ann_whole c) t k = finish_ann c a k
 ann_end a tokens (ann_inside head done ts parts before s) t k =
-    on (same_kind k (kind.Operator sign.Comma)) (part_due no_anns [] (ann_inside head (add_ann done a) (ts ++ (tokens ++ (t ∷ []))) parts before s))
+    on (same_kind k (kind.Operator sign.Comma))
+    (part_due no_anns [] (ann_inside head (add_ann done a) (ts ++ (tokens ++ (t ∷ []))) parts before s))
     (on (same_kind k (kind.Operator sign.RightBracket))
-    (part_read (applied (span (ts ++ (tokens ++ (t ∷ [])))) head (add_ann done a)) (ts ++ (tokens ++ (t ∷ []))) parts before s) stuck)
+    (part_read (applied (span (ts ++ (tokens ++ (t ∷ [])))) head (add_ann done a))
+    (ts ++ (tokens ++ (t ∷ []))) parts before s) stuck)
 
 -- the turn behind a part of an annotation: the `|` before the next part, or what may come behind the annotation
 abbrev pub part_read_turn : Ann → List Lexeme → Anns → List Lexeme → AnnStack → Lexeme → TokenKind → Turn
-part_read_turn a tokens parts before s t k = on (same_kind k (kind.Operator sign.Bar)) (part_due (add_ann parts a) (before ++ (tokens ++ (t ∷ []))) s)
+part_read_turn a tokens parts before s t k =
+    on (same_kind k (kind.Operator sign.Bar)) (part_due (add_ann parts a) (before ++ (tokens ++ (t ∷ []))) s)
     (ann_end (whole_ann parts a (before ++ tokens)) (before ++ tokens) s t k)
 
 -- the turn behind a name as a part: the `[` before its arguments, or what may come behind any part
 abbrev pub part_named_turn : Name → List Lexeme → Anns → List Lexeme → AnnStack → Lexeme → TokenKind → Turn
-part_named_turn n u parts before s t k = on (same_kind k (kind.Operator sign.LeftBracket)) (argument_due n (u ++ (t ∷ [])) parts before s)
+part_named_turn n u parts before s t k =
+    on (same_kind k (kind.Operator sign.LeftBracket)) (argument_due n (u ++ (t ∷ [])) parts before s)
     (part_read_turn (named n) u parts before s t k)
 
 -- the turn behind `N[`: the `(` of `N[()]`, or the first token of the first argument
 abbrev pub argument_turn : Name → List Lexeme → Anns → List Lexeme → AnnStack → Lexeme → TokenKind → Turn
-argument_turn head ts parts before s t k = on (same_kind k (kind.Operator sign.LeftParenthesis)) (empty_opened head (ts ++ (t ∷ [])) parts before s)
+argument_turn head ts parts before s t k =
+    on (same_kind k (kind.Operator sign.LeftParenthesis)) (empty_opened head (ts ++ (t ∷ [])) parts before s)
     (part_turn no_anns [] (ann_inside head no_anns ts parts before s) t k)
 
 -- the turn behind `N[(`, where only `)` can stand
 abbrev pub empty_opened_turn : Name → List Lexeme → Anns → List Lexeme → AnnStack → Lexeme → TokenKind → Turn
-empty_opened_turn head ts parts before s t k = on (same_kind k (kind.Operator sign.RightParenthesis)) (empty_closed head (ts ++ (t ∷ [])) parts before s) stuck
+empty_opened_turn head ts parts before s t k =
+    on (same_kind k (kind.Operator sign.RightParenthesis)) (empty_closed head (ts ++ (t ∷ [])) parts before s) stuck
 
 -- the turn behind `N[()`, where only `]` can stand
 abbrev pub empty_closed_turn : Name → List Lexeme → Anns → List Lexeme → AnnStack → Lexeme → TokenKind → Turn
 empty_closed_turn head ts parts before s t k =
-    on (same_kind k (kind.Operator sign.RightBracket)) (part_read (applied_empty (span (ts ++ (t ∷ []))) head) (ts ++ (t ∷ [])) parts before s) stuck
+    on (same_kind k (kind.Operator sign.RightBracket))
+    (part_read (applied_empty (span (ts ++ (t ∷ []))) head) (ts ++ (t ∷ [])) parts before s) stuck

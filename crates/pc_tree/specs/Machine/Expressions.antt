@@ -7,11 +7,21 @@ use Rattle.pc_token.specs.declared.token.Keyword.TheVariants as word
 use Rattle.pc_token.specs.declared.token.Operator.TheVariants as sign
 use Rattle.pc_token.specs.Lexeme.{Lexeme}
 use Rattle.pc_tree.specs.declared.tree.ComparisonOperator.TheVariants as cmp
-use Rattle.pc_tree.specs.Tree.{Name, Expr, name, number, text, truth, nothing, tuple, list, dict, negative, negation, binary, compare, is_none, is_not_none, conjunction, disjunction, attribute, index, call, Exprs, no_exprs, more_exprs, Entries, no_entries, Keywords, no_keywords}
+use Rattle.pc_tree.specs.Tree.{Name, Expr, name, number, text, truth, nothing, tuple, list, dict, negative, negation}
+use Rattle.pc_tree.specs.Tree.{binary, compare, is_none, is_not_none, conjunction, disjunction, attribute, index, call}
+use Rattle.pc_tree.specs.Tree.{Exprs, no_exprs, more_exprs, Entries, no_entries, Keywords, no_keywords}
 use Rattle.pc_tree.specs.Grammar.{span, name_at, digits_of, characters_of}
 use Rattle.pc_tree.specs.Grammar.Expressions.{level_of}
-use Rattle.pc_tree.specs.Machine.Kinds.{same_kind, Start, a_name, a_number, a_string, a_truth, a_none, opens_parenthesis, opens_bracket, opens_brace, a_minus, a_not, no_start, start_of, Infix, arithmetic, comparison, both, either, Link, linking, denying, identifying, Ending, a_comma, a_colon, an_equal, closes_parenthesis, closes_bracket, closes_brace, Follow, link, a_dot, calls, indexes, ends, follow_of}
-use Rattle.pc_tree.specs.Machine.States.{Part, Prefix, minus, denial, Head, in_tuple, in_list, in_call, Stack, whole, joining, applying, grouping, listing, indexing, naming, keying, valuing, State, operand, have, denied, identified, unidentified, dotted, group_due, item_due, keyword_due, keyword_named, key_due, Turn, stuck, go, on}
+use Rattle.pc_tree.specs.Machine.Kinds.{same_kind, Start, a_name, a_number, a_string, a_truth, a_none}
+use Rattle.pc_tree.specs.Machine.Kinds.{opens_parenthesis, opens_bracket, opens_brace, a_minus, a_not, no_start}
+use Rattle.pc_tree.specs.Machine.Kinds.{start_of, Infix, arithmetic, comparison, both, either, Link, linking, denying}
+use Rattle.pc_tree.specs.Machine.Kinds.{identifying, Ending, a_comma, a_colon, an_equal, closes_parenthesis}
+use Rattle.pc_tree.specs.Machine.Kinds.{closes_bracket, closes_brace, Follow, link, a_dot, calls, indexes, ends}
+use Rattle.pc_tree.specs.Machine.Kinds.{follow_of}
+use Rattle.pc_tree.specs.Machine.States.{Part, Prefix, minus, denial, Head, in_tuple, in_list, in_call, Stack, whole}
+use Rattle.pc_tree.specs.Machine.States.{joining, applying, grouping, listing, indexing, naming, keying, valuing, State}
+use Rattle.pc_tree.specs.Machine.States.{operand, have, denied, identified, unidentified, dotted, group_due, item_due}
+use Rattle.pc_tree.specs.Machine.States.{keyword_due, keyword_named, key_due, Turn, stuck, go, on}
 use Rattle.pc_tree.specs.Machine.Finishing.{add_expr, add_entry, add_keyword, name_of_tree, if_plain, finish}
 
 -- ---- levels
@@ -125,8 +135,10 @@ call_part e xs ks ts = part (λ p. call p e xs ks) ts
 
 -- joins the operators and prefixes that bind at least as tightly as the next one
 abbrev pub reduce : ℕ → Part → Stack → (p : Part) × Stack
-reduce level p (joining op l o s) = if nat_le level (own_of op) then reduce level (joined op l o p) s else (p, joining op l o s)
-reduce level p (applying x t s) = if nat_le level (prefix_level x) then reduce level (applied x t p) s else (p, applying x t s)
+reduce level p (joining op l o s) = if nat_le level (own_of op) then reduce level (joined op l o p) s
+    else (p, joining op l o s)
+reduce level p (applying x t s) = if nat_le level (prefix_level x) then reduce level (applied x t p) s
+    else (p, applying x t s)
 reduce level p (whole c) = (p, whole c)
 reduce level p (grouping t s) = (p, grouping t s)
 reduce level p (listing h xs ts s) = (p, listing h xs ts s)
@@ -135,7 +147,8 @@ reduce level p (naming e xs ks n ts s) = (p, naming e xs ks n ts s)
 reduce level p (keying es ts s) = (p, keying es ts s)
 reduce level p (valuing es k ts s) = (p, valuing es k ts s)
 
--- the turn where an operand is due: a single token, an opening bracket, a `-`, or a `not` unless what is open binds more tightly
+-- the turn where an operand is due: a single token, an opening bracket, a `-`, or a `not` unless what is open binds
+-- more tightly
 abbrev pub operand_turn : Stack → Lexeme → Start → Turn
 operand_turn s t a_name = go (have 7 (name_part t) s)
 operand_turn s t a_number = go (have 7 (part (λ p. number p (digits_of t.text)) (t ∷ [])) s)
@@ -157,7 +170,8 @@ closer (in_call e) = kind.Operator sign.RightParenthesis
 
 -- the turn behind `(` at the start of an operand: the `)` of the empty tuple, or the first token of an expression
 abbrev pub group_turn : List Lexeme → Stack → Lexeme → TokenKind → Turn
-group_turn o s t k = on (same_kind k (kind.Operator sign.RightParenthesis)) (have 7 (part (λ p. tuple p no_exprs) (o ++ (t ∷ []))) s)
+group_turn o s t k = on (same_kind k (kind.Operator sign.RightParenthesis))
+    (have 7 (part (λ p. tuple p no_exprs) (o ++ (t ∷ []))) s)
     (operand_turn (grouping o s) t (start_of k))
 
 -- the turn where an item is due: its first token, or the bracket that closes the items
@@ -172,29 +186,36 @@ keyword_turn e xs ks ts s t k = on (same_kind k kind.Name) (keyword_named e xs k
 
 -- the turn behind the name of an argument, where only `=` can stand
 abbrev pub named_turn : Expr → Exprs → Keywords → Name → List Lexeme → Stack → Lexeme → TokenKind → Turn
-named_turn e xs ks n ts s t k = on (same_kind k (kind.Operator sign.Equal)) (operand (naming e xs ks n (ts ++ (t ∷ [])) s)) stuck
+named_turn e xs ks n ts s t k =
+    on (same_kind k (kind.Operator sign.Equal)) (operand (naming e xs ks n (ts ++ (t ∷ [])) s)) stuck
 
 -- the turn where a key is due: its first token, or the `}` of the dict
 abbrev pub key_turn : Entries → List Lexeme → Stack → Lexeme → TokenKind → Turn
-key_turn es ts s t k = on (same_kind k (kind.Operator sign.RightBrace)) (have 7 (part (λ p. dict p es) (ts ++ (t ∷ []))) s)
+key_turn es ts s t k = on (same_kind k (kind.Operator sign.RightBrace))
+    (have 7 (part (λ p. dict p es) (ts ++ (t ∷ []))) s)
     (operand_turn (keying es ts s) t (start_of k))
 
 -- the turn behind a dot, where only the name of an attribute can stand
 abbrev pub dotted_turn : Part → List Lexeme → Stack → Lexeme → TokenKind → Turn
-dotted_turn p d s t k = on (same_kind k kind.Name) (have 7 (part (λ q. attribute q p.tree (name_at t)) (p.tokens ++ (d ++ (t ∷ [])))) s) stuck
+dotted_turn p d s t k = on (same_kind k kind.Name)
+    (have 7 (part (λ q. attribute q p.tree (name_at t)) (p.tokens ++ (d ++ (t ∷ [])))) s) stuck
 
 -- the turn behind `e not`, where only `in` can stand
 abbrev pub denied_turn : Part → List Lexeme → Stack → Lexeme → TokenKind → Turn
-denied_turn p d s t k = on (same_kind k (kind.Keyword word.In)) (operand (joining (comparison cmp.NotIn) p (d ++ (t ∷ [])) s)) stuck
+denied_turn p d s t k = on (same_kind k (kind.Keyword word.In))
+    (operand (joining (comparison cmp.NotIn) p (d ++ (t ∷ [])) s)) stuck
 
 -- the turn behind `e is`: the `None` of `is None`, or the `not` of `is not None`
 abbrev pub identified_turn : Part → List Lexeme → Stack → Lexeme → TokenKind → Turn
-identified_turn p d s t k = on (same_kind k (kind.Keyword word.None)) (have 3 (part (λ q. is_none q p.tree) (p.tokens ++ (d ++ (t ∷ [])))) s)
+identified_turn p d s t k =
+    on (same_kind k (kind.Keyword word.None)) (have 3 (part (λ q. is_none q p.tree) (p.tokens ++ (d ++ (t ∷ [])))) s)
     (on (same_kind k (kind.Keyword word.Not)) (unidentified p (d ++ (t ∷ [])) s) stuck)
 
 -- the turn behind `e is not`, where only `None` can stand
 abbrev pub unidentified_turn : Part → List Lexeme → Stack → Lexeme → TokenKind → Turn
-unidentified_turn p d s t k = on (same_kind k (kind.Keyword word.None)) (have 3 (part (λ q. is_not_none q p.tree) (p.tokens ++ (d ++ (t ∷ [])))) s) stuck
+unidentified_turn p d s t k =
+    on (same_kind k (kind.Keyword word.None))
+    (have 3 (part (λ q. is_not_none q p.tree) (p.tokens ++ (d ++ (t ∷ [])))) s) stuck
 
 -- ---- what ends an expression in brackets
 
@@ -209,13 +230,18 @@ abbrev pub begin_keyword : Option Name → Expr → Exprs → List Lexeme → St
 begin_keyword (Some n) e xs ts s = go (operand (naming e xs no_keywords n ts s))
 begin_keyword None e xs ts s = stuck
 
--- the turn behind an item: a comma, the bracket that closes the items, or in a call the `=` of the first argument by name
+-- the turn behind an item: a comma, the bracket that closes the items, or in a call the `=` of the first argument by
+-- name
 abbrev pub close_item : Head → Exprs → List Lexeme → Stack → Part → Lexeme → Ending → Turn
 close_item h xs ts s p t a_comma = go (item_due h (add_expr xs p.tree) (ts ++ (p.tokens ++ (t ∷ []))) s)
-close_item in_list xs ts s p t closes_bracket = go (have 7 (part (head_tree in_list (add_expr xs p.tree)) (ts ++ (p.tokens ++ (t ∷ [])))) s)
-close_item in_tuple xs ts s p t closes_parenthesis = go (have 7 (part (head_tree in_tuple (add_expr xs p.tree)) (ts ++ (p.tokens ++ (t ∷ [])))) s)
-close_item (in_call e) xs ts s p t closes_parenthesis = go (have 7 (part (head_tree (in_call e) (add_expr xs p.tree)) (ts ++ (p.tokens ++ (t ∷ [])))) s)
-close_item (in_call e) xs ts s p t an_equal = begin_keyword (if_plain p.plain (name_of_tree p.tree)) e xs (ts ++ (p.tokens ++ (t ∷ []))) s
+close_item in_list xs ts s p t closes_bracket =
+    go (have 7 (part (head_tree in_list (add_expr xs p.tree)) (ts ++ (p.tokens ++ (t ∷ [])))) s)
+close_item in_tuple xs ts s p t closes_parenthesis =
+    go (have 7 (part (head_tree in_tuple (add_expr xs p.tree)) (ts ++ (p.tokens ++ (t ∷ [])))) s)
+close_item (in_call e) xs ts s p t closes_parenthesis =
+    go (have 7 (part (head_tree (in_call e) (add_expr xs p.tree)) (ts ++ (p.tokens ++ (t ∷ [])))) s)
+close_item (in_call e) xs ts s p t an_equal =
+    begin_keyword (if_plain p.plain (name_of_tree p.tree)) e xs (ts ++ (p.tokens ++ (t ∷ []))) s
 close_item h xs ts s p t _ = stuck
 
 -- the turn behind the key of `e[i]`, where only `]` can stand
@@ -225,8 +251,10 @@ close_index e ts s p t _ = stuck
 
 -- the turn behind the value of an argument by name: a comma, or the `)` of the call
 abbrev pub close_keyword : Expr → Exprs → Keywords → Name → List Lexeme → Stack → Part → Lexeme → Ending → Turn
-close_keyword e xs ks n ts s p t a_comma = go (keyword_due e xs (add_keyword ks n p.tree) (ts ++ (p.tokens ++ (t ∷ []))) s)
-close_keyword e xs ks n ts s p t closes_parenthesis = go (have 7 (call_part e xs (add_keyword ks n p.tree) (ts ++ (p.tokens ++ (t ∷ [])))) s)
+close_keyword e xs ks n ts s p t a_comma =
+    go (keyword_due e xs (add_keyword ks n p.tree) (ts ++ (p.tokens ++ (t ∷ []))) s)
+close_keyword e xs ks n ts s p t closes_parenthesis =
+    go (have 7 (call_part e xs (add_keyword ks n p.tree) (ts ++ (p.tokens ++ (t ∷ [])))) s)
 close_keyword e xs ks n ts s p t _ = stuck
 
 -- the turn behind the key of an entry, where only `:` can stand
@@ -237,7 +265,8 @@ close_key es ts s p t _ = stuck
 -- the turn behind the value of an entry: a comma, or the `}` of the dict
 abbrev pub close_value : Entries → Expr → List Lexeme → Stack → Part → Lexeme → Ending → Turn
 close_value es key ts s p t a_comma = go (key_due (add_entry es key p.tree) (ts ++ (p.tokens ++ (t ∷ []))) s)
-close_value es key ts s p t closes_brace = go (have 7 (part (λ q. dict q (add_entry es key p.tree)) (ts ++ (p.tokens ++ (t ∷ [])))) s)
+close_value es key ts s p t closes_brace =
+    go (have 7 (part (λ q. dict q (add_entry es key p.tree)) (ts ++ (p.tokens ++ (t ∷ [])))) s)
 close_value es key ts s p t _ = stuck
 
 -- with no operator and no prefix open

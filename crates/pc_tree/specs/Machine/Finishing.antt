@@ -4,10 +4,22 @@ use Rattle.pc_source.specs.declared.place.Place.{Place}
 use Rattle.pc_token.specs.declared.token.TokenKind.{TokenKind}
 use Rattle.pc_token.specs.declared.token.TokenKind.TheVariants as kind
 use Rattle.pc_token.specs.declared.token.Operator.TheVariants as sign
-use Rattle.pc_tree.specs.Tree.{Name, Expr, name, attribute, index, Exprs, no_exprs, more_exprs, Entries, no_entries, more_entries, Keywords, no_keywords, more_keywords, Ann, Anns, no_anns, more_anns, Target, to_name, to_attribute, to_index, Literal, Stmt, returns, asserts, annotated, assigns, evaluates, while_loop, for_loop, conditional, Stmts, no_stmts, more_stmts, Branches, no_branches, more_branches, Param, FuncDef, Member, field_member, method_member, ClassDef, Item, constant_item, class_item, def_item}
+use Rattle.pc_tree.specs.Tree.{Name, Expr, name, attribute, index, Exprs, no_exprs, more_exprs, Entries, no_entries}
+use Rattle.pc_tree.specs.Tree.{more_entries, Keywords, no_keywords, more_keywords, Ann, Anns, no_anns, more_anns}
+use Rattle.pc_tree.specs.Tree.{Target, to_name, to_attribute, to_index, Literal, Stmt, returns, asserts, annotated}
+use Rattle.pc_tree.specs.Tree.{assigns, evaluates, while_loop, for_loop, conditional, Stmts, no_stmts, more_stmts}
+use Rattle.pc_tree.specs.Tree.{Branches, no_branches, more_branches, Param, FuncDef, Member, field_member}
+use Rattle.pc_tree.specs.Tree.{method_member, ClassDef, Item, constant_item, class_item, def_item}
 use Rattle.pc_tree.specs.Grammar.{first_place}
 use Rattle.pc_tree.specs.Machine.Kinds.{a_kind, same_kind, Ending, a_comma, a_colon, an_equal, a_line_end}
-use Rattle.pc_tree.specs.Machine.States.{after_headers, Top, ClassStart, Owner, of_module, of_class, DefStart, DefHead, Nest, while_body, for_body, branch_body, else_body, Block, def_body, nested, Site, Begun, assigned, annotated_value, returned, asserted, asserted_with, looping, iterating, branching, ExpressionPosition, in_line, in_statement, in_constant, AnnotationPosition, of_constant, of_field, of_param, of_return, of_local, LiteralContext, default_of_param, default_of_field, Part, whole, ann_whole, State, fixed, items, members, param_due, params_read, literal_due, stmts, after_branch, part_due, operand, Turn, stuck, go, on}
+use Rattle.pc_tree.specs.Machine.States.{after_headers, Top, ClassStart, Owner, of_module, of_class, DefStart, DefHead}
+use Rattle.pc_tree.specs.Machine.States.{Nest, while_body, for_body, branch_body, else_body, Block, def_body, nested}
+use Rattle.pc_tree.specs.Machine.States.{Site, Begun, assigned, annotated_value, returned, asserted, asserted_with}
+use Rattle.pc_tree.specs.Machine.States.{looping, iterating, branching, ExpressionPosition, in_line, in_statement}
+use Rattle.pc_tree.specs.Machine.States.{in_constant, AnnotationPosition, of_constant, of_field, of_param, of_return}
+use Rattle.pc_tree.specs.Machine.States.{of_local, LiteralContext, default_of_param, default_of_field, Part, whole}
+use Rattle.pc_tree.specs.Machine.States.{ann_whole, State, fixed, items, members, param_due, params_read, literal_due}
+use Rattle.pc_tree.specs.Machine.States.{stmts, after_branch, part_due, operand, Turn, stuck, go, on}
 
 -- ---- lists that grow at their end
 
@@ -86,7 +98,8 @@ after_nested (else_body branches) body site = after_stmt site (conditional site.
 -- after the suite of a block
 abbrev pub after_suite : Block → Stmts → State
 after_suite (def_body h) body = after_def h.start.owner h.start.first (function_of h body)
-after_suite (nested first n done outer) body = after_nested n body (record { first = first; done = done; block = outer })
+after_suite (nested first n done outer) body =
+    after_nested n body (record { first = first; done = done; block = outer })
 
 -- ---- whole expressions
 
@@ -121,7 +134,8 @@ begin_annotation None site = stuck
 abbrev pub line_site : Stmts → Block → Part → Site
 line_site done block p = record { first = first_place p.tokens; done = done; block = block }
 
--- the turn behind the expression that begins a line: the line's end, the `=` of an assignment, or the `:` of an annotation
+-- the turn behind the expression that begins a line: the line's end, the `=` of an assignment, or the `:` of an
+-- annotation
 abbrev pub finish_line : Part → Site → Ending → Turn
 finish_line p site a_line_end = go (after_stmt site (evaluates site.first p.tree))
 finish_line p site an_equal = begin_value (if_plain p.plain (target_of_tree p.tree)) site
@@ -144,13 +158,15 @@ finish_condition e site a_line_end = go (after_stmt site (asserts site.first e N
 finish_condition e site a_comma = go (operand (whole (in_statement (asserted_with e) site)))
 finish_condition e site _ = stuck
 
--- the turn behind an expression of a begun statement: the end of the line, the `:` of a suite, or the comma of an `assert`
+-- the turn behind an expression of a begun statement: the end of the line, the `:` of a suite, or the comma of an
+-- `assert`
 abbrev pub finish_stmt : Begun → Part → Site → Ending → Turn
 finish_stmt (assigned target) p site e = at_line_end (after_stmt site (assigns site.first target p.tree)) e
 finish_stmt (annotated_value n a) p site e = at_line_end (after_stmt site (annotated site.first n a (Some p.tree))) e
 finish_stmt returned p site e = at_line_end (after_stmt site (returns site.first (Some p.tree))) e
 finish_stmt asserted p site e = finish_condition p.tree site e
-finish_stmt (asserted_with condition) p site e = at_line_end (after_stmt site (asserts site.first condition (Some p.tree))) e
+finish_stmt (asserted_with condition) p site e =
+    at_line_end (after_stmt site (asserts site.first condition (Some p.tree))) e
 finish_stmt looping p site e = at_colon (suite_of (nested_in site (while_body p.tree))) e
 finish_stmt (iterating target) p site e = at_colon (suite_of (nested_in site (for_body target p.tree))) e
 finish_stmt (branching branches) p site e = at_colon (suite_of (nested_in site (branch_body branches p.tree))) e
@@ -160,7 +176,8 @@ abbrev pub finish : ExpressionPosition → Part → Ending → Turn
 finish (in_line done block) p e = finish_line p (line_site done block p) e
 finish (in_statement begun site) p e = finish_stmt begun p site e
 finish (in_constant n annotation top) p e =
-    at_line_end (items after_headers (add_item top (constant_item n.place (record { name = n; annotation = annotation; value = p.tree })))) e
+    at_line_end (items after_headers
+    (add_item top (constant_item n.place (record { name = n; annotation = annotation; value = p.tree })))) e
 
 -- ---- whole annotations and literals
 
@@ -175,7 +192,8 @@ param_end d ps p k = on (same_kind k (kind.Operator sign.Comma)) (param_due d (p
 
 -- behind the name of a parameter and its annotation
 abbrev pub param_more : DefStart → List Param → Name → Option Ann → TokenKind → Turn
-param_more d ps n annotation k = on (same_kind k (kind.Operator sign.Equal)) (literal_due (default_of_param d ps n annotation))
+param_more d ps n annotation k =
+    on (same_kind k (kind.Operator sign.Equal)) (literal_due (default_of_param d ps n annotation))
     (param_end d ps (param n annotation None) k)
 
 -- the member that is a field of this name and annotation, with its default if it has one
@@ -184,15 +202,20 @@ field n annotation default = field_member (record { name = n; annotation = annot
 
 -- what comes behind a whole annotation
 abbrev pub finish_ann : AnnotationPosition → Ann → TokenKind → Turn
-finish_ann (of_constant n top) a k = on (same_kind k (kind.Operator sign.Equal)) (operand (whole (in_constant n (Some a) top))) stuck
+finish_ann (of_constant n top) a k =
+    on (same_kind k (kind.Operator sign.Equal)) (operand (whole (in_constant n (Some a) top))) stuck
 finish_ann (of_field c ms n) a k = on (same_kind k (kind.Operator sign.Equal)) (literal_due (default_of_field c ms n a))
     (on (same_kind k kind.Newline) (members c (ms ++ (field n a None ∷ []))) stuck)
 finish_ann (of_param d ps n) a k = param_more d ps n (Some a) k
-finish_ann (of_return d ps) a k = on (same_kind k (kind.Operator sign.Colon)) (suite_of (def_body (record { start = d; params = ps; returns = Some a }))) stuck
-finish_ann (of_local n site) a k = on (same_kind k (kind.Operator sign.Equal)) (operand (whole (in_statement (annotated_value n a) site)))
+finish_ann (of_return d ps) a k =
+    on (same_kind k (kind.Operator sign.Colon))
+    (suite_of (def_body (record { start = d; params = ps; returns = Some a }))) stuck
+finish_ann (of_local n site) a k =
+    on (same_kind k (kind.Operator sign.Equal)) (operand (whole (in_statement (annotated_value n a) site)))
     (on (same_kind k kind.Newline) (after_stmt site (annotated site.first n a None)) stuck)
 
 -- what comes behind a literal
 abbrev pub finish_literal : LiteralContext → Literal → TokenKind → Turn
 finish_literal (default_of_param d ps n annotation) l k = param_end d ps (param n annotation (Some l)) k
-finish_literal (default_of_field c ms n a) l k = on (same_kind k kind.Newline) (members c (ms ++ (field n a (Some l) ∷ []))) stuck
+finish_literal (default_of_field c ms n a) l k =
+    on (same_kind k kind.Newline) (members c (ms ++ (field n a (Some l) ∷ []))) stuck

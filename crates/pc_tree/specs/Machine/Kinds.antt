@@ -198,7 +198,8 @@ pub data Ending : Type 0 where
   a_line_end : Ending
   no_ending : Ending
 
--- what a token does behind an operand: it begins an operator, an attribute, a call or an index, or can only end the expression
+-- what a token does behind an operand: it begins an operator, an attribute, a call or an index, or can only end the
+-- expression
 pub data Follow : Type 0 where
   link : (l : Link) → Follow
   a_dot : Follow

@@ -6,11 +6,23 @@ use Rattle.pc_token.specs.declared.token.TokenKind.TheVariants as kind
 use Rattle.pc_token.specs.declared.token.Keyword.TheVariants as word
 use Rattle.pc_token.specs.declared.token.Operator.TheVariants as sign
 use Rattle.pc_token.specs.Lexeme.{Lexeme}
-use Rattle.pc_tree.specs.Tree.{Name, Literal, number_literal, negative_literal, text_literal, truth_literal, none_literal, pass, breaks, continues, returns, conditional, Stmts, no_stmts, more_stmts, Branches, no_branches, no_anns, Param, Member, Module}
+use Rattle.pc_tree.specs.Tree.{Name, Literal, number_literal, negative_literal, text_literal, truth_literal}
+use Rattle.pc_tree.specs.Tree.{none_literal, pass, breaks, continues, returns, conditional, Stmts, no_stmts, more_stmts}
+use Rattle.pc_tree.specs.Tree.{Branches, no_branches, no_anns, Param, Member, Module}
 use Rattle.pc_tree.specs.Grammar.{span, name_at, digits_of, characters_of}
-use Rattle.pc_tree.specs.Machine.Kinds.{Fixed, a_kind, a_form, is_fixed, same_kind, start_of, Lead, leads_pass, leads_break, leads_continue, leads_return, leads_assert, leads_while, leads_for, leads_if, leads_out, leads_other, lead_of}
-use Rattle.pc_tree.specs.Machine.States.{Stage, after_future, after_dataclasses, after_headers, Top, ClassStart, Owner, of_module, of_class, DefStart, def_body, else_body, Block, Site, returned, asserted, looping, iterating, branching, in_line, in_statement, in_constant, of_constant, of_field, of_param, of_return, LiteralContext, whole, ann_whole, State, fixed, items, importing, item_named, decorator_due, class_due, class_named, base_due, members, def_due, self_read, param_due, param_named, params_read, minus_read, literal_read, stmts, return_due, target_due, part_due, operand, ended, Turn, stuck, go, on}
-use Rattle.pc_tree.specs.Machine.Finishing.{add_stmt, suite_of, after_stmt, nested_in, after_suite, after_class, param_more, finish_literal}
+use Rattle.pc_tree.specs.Machine.Kinds.{Fixed, a_kind, a_form, is_fixed, same_kind, start_of, Lead, leads_pass}
+use Rattle.pc_tree.specs.Machine.Kinds.{leads_break, leads_continue, leads_return, leads_assert, leads_while, leads_for}
+use Rattle.pc_tree.specs.Machine.Kinds.{leads_if, leads_out, leads_other, lead_of}
+use Rattle.pc_tree.specs.Machine.States.{Stage, after_future, after_dataclasses, after_headers, Top, ClassStart, Owner}
+use Rattle.pc_tree.specs.Machine.States.{of_module, of_class, DefStart, def_body, else_body, Block, Site, returned}
+use Rattle.pc_tree.specs.Machine.States.{asserted, looping, iterating, branching, in_line, in_statement, in_constant}
+use Rattle.pc_tree.specs.Machine.States.{of_constant, of_field, of_param, of_return, LiteralContext, whole, ann_whole}
+use Rattle.pc_tree.specs.Machine.States.{State, fixed, items, importing, item_named, decorator_due, class_due}
+use Rattle.pc_tree.specs.Machine.States.{class_named, base_due, members, def_due, self_read, param_due, param_named}
+use Rattle.pc_tree.specs.Machine.States.{params_read, minus_read, literal_read, stmts, return_due, target_due, part_due}
+use Rattle.pc_tree.specs.Machine.States.{operand, ended, Turn, stuck, go, on}
+use Rattle.pc_tree.specs.Machine.Finishing.{add_stmt, suite_of, after_stmt, nested_in, after_suite, after_class}
+use Rattle.pc_tree.specs.Machine.Finishing.{param_more, finish_literal}
 use Rattle.pc_tree.specs.Machine.Expressions.{operand_turn}
 
 -- after these words
@@ -26,7 +38,12 @@ fixed_turn w ws next t k = on (is_fixed w t k) (due ws next) stuck
 
 -- the module of the headers and items so far, with this place of `main`
 abbrev pub module_of : Top → Place → Module
-module_of top main = record { imports_dataclass = top.imports_dataclass; imports_any = top.imports_any; items = top.items; main = main }
+module_of top main = record {
+  imports_dataclass = top.imports_dataclass;
+  imports_any = top.imports_any;
+  items = top.items;
+  main = main;
+}
 
 -- a module of which no item and no optional header was read yet
 abbrev pub no_top : Top
@@ -34,7 +51,9 @@ no_top = record { imports_dataclass = false; imports_any = false; items = [] }
 
 -- the machine begins before the first header
 abbrev pub start : State
-start = fixed (a_kind (kind.Keyword word.From)) (a_form (codes "__future__") ∷ a_kind (kind.Keyword word.Import) ∷ a_form (codes "annotations") ∷ a_kind kind.Newline ∷ [])
+start = fixed (a_kind (kind.Keyword word.From))
+    (a_form (codes "__future__") ∷ a_kind (kind.Keyword word.Import) ∷ a_form (codes "annotations")
+    ∷ a_kind kind.Newline ∷ [])
     (items after_future no_top)
 
 -- whether another header may come
@@ -58,16 +77,21 @@ items_turn stage top t k = on (same_kind k kind.Name) (item_named (name_at t) to
 abbrev pub importing_turn : Stage → Top → Lexeme → TokenKind → Turn
 importing_turn stage top t k =
     on ((same_kind k kind.Name && bytes_eq t.form (codes "dataclasses")) && takes_dataclasses stage)
-    (fixed (a_kind (kind.Keyword word.Import)) (a_form (codes "dataclass") ∷ a_kind kind.Newline ∷ []) (items after_dataclasses (record top { imports_dataclass = true })))
+    (fixed (a_kind (kind.Keyword word.Import)) (a_form (codes "dataclass") ∷ a_kind kind.Newline ∷ [])
+    (items after_dataclasses (record top { imports_dataclass = true })))
     (on (same_kind k kind.Name && bytes_eq t.form (codes "typing"))
-    (fixed (a_kind (kind.Keyword word.Import)) (a_form (codes "Any") ∷ a_kind kind.Newline ∷ []) (items after_headers (record top { imports_any = true }))) stuck)
+    (fixed (a_kind (kind.Keyword word.Import)) (a_form (codes "Any") ∷ a_kind kind.Newline ∷ [])
+    (items after_headers (record top { imports_any = true }))) stuck)
 
--- the turn behind a name that begins a line of the module: the `:` or `=` of a constant, or the `(` of the line `main()`
+-- the turn behind a name that begins a line of the module: the `:` or `=` of a constant, or the `(` of the line
+-- `main()`
 abbrev pub item_named_turn : Name → Top → Lexeme → TokenKind → Turn
-item_named_turn n top t k = on (same_kind k (kind.Operator sign.Colon)) (part_due no_anns [] (ann_whole (of_constant n top)))
+item_named_turn n top t k =
+    on (same_kind k (kind.Operator sign.Colon)) (part_due no_anns [] (ann_whole (of_constant n top)))
     (on (same_kind k (kind.Operator sign.Equal)) (operand (whole (in_constant n None top)))
     (on (same_kind k (kind.Operator sign.LeftParenthesis) && bytes_eq n.text (codes "main"))
-    (fixed (a_kind (kind.Operator sign.RightParenthesis)) (a_kind kind.Newline ∷ a_kind kind.End ∷ []) (ended (module_of top n.place))) stuck))
+    (fixed (a_kind (kind.Operator sign.RightParenthesis)) (a_kind kind.Newline ∷ a_kind kind.End ∷ [])
+    (ended (module_of top n.place))) stuck))
 
 -- ---- classes
 
@@ -79,27 +103,32 @@ decorator_turn first top t k = on (same_kind k kind.Name && bytes_eq t.form (cod
 -- the turn behind `class`, where only the name of the class can stand
 abbrev pub class_turn : Place → Place → Top → Lexeme → TokenKind → Turn
 class_turn first decorator top t k =
-    on (same_kind k kind.Name) (class_named (record { top = top; first = first; decorator = decorator; name = name_at t; base = None })) stuck
+    on (same_kind k kind.Name)
+    (class_named (record { top = top; first = first; decorator = decorator; name = name_at t; base = None })) stuck
 
 -- the turn behind the name of a class: the `(` before its base, or the `:` of its suite
 abbrev pub class_named_turn : ClassStart → Lexeme → TokenKind → Turn
 class_named_turn c t k = on (same_kind k (kind.Operator sign.LeftParenthesis)) (base_due c)
-    (on (same_kind k (kind.Operator sign.Colon)) (fixed (a_kind kind.Newline) (a_kind kind.Indent ∷ []) (members c [])) stuck)
+    (on (same_kind k (kind.Operator sign.Colon))
+    (fixed (a_kind kind.Newline) (a_kind kind.Indent ∷ []) (members c [])) stuck)
 
 -- the turn behind the `(` of a class, where only the name of its base can stand
 abbrev pub base_turn : ClassStart → Lexeme → TokenKind → Turn
 base_turn c t k = on (same_kind k kind.Name)
-    (fixed (a_kind (kind.Operator sign.RightParenthesis)) (a_kind (kind.Operator sign.Colon) ∷ a_kind kind.Newline ∷ a_kind kind.Indent ∷ [])
+    (fixed (a_kind (kind.Operator sign.RightParenthesis))
+    (a_kind (kind.Operator sign.Colon) ∷ a_kind kind.Newline ∷ a_kind kind.Indent ∷ [])
     (members (record c { base = Some (name_at t) }) [])) stuck
 
 -- what may end the members: `pass` in place of the first, the end of the suite after some
 abbrev pub members_end : ClassStart → List Member → TokenKind → Turn
-members_end c [] k = on (same_kind k (kind.Keyword word.Pass)) (fixed (a_kind kind.Newline) (a_kind kind.Dedent ∷ []) (after_class c [])) stuck
+members_end c [] k = on (same_kind k (kind.Keyword word.Pass))
+    (fixed (a_kind kind.Newline) (a_kind kind.Dedent ∷ []) (after_class c [])) stuck
 members_end c (m ∷ ms) k = on (same_kind k kind.Dedent) (after_class c (m ∷ ms)) stuck
 
 -- the turn where a member of a class is due: the name of a field, the `def` of a method, or what may end the members
 abbrev pub members_turn : ClassStart → List Member → Lexeme → TokenKind → Turn
-members_turn c ms t k = on (same_kind k kind.Name) (fixed (a_kind (kind.Operator sign.Colon)) [] (part_due no_anns [] (ann_whole (of_field c ms (name_at t)))))
+members_turn c ms t k = on (same_kind k kind.Name)
+    (fixed (a_kind (kind.Operator sign.Colon)) [] (part_due no_anns [] (ann_whole (of_field c ms (name_at t)))))
     (on (same_kind k (kind.Keyword word.Def)) (def_due (of_class c ms) t.place) (members_end c ms k))
 
 -- ---- functions
@@ -107,11 +136,13 @@ members_turn c ms t k = on (same_kind k kind.Name) (fixed (a_kind (kind.Operator
 -- after the name: what comes before the first parameter
 abbrev pub params_of : Owner → DefStart → State
 params_of (of_module top) d = fixed (a_kind (kind.Operator sign.LeftParenthesis)) [] (param_due d [])
-params_of (of_class c ms) d = fixed (a_kind (kind.Operator sign.LeftParenthesis)) (a_form (codes "self") ∷ []) (self_read d)
+params_of (of_class c ms) d =
+    fixed (a_kind (kind.Operator sign.LeftParenthesis)) (a_form (codes "self") ∷ []) (self_read d)
 
 -- the turn behind `def`, where only the name of the function can stand
 abbrev pub def_turn : Owner → Place → Lexeme → TokenKind → Turn
-def_turn owner first t k = on (same_kind k kind.Name) (params_of owner (record { owner = owner; first = first; name = name_at t })) stuck
+def_turn owner first t k =
+    on (same_kind k kind.Name) (params_of owner (record { owner = owner; first = first; name = name_at t })) stuck
 
 -- the turn behind `self`: a comma, or the `)` of the parameters
 abbrev pub self_turn : DefStart → Lexeme → TokenKind → Turn
@@ -125,12 +156,16 @@ param_turn d ps t k = on (same_kind k kind.Name) (param_named d ps (name_at t))
 
 -- the turn behind the name of a parameter: the `:` of its annotation, or what may come without one
 abbrev pub param_named_turn : DefStart → List Param → Name → Lexeme → TokenKind → Turn
-param_named_turn d ps n t k = on (same_kind k (kind.Operator sign.Colon)) (part_due no_anns [] (ann_whole (of_param d ps n))) (param_more d ps n None k)
+param_named_turn d ps n t k =
+    on (same_kind k (kind.Operator sign.Colon)) (part_due no_anns [] (ann_whole (of_param d ps n)))
+    (param_more d ps n None k)
 
 -- the turn behind the `)` of the parameters: the `->` of the return annotation, or the `:` of the suite
 abbrev pub params_read_turn : DefStart → List Param → Lexeme → TokenKind → Turn
-params_read_turn d ps t k = on (same_kind k (kind.Operator sign.Arrow)) (part_due no_anns [] (ann_whole (of_return d ps)))
-    (on (same_kind k (kind.Operator sign.Colon)) (suite_of (def_body (record { start = d; params = ps; returns = None }))) stuck)
+params_read_turn d ps t k =
+    on (same_kind k (kind.Operator sign.Arrow)) (part_due no_anns [] (ann_whole (of_return d ps)))
+    (on (same_kind k (kind.Operator sign.Colon))
+    (suite_of (def_body (record { start = d; params = ps; returns = None }))) stuck)
 
 -- the turn where a literal is due: a number, a string, `True`, `False`, `None`, or the `-` of a negative number
 abbrev pub literal_turn : LiteralContext → Lexeme → TokenKind → Turn
@@ -143,7 +178,8 @@ literal_turn c t k = on (same_kind k kind.Int) (literal_read c (number_literal (
 
 -- the turn behind the `-` of a literal, where only a number can stand
 abbrev pub minus_turn : LiteralContext → List Lexeme → Lexeme → TokenKind → Turn
-minus_turn c m t k = on (same_kind k kind.Int) (literal_read c (negative_literal (span (m ++ (t ∷ []))) (digits_of t.text))) stuck
+minus_turn c m t k = on (same_kind k kind.Int)
+    (literal_read c (negative_literal (span (m ++ (t ∷ []))) (digits_of t.text))) stuck
 
 -- the turn behind a literal that is a default
 abbrev pub literal_read_turn : LiteralContext → Literal → Lexeme → TokenKind → Turn
@@ -184,7 +220,8 @@ return_turn site t k = on (same_kind k kind.Newline) (after_stmt site (returns s
 
 -- the turn behind `for`, where only a name as the target can stand
 abbrev pub target_turn : Site → Lexeme → TokenKind → Turn
-target_turn site t k = on (same_kind k kind.Name) (fixed (a_kind (kind.Keyword word.In)) [] (operand (whole (in_statement (iterating (name_at t)) site)))) stuck
+target_turn site t k = on (same_kind k kind.Name)
+    (fixed (a_kind (kind.Keyword word.In)) [] (operand (whole (in_statement (iterating (name_at t)) site)))) stuck
 
 -- an `if` with no more branches
 abbrev pub closed_branches : Branches → Site → Stmts
@@ -193,5 +230,7 @@ closed_branches bs site = add_stmt site.done (conditional site.first bs no_stmts
 -- the turn behind a suite of `if` or `elif`: `elif`, `else`, or what may come behind the whole statement
 abbrev pub branch_turn : Branches → Site → Lexeme → TokenKind → Turn
 branch_turn bs site t k = on (same_kind k (kind.Keyword word.Elif)) (operand (whole (in_statement (branching bs) site)))
-    (on (same_kind k (kind.Keyword word.Else)) (fixed (a_kind (kind.Operator sign.Colon)) (a_kind kind.Newline ∷ a_kind kind.Indent ∷ []) (stmts no_stmts (nested_in site (else_body bs))))
+    (on (same_kind k (kind.Keyword word.Else))
+    (fixed (a_kind (kind.Operator sign.Colon)) (a_kind kind.Newline ∷ a_kind kind.Indent ∷ [])
+    (stmts no_stmts (nested_in site (else_body bs))))
     (stmts_turn (closed_branches bs site) site.block t k))

@@ -2,7 +2,8 @@
 use Rattle.std.specs.Prelude.{ℕ, Bool, List, Option}
 use Rattle.pc_source.specs.declared.place.Place.{Place}
 use Rattle.pc_token.specs.Lexeme.{Lexeme}
-use Rattle.pc_tree.specs.Tree.{Name, Expr, Exprs, Entries, Keywords, Ann, Anns, Target, Literal, Stmts, Branches, Param, Member, Item, Module}
+use Rattle.pc_tree.specs.Tree.{Name, Expr, Exprs, Entries, Keywords, Ann, Anns, Target, Literal, Stmts, Branches, Param}
+use Rattle.pc_tree.specs.Tree.{Member, Item, Module}
 use Rattle.pc_tree.specs.Machine.Kinds.{Fixed, Infix}
 
 -- ---- the module and its items
@@ -143,7 +144,8 @@ pub data Stack : Type 0 where
 pub data AnnStack : Type 0 where
   ann_whole : (c : AnnotationPosition) → AnnStack
   -- an argument after others, in a part after others of a union
-  ann_inside : (head : Name) (done : Anns) (tokens : List Lexeme) (parts : Anns) (before : List Lexeme) (s : AnnStack) → AnnStack
+  ann_inside : (head : Name) (done : Anns) (tokens : List Lexeme) (parts : Anns) (before : List Lexeme) (s : AnnStack)
+      → AnnStack
 
 -- ---- states
 

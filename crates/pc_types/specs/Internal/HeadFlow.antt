@@ -1,10 +1,12 @@
 -- What the code decides of two types, head by head: private to this crate, tied to the definitions in proofs/.
 use Rattle.std.specs.Prelude.{◌≡◌, ℕ, Bool as Test, true, false, cond}
-use Rattle.pc_types.specs.Tree.{Tree, Trees, Any, Object, Never, Int, Bool, Str, NoneType, Class, ListOf, DictOf, TupleOf, Union, end, more}
+use Rattle.pc_types.specs.Tree.{Tree, Trees, Any, Object, Never, Int, Bool, Str, NoneType, Class, ListOf, DictOf}
+use Rattle.pc_types.specs.Tree.{TupleOf, Union, end, more}
 use Rattle.pc_types.specs.Below.{Bases, Below}
 use Rattle.pc_types.specs.Shape.{count}
 
--- each member of the first has in the second a member of its head, or an atom or a class above it; parts are not looked at
+-- each member of the first has in the second a member of its head, or an atom or a class above it; parts are not looked
+-- at
 pub data Covers (bases : Bases) : Tree → Tree → Type 0 where
   c_from_any : {t : Tree} → Covers bases Any t
   c_to_any : {s : Tree} → Covers bases s Any
@@ -42,17 +44,21 @@ mutual
     w_str : {both : Test} → HeadFlow bases both Str Str
     w_none : {both : Test} → HeadFlow bases both NoneType NoneType
     w_class : {both : Test} {c d : ℕ} → Below bases (Class c) (Class d) → HeadFlow bases both (Class c) (Class d)
-    w_list : {both : Test} {s t : Tree} → HeadFlow bases true s t → Covers bases t s → HeadFlow bases both (ListOf s) (ListOf t)
-    w_dict : {both : Test} {j k v w : Tree} → HeadFlow bases true j k → Covers bases k j → HeadFlow bases true v w → Covers bases w v → HeadFlow bases both (DictOf j v) (DictOf k w)
+    w_list : {both : Test} {s t : Tree} → HeadFlow bases true s t → Covers bases t s
+        → HeadFlow bases both (ListOf s) (ListOf t)
+    w_dict : {both : Test} {j k v w : Tree} → HeadFlow bases true j k → Covers bases k j → HeadFlow bases true v w
+        → Covers bases w v → HeadFlow bases both (DictOf j v) (DictOf k w)
     w_tuple : {both : Test} {ss ts : Trees} → EachFlow bases both ss ts → HeadFlow bases both (TupleOf ss) (TupleOf ts)
-    w_both : {both : Test} {a b u : Tree} → HeadFlow bases both a u → HeadFlow bases both b u → HeadFlow bases both (Union a b) u
+    w_both : {both : Test} {a b u : Tree} → HeadFlow bases both a u → HeadFlow bases both b u
+        → HeadFlow bases both (Union a b) u
     w_left : {both : Test} {s a b : Tree} → HeadFlow bases both s a → HeadFlow bases both s (Union a b)
     w_right : {both : Test} {s a b : Tree} → HeadFlow bases both s b → HeadFlow bases both s (Union a b)
 
   -- so do the parts of two tuples of one length
   pub data EachFlow (bases : Bases) : Test → Trees → Trees → Type 0 where
     w_end : {both : Test} → EachFlow bases both end end
-    w_more : {both : Test} {s t : Tree} {ss ts : Trees} → HeadFlow bases both s t → CoversBack bases both s t → EachFlow bases both ss ts → EachFlow bases both (more s ss) (more t ts)
+    w_more : {both : Test} {s t : Tree} {ss ts : Trees} → HeadFlow bases both s t → CoversBack bases both s t
+        → EachFlow bases both ss ts → EachFlow bases both (more s ss) (more t ts)
 
 -- the first flows into the second and, where both directions are wanted, is covered by it
 abbrev pub FlowsBack : Bases → Test → Tree → Tree → Type 0
@@ -101,6 +107,7 @@ FlowFits bases both Str Str = Unit {0}
 FlowFits bases both NoneType NoneType = Unit {0}
 FlowFits bases both (Class c) (Class d) = Below bases (Class c) (Class d)
 FlowFits bases both (ListOf s) (ListOf t) = HeadFlow bases true s t × Covers bases t s
-FlowFits bases both (DictOf j v) (DictOf k w) = HeadFlow bases true j k × Covers bases k j × HeadFlow bases true v w × Covers bases w v
+FlowFits bases both (DictOf j v) (DictOf k w) = HeadFlow bases true j k × Covers bases k j × HeadFlow bases true v w
+    × Covers bases w v
 FlowFits bases both (TupleOf ss) (TupleOf ts) = EachFlow bases both ss ts
 FlowFits bases both _ _ = ⊥

@@ -1,8 +1,10 @@
 -- How what lies at one location changes.
-use Rattle.std.specs.Prelude.{ℕ, suc, ◌-◌, List, [], ◌∷◌, ◌++◌, length, take, if◌then◌else◌, Option, Some, None, slice_get, slice_set, string_bytes}
+use Rattle.std.specs.Prelude.{ℕ, suc, ◌-◌, List, [], ◌∷◌, ◌++◌, length, take, if◌then◌else◌, Option, Some, None}
+use Rattle.std.specs.Prelude.{slice_get, slice_set, string_bytes}
 use Rattle.pc_value.specs.declared.cell.Change.{Change as RustChange}
 use Rattle.pc_value.specs.declared.cell.Change.TheVariants as rust
-use Rattle.pc_value.specs.Value.{Value, none, Entry, Slot, Cell, list_cell, dict_cell, instance_cell, Heap, Other, Outside, TypeError, Seen, a_number, a_text, a_none, a_tuple}
+use Rattle.pc_value.specs.Value.{Value, none, Entry, Slot, Cell, list_cell, dict_cell, instance_cell, Heap, Other}
+use Rattle.pc_value.specs.Value.{Outside, TypeError, Seen, a_number, a_text, a_none, a_tuple}
 use Rattle.pc_value.specs.Actions.{Outcome, gives, stops, raises, ActionResult, keeps}
 use Rattle.pc_value.specs.Containers.{with_entry, last_of, same_key}
 use Rattle.pc_value.specs.Attributes.{with_field}
@@ -45,13 +47,17 @@ change_result (appends v) (list_cell items) = to_cell (list_cell (items ++ v ∷
 change_result pops (list_cell items) = pop_result items (last_of items)
 change_result (sets_item i v) (list_cell items) = to_cell (list_cell (slice_set items i v))
 change_result (sets_key k v) (dict_cell entries) = to_cell (dict_cell (with_entry k v entries))
-change_result (sets_field name v) (instance_cell class fields) = to_cell (instance_cell class (with_field name v fields))
+change_result (sets_field name v) (instance_cell class fields) =
+    to_cell (instance_cell class (with_field name v fields))
 change_result change cell = record { outcome = stops Outside; cell = cell }
 
 -- a change at a location of the heap
 abbrev pub changed_at : Heap → ℕ → Change → Option Cell → ActionResult
 changed_at heap l change None = keeps heap (stops Outside)
-changed_at heap l change (Some cell) = record { outcome = (change_result change cell).outcome; heap = slice_set heap l (change_result change cell).cell }
+changed_at heap l change (Some cell) = record {
+  outcome = (change_result change cell).outcome;
+  heap = slice_set heap l (change_result change cell).cell;
+}
 
 -- a change of what the heap has at a location; where nothing lies there, it is out of the profile
 abbrev pub heap_changed : Heap → ℕ → Change → ActionResult
