@@ -1,6 +1,6 @@
 -- What is given of the parts of a condition is given of the whole.
 use Rattle.std.proofs.Common.{◌≡◌, ℕ, Bool as Test, true, false, not, List, Option, Result, sym, subst}
-use Rattle.std.specs.Prelude.{IfOk}
+use Rattle.std.specs.Prelude.{IfOk, if◌then◌else◌}
 use Rattle.std.proofs.lemmas.Result.{IfOk-weaker}
 use Rattle.pc_source.specs.declared.place.Place.{Place}
 use Rattle.pc_tree.specs.Tree.{Expr, conjunction, disjunction}
@@ -25,24 +25,41 @@ module _ {Store Ty : Type 0} (has : Store → Ty → Type 0) (tree : Ty → Tree
     where_false = subst (λ (types : List (Option Ty)). GivesEnv has tree store types (env true)) (sym f) g.where_true;
   }
 
-  module _ (one two three : Store) (p : Place) (a b : Expr) (env : Env) (first second : BothWays Ty) (met : List (Option Ty)) (k : KeepsTypes has two three) (f : GivesBoth has tree one first (λ holds. narrow bases ds resolve holds a env)) where
+  -- the second part of a condition, where the first part has this way on and that way out
+  module _ (two three : Store) (b : Expr) (on out : Env) (second : BothWays Ty) (met : List (Option Ty)) (k : KeepsTypes has two three) (s : GivesBoth has tree two second (λ holds. narrow bases ds resolve holds b on)) where
+    pub second_holds : GivesEnv has tree three met (join_env bases ds out (env_of tree second.where_false)) → GivesBoth has tree three (record { where_true = second.where_true; where_false = met }) (λ holds. if holds then narrow bases ds resolve true b on else join_env bases ds out (narrow bases ds resolve false b on))
+    second_holds j = record {
+      where_true = env_kept has two three k tree second.where_true _ s.where_true;
+      where_false = rw s.where_false.is at j;
+    }
+
+    pub second_fails : GivesEnv has tree three met (join_env bases ds out (env_of tree second.where_true)) → GivesBoth has tree three (record { where_true = met; where_false = second.where_false }) (λ holds. if holds then join_env bases ds out (narrow bases ds resolve true b on) else narrow bases ds resolve false b on)
+    second_fails j = record {
+      where_true = rw s.where_true.is at j;
+      where_false = env_kept has two three k tree second.where_false _ s.where_false;
+    }
+
+  -- the whole condition, from its first part
+  module _ (one three : Store) (p : Place) (a b : Expr) (env : Env) (first : BothWays Ty) (f : GivesBoth has tree one first (λ holds. narrow bases ds resolve holds a env)) {E : Type 0} (r : Result (BothWays Ty) E) where
     -- a conjunction
-    pub both_hold : GivesBoth has tree two second (λ holds. narrow bases ds resolve holds b (env_of tree first.where_true)) → GivesEnv has tree three met (join_env bases ds (env_of tree first.where_false) (env_of tree second.where_false)) → GivesBoth has tree three (record { where_true = second.where_true; where_false = met }) (λ holds. narrow bases ds resolve holds (conjunction p a b) env)
-    both_hold s j =
-        let t = rw f.where_true.is at s in
-        record {
-          where_true = env_kept has two three k tree second.where_true _ t.where_true;
-          where_false = rw (f.where_false.is, t.where_false.is) at j;
-        }
+    pub both_hold : IfOk r (λ n. GivesBoth has tree three n (λ holds. if holds then narrow bases ds resolve true b (env_of tree first.where_true) else join_env bases ds (env_of tree first.where_false) (narrow bases ds resolve false b (env_of tree first.where_true)))) → IfOk r (λ n. GivesBoth has tree three n (λ holds. narrow bases ds resolve holds (conjunction p a b) env))
+    both_hold = IfOk-weaker r
+        (λ n. GivesBoth has tree three n (λ holds. if holds then narrow bases ds resolve true b (env_of tree first.where_true) else join_env bases ds (env_of tree first.where_false) (narrow bases ds resolve false b (env_of tree first.where_true))))
+        (λ n. GivesBoth has tree three n (λ holds. narrow bases ds resolve holds (conjunction p a b) env))
+        (λ n g. record {
+          where_true = rw f.where_true.is at g.where_true;
+          where_false = rw (f.where_true.is, f.where_false.is) at g.where_false;
+        })
 
     -- a disjunction
-    pub either_holds : GivesBoth has tree two second (λ holds. narrow bases ds resolve holds b (env_of tree first.where_false)) → GivesEnv has tree three met (join_env bases ds (env_of tree first.where_true) (env_of tree second.where_true)) → GivesBoth has tree three (record { where_true = met; where_false = second.where_false }) (λ holds. narrow bases ds resolve holds (disjunction p a b) env)
-    either_holds s j =
-        let t = rw f.where_false.is at s in
-        record {
-          where_true = rw (f.where_true.is, t.where_true.is) at j;
-          where_false = env_kept has two three k tree second.where_false _ t.where_false;
-        }
+    pub either_holds : IfOk r (λ n. GivesBoth has tree three n (λ holds. if holds then join_env bases ds (env_of tree first.where_true) (narrow bases ds resolve true b (env_of tree first.where_false)) else narrow bases ds resolve false b (env_of tree first.where_false))) → IfOk r (λ n. GivesBoth has tree three n (λ holds. narrow bases ds resolve holds (disjunction p a b) env))
+    either_holds = IfOk-weaker r
+        (λ n. GivesBoth has tree three n (λ holds. if holds then join_env bases ds (env_of tree first.where_true) (narrow bases ds resolve true b (env_of tree first.where_false)) else narrow bases ds resolve false b (env_of tree first.where_false)))
+        (λ n. GivesBoth has tree three n (λ holds. narrow bases ds resolve holds (disjunction p a b) env))
+        (λ n g. record {
+          where_true = rw (f.where_true.is, f.where_false.is) at g.where_true;
+          where_false = rw f.where_false.is at g.where_false;
+        })
 
   -- and it is well-formed, where the environment before was
   module _ (o : AreSmaller bases) (w : AreWellFormed bases ds) (store : Store) (e : Expr) (env : Env) (k : IsWellFormedEnv bases env) where

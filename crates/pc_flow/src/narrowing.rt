@@ -6,9 +6,9 @@ ghost use Rattle.pc_tree.specs.Lists.{exprs_of_list, keywords_of_list};
 ghost use Rattle.pc_scope.specs.Expressions.{is_instance_test};
 ghost use Rattle.pc_types.specs.Tree.{Tree};
 ghost use Rattle.pc_types.specs.Store.{KeepsTypes};
-ghost use Rattle.pc_flow.specs.Environment.{assign};
+ghost use Rattle.pc_flow.specs.Environment.{assign, join_env};
 ghost use Rattle.pc_flow.specs.Narrowing.{first_argument, second_argument, local_of_argument, test_of_argument};
-ghost use Rattle.pc_flow.specs.Narrowing.{narrow_local, narrow_instance, narrow};
+ghost use Rattle.pc_flow.specs.Narrowing.{for_none, local_named, narrow_local, narrow_instance, narrow};
 ghost use Rattle.pc_flow.specs.WellFormed.{IsWellFormedEnv, AreWellFormed};
 ghost use Rattle.pc_flow.specs.Stored.{env_of, declared_of, HasEach, GivesEnv};
 ghost use Rattle.pc_flow.specs.Tests.{tested_of};
@@ -168,10 +168,116 @@ fn narrow_instance<S: TypeStore, R: Resolver>(
     }
 }
 
+/// An environment as a test of an expression against `None` leaves it.
+fn narrow_none<S: TypeStore, R: Resolver>(
+    store: &mut S,
+    alloc: Global,
+    parents: &Parents,
+    names: &R,
+    tested: &Expr,
+    env: Env<S::Ty>,
+) -> Result<BothWays<S::Ty>, OutOfMemory>
+    requires env { HasEach (S.has store.old) env }
+    requires well_formed { IsWellFormedEnv parents.now (env_of S.tree env) }
+    ensures value { IfOk result
+        (λ n. GivesBoth S.has S.tree store.new n
+        (λ holds. narrow_local parents.now holds for_none (local_named (R.meaning names.now) (expr_of tested.now))
+        (env_of S.tree env))) }
+    ensures kept { KeepsTypes S.has store.old store.new }
+{
+    let local = local_named(names, tested);
+    narrow_local(store, alloc, parents, Test::None, local, env)
+}
+
+/// What a conjunction leaves, from what its first part leaves: its second part is asked where the first is true.
+/// Language Reference 6.11 "Boolean operations".
+#[cycle(narrow)]
+fn narrow_both<S: TypeStore, R: Resolver>(
+    store: &mut S,
+    alloc: Global,
+    parents: &Parents,
+    declared: &DeclaredTypes<S::Ty>,
+    names: &R,
+    second: &Expr,
+    first: BothWays<S::Ty>,
+) -> Result<BothWays<S::Ty>, OutOfMemory>
+    requires declared { HasEach (S.has store.old) declared.now }
+    requires where_true { HasEach (S.has store.old) first.where_true }
+    requires where_false { HasEach (S.has store.old) first.where_false }
+    requires declared_well_formed { AreWellFormed parents.now (declared_of S.tree declared.now) }
+    requires env_well_formed { IsWellFormedEnv parents.now (env_of S.tree first.where_true) }
+    ensures value { IfOk result
+        (λ n. GivesBoth S.has S.tree store.new n
+        (λ holds. if holds
+        then narrow parents.now (declared_of S.tree declared.now) (R.meaning names.now) true (expr_of second.now)
+        (env_of S.tree first.where_true)
+        else join_env parents.now (declared_of S.tree declared.now) (env_of S.tree first.where_false)
+        (narrow parents.now (declared_of S.tree declared.now) (R.meaning names.now) false (expr_of second.now)
+        (env_of S.tree first.where_true)))) }
+    ensures kept { KeepsTypes S.has store.old store.new }
+{
+    let BothWays {
+        where_true: yes,
+        where_false: no,
+    } = first;
+    let BothWays {
+        where_true: both,
+        where_false: late,
+    } = narrow(store, alloc, parents, declared, names, second, yes)?;
+    let not_both = join_env(store, alloc, parents, declared, &no, &late)?;
+    Ok(BothWays {
+        where_true: both,
+        where_false: not_both,
+    })
+}
+
+/// What a disjunction leaves, from what its first part leaves: its second part is asked where the first is false.
+/// Language Reference 6.11 "Boolean operations".
+#[cycle(narrow)]
+fn narrow_either<S: TypeStore, R: Resolver>(
+    store: &mut S,
+    alloc: Global,
+    parents: &Parents,
+    declared: &DeclaredTypes<S::Ty>,
+    names: &R,
+    second: &Expr,
+    first: BothWays<S::Ty>,
+) -> Result<BothWays<S::Ty>, OutOfMemory>
+    requires declared { HasEach (S.has store.old) declared.now }
+    requires where_true { HasEach (S.has store.old) first.where_true }
+    requires where_false { HasEach (S.has store.old) first.where_false }
+    requires declared_well_formed { AreWellFormed parents.now (declared_of S.tree declared.now) }
+    requires env_well_formed { IsWellFormedEnv parents.now (env_of S.tree first.where_false) }
+    ensures value { IfOk result
+        (λ n. GivesBoth S.has S.tree store.new n
+        (λ holds. if holds
+        then join_env parents.now (declared_of S.tree declared.now) (env_of S.tree first.where_true)
+        (narrow parents.now (declared_of S.tree declared.now) (R.meaning names.now) true (expr_of second.now)
+        (env_of S.tree first.where_false))
+        else narrow parents.now (declared_of S.tree declared.now) (R.meaning names.now) false (expr_of second.now)
+        (env_of S.tree first.where_false))) }
+    ensures kept { KeepsTypes S.has store.old store.new }
+{
+    let BothWays {
+        where_true: yes,
+        where_false: no,
+    } = first;
+    let BothWays {
+        where_true: late,
+        where_false: neither,
+    } = narrow(store, alloc, parents, declared, names, second, no)?;
+    let either = join_env(store, alloc, parents, declared, &yes, &late)?;
+    Ok(BothWays {
+        where_true: either,
+        where_false: neither,
+    })
+}
+
 /// An environment where a condition is true, and where it is false, at the cost of one walk over the condition: what is
 /// left of it by the tests of locals against `None` and by `isinstance`, by `not`, `and` and `or`.
 ///
 /// Typing specification, "Type narrowing"; own rules of the profile.
+#[cycle(narrow)]
 pub fn narrow<S: TypeStore, R: Resolver>(
     store: &mut S,
     alloc: Global,
@@ -193,25 +299,9 @@ pub fn narrow<S: TypeStore, R: Resolver>(
 {
     parents.ordered();
     match condition {
-        Expr::IsNone(_, e) => {
-            narrow_local(
-                store,
-                alloc,
-                parents,
-                Test::None,
-                local_named(names, e),
-                env,
-            )
-        }
+        Expr::IsNone(_, e) => narrow_none(store, alloc, parents, names, e, env),
         Expr::IsNotNone(_, e) => {
-            let is_none = narrow_local(
-                store,
-                alloc,
-                parents,
-                Test::None,
-                local_named(names, e),
-                env,
-            )?;
+            let is_none = narrow_none(store, alloc, parents, names, e, env)?;
             Ok(is_none.swapped())
         }
         Expr::Not(_, e) => {
@@ -219,34 +309,12 @@ pub fn narrow<S: TypeStore, R: Resolver>(
             Ok(holds.swapped())
         }
         Expr::And(_, a, b) => {
-            let BothWays {
-                where_true: yes,
-                where_false: no,
-            } = narrow(store, alloc, parents, declared, names, a, env)?;
-            let BothWays {
-                where_true: both,
-                where_false: late,
-            } = narrow(store, alloc, parents, declared, names, b, yes)?;
-            let not_both = join_env(store, alloc, parents, declared, &no, &late)?;
-            Ok(BothWays {
-                where_true: both,
-                where_false: not_both,
-            })
+            let first = narrow(store, alloc, parents, declared, names, a, env)?;
+            narrow_both(store, alloc, parents, declared, names, b, first)
         }
         Expr::Or(_, a, b) => {
-            let BothWays {
-                where_true: yes,
-                where_false: no,
-            } = narrow(store, alloc, parents, declared, names, a, env)?;
-            let BothWays {
-                where_true: late,
-                where_false: neither,
-            } = narrow(store, alloc, parents, declared, names, b, no)?;
-            let either = join_env(store, alloc, parents, declared, &yes, &late)?;
-            Ok(BothWays {
-                where_true: either,
-                where_false: neither,
-            })
+            let first = narrow(store, alloc, parents, declared, names, a, env)?;
+            narrow_either(store, alloc, parents, declared, names, b, first)
         }
         Expr::Call(_, callee, arguments, by_name) => {
             narrow_instance(

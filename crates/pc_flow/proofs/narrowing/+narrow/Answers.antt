@@ -6,31 +6,39 @@ use Rattle.pc_tree.proofs.Trees.{call_tree}
 use Rattle.pc_flow.specs.Narrowing.{narrow}
 use Rattle.pc_flow.specs.Stored.{env_of, declared_of}
 use Rattle.pc_flow.specs.Ways.{GivesBoth}
-use Rattle.pc_flow.proofs.Both.{swapped_gives, both_hold, either_holds, well_formed, well_formed_result}
+use Rattle.pc_flow.proofs.Both.{swapped_gives, second_holds, second_fails, both_hold, either_holds, well_formed, well_formed_result}
 use Rattle.pc_flow.proofs.narrowing.+narrow.Goals as goal
 
-pub returns-in-IsNone-clause-value : goal.returns-in-IsNone-clause-value
-returns-in-IsNone-clause-value g t c =
-    rw c.in-IsNone.is (well_formed_result g.S.TypeStore.has g.S.TypeStore.tree c.args.parents.now (declared_of g.S.TypeStore.tree c.args.declared.now) (g.R.Resolver.meaning c.args.names.now) c.ordered.ensures c.requires.declared_well_formed _ (is_none c.in-IsNone.field-0 (expr_of c.in-IsNone.e.value)) (env_of g.S.TypeStore.tree c.args.env) c.requires.env_well_formed c.narrow_local.result
-    (rw (c.local_named.ensures, c.deref.ensures) at c.narrow_local.ensures.value))
+pub narrow-returns-in-IsNone-clause-value : goal.narrow-returns-in-IsNone-clause-value
+narrow-returns-in-IsNone-clause-value g t c =
+    rw c.in-IsNone.is (well_formed_result g.S.TypeStore.has g.S.TypeStore.tree c.args.parents.now (declared_of g.S.TypeStore.tree c.args.declared.now) (g.R.Resolver.meaning c.args.names.now) c.ordered.ensures c.requires.declared_well_formed _ (is_none c.in-IsNone.field-0 (expr_of c.in-IsNone.e.value)) (env_of g.S.TypeStore.tree c.args.env) c.requires.env_well_formed c.narrow_none.result
+    (rw c.deref.ensures at c.narrow_none.ensures.value))
 
-pub returns-in_ok-is_none-in-IsNotNone-clause-value : goal.returns-in_ok-is_none-in-IsNotNone-clause-value
-returns-in_ok-is_none-in-IsNotNone-clause-value g t c =
+pub narrow-returns-in_ok-is_none-in-IsNotNone-clause-value : goal.narrow-returns-in_ok-is_none-in-IsNotNone-clause-value
+narrow-returns-in_ok-is_none-in-IsNotNone-clause-value g t c =
     rw c.in-IsNotNone.is (well_formed g.S.TypeStore.has g.S.TypeStore.tree c.args.parents.now (declared_of g.S.TypeStore.tree c.args.declared.now) (g.R.Resolver.meaning c.args.names.now) c.ordered.ensures c.requires.declared_well_formed _ (is_not_none c.in-IsNotNone.field-0 (expr_of c.in-IsNotNone.e.value)) (env_of g.S.TypeStore.tree c.args.env) c.requires.env_well_formed c.swapped.result
-    (swapped_gives g.S.TypeStore.has g.S.TypeStore.tree c.args.parents.now (declared_of g.S.TypeStore.tree c.args.declared.now) (g.R.Resolver.meaning c.args.names.now) _ c.in_ok-is_none-in-IsNotNone.is_none c.swapped.result _ c.swapped.ensures.where_true c.swapped.ensures.where_false (rw (c.local_named-in-IsNotNone.ensures, c.deref-in-IsNotNone.ensures) at c.in_ok-is_none-in-IsNotNone.ensures.value)))
+    (swapped_gives g.S.TypeStore.has g.S.TypeStore.tree c.args.parents.now (declared_of g.S.TypeStore.tree c.args.declared.now) (g.R.Resolver.meaning c.args.names.now) _ c.in_ok-is_none-in-IsNotNone.is_none c.swapped.result _ c.swapped.ensures.where_true c.swapped.ensures.where_false (rw c.deref-in-IsNotNone.ensures at c.in_ok-is_none-in-IsNotNone.ensures.value)))
 
-pub returns-in_ok-not_both-in-And-clause-value : goal.returns-in_ok-not_both-in-And-clause-value
-returns-in_ok-not_both-in-And-clause-value g t c =
-    rw c.in-And.is (well_formed g.S.TypeStore.has g.S.TypeStore.tree c.args.parents.now (declared_of g.S.TypeStore.tree c.args.declared.now) (g.R.Resolver.meaning c.args.names.now) c.ordered.ensures c.requires.declared_well_formed _ (conjunction c.in-And.field-0 (expr_of c.in-And.a.value) (expr_of c.in-And.b.value)) (env_of g.S.TypeStore.tree c.args.env) c.requires.env_well_formed _
-    (both_hold g.S.TypeStore.has g.S.TypeStore.tree c.args.parents.now (declared_of g.S.TypeStore.tree c.args.declared.now) (g.R.Resolver.meaning c.args.names.now) _ _ _ c.in-And.field-0 (expr_of c.in-And.a.value) (expr_of c.in-And.b.value) (env_of g.S.TypeStore.tree c.args.env) c.in_ok-yes-in-And.field-0 c.in_ok-both-in-And.field-0 _ c.join_env.ensures.kept (rw c.deref-in-And.ensures at c.in_ok-yes-in-And.ensures.value.both) (rw c.deref-in-And-2.ensures at c.in_ok-both-in-And.ensures.value.both) c.in_ok-not_both-in-And.ensures.value))
+pub narrow-returns-in_ok-first-in-And-clause-value : goal.narrow-returns-in_ok-first-in-And-clause-value
+narrow-returns-in_ok-first-in-And-clause-value g t c =
+    rw c.in-And.is (well_formed_result g.S.TypeStore.has g.S.TypeStore.tree c.args.parents.now (declared_of g.S.TypeStore.tree c.args.declared.now) (g.R.Resolver.meaning c.args.names.now) c.ordered.ensures c.requires.declared_well_formed _ (conjunction c.in-And.field-0 (expr_of c.in-And.a.value) (expr_of c.in-And.b.value)) (env_of g.S.TypeStore.tree c.args.env) c.requires.env_well_formed c.narrow_both.result
+    (both_hold g.S.TypeStore.has g.S.TypeStore.tree c.args.parents.now (declared_of g.S.TypeStore.tree c.args.declared.now) (g.R.Resolver.meaning c.args.names.now) _ _ c.in-And.field-0 (expr_of c.in-And.a.value) (expr_of c.in-And.b.value) (env_of g.S.TypeStore.tree c.args.env) c.in_ok-first-in-And.first (rw c.deref-in-And.ensures at c.in_ok-first-in-And.ensures.value.both) c.narrow_both.result (rw c.deref-in-And-2.ensures at c.narrow_both.ensures.value)))
 
-pub returns-in_ok-either-in-Or-clause-value : goal.returns-in_ok-either-in-Or-clause-value
-returns-in_ok-either-in-Or-clause-value g t c =
-    rw c.in-Or.is (well_formed g.S.TypeStore.has g.S.TypeStore.tree c.args.parents.now (declared_of g.S.TypeStore.tree c.args.declared.now) (g.R.Resolver.meaning c.args.names.now) c.ordered.ensures c.requires.declared_well_formed _ (disjunction c.in-Or.field-0 (expr_of c.in-Or.a.value) (expr_of c.in-Or.b.value)) (env_of g.S.TypeStore.tree c.args.env) c.requires.env_well_formed _
-    (either_holds g.S.TypeStore.has g.S.TypeStore.tree c.args.parents.now (declared_of g.S.TypeStore.tree c.args.declared.now) (g.R.Resolver.meaning c.args.names.now) _ _ _ c.in-Or.field-0 (expr_of c.in-Or.a.value) (expr_of c.in-Or.b.value) (env_of g.S.TypeStore.tree c.args.env) c.in_ok-yes-in-Or.field-0 c.in_ok-late-in-Or.field-0 _ c.join_env-in-Or.ensures.kept (rw c.deref-in-Or.ensures at c.in_ok-yes-in-Or.ensures.value.both) (rw c.deref-in-Or-2.ensures at c.in_ok-late-in-Or.ensures.value.both) c.in_ok-either-in-Or.ensures.value))
+pub narrow-returns-in_ok-first-in-Or-clause-value : goal.narrow-returns-in_ok-first-in-Or-clause-value
+narrow-returns-in_ok-first-in-Or-clause-value g t c =
+    rw c.in-Or.is (well_formed_result g.S.TypeStore.has g.S.TypeStore.tree c.args.parents.now (declared_of g.S.TypeStore.tree c.args.declared.now) (g.R.Resolver.meaning c.args.names.now) c.ordered.ensures c.requires.declared_well_formed _ (disjunction c.in-Or.field-0 (expr_of c.in-Or.a.value) (expr_of c.in-Or.b.value)) (env_of g.S.TypeStore.tree c.args.env) c.requires.env_well_formed c.narrow_either.result
+    (either_holds g.S.TypeStore.has g.S.TypeStore.tree c.args.parents.now (declared_of g.S.TypeStore.tree c.args.declared.now) (g.R.Resolver.meaning c.args.names.now) _ _ c.in-Or.field-0 (expr_of c.in-Or.a.value) (expr_of c.in-Or.b.value) (env_of g.S.TypeStore.tree c.args.env) c.in_ok-first-in-Or.first (rw c.deref-in-Or.ensures at c.in_ok-first-in-Or.ensures.value.both) c.narrow_either.result (rw c.deref-in-Or-2.ensures at c.narrow_either.ensures.value)))
 
-pub returns-in-Call-clause-value : goal.returns-in-Call-clause-value
-returns-in-Call-clause-value g t c =
+pub narrow_both-returns-clause-value : goal.narrow_both-returns-clause-value
+narrow_both-returns-clause-value g t c =
+    second_holds g.S.TypeStore.has g.S.TypeStore.tree c.args.parents.now (declared_of g.S.TypeStore.tree c.args.declared.now) (g.R.Resolver.meaning c.args.names.now) _ _ (expr_of c.args.second.now) (env_of g.S.TypeStore.tree c.args.first.where_true) (env_of g.S.TypeStore.tree c.args.first.where_false) c.in_ok-both.field-0 _ c.join_env.ensures.kept c.in_ok-both.ensures.value.both c.in_ok-not_both.ensures.value
+
+pub narrow_either-returns-clause-value : goal.narrow_either-returns-clause-value
+narrow_either-returns-clause-value g t c =
+    second_fails g.S.TypeStore.has g.S.TypeStore.tree c.args.parents.now (declared_of g.S.TypeStore.tree c.args.declared.now) (g.R.Resolver.meaning c.args.names.now) _ _ (expr_of c.args.second.now) (env_of g.S.TypeStore.tree c.args.first.where_false) (env_of g.S.TypeStore.tree c.args.first.where_true) c.in_ok-late.field-0 _ c.join_env.ensures.kept c.in_ok-late.ensures.value.both c.in_ok-either.ensures.value
+
+pub narrow-returns-in-Call-clause-value : goal.narrow-returns-in-Call-clause-value
+narrow-returns-in-Call-clause-value g t c =
     let ds = declared_of g.S.TypeStore.tree c.args.declared.now in
     let env = env_of g.S.TypeStore.tree c.args.env in
     rw c.in-Call.is (well_formed_result g.S.TypeStore.has g.S.TypeStore.tree c.args.parents.now (declared_of g.S.TypeStore.tree c.args.declared.now) (g.R.Resolver.meaning c.args.names.now) c.ordered.ensures c.requires.declared_well_formed _ (expr_of (tree.Call c.in-Call.field-0 c.in-Call.callee c.in-Call.arguments c.in-Call.by_name)) (env_of g.S.TypeStore.tree c.args.env) c.requires.env_well_formed c.narrow_instance.result
