@@ -77,7 +77,7 @@ module _ (bases : Bases) (o : AreSmaller bases) where
     goods_are (old ∷ olds) h = cons_are (IsGood bases new) old olds (is_good_to bases new old) (list_all (is_good_to bases new) olds) (good_is old h.0) (goods_are olds h.1)
 
     -- the code that is computed is the one by which the method is judged
-    code_judges : (olds : List Method) → MethodsWellFormed bases olds → Judges bases olds new (override_code bases olds new)
+    pub code_judges : (olds : List Method) → MethodsWellFormed bases olds → Judges bases olds new (override_code bases olds new)
     code_judges olds h = go (list_all (is_good_to bases new) olds) refl (list_all (is_static_to bases new) olds) refl
       where
         go : (a : Bool) → list_all (is_good_to bases new) olds ≡ a → (b : Bool) → list_all (is_static_to bases new) olds ≡ b → Judges bases olds new (code_where a b)

@@ -2,6 +2,7 @@ pub mod ClassAdded
 pub mod ClassOverrides
 pub mod ClassesBefore
 pub mod ClassesBuilt
+pub mod CleanClasses
 pub mod EachAncestor
 pub mod EntriesGiven
 pub mod EntryWalk
@@ -21,6 +22,7 @@ pub mod OwnMembers
 pub mod ReservedNames
 pub mod Shapes
 pub mod SharedParts
+pub mod StaticThrough
 pub mod TableFields
 pub mod TableMore
 pub mod TableReads

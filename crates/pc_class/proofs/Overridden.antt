@@ -1,6 +1,6 @@
 -- The methods of a name that a class has: the nearest one, and behind it those that the base of its owner has.
-use Rattle.std.proofs.Common.{◌≡◌, ◌<◌, ◌≤◌, ℕ, zero, suc, List, [], ◌∷◌, ◌++◌, refl, sym, ap, ◌∙◌, arith}
-use Rattle.std.specs.Prelude.{Bool, true, false, ◌&&◌, ◌||◌, cond, if◌then◌else◌, Option, Some, None, find, filter, slice_get, bytes_eq}
+use Rattle.std.proofs.Common.{◌≡◌, ◌<◌, ◌≤◌, ℕ, zero, suc, List, [], ◌∷◌, ◌++◌, refl, sym, ap, ◌∙◌, subst, arith}
+use Rattle.std.specs.Prelude.{Bool, true, false, ◌&&◌, ◌||◌, cond, if◌then◌else◌, Option, Some, None, find, filter, slice_get, bytes_eq, Contains}
 use Rattle.std.specs.Option.{option_or}
 use Rattle.std.proofs.lemmas.Bool.{false≢true}
 use Rattle.std.proofs.lemmas.List.Folds.{find-append}
@@ -17,6 +17,7 @@ use Rattle.pc_class.specs.Entries.{inherited_by}
 use Rattle.pc_class.specs.Overrides.{overridden}
 use Rattle.pc_class.proofs.ClassesBuilt.{no_class_past, base_here, below_class, class_is}
 use Rattle.pc_class.proofs.OwnMembers.{field_new}
+use Rattle.pc_class.proofs.TableReads.{find_contains}
 
 none_some : {X : Type 0} (x : X) → None ≡ Some x → ⊥
 none_some x e = grind (arith, e)
@@ -82,10 +83,13 @@ module _ (m : Module) (name : List ℕ) where
   abbrev above : Option ℕ → List Method
   above o = overridden (base_facts (classes_of m) o).methods name
 
-  -- the nearest method, and the others behind it
+  -- the nearest method, the others behind it, and the class that binds it
   pub record IsNearest (c : ℕ) (x : Method) : Type 0 where
     pub owner : x.owner ≤ c
     pub all : above (Some c) ≡ x ∷ above (base_of (bases_of m) x.owner)
+    pub class : ClassDef
+    pub is : slice_get (classes_in m.items) x.owner ≡ Some class
+    pub among : Contains (own_methods m (base_facts (classes_of m) (base_named m x.owner class.base)) x.owner 0 [] class.members) x
 
   nearest_in : (limit c : ℕ) → c < limit → (x : Method) → method_by_name (class_facts_at (classes_of m) c).methods name ≡ Some x → IsNearest c x
   nearest_in zero c less x e = absurd (omega arith)
@@ -119,6 +123,10 @@ module _ (m : Module) (name : List ℕ) where
                 owner = omega (arith, owner);
                 all = kept ∙ ap (λ (ys : List Method). ys ++ filter is_named parent.methods) g ∙ ap (λ (z : Method). z ∷ filter is_named parent.methods) same
                     ∙ ap (λ q. x ∷ above q) (sym (base_here m c class is) ∙ ap (base_of (bases_of m)) (sym owner));
+                class = class;
+                is = ap (slice_get (classes_in m.items)) owner ∙ is;
+                among = subst (λ k. Contains (own_methods m (base_facts (classes_of m) (base_named m k class.base)) k 0 [] class.members) x) (sym owner)
+                    (find_contains is_named own x (f ∙ ap (λ (z : Method). Some z) same));
               }
           go (no_one f g) None b = absurd (none_some x (sym (ap (λ q. option_or q (find is_named parent.methods)) f ∙ ap (λ q. find is_named (base_facts (classes_of m) q).methods) b) ∙ found))
           go (no_one f g) (Some d) b =
@@ -126,6 +134,9 @@ module _ (m : Module) (name : List ℕ) where
               let r = on d less (sym (ap (λ q. option_or q (find is_named parent.methods)) f ∙ ap (λ q. find is_named (base_facts (classes_of m) q).methods) b) ∙ found) in record {
                 owner = let l = r.owner in omega arith;
                 all = kept ∙ ap (λ (ys : List Method). ys ++ filter is_named parent.methods) g ∙ ap above b ∙ r.all;
+                class = r.class;
+                is = r.is;
+                among = r.among;
               }
 
       at : (o : Option ClassDef) → slice_get (classes_in m.items) c ≡ o → ((b : ℕ) → b < c → method_by_name (class_facts_at (classes_of m) b).methods name ≡ Some x → IsNearest b x) → IsNearest c x

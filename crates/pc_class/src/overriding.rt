@@ -1,7 +1,7 @@
 //! Overrides: each method that a class binds against those of its name that the class's ancestors have.
 
 ghost use Rattle.std.specs.Prelude.{◌≡◌, ◌++◌, ◌&&◌, ◌||◌, ◌<◌, not, length, slice_get, All, Some, IsTrue, OnOk};
-ghost use Rattle.std.specs.Prelude.{bytes_eq};
+ghost use Rattle.std.specs.Prelude.{None, false, bytes_eq, slice_index_or};
 ghost use Rattle.std.specs.List.{list_all};
 ghost use Rattle.pc_tree.specs.Tree.{ClassDef as ClassTree, module_of};
 ghost use Rattle.pc_scope.specs.Bindings.{classes_in};
@@ -11,6 +11,8 @@ ghost use Rattle.pc_types.specs.Store.{KeepsTypes};
 ghost use Rattle.pc_class.specs.Facts.{classes_of};
 ghost use Rattle.pc_class.specs.Overrides.{has_shape_of, TypeFlow, parameter_flows, overridden};
 ghost use Rattle.pc_class.specs.OverrideFindings.{override_code, found_at_method, class_overrides, override_findings};
+ghost use Rattle.pc_class.specs.WellFormed.{MethodWellFormed};
+ghost use Rattle.pc_class.specs.Internal.CleanClasses.{AreClean};
 ghost use Rattle.pc_class.specs.Internal.OverrideTests.{flow_fits, overrides_by, IsJudging, module_judged};
 ghost use Rattle.pc_class.specs.Internal.OverrideTests.{methods_above};
 ghost use Rattle.pc_class.specs.Tables.{HasParameter, HasMethod, HasEntries, parameters_with, method_with};
@@ -167,22 +169,69 @@ fn code_of<S: TypeStore>(
     if is_static { None } else { Some(Code::A8) }
 }
 
+/// Whether nothing was found at the methods of a class, of those that have been judged.
+fn is_clean(clean: &[bool], class: usize) -> bool
+    ensures { result ≡ slice_index_or clean.now class false }
+{
+    class < clean.len() && clean[class]
+}
+
+/// Whether the nearest method of its name tells that nothing is found at a method of a class of this base: it is static
+/// to that one, and nothing was found in the class of that one, so it is static to those above too. Typing specification,
+/// "Type system concepts": the subtype relation is transitive.
+fn is_clear<S: TypeStore>(
+    judging: &Judging<S::Ty>,
+    store: &mut S,
+    clean: &[bool],
+    base: Option<usize>,
+    method: &Method<S::Ty>,
+) -> bool
+    requires judging { IsJudging S.tree judging.now }
+    requires table { HasEntries (S.has store.old) judging.now.classes.now }
+    requires clean { AreClean (module_judged judging.now) clean.now }
+    requires method { HasMethod (S.has store.old) method.now }
+    requires types { MethodWellFormed (bases_of (module_judged judging.now)) (method_with S.tree method.now) }
+    ensures clear { IsTrue result → override_code judging.now.parents.now
+        (overridden (methods_above judging.now base) (method_with S.tree method.now).name)
+        (method_with S.tree method.now) ≡ None }
+    ensures kept { KeepsTypes S.has store.old store.new }
+{
+    match base {
+        None => true,
+        Some(class) => match judging.classes.method(class, method.name.as_str()) {
+            None => true,
+            Some(old) => {
+                if !is_clean(clean, old.owner) {
+                    return false;
+                }
+                overrides(store, judging.parents, Relation::Static, method, old)
+            }
+        },
+    }
+}
+
 /// Finds how a method of a class of this base overrides: E11, A8 or nothing.
 fn find_override<S: TypeStore>(
     judging: &Judging<S::Ty>,
     store: &mut S,
     found: &mut Findings,
+    clean: &[bool],
     base: Option<usize>,
     method: &Method<S::Ty>,
 ) -> Result<(), OutOfMemory>
     requires judging { IsJudging S.tree judging.now }
     requires table { HasEntries (S.has store.old) judging.now.classes.now }
+    requires clean { AreClean (module_judged judging.now) clean.now }
     requires method { HasMethod (S.has store.old) method.now }
+    requires types { MethodWellFormed (bases_of (module_judged judging.now)) (method_with S.tree method.now) }
     ensures found { OnOk result
         (found.new.items ≡ found.old.items
         ++ found_at_method judging.now.parents.now (methods_above judging.now base) (method_with S.tree method.now)) }
     ensures kept { KeepsTypes S.has store.old store.new }
 {
+    if is_clear(judging, store, clean, base, method) {
+        return Ok(());
+    }
     match code_of(judging, store, base, method) {
         None => Ok(()),
         Some(code) => {
@@ -200,10 +249,12 @@ fn find_class_overrides<S: TypeStore>(
     judging: &Judging<S::Ty>,
     store: &mut S,
     found: &mut Findings,
+    clean: &[bool],
     class: usize,
 ) -> Result<(), OutOfMemory>
     requires judging { IsJudging S.tree judging.now }
     requires table { HasEntries (S.has store.old) judging.now.classes.now }
+    requires clean { AreClean (module_judged judging.now) clean.now }
     requires class { class < length judging.now.classes.now }
     ensures found { (definition : ClassTree)
         → slice_get (classes_in (module_judged judging.now).items) class ≡ Some definition
@@ -214,7 +265,7 @@ fn find_class_overrides<S: TypeStore>(
     let base = judging.parents.base(class);
     let methods = judging.classes.own_methods(class);
     for method in methods {
-        find_override(judging, store, found, base, method)?;
+        find_override(judging, store, found, clean, base, method)?;
     }
     Ok(())
 }
@@ -241,8 +292,12 @@ pub fn override_findings<S: TypeStore>(
         parents,
         classes,
     };
+    let alloc = *found.allocator();
+    let mut clean = Vec::new(alloc);
     for class in 0..classes.count() {
-        find_class_overrides(&judging, store, found, class)?;
+        let before = found.len();
+        find_class_overrides(&judging, store, found, &clean, class)?;
+        clean.push(found.len() == before)?;
     }
     Ok(())
 }

@@ -12,6 +12,7 @@ use Rattle.pc_class.specs.Tables.{empty_entry, inherited_entry, method_with}
 use Rattle.pc_class.proofs.ClassesBuilt.{base_here}
 use Rattle.pc_class.proofs.OverrideWalk.{method_keeps}
 use Rattle.pc_class.proofs.ClassOverrides.{entries_keep, own_given, own_there, methods_next}
+use Rattle.pc_class.proofs.CleanClasses.{own_well_formed}
 use Rattle.pc_class.proofs.overriding.find_class_overrides.Goals as goal
 
 pub find_override-requires-clause-table : goal.find_override-requires-clause-table
@@ -27,6 +28,13 @@ find_override-requires-clause-method g c =
     let rest = (inherited_entry es (slice_index_or es c.args.class empty_entry).base).methods in
     method_keeps (has c.args.store.now) (has c.loop-method.store) c.method-item.result c.loop-method.invariant.store
     (own_given (has c.args.store.now) es c.args.class own rest c.requires.table c.requires.class c.own_methods-methods.ensures.over c.loop-method.method-index c.method-item.result c.loop-method-test.true c.method-item.is)
+
+pub find_override-requires-clause-types : goal.find_override-requires-clause-types
+find_override-requires-clause-types g c =
+    let j = c.args.judging.now in
+    let es = j.classes.now in
+    let rest = (inherited_entry es (slice_index_or es c.args.class empty_entry).base).methods in
+    own_well_formed g.S.TypeStore.tree es (module_of j.tree.now) c.args.class c.own_methods-methods.result.now rest c.requires.judging.classes c.own_methods-methods.ensures.over c.loop-method.method-index c.method-item.result c.loop-method-test.true c.method-item.is
 
 pub loop-method-preserved : goal.loop-method-preserved
 loop-method-preserved g c =

@@ -1,9 +1,13 @@
-use Rattle.std.proofs.Common.{◌∙◌, ◌++◌, ◌+◌, ◌≤◌, ◌<◌, List, drop, length, sym, ap, arith, append-nil}
+use Rattle.std.proofs.Common.{◌≡◌, ◌∙◌, ◌++◌, ◌+◌, ◌≤◌, ◌<◌, List, [], ◌∷◌, drop, length, refl, sym, ap, subst, rules, arith, append-nil, length-append}
+use Rattle.std.specs.Prelude.{◌==◌}
+use Rattle.std.proofs.lemmas.Bool.{eqb-true}
 use Rattle.std.proofs.Math.ListN.{drop_of_length-le}
 use Rattle.pc_tree.specs.declared.code.Finding.{Finding}
 use Rattle.pc_tree.specs.Tree.{ClassDef, module_of}
 use Rattle.pc_scope.specs.Bindings.{classes_in}
-use Rattle.pc_class.specs.OverrideFindings.{overrides_from}
+use Rattle.pc_class.specs.OverrideFindings.{class_overrides, overrides_from}
+use Rattle.pc_class.specs.Internal.CleanClasses.{AreClean}
+use Rattle.pc_class.proofs.CleanClasses.{none_more, clean_none, clean_next}
 use Rattle.pc_class.proofs.ClassOverrides.{entries_keep, as_many, one_more, classes_next, findings_are}
 use Rattle.pc_class.proofs.overriding.override_findings.Goals as goal
 
@@ -11,6 +15,17 @@ pub find_class_overrides-requires-clause-table : goal.find_class_overrides-requi
 find_class_overrides-requires-clause-table g c =
     let has = g.S.TypeStore.has in
     entries_keep (has c.args.store.now) (has c.loop-class.store) c.args.classes.now c.loop-class.invariant.store c.requires.given
+
+pub find_class_overrides-requires-clause-clean : goal.find_class_overrides-requires-clause-clean
+find_class_overrides-requires-clause-clean g c = subst (AreClean (module_of c.args.tree.now)) (sym c.deref.ensures.value) c.loop-class.invariant.clean
+
+pub loop-class-init : goal.loop-class-init
+loop-class-init g c = record {
+  store = λ t h. h;
+  found = refl;
+  clean = clean_none (module_of c.args.tree.now) c.new-clean.result.items c.new-clean.ensures.items;
+  many = ap length c.new-clean.ensures.items;
+}
 
 pub loop-class-preserved : goal.loop-class-preserved
 loop-class-preserved g c =
@@ -21,10 +36,23 @@ loop-class-preserved g c =
     let test = c.loop-class-test.true in
     let count = c.count-class-end.ensures in
     let less : i < length cs = omega arith in
-    let more = one_more m cs i less in record {
+    let more = one_more m cs i less in
+    let old = c.loop-class.found.items in
+    let new = c.find_class_overrides.new.found.items in
+    let here = c.in_ok-find_class_overrides.ensures.found more.class more.is in
+    let before : c.len-before.result ≡ length old = search rules in
+    let after : c.len.result ≡ length new = search rules in
+    let kept = c.loop-class.invariant.many in
+    let pushed = length-append c.loop-class.clean.items ((c.len.result == c.len-before.result) ∷ []) in
+    let longer = ap length c.in_ok-push.ensures.items in
+    record {
       store = λ t h. c.find_class_overrides.ensures.kept t (c.loop-class.invariant.store t h);
       found = classes_next m i more.class c.loop-class.found.items c.find_class_overrides.new.found.items _ (overrides_from m i (drop i cs)) (overrides_from m (i + 1) (drop (i + 1) cs))
-          c.loop-class.invariant.found more.next (c.in_ok-find_class_overrides.ensures.found more.class more.is);
+          c.loop-class.invariant.found more.next here;
+      clean = subst (AreClean m) (sym c.in_ok-push.ensures.items)
+          (clean_next m c.loop-class.clean.items (c.len.result == c.len-before.result) i more.class c.loop-class.invariant.clean kept more.is
+          (λ same. none_more old (class_overrides m i more.class) new here (sym after ∙ eqb-true c.len.result c.len-before.result same ∙ before)));
+      many = omega (arith, longer, pushed, kept);
     }
 
 pub returns-clause-found : goal.returns-clause-found
