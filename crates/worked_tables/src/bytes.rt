@@ -1,25 +1,9 @@
 //! Bytes that are no text, and the texts of faults.
 use crate::stores::answer_to_bytes;
 use crate::texts::in_one_line;
-use pc_tables::{TableFault, Tally, rows, written_out};
+use pc_tables::{TableFault, Tally, bytes_of, rows};
 use pc_top::{CheckFault, Format};
 use std::alloc::{AllocError, Global};
-
-/// The bytes of a text in which `⟦195⟧` stands for the byte of that number, and `⟨65×+a⟩` for `+a` 65 times.
-pub fn bytes_of(alloc: Global, text: &str) -> Result<Vec<u8>, TableFault> {
-    let text = written_out(alloc, text)?;
-    let mut bytes = Vec::new(alloc);
-    for piece in text.split('⟦') {
-        match piece.split_once('⟧') {
-            Some((number, behind)) => {
-                bytes.push(number.parse().map_err(|_| TableFault::Form)?)?;
-                bytes.extend_from_slice(behind.as_bytes())?;
-            }
-            None => bytes.extend_from_slice(piece.as_bytes())?,
-        }
-    }
-    Ok(bytes)
-}
 
 /// Counts the bytes of a table, of which each row has the report or the refusal.
 pub fn count_bytes(alloc: Global, table: &str, tally: &mut Tally) -> Result<(), TableFault> {

@@ -1,7 +1,6 @@
 //! Modules that are checked as streams, from readers and to writers that fail.
-use crate::bytes::bytes_of;
 use pc_source::Counted;
-use pc_tables::{TableFault, Tally};
+use pc_tables::{TableFault, Tally, bytes_of};
 use pc_top::{Format, check_stream};
 use std::alloc::{AllocError, Global};
 use std::io;

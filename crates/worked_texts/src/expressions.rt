@@ -1,8 +1,8 @@
 //! Expressions of a stream of tokens, as the reader reads them.
-use crate::parts::{fault_text, named_part};
+use crate::parts::fault_text;
 use pc_reader::Reader;
 use pc_source::{Fault, read_source};
-use pc_tables::{TableFault, Tally, rows};
+use pc_tables::TableFault;
 use pc_token::{Token, tokens};
 use std::alloc::{AllocError, Global};
 
@@ -68,40 +68,25 @@ fn told(alloc: Global, text: &str) -> Result<String, AllocError> {
     }
 }
 
-/// Counts a row.
-fn count(
+/// What comes of a row of a part of this name. Where the part says texts with all their parentheses, that is the text
+/// which the row says, if both spell the same expression.
+pub fn expression_answer(
     alloc: Global,
-    form: Form,
+    name: &str,
     text: &str,
     want: &str,
-    tally: &mut Tally,
-) -> Result<(), AllocError> {
-    let got = told(alloc, text)?;
-    let bare = without_places(alloc, got.as_str())?;
-    match form {
-        Form::Grouped => {
-            let want = without_places(alloc, told(alloc, want)?.as_str())?;
-            tally.count(text, want.as_str(), bare.as_str())
-        }
-        Form::Tree => tally.count(text, want, bare.as_str()),
-        Form::Placed => tally.count(text, want, got.as_str()),
-    }
-}
-
-/// Counts the rows of a part of a table.
-fn count_part(alloc: Global, part: &str, tally: &mut Tally) -> Result<(), TableFault> {
-    let (name, lines) = named_part(part)?;
+) -> Result<String, TableFault> {
     let form = form_of(name)?;
-    for row in rows(alloc, lines)? {
-        count(alloc, form, row.text.as_str(), row.want.as_str(), tally)?;
+    let got = told(alloc, text)?;
+    if let Form::Placed = form {
+        return Ok(got);
     }
-    Ok(())
-}
-
-/// Counts the rows of a table.
-pub fn count_expressions(alloc: Global, table: &str, tally: &mut Tally) -> Result<(), TableFault> {
-    for part in table.split("§ ").skip(1) {
-        count_part(alloc, part, tally)?;
+    let bare = without_places(alloc, got.as_str())?;
+    if let Form::Grouped = form {
+        let wanted = without_places(alloc, told(alloc, want)?.as_str())?;
+        if bare.as_str() == wanted.as_str() {
+            return Ok(String::from_str(alloc, want)?);
+        }
     }
-    Ok(())
+    Ok(bare)
 }

@@ -1,10 +1,12 @@
 //! Texts, and the layout of the lines of each.
 use crate::parts::fault_text;
-use pc_layout::layout_of;
+use pc_layout::{layout, layout_of};
 use pc_source::{Fault, read_source};
-use pc_tables::{TableFault, Tally, rows};
-use pc_token::lines;
-use std::alloc::Global;
+use pc_token::{Tok, lines, tokens};
+use std::alloc::{AllocError, Global};
+
+/// The most tokens of a layout of which a table says each.
+const FEW: usize = 20;
 
 /// How many tokens the layout of a text has.
 fn laid_out(alloc: Global, text: &str) -> Result<usize, Fault> {
@@ -17,26 +19,50 @@ fn laid_out(alloc: Global, text: &str) -> Result<usize, Fault> {
     Ok(count)
 }
 
-/// Counts the texts of a table, of which each row has the number of tokens.
-pub fn count_layouts(alloc: Global, table: &str, tally: &mut Tally) -> Result<(), TableFault> {
-    for row in rows(alloc, table)? {
-        let got = match laid_out(alloc, row.text.as_str()) {
-            Ok(count) => format!(in alloc; "{count}")?,
-            Err(fault) => fault_text(alloc, fault, 0)?,
-        };
-        tally.count(row.written.as_str(), row.want.as_str(), got.as_str())?;
+/// The number of tokens, or the fault of the layout.
+pub fn layout_text(alloc: Global, text: &str) -> Result<String, AllocError> {
+    match laid_out(alloc, text) {
+        Ok(count) => format!(in alloc; "{count}"),
+        Err(fault) => fault_text(alloc, fault, 0),
     }
-    Ok(())
 }
 
-/// Counts the texts of a table, of which each row has the fault of the layout, if there is one.
-pub fn count_faults(alloc: Global, table: &str, tally: &mut Tally) -> Result<(), TableFault> {
-    for row in rows(alloc, table)? {
-        let got = match laid_out(alloc, row.text.as_str()) {
-            Ok(_) => String::from_str(alloc, "none")?,
-            Err(fault) => fault_text(alloc, fault, 0)?,
-        };
-        tally.count(row.written.as_str(), row.want.as_str(), got.as_str())?;
+/// The fault of the layout, if there is one.
+pub fn layout_fault(alloc: Global, text: &str) -> Result<String, AllocError> {
+    match laid_out(alloc, text) {
+        Ok(_) => String::from_str(alloc, "none"),
+        Err(fault) => fault_text(alloc, fault, 0),
     }
-    Ok(())
+}
+
+/// How many tokens these are, and where they are few each with the bytes at which it starts and ends.
+fn listed(alloc: Global, text: &str, tokens: &[Tok<'_>]) -> Result<String, AllocError> {
+    let mut out = format!(in alloc; "{}", tokens.len())?;
+    if tokens.len() > FEW {
+        return Ok(out);
+    }
+    for token in tokens {
+        let (kind, start, end) = (token.kind, token.place.start, token.place.end);
+        write!(out, "; {kind:?} {start} {end}")?;
+        if text.get(start..end) != Some(token.text) {
+            out.push_str(" with another text")?;
+        }
+    }
+    Ok(out)
+}
+
+/// The layout of the list of a text's lines.
+fn laid_out_at_once(alloc: Global, text: &str) -> Result<String, Fault> {
+    let source = read_source(alloc, text.as_bytes())?;
+    let lines = tokens(alloc, &source)?;
+    let tokens = layout(alloc, &source, lines.as_slice())?;
+    Ok(listed(alloc, text, tokens.as_slice())?)
+}
+
+/// The layout of the list of a text's lines, or the fault.
+pub fn list_text(alloc: Global, text: &str) -> Result<String, AllocError> {
+    match laid_out_at_once(alloc, text) {
+        Ok(listed) => Ok(listed),
+        Err(fault) => fault_text(alloc, fault, 0),
+    }
 }

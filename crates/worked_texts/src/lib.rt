@@ -8,6 +8,7 @@ mod lists;
 mod modules;
 mod parts;
 mod refusals;
+mod sources;
 mod tables;
 
 pub use tables::judge;

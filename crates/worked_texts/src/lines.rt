@@ -1,7 +1,6 @@
 //! Texts, and the lines of tokens of each.
 use crate::parts::fault_text;
 use pc_source::{Fault, read_source};
-use pc_tables::{TableFault, Tally, rows};
 use pc_token::{Line, TokenKind, tokens};
 use std::alloc::{AllocError, Global};
 
@@ -62,14 +61,10 @@ fn shown(alloc: Global, text: &str) -> Result<String, Fault> {
     Ok(out)
 }
 
-/// Counts the texts of a table.
-pub fn count_lines(alloc: Global, table: &str, tally: &mut Tally) -> Result<(), TableFault> {
-    for row in rows(alloc, table)? {
-        let got = match shown(alloc, row.text.as_str()) {
-            Ok(lines) => lines,
-            Err(fault) => fault_text(alloc, fault, 0)?,
-        };
-        tally.count(row.written.as_str(), row.want.as_str(), got.as_str())?;
+/// Each line of a text, or its refusal.
+pub fn lines_text(alloc: Global, text: &str) -> Result<String, AllocError> {
+    match shown(alloc, text) {
+        Ok(lines) => Ok(lines),
+        Err(fault) => fault_text(alloc, fault, 0),
     }
-    Ok(())
 }

@@ -1,10 +1,10 @@
 //! Lists of tokens that no text spells, and the trees of statements.
 //!
 //! In a text the words `NL`, `IN`, `OUT` and `END` stand for the marks of the layout. Names are ASCII.
-use crate::parts::{fault_text, named_part};
-use pc_parse::parse;
-use pc_source::{Fault, read_source};
-use pc_tables::{TableFault, Tally, rows};
+use crate::parts::fault_text;
+use pc_parse::{parse, parse_from};
+use pc_source::{Fault, Refusal, RefusalCode, read_source};
+use pc_tables::TableFault;
 use pc_token::{Tok, Token, TokenKind, tokens};
 use pc_tree::{ItemKind, Module};
 use std::alloc::{AllocError, Global};
@@ -51,31 +51,52 @@ fn answer(alloc: Global, before: &str, text: &str) -> Result<String, AllocError>
     }
 }
 
-/// Counts the rows of a part of a table.
-fn count_part(alloc: Global, part: &str, tally: &mut Tally) -> Result<(), TableFault> {
-    let (name, lines) = named_part(part)?;
-    let before = match name {
-        "LIST" => "",
-        "SUITE" => BEFORE,
-        _ => return Err(TableFault::Form),
-    };
-    for row in rows(alloc, lines)? {
-        let got = answer(alloc, before, row.text.as_str())?;
-        tally.count(row.written.as_str(), row.want.as_str(), got.as_str())?;
+/// The module that the tokens of a text spell, with a fault of the stream behind them.
+fn broken_off(alloc: Global, text: &str) -> Result<Module, Fault> {
+    let source = read_source(alloc, text.as_bytes())?;
+    let lines = tokens(alloc, &source)?;
+    let mut items = Vec::new(alloc);
+    for line in lines.iter() {
+        for token in line.tokens.iter() {
+            items.push(Ok(marked(token)))?;
+        }
     }
-    Ok(())
+    items.push(Err(Fault::Refused(Refusal {
+        code: RefusalCode::L1,
+        byte: text.len(),
+    })))?;
+    parse_from(alloc, items.into_iter())
 }
 
-/// Counts the lists of a table.
-pub fn count_lists(alloc: Global, table: &str, tally: &mut Tally) -> Result<(), TableFault> {
-    for part in table.split("§ ").skip(1) {
-        count_part(alloc, part, tally)?;
+/// Whether a text with a fault of the stream behind it is a module, or its refusal.
+fn answer_to_stream(alloc: Global, text: &str) -> Result<String, AllocError> {
+    match broken_off(alloc, text) {
+        Ok(_) => String::from_str(alloc, "module"),
+        Err(fault) => fault_text(alloc, fault, 0),
     }
-    Ok(())
+}
+
+/// A module as it is printed, or its refusal.
+fn printed(alloc: Global, text: &str) -> Result<String, AllocError> {
+    match parsed(alloc, text) {
+        Ok(module) => format!(in alloc; "{module:?}"),
+        Err(fault) => fault_text(alloc, fault, 0),
+    }
+}
+
+/// What comes of a row of a part of this name.
+pub fn list_answer(alloc: Global, name: &str, text: &str) -> Result<String, TableFault> {
+    match name {
+        "LIST" => Ok(answer(alloc, "", text)?),
+        "SUITE" => Ok(answer(alloc, BEFORE, text)?),
+        "STREAM" => Ok(answer_to_stream(alloc, text)?),
+        "MODULE" => Ok(printed(alloc, text)?),
+        _ => Err(TableFault::Form),
+    }
 }
 
 /// The statements of the first function of a module, as they are printed.
-fn statements(alloc: Global, text: &str) -> Result<String, AllocError> {
+pub fn statements(alloc: Global, text: &str) -> Result<String, AllocError> {
     match parsed(alloc, text) {
         Ok(module) => match module.items.first().map(|item| &item.kind) {
             Some(ItemKind::Def(def)) => format!(in alloc; "{:?}", def.body),
@@ -83,13 +104,4 @@ fn statements(alloc: Global, text: &str) -> Result<String, AllocError> {
         },
         Err(fault) => fault_text(alloc, fault, 0),
     }
-}
-
-/// Counts the modules of a table, of which each row has the statements of the first function.
-pub fn count_trees(alloc: Global, table: &str, tally: &mut Tally) -> Result<(), TableFault> {
-    for row in rows(alloc, table)? {
-        let got = statements(alloc, row.text.as_str())?;
-        tally.count(row.written.as_str(), row.want.as_str(), got.as_str())?;
-    }
-    Ok(())
 }

@@ -1,7 +1,7 @@
 //! Modules, and texts that are a token away from one.
-use crate::parts::{fault_text, named_part};
+use crate::parts::fault_text;
 use pc_front::read_module;
-use pc_tables::{TableFault, Tally, rows};
+use pc_tables::TableFault;
 use std::alloc::{AllocError, Global};
 
 /// What stands before and behind the rows of a part of a table, so that a row is one part of a module.
@@ -97,21 +97,8 @@ fn answer(alloc: Global, frame: Frame, row: &str) -> Result<String, AllocError> 
     }
 }
 
-/// Counts the rows of a part of a table.
-fn count_part(alloc: Global, part: &str, tally: &mut Tally) -> Result<(), TableFault> {
-    let (name, lines) = named_part(part)?;
+/// What a row of a part of this name comes to.
+pub fn module_answer(alloc: Global, name: &str, row: &str) -> Result<String, TableFault> {
     let frame = frame_of(name)?;
-    for row in rows(alloc, lines)? {
-        let got = answer(alloc, frame, row.text.as_str())?;
-        tally.count(row.written.as_str(), row.want.as_str(), got.as_str())?;
-    }
-    Ok(())
-}
-
-/// Counts the rows of a table.
-pub fn count_modules(alloc: Global, table: &str, tally: &mut Tally) -> Result<(), TableFault> {
-    for part in table.split("§ ").skip(1) {
-        count_part(alloc, part, tally)?;
-    }
-    Ok(())
+    Ok(answer(alloc, frame, row)?)
 }

@@ -1,0 +1,24 @@
+//! Texts of tables that stand for bytes.
+use crate::TableFault;
+use crate::row::written_out;
+use std::alloc::Global;
+
+/// The bytes of a text in which `⟦195⟧` stands for the byte of that number, and `⟨65×+a⟩` for `+a` 65 times.
+///
+/// # Errors
+///
+/// `Form` where no byte has such a number, or a part that is repeated has none.
+pub fn bytes_of(alloc: Global, text: &str) -> Result<Vec<u8>, TableFault> {
+    let text = written_out(alloc, text)?;
+    let mut bytes = Vec::new(alloc);
+    for piece in text.split('⟦') {
+        match piece.split_once('⟧') {
+            Some((number, behind)) => {
+                bytes.push(number.parse().map_err(|_| TableFault::Form)?)?;
+                bytes.extend_from_slice(behind.as_bytes())?;
+            }
+            None => bytes.extend_from_slice(piece.as_bytes())?,
+        }
+    }
+    Ok(bytes)
+}
