@@ -13,7 +13,7 @@ use Rattle.pc_types.specs.Shape.{nodes, nodes_of, node_limit, trees}
 use Rattle.pc_types.specs.Head.{head_of}
 use Rattle.pc_types.specs.Store.{KeepsTypes, MeansWithin}
 use Rattle.pc_types.specs.declared.head.Head.{Head}
-use Rattle.pc_types.specs.Annotations.{reading, readings}
+use Rattle.pc_ann.specs.Annotations.{reading, readings}
 use Rattle.pc_ann.specs.Listed.{anns_of_list, part_findings, parts_findings}
 use Rattle.pc_ann.specs.Internal.TypesRead.{IsRead, AreRead, with_one}
 

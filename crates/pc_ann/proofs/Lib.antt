@@ -6,3 +6,6 @@ pub mod Each
 pub mod Forms
 pub mod Parts
 pub mod Texts
+pub mod Readings
+pub mod Earlier
+pub mod ParentsOf

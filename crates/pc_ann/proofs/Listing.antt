@@ -15,7 +15,7 @@ use Rattle.pc_scope.specs.Resolution.{resolve_in_module}
 use Rattle.pc_types.specs.Tree.{Tree}
 use Rattle.pc_types.specs.Below.{Bases}
 use Rattle.pc_types.specs.Shape.{nodes, node_limit}
-use Rattle.pc_types.specs.Annotations.{named_type, applied_type, empty_type, union_type, reading, readings, PartFinds, PartsFind, IsTooLarge, AnnFinds, OptionAnnFinds}
+use Rattle.pc_ann.specs.Annotations.{named_type, applied_type, empty_type, union_type, reading, readings, PartFinds, PartsFind, IsTooLarge, AnnFinds, OptionAnnFinds}
 use Rattle.pc_ann.specs.Listed.{without_type, inside_type, part_findings, parts_findings, ann_findings, option_findings, AnnFindingsAreListed, OptionalFindingsAreListed}
 
 in_none : {f : Finding} → Contains [] f → ⊥

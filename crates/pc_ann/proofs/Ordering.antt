@@ -3,7 +3,7 @@ use Rattle.std.proofs.Common.{◌≡◌, ℕ, List, [], ◌∷◌, ◌++◌, map
 use Rattle.std.proofs.lemmas.List.{map-append}
 use Rattle.std.proofs.lemmas.List.Elements.{All-append, All-cons, All-take, All-drop}
 use Rattle.pc_types.specs.Tree.{Tree}
-use Rattle.pc_types.specs.Annotations.{insert_member, in_union_order}
+use Rattle.pc_ann.specs.Annotations.{insert_member, in_union_order}
 
 -- members put at their places among others, from the last to the first
 abbrev pub placed_each : List Tree → List Tree → List Tree

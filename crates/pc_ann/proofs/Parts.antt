@@ -12,7 +12,7 @@ use Rattle.pc_scope.specs.Resolution.{resolve_in_module}
 use Rattle.pc_types.specs.Tree.{Tree, Any}
 use Rattle.pc_types.specs.Below.{Bases}
 use Rattle.pc_types.specs.declared.head.Head.{Head}
-use Rattle.pc_types.specs.Annotations.{applied_type, union_type, reading, readings}
+use Rattle.pc_ann.specs.Annotations.{applied_type, union_type, reading, readings}
 use Rattle.pc_ann.specs.Listed.{without_type, inside_type, part_findings, parts_findings}
 use Rattle.pc_ann.specs.Internal.TypesRead.{IsRead, IsReadAny}
 

@@ -6,7 +6,7 @@ use Rattle.pc_types.specs.Head.{head_of}
 use Rattle.pc_types.specs.Store.{MeansWithin}
 use Rattle.pc_types.specs.declared.head.Head.{Head}
 use Rattle.pc_types.specs.declared.head.Head.TheVariants as heads
-use Rattle.pc_types.specs.Annotations.{built_type}
+use Rattle.pc_ann.specs.Annotations.{built_type}
 use Rattle.pc_scope.specs.declared.resolution.Builtin.TheVariants as builtin
 use Rattle.pc_ann.specs.Internal.TypesRead.{AreRead, IsReadAny}
 

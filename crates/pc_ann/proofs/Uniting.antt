@@ -16,8 +16,8 @@ use Rattle.pc_types.specs.Head.{head_of}
 use Rattle.pc_types.specs.Store.{MeansWithin}
 use Rattle.pc_types.specs.declared.head.Head.{Head}
 use Rattle.pc_types.specs.declared.head.Head.TheVariants as heads
-use Rattle.pc_types.specs.Annotations.{is_member, are_apart, is_union, insert_member, in_union_order, union_type, readings}
-use Rattle.pc_types.proofs.Readings.{reading_normal_reduced}
+use Rattle.pc_ann.specs.Annotations.{is_member, are_apart, is_union, insert_member, in_union_order, union_type, readings}
+use Rattle.pc_ann.proofs.Readings.{reading_normal_reduced}
 use Rattle.pc_ann.specs.Internal.TypesRead.{IsReadAny, is_member_head, rank_of_head, head_absorbs, heads_apart, heads_make_union, united_head}
 
 member_by_head : (t : Tree) → is_member_head (head_of t) ≡ is_member t

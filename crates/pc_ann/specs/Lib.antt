@@ -1,3 +1,6 @@
+pub mod Annotations
+pub mod Bases
 pub mod Listed
 pub mod Text
+pub mod WellFormed
 pub mod Internal

@@ -14,8 +14,8 @@ use Rattle.pc_scope.specs.Resolution.{resolve_in_module}
 use Rattle.pc_types.specs.Tree.{Tree}
 use Rattle.pc_types.specs.Below.{Bases}
 use Rattle.pc_types.specs.Shape.{nodes, node_limit}
-use Rattle.pc_types.specs.Annotations.{named_type, applied_type, empty_type, union_type, reading, readings, AnnFinds}
-use Rattle.pc_types.specs.Annotations.{OptionAnnFinds}
+use Rattle.pc_ann.specs.Annotations.{named_type, applied_type, empty_type, union_type, reading, readings, AnnFinds}
+use Rattle.pc_ann.specs.Annotations.{OptionAnnFinds}
 
 -- annotations of the program, as trees
 abbrev pub anns_of_list : List RustAnn → Anns

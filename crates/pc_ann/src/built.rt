@@ -5,7 +5,7 @@ ghost use Rattle.std.specs.Option.{option_map};
 ghost use Rattle.pc_tree.specs.Tree.{module_of};
 ghost use Rattle.pc_scope.specs.declared.resolution.Builtin.TheVariants as builtin;
 ghost use Rattle.pc_types.specs.Store.{KeepsTypes, MeansAny};
-ghost use Rattle.pc_types.specs.Annotations.{atom, named_type, built_type, applied_type, empty_type, readings};
+ghost use Rattle.pc_ann.specs.Annotations.{atom, named_type, built_type, applied_type, empty_type, readings};
 ghost use Rattle.pc_ann.specs.Listed.{anns_of_list};
 ghost use Rattle.pc_ann.specs.Internal.TypesRead.{AreRead, IsReadAny};
 

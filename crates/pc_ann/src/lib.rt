@@ -1,14 +1,16 @@
-//! Annotations read as types, with what is found in them, and types written as texts.
+//! Annotations read as types, with what is found in them, the bases that classes name, and types written as texts.
 #![tactic(auto)]
 
 mod built;
 mod laws;
 mod ordered;
+mod parents;
 mod reading;
 mod text;
 mod union;
 mod whole;
 
-pub use laws::findings_are_listed;
+pub use laws::{annotations_are_well_formed, bases_stand_before, findings_are_listed};
+pub use parents::parents_of;
 pub use text::type_text;
 pub use whole::{read_ann, read_option};

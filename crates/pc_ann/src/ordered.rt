@@ -2,7 +2,7 @@
 
 ghost use Rattle.std.specs.Prelude.{◌≡◌, ◌≤◌, ◌++◌, ◌∷◌, All, IfOk, length, map, take, drop};
 ghost use Rattle.pc_types.specs.Join.{is_before};
-ghost use Rattle.pc_types.specs.Annotations.{insert_member, in_union_order};
+ghost use Rattle.pc_ann.specs.Annotations.{insert_member, in_union_order};
 ghost use Rattle.pc_ann.specs.Internal.TypesRead.{rank_of_head};
 
 use pc_source::OutOfMemory;

@@ -8,7 +8,7 @@ ghost use Rattle.pc_scope.specs.Resolution.{resolve_in_module};
 ghost use Rattle.pc_scope.specs.ModuleScopes.{AreScopes};
 ghost use Rattle.pc_types.specs.Tree.{Any};
 ghost use Rattle.pc_types.specs.Store.{KeepsTypes};
-ghost use Rattle.pc_types.specs.Annotations.{reading, readings};
+ghost use Rattle.pc_ann.specs.Annotations.{reading, readings};
 ghost use Rattle.pc_ann.specs.Listed.{anns_of_list, part_findings, parts_findings};
 ghost use Rattle.pc_ann.specs.Internal.TypesRead.{IsRead, AreRead, with_one};
 ghost use Rattle.std.specs.Option.{option_map};

@@ -5,7 +5,7 @@ ghost use Rattle.std.specs.List.{list_all};
 ghost use Rattle.std.specs.Option.{option_map};
 ghost use Rattle.pc_tree.specs.Tree.{module_of};
 ghost use Rattle.pc_types.specs.Store.{KeepsTypes};
-ghost use Rattle.pc_types.specs.Annotations.{union_type, readings};
+ghost use Rattle.pc_ann.specs.Annotations.{union_type, readings};
 ghost use Rattle.pc_ann.specs.Listed.{anns_of_list};
 ghost use Rattle.pc_ann.specs.Internal.TypesRead.{AreRead, IsReadAny, is_member_head, head_absorbs, heads_apart};
 ghost use Rattle.pc_ann.specs.Internal.TypesRead.{heads_make_union, united_head};

@@ -5,7 +5,7 @@ ghost use Rattle.pc_tree.specs.declared.code.Finding.{Finding as FindingOf};
 ghost use Rattle.pc_tree.specs.Tree.{module_of, ann_of, option_ann_of};
 ghost use Rattle.pc_scope.specs.ModuleScopes.{AreScopes};
 ghost use Rattle.pc_types.specs.Store.{Means, KeepsTypes};
-ghost use Rattle.pc_types.specs.Annotations.{read_ann, read_option, AnnFinds, OptionAnnFinds};
+ghost use Rattle.pc_ann.specs.Annotations.{read_ann, read_option, AnnFinds, OptionAnnFinds};
 ghost use Rattle.pc_ann.specs.Listed.{ann_findings, option_findings};
 
 use crate::reading::{Setting, read};

@@ -6,7 +6,7 @@ ghost use Rattle.std.specs.Option.{option_map};
 ghost use Rattle.pc_tree.specs.Tree.{expr_of, ann_of, name_of, option_expr_of, module_of};
 ghost use Rattle.pc_types.specs.Tree.{Tree};
 ghost use Rattle.pc_types.specs.Store.{KeepsTypes, Means};
-ghost use Rattle.pc_types.specs.Annotations.{read_ann};
+ghost use Rattle.pc_ann.specs.Annotations.{read_ann};
 ghost use Rattle.pc_flow.specs.Stored.{env_of, HasOne, HasEach, GivesOne};
 ghost use Rattle.pc_notes.specs.Notes.{notes_of};
 ghost use Rattle.pc_rules.specs.Operations.{Mark};

@@ -9,7 +9,7 @@ use Rattle.std.proofs.lemmas.List.Elements.{All-append, All-weaker}
 use Rattle.std.proofs.lemmas.List.Folds.{list_any-append}
 use Rattle.pc_tree.specs.Tree.{ClassDef, Module}
 use Rattle.pc_types.specs.Tree.{Tree}
-use Rattle.pc_types.specs.Bases.{base_named}
+use Rattle.pc_ann.specs.Bases.{base_named}
 use Rattle.pc_class.specs.declared.table.Parameter.{Parameter as RustParameter}
 use Rattle.pc_class.specs.declared.table.Method.{Method as RustMethod}
 use Rattle.pc_class.specs.declared.parts.ClassNode.{ClassNode}

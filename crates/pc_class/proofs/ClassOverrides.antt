@@ -10,7 +10,7 @@ use Rattle.pc_tree.specs.Tree.{ClassDef, Module}
 use Rattle.pc_scope.specs.Bindings.{classes_in}
 use Rattle.pc_types.specs.Tree.{Tree}
 use Rattle.pc_types.specs.Below.{Bases}
-use Rattle.pc_types.specs.Bases.{base_named}
+use Rattle.pc_ann.specs.Bases.{base_named}
 use Rattle.pc_class.specs.declared.table.Method.{Method as RustMethod}
 use Rattle.pc_class.specs.Facts.{Method, ClassFacts, class_facts_at, base_facts, own_methods, class_facts_behind, classes_behind, classes_of}
 use Rattle.pc_class.specs.OverrideFindings.{found_at_method, found_at_methods, class_overrides, overrides_from, override_findings}

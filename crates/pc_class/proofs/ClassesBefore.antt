@@ -15,7 +15,7 @@ use Rattle.pc_scope.specs.declared.resolution.Res.TheVariants as res
 use Rattle.pc_scope.specs.Reserved.{builtin_of, is_builtin_name}
 use Rattle.pc_scope.specs.Bindings.{classes_in}
 use Rattle.pc_scope.specs.Resolution.{bound_first, or_meaning, builtin_meaning, resolve_in_module}
-use Rattle.pc_types.specs.Bases.{earlier_class}
+use Rattle.pc_ann.specs.Bases.{earlier_class}
 use Rattle.pc_class.proofs.ReservedNames.{reserved_same}
 
 -- items, the nearest first, and then others, as they stand in the text

@@ -5,8 +5,8 @@ use Rattle.std.proofs.lemmas.Option.{same_Some, slice_get_past}
 use Rattle.pc_tree.specs.Tree.{ClassDef, Module}
 use Rattle.pc_scope.specs.Bindings.{classes_in}
 use Rattle.pc_types.specs.Below.{base_of}
-use Rattle.pc_types.specs.Bases.{base_named, bases_from, bases_of}
-use Rattle.pc_types.proofs.Earlier.{smaller}
+use Rattle.pc_ann.specs.Bases.{base_named, bases_from, bases_of}
+use Rattle.pc_ann.proofs.Earlier.{smaller}
 use Rattle.pc_class.specs.Facts.{ClassFacts, class_in, class_facts_at, base_facts, own_fields, own_methods, class_facts_behind, classes_behind, classes_of}
 
 get_at_end : {A : Type 0} (xs : List A) (y : A) (ys : List A) → slice_get (xs ++ y ∷ ys) (length xs) ≡ Some y

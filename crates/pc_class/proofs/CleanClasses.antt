@@ -15,8 +15,8 @@ use Rattle.pc_scope.specs.Bindings.{classes_in}
 use Rattle.pc_scope.proofs.Among.{none_among, among_first}
 use Rattle.pc_types.specs.Tree.{Tree}
 use Rattle.pc_types.specs.Below.{Bases, base_of}
-use Rattle.pc_types.specs.Bases.{bases_of}
-use Rattle.pc_types.proofs.Earlier.{smaller}
+use Rattle.pc_ann.specs.Bases.{bases_of}
+use Rattle.pc_ann.proofs.Earlier.{smaller}
 use Rattle.pc_class.specs.declared.table.Method.{Method as RustMethod}
 use Rattle.pc_class.specs.Facts.{Method, ClassFacts, class_facts_at, base_facts, method_by_name, own_methods, classes_of}
 use Rattle.pc_class.specs.Findings.{base_class}

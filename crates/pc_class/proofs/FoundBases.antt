@@ -12,7 +12,7 @@ use Rattle.pc_scope.specs.Internal.FindingLists.{at_code}
 use Rattle.pc_scope.proofs.Among.{none_among, first_among, among_first, either}
 use Rattle.pc_scope.proofs.Finds.{at_both}
 use Rattle.pc_types.specs.Below.{base_of}
-use Rattle.pc_types.specs.Bases.{base_named, bases_of}
+use Rattle.pc_ann.specs.Bases.{base_named, bases_of}
 use Rattle.pc_class.specs.Findings.{ClassNumbered, HasNoBase}
 use Rattle.pc_class.specs.Entries.{missing_base, missing_bases}
 use Rattle.pc_class.specs.NameFindings.{FindsBase}

@@ -15,7 +15,7 @@ use Rattle.pc_scope.specs.Bindings.{classes_in}
 use Rattle.pc_scope.specs.Internal.FindingLists.{at_code}
 use Rattle.pc_scope.specs.Resolution.{resolve_in_module}
 use Rattle.pc_scope.proofs.Among.{none_among, in_code, to_code}
-use Rattle.pc_types.specs.Bases.{earlier_class, base_named}
+use Rattle.pc_ann.specs.Bases.{earlier_class, base_named}
 use Rattle.pc_class.specs.Built.{class_findings}
 use Rattle.pc_class.specs.ClassFindingsLaw.{clashes_from}
 use Rattle.pc_class.specs.Entries.{inherited_by, class_entries, clash_places}

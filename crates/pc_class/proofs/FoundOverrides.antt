@@ -15,10 +15,10 @@ use Rattle.pc_scope.specs.Resolution.{is_one_of}
 use Rattle.pc_scope.proofs.Among.{none_among, first_among, among_first}
 use Rattle.pc_types.specs.Below.{Bases, AreSmaller, Static}
 use Rattle.pc_types.specs.Assignable.{Assignable}
-use Rattle.pc_types.specs.Bases.{bases_of}
+use Rattle.pc_ann.specs.Bases.{bases_of}
 use Rattle.pc_types.proofs.Truth.{yes_is, is_no}
 use Rattle.pc_types.proofs.DecidedSubtyping.{static_decided, assignable_decided}
-use Rattle.pc_types.proofs.Earlier.{smaller}
+use Rattle.pc_ann.proofs.Earlier.{smaller}
 use Rattle.pc_class.specs.Facts.{Method, ClassFacts, binds_method, method_made, own_methods}
 use Rattle.pc_class.specs.Overrides.{has_shape_of, TypeFlow, override_flows, IsGood, IsStatic, Judges, static, dynamic, wrong, overridden}
 use Rattle.pc_class.specs.Findings.{ClassNumbered, IsOverride, base_class, member_texts}

@@ -8,7 +8,7 @@ use Rattle.pc_tree.specs.Tree.{ClassDef, Module, item_of}
 use Rattle.pc_tree.proofs.Stops.{cons_at}
 use Rattle.std.proofs.lemmas.List.{map-append}
 use Rattle.pc_scope.specs.Bindings.{as_class, classes_in}
-use Rattle.pc_types.specs.Bases.{base_named, bases_from, bases_of}
+use Rattle.pc_ann.specs.Bases.{base_named, bases_from, bases_of}
 use Rattle.pc_types.specs.Tree.{Tree}
 use Rattle.pc_class.specs.Tables.{ClassEntry, classes_with}
 use Rattle.pc_class.specs.Parts.{bases_in}

@@ -13,7 +13,7 @@ use Rattle.pc_class.specs.Bases.{bases_of}
 use Rattle.pc_class.specs.Facts.{TypedParameter, Method, method_made}
 use Rattle.pc_class.specs.Overrides.{has_shape_of, TypeFlow, parameter_flows, override_flows, IsGood, IsStatic, Judges, static, dynamic, wrong, IsJudgedOnce, overridden}
 use Rattle.pc_class.specs.Findings.{base_class}
-use Rattle.pc_types.proofs.Earlier.{smaller}
+use Rattle.pc_ann.proofs.Earlier.{smaller}
 use Rattle.pc_class.specs.WellFormed.{ParametersWellFormed, MethodWellFormed, MethodsWellFormed}
 use Rattle.pc_class.proofs.WellFormed.{filter_well_formed, made_well_formed, base_well_formed}
 

@@ -11,7 +11,7 @@ use Rattle.pc_tree.specs.Tree.{Member, field_member, method_member, ClassDef, Mo
 use Rattle.pc_scope.specs.Bindings.{classes_in}
 use Rattle.pc_scope.specs.Resolution.{is_one_of}
 use Rattle.pc_types.specs.Below.{base_of}
-use Rattle.pc_types.specs.Bases.{base_named, bases_of}
+use Rattle.pc_ann.specs.Bases.{base_named, bases_of}
 use Rattle.pc_class.specs.Facts.{Method, ClassFacts, class_in, class_facts_at, base_facts, method_by_name, binds_method, method_made, own_methods, classes_of}
 use Rattle.pc_class.specs.Entries.{inherited_by}
 use Rattle.pc_class.specs.Overrides.{overridden}

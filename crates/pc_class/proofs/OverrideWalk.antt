@@ -8,7 +8,7 @@ use Rattle.std.proofs.lemmas.List.Elements.{All-contains, All-weaker}
 use Rattle.pc_tree.specs.Tree.{Module}
 use Rattle.pc_types.specs.Tree.{Tree}
 use Rattle.pc_types.specs.Below.{base_of}
-use Rattle.pc_types.specs.Bases.{bases_of}
+use Rattle.pc_ann.specs.Bases.{bases_of}
 use Rattle.pc_class.specs.declared.table.Method.{Method as RustMethod}
 use Rattle.pc_class.specs.Facts.{Method, ClassFacts, class_facts_at, base_facts, method_by_name, classes_of}
 use Rattle.pc_class.specs.Overrides.{overridden}

@@ -7,7 +7,7 @@ use Rattle.pc_tree.specs.declared.code.Finding.{Finding}
 use Rattle.pc_scope.specs.Bindings.{classes_in}
 use Rattle.pc_scope.specs.Internal.FindingLists.{at_code}
 use Rattle.pc_scope.specs.ModuleScopes.{AreScopes}
-use Rattle.pc_types.specs.Bases.{bases_of, base_named}
+use Rattle.pc_ann.specs.Bases.{bases_of, base_named}
 use Rattle.pc_class.specs.declared.reading.Setting.{Setting}
 use Rattle.pc_class.specs.NameMaps.{NameMaps}
 use Rattle.pc_class.specs.Facts.{ClassFacts, base_facts, class_facts_behind}

@@ -9,8 +9,8 @@ use Rattle.pc_tree.specs.Stopping.{one_if, name_of_member}
 use Rattle.pc_scope.specs.Reserved.{is_builtin_name}
 use Rattle.pc_scope.specs.Resolution.{is_one_of}
 use Rattle.pc_types.specs.Below.{Bases, base_of}
-use Rattle.pc_types.specs.Bases.{bases_of}
-use Rattle.pc_types.specs.Annotations.{read_ann}
+use Rattle.pc_ann.specs.Bases.{bases_of}
+use Rattle.pc_ann.specs.Annotations.{read_ann}
 use Rattle.pc_class.specs.declared.entries.Entry.{Entry as RustEntry}
 use Rattle.pc_class.specs.declared.entries.Held.{Held}
 use Rattle.pc_class.specs.Facts.{TypedParameter, Method, ClassFacts, field_by_name, method_by_name, method_made}

@@ -9,7 +9,7 @@ use Rattle.pc_scope.specs.Reserved.{is_builtin_name}
 use Rattle.pc_scope.specs.Bindings.{classes_in}
 use Rattle.pc_scope.specs.Resolution.{is_one_of}
 use Rattle.pc_types.specs.Tree.{Tree}
-use Rattle.pc_types.specs.Annotations.{read_ann, read_option}
+use Rattle.pc_ann.specs.Annotations.{read_ann, read_option}
 use Rattle.pc_class.specs.Bases.{bases_of, base_named}
 
 -- a parameter of a function, or a field as a parameter of its class

@@ -1,4 +1,4 @@
-pub use Rattle.pc_types.specs.Bases
+pub use Rattle.pc_ann.specs.Bases
 pub mod Built
 pub mod ClassFindingsLaw
 pub mod Entries

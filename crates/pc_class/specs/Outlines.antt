@@ -7,7 +7,7 @@ use Rattle.std.specs.List.{list_any}
 use Rattle.pc_tree.specs.declared.tree.Field.{Field as RustField}
 use Rattle.pc_tree.specs.declared.tree.FuncDef.{FuncDef as RustFuncDef}
 use Rattle.pc_tree.specs.Tree.{ClassDef, Item, Module, field_of, func_of}
-use Rattle.pc_types.specs.Bases.{base_named}
+use Rattle.pc_ann.specs.Bases.{base_named}
 use Rattle.pc_tree.specs.declared.code.Code.TheVariants.{E06, E08}
 use Rattle.pc_tree.specs.declared.code.Finding.{Finding}
 use Rattle.pc_scope.specs.Bindings.{as_class, classes_in}

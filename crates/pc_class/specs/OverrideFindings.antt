@@ -13,7 +13,7 @@ use Rattle.pc_tree.specs.Tree.{ClassDef, Module}
 use Rattle.pc_scope.specs.Bindings.{classes_in}
 use Rattle.pc_types.specs.Below.{Bases}
 use Rattle.pc_types.specs.Computed.{static_test, assignable_test}
-use Rattle.pc_types.specs.Bases.{bases_of}
+use Rattle.pc_ann.specs.Bases.{bases_of}
 use Rattle.pc_class.specs.Facts.{Method, own_methods}
 use Rattle.pc_class.specs.Overrides.{TypeFlow, has_shape_of, override_flows, overridden}
 use Rattle.pc_class.specs.Findings.{ClassNumbered, IsOverride, base_class}

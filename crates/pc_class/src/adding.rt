@@ -3,7 +3,7 @@
 ghost use Rattle.std.specs.Prelude.{◌≡◌, ◌+◌, ℕ, length, ◌++◌, ◌∷◌, [], List, map, None, OnOk, IfOk};
 ghost use Rattle.pc_tree.specs.Tree.{Module as Tree, class_of};
 ghost use Rattle.pc_types.specs.Store.{KeepsTypes};
-ghost use Rattle.pc_types.specs.Bases.{base_named};
+ghost use Rattle.pc_ann.specs.Bases.{base_named};
 ghost use Rattle.pc_class.specs.declared.table.Parameter.{Parameter as ParameterOf};
 ghost use Rattle.pc_class.specs.declared.table.Method.{Method as MethodOf};
 ghost use Rattle.pc_class.specs.Facts.{class_facts_behind, base_facts};

@@ -4,7 +4,7 @@ ghost use Rattle.std.specs.Prelude.{◌≡◌, ◌++◌, ◌∷◌, ◌+◌, [],
 ghost use Rattle.pc_tree.specs.Tree.{item_of, module_of};
 ghost use Rattle.pc_scope.specs.Bindings.{classes_in};
 ghost use Rattle.pc_scope.specs.ModuleScopes.{AreScopes};
-ghost use Rattle.pc_types.specs.Bases.{bases_of};
+ghost use Rattle.pc_ann.specs.Bases.{bases_of};
 ghost use Rattle.pc_types.specs.Store.{KeepsTypes};
 ghost use Rattle.pc_class.specs.Facts.{classes_behind, classes_of};
 ghost use Rattle.pc_class.specs.Outlines.{IsClassNumbered};
@@ -18,6 +18,7 @@ use crate::named::NamedMaps;
 use crate::parts::TableParts;
 use crate::reading::Setting;
 use crate::table::ClassTable;
+use pc_ann::parents_of;
 use pc_scope::Scopes;
 use pc_source::OutOfMemory;
 use pc_tree::{Findings, Item, ItemKind, Module};
@@ -128,6 +129,6 @@ pub fn class_table<S: TypeStore>(
         parents,
     };
     let parts = all_classes(&setting, store, alloc, found)?;
-    let own_parents = Parents::of(alloc, tree, scopes)?;
+    let own_parents = parents_of(alloc, tree, scopes)?;
     Ok(ClassTable::of(parts, own_parents))
 }

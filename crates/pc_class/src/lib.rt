@@ -20,5 +20,5 @@ pub use laws::{
     methods_are_judged_once, names_are_found, overrides_are_found,
 };
 pub use overriding::override_findings;
-pub use pc_types::bases_stand_before;
+pub use pc_ann::bases_stand_before;
 pub use table::{ClassTable, Field, Method, Parameter};

@@ -6,7 +6,7 @@ ghost use Rattle.std.specs.List.{list_all};
 ghost use Rattle.pc_tree.specs.Tree.{ClassDef as ClassTree, module_of};
 ghost use Rattle.pc_scope.specs.Bindings.{classes_in};
 ghost use Rattle.pc_types.specs.Tree.{Tree};
-ghost use Rattle.pc_types.specs.Bases.{bases_of};
+ghost use Rattle.pc_ann.specs.Bases.{bases_of};
 ghost use Rattle.pc_types.specs.Store.{KeepsTypes};
 ghost use Rattle.pc_class.specs.Facts.{classes_of};
 ghost use Rattle.pc_class.specs.Overrides.{has_shape_of, TypeFlow, parameter_flows, overridden};

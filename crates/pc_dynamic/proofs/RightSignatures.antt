@@ -16,9 +16,9 @@ use Rattle.pc_types.specs.Tree.{Tree}
 use Rattle.pc_types.specs.Below.{Bases}
 use Rattle.pc_types.specs.Shape.{nodes, node_limit}
 use Rattle.pc_types.specs.WellFormed.{IsWellFormed}
-use Rattle.pc_types.specs.Annotations.{named_type, applied_type, empty_type, union_type, reading, readings, read_ann, read_option}
-use Rattle.pc_types.proofs.Earlier.{smaller}
-use Rattle.pc_types.proofs.Readings.{read_ann_well_formed, read_option_well_formed}
+use Rattle.pc_ann.specs.Annotations.{named_type, applied_type, empty_type, union_type, reading, readings, read_ann, read_option}
+use Rattle.pc_ann.proofs.Earlier.{smaller}
+use Rattle.pc_ann.proofs.Readings.{read_ann_well_formed, read_option_well_formed}
 use Rattle.pc_ann.specs.Listed.{without_type, inside_type, part_findings, parts_findings, ann_findings, option_findings}
 use Rattle.pc_class.specs.Bases.{bases_of}
 use Rattle.pc_class.specs.Facts.{ClassFacts}

@@ -15,9 +15,9 @@ use Rattle.pc_types.specs.Tree.{Tree, Any, Int, NoneType}
 use Rattle.pc_types.specs.Below.{Bases}
 use Rattle.pc_types.specs.Shape.{members}
 use Rattle.pc_types.specs.WellFormed.{IsWellFormed}
-use Rattle.pc_types.specs.Annotations.{read_ann}
+use Rattle.pc_ann.specs.Annotations.{read_ann}
 use Rattle.pc_types.specs.Computed.{static_test}
-use Rattle.pc_types.proofs.Readings.{read_ann_well_formed}
+use Rattle.pc_ann.proofs.Readings.{read_ann_well_formed}
 use Rattle.pc_class.specs.Bases.{bases_of}
 use Rattle.pc_class.specs.Facts.{TypedParameter, return_type}
 use Rattle.pc_class.specs.WellFormed.{ParametersWellFormed}

@@ -13,10 +13,10 @@ use Rattle.pc_scope.specs.declared.resolution.Owner.TheVariants as owners
 use Rattle.pc_types.specs.Tree.{Tree, NoneType}
 use Rattle.pc_types.specs.Below.{Bases}
 use Rattle.pc_types.specs.WellFormed.{IsWellFormed}
-use Rattle.pc_types.specs.Annotations.{read_ann, read_option}
+use Rattle.pc_ann.specs.Annotations.{read_ann, read_option}
 use Rattle.pc_types.specs.Computed.{static_test}
-use Rattle.pc_types.proofs.Earlier.{smaller}
-use Rattle.pc_types.proofs.Readings.{read_ann_well_formed, read_option_well_formed}
+use Rattle.pc_ann.proofs.Earlier.{smaller}
+use Rattle.pc_ann.proofs.Readings.{read_ann_well_formed, read_option_well_formed}
 use Rattle.pc_ann.specs.Listed.{ann_findings, option_findings}
 use Rattle.pc_class.specs.Bases.{bases_of}
 use Rattle.pc_class.specs.Facts.{ClassFacts, return_type, base_facts, classes_of, binds_field}

@@ -4,7 +4,7 @@ ghost use Rattle.std.specs.Prelude.{◌≡◌, ◌++◌, ◌∷◌, [], map, IfO
 ghost use Rattle.pc_tree.specs.Tree.{ann_of, option_ann_of, param_of, func_of, item_of};
 ghost use Rattle.pc_scope.specs.Bindings.{functions_in};
 ghost use Rattle.pc_types.specs.Store.{Means, KeepsTypes};
-ghost use Rattle.pc_types.specs.Annotations.{read_ann, read_option};
+ghost use Rattle.pc_ann.specs.Annotations.{read_ann, read_option};
 ghost use Rattle.pc_ann.specs.Listed.{ann_findings, option_findings};
 ghost use Rattle.pc_class.specs.Bases.{bases_of};
 ghost use Rattle.pc_class.specs.Facts.{typed_parameter, parameters_of};

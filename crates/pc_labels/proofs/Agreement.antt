@@ -27,7 +27,7 @@ use Rattle.pc_scope.specs.Findings as scope
 use Rattle.pc_scope.specs.Findings.{IsUnknownIn, IsEarlyMeaning, IsEarlyName, IsEarlyCallee, ScopeFinds}
 use Rattle.pc_types.specs.Tree.{Tree}
 use Rattle.pc_types.specs.Below.{Bases}
-use Rattle.pc_types.specs.Annotations.{OptionAnnFinds}
+use Rattle.pc_ann.specs.Annotations.{OptionAnnFinds}
 use Rattle.pc_class.specs.Bases.{bases_of}
 use Rattle.pc_class.specs.Facts.{ClassFacts, return_type}
 use Rattle.pc_class.specs.Findings.{base_class}

@@ -10,12 +10,12 @@ use Rattle.pc_scope.specs.Resolution.{locals, receiver}
 use Rattle.pc_types.specs.Tree.{Any, NoneType, Tree}
 use Rattle.pc_types.specs.Below.{AreSmaller, Bases, Static}
 use Rattle.pc_types.specs.WellFormed.{IsWellFormed}
-use Rattle.pc_types.specs.Annotations.{read_ann, read_option}
+use Rattle.pc_ann.specs.Annotations.{read_ann, read_option}
 use Rattle.pc_types.proofs.DecidedSubtyping.{Decision, decide_static}
-use Rattle.pc_types.proofs.Readings.{read_ann_well_formed, read_option_well_formed}
+use Rattle.pc_ann.proofs.Readings.{read_ann_well_formed, read_option_well_formed}
 use Rattle.pc_class.specs.Bases.{bases_of}
 use Rattle.pc_class.specs.Facts.{binds_field, return_type}
-use Rattle.pc_types.proofs.Earlier.{smaller}
+use Rattle.pc_ann.proofs.Earlier.{smaller}
 use Rattle.pc_class.specs.WellFormed.{ParametersWellFormed}
 use Rattle.pc_class.proofs.WellFormed.{params_well_formed, returned_well_formed}
 use Rattle.pc_flow.specs.Environment.{Env, none_assigned}

@@ -15,7 +15,7 @@ use Rattle.pc_scope.specs.Bindings.{texts, param_names}
 use Rattle.pc_scope.specs.Resolution.{index_of, is_one_of, first_of_each, receiver, entry_texts, locals, local_meaning, or_meaning, resolve_in_module}
 use Rattle.pc_types.specs.Tree.{Tree}
 use Rattle.pc_types.specs.Below.{Bases}
-use Rattle.pc_types.specs.Annotations.{read_ann, read_option}
+use Rattle.pc_ann.specs.Annotations.{read_ann, read_option}
 use Rattle.pc_class.specs.Bases.{bases_of}
 use Rattle.pc_class.specs.Facts.{TypedParameter, ClassFacts, parameters_of, return_type, binds_field}
 use Rattle.pc_class.specs.Findings.{base_class}

@@ -19,7 +19,7 @@ use Rattle.pc_scope.specs.Expressions.{is_instance_test, first_or_all, parts_in,
 use Rattle.pc_types.specs.Tree.{Tree, Any, Int, NoneType}
 use Rattle.pc_types.specs.Below.{Bases}
 use Rattle.pc_types.specs.Shape.{members}
-use Rattle.pc_types.specs.Annotations.{named_type, applied_type, empty_type, union_type, readings, PartFinds, PartsFind, AnnFinds}
+use Rattle.pc_ann.specs.Annotations.{named_type, applied_type, empty_type, union_type, readings, PartFinds, PartsFind, AnnFinds}
 use Rattle.pc_flow.specs.Environment.{Env, declared_type}
 use Rattle.pc_flow.specs.Narrowing.{narrow}
 use Rattle.pc_rules.specs.Operations.{Mark, clean}

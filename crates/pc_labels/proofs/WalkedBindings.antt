@@ -12,8 +12,8 @@ use Rattle.pc_scope.specs.declared.resolution.Res.TheVariants as res
 use Rattle.pc_scope.specs.Resolution.{is_one_of}
 use Rattle.pc_types.specs.Tree.{Tree, Any}
 use Rattle.pc_types.specs.WellFormed.{IsWellFormed}
-use Rattle.pc_types.specs.Annotations.{read_ann}
-use Rattle.pc_types.proofs.Readings.{read_ann_well_formed}
+use Rattle.pc_ann.specs.Annotations.{read_ann}
+use Rattle.pc_ann.proofs.Readings.{read_ann_well_formed}
 use Rattle.pc_flow.specs.Environment.{Env, declared_type, assign, assigned_type}
 use Rattle.pc_flow.specs.WellFormed.{IsWellFormedIfAny}
 use Rattle.pc_flow.proofs.Conditions.{assign_well_formed, assigned_well_formed, current_well_formed}

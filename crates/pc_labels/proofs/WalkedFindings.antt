@@ -10,7 +10,7 @@ use Rattle.pc_tree.specs.Tree.{Expr, Ann, number, index, Module}
 use Rattle.pc_scope.proofs.Among.{none_among, first_among, among_first, either}
 use Rattle.pc_types.specs.Tree.{Any}
 use Rattle.pc_types.specs.Below.{Bases}
-use Rattle.pc_types.specs.Annotations.{AnnFinds}
+use Rattle.pc_ann.specs.Annotations.{AnnFinds}
 use Rattle.pc_ann.specs.Listed.{ann_findings}
 use Rattle.pc_ann.proofs.Listing.{all_listed}
 use Rattle.pc_notes.specs.Notes.{Note, plain_note, findings_of}

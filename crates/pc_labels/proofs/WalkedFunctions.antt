@@ -23,7 +23,7 @@ use Rattle.pc_rules.specs.Labels.{IsCodeAt}
 use Rattle.pc_rules.specs.Signatures.{body_context}
 use Rattle.pc_rules.proofs.ComputedFlows.{are_tests}
 use Rattle.pc_rules.proofs.Contexts.{bodies_well_formed}
-use Rattle.pc_types.proofs.Earlier.{smaller}
+use Rattle.pc_ann.proofs.Earlier.{smaller}
 use Rattle.pc_labels.specs.Statements.{NamesBound}
 use Rattle.pc_labels.specs.Modules.{DeclaredEntry, LawfulEntry, assigned_at_entry, entry_env, entry_parameters, names_entered, ReturnsWell, leaves, may_complete, may_not}
 use Rattle.pc_labels.specs.LabellingLaws.{Setting}

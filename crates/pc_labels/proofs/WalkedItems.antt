@@ -9,7 +9,7 @@ use Rattle.pc_scope.specs.Resolution.{is_one_of}
 use Rattle.pc_scope.specs.declared.resolution.Owner.TheVariants as owners
 use Rattle.pc_types.specs.Tree.{Tree}
 use Rattle.pc_types.specs.WellFormed.{IsWellFormed}
-use Rattle.pc_types.specs.Annotations.{OptionAnnFinds}
+use Rattle.pc_ann.specs.Annotations.{OptionAnnFinds}
 use Rattle.pc_ann.specs.Listed.{option_findings}
 use Rattle.pc_class.specs.Bases.{bases_of}
 use Rattle.pc_class.specs.Facts.{ClassFacts, base_facts, classes_of}

@@ -7,7 +7,7 @@ use Rattle.pc_scope.specs.Resolution.{is_one_of}
 use Rattle.pc_scope.specs.declared.resolution.Owner.{Owner}
 use Rattle.pc_scope.specs.declared.resolution.Owner.TheVariants as owners
 use Rattle.pc_types.specs.Tree.{Tree}
-use Rattle.pc_types.specs.Annotations.{AnnFinds, OptionAnnFinds}
+use Rattle.pc_ann.specs.Annotations.{AnnFinds, OptionAnnFinds}
 use Rattle.pc_class.specs.Bases.{bases_of}
 use Rattle.pc_class.specs.Facts.{ClassFacts}
 use Rattle.pc_flow.specs.WellFormed.{AreWellFormed}

@@ -20,7 +20,7 @@ use Rattle.pc_scope.specs.Resolution.{locals}
 use Rattle.pc_types.specs.Tree.{Tree, Any, NoneType}
 use Rattle.pc_types.specs.Below.{Bases}
 use Rattle.pc_types.specs.Shape.{members}
-use Rattle.pc_types.specs.Annotations.{read_ann}
+use Rattle.pc_ann.specs.Annotations.{read_ann}
 use Rattle.pc_types.specs.Computed.{static_test}
 use Rattle.pc_ann.specs.Listed.{ann_findings}
 use Rattle.pc_class.specs.Bases.{bases_of}

@@ -17,7 +17,7 @@ use Rattle.pc_scope.specs.Findings.{ScopeFinds}
 use Rattle.pc_types.specs.Tree.{Tree, NoneType}
 use Rattle.pc_types.specs.Tree as tree
 use Rattle.pc_types.specs.Below.{Bases, Static}
-use Rattle.pc_types.specs.Annotations.{read_ann, AnnFinds, OptionAnnFinds}
+use Rattle.pc_ann.specs.Annotations.{read_ann, AnnFinds, OptionAnnFinds}
 use Rattle.pc_class.specs.Bases.{bases_of}
 use Rattle.pc_class.specs.Facts.{TypedParameter, ClassFacts, binds_field, parameters_of, return_type}
 use Rattle.pc_class.specs.Findings.{ClassFinds, base_class}

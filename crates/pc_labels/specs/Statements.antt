@@ -21,7 +21,7 @@ use Rattle.pc_scope.specs.Resolution.{is_one_of}
 use Rattle.pc_scope.specs.Reach.{completes}
 use Rattle.pc_types.specs.Tree.{Tree, Any, NoneType}
 use Rattle.pc_types.specs.Shape.{members}
-use Rattle.pc_types.specs.Annotations.{read_ann, AnnFinds}
+use Rattle.pc_ann.specs.Annotations.{read_ann, AnnFinds}
 use Rattle.pc_flow.specs.Environment.{Env, declared_type, assign, assigned_type, join_envs_onto, join_ways, loop_head}
 use Rattle.pc_flow.specs.Narrowing.{narrow}
 use Rattle.pc_rules.specs.Operations.{Mark, clean, offers_mark, StoreOffer, store_codes, store_index_types}

@@ -13,9 +13,9 @@ use Rattle.pc_scope.specs.Resolution.{is_one_of, resolve_in_module}
 use Rattle.pc_types.specs.Tree.{Tree}
 use Rattle.pc_types.specs.Below.{Bases}
 use Rattle.pc_types.specs.WellFormed.{IsWellFormed}
-use Rattle.pc_types.specs.Annotations.{named_type, applied_type, empty_type, union_type, readings, read_ann, read_option, PartFinds, PartsFind, AnnFinds, OptionAnnFinds}
-use Rattle.pc_types.proofs.Earlier.{smaller}
-use Rattle.pc_types.proofs.Readings.{read_ann_well_formed}
+use Rattle.pc_ann.specs.Annotations.{named_type, applied_type, empty_type, union_type, readings, read_ann, read_option, PartFinds, PartsFind, AnnFinds, OptionAnnFinds}
+use Rattle.pc_ann.proofs.Earlier.{smaller}
+use Rattle.pc_ann.proofs.Readings.{read_ann_well_formed}
 use Rattle.pc_ann.specs.Listed.{ann_findings, option_findings}
 use Rattle.pc_ann.proofs.Listing.{listed}
 use Rattle.pc_class.specs.Bases.{bases_of}

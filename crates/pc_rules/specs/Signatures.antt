@@ -11,7 +11,7 @@ use Rattle.pc_scope.specs.Bindings.{functions_in, classes_in}
 use Rattle.pc_scope.specs.Resolution.{is_one_of, resolve_among, resolve_in_module}
 use Rattle.pc_types.specs.Tree.{Tree, Int, Bool, Str, NoneType}
 use Rattle.pc_types.specs.Below.{Bases}
-use Rattle.pc_types.specs.Annotations.{read_ann, read_option, OptionAnnFinds}
+use Rattle.pc_ann.specs.Annotations.{read_ann, read_option, OptionAnnFinds}
 use Rattle.pc_class.specs.Bases.{bases_of}
 use Rattle.pc_class.specs.Facts.{parameters_of, return_type, classes_of}
 use Rattle.pc_rules.specs.Operations.{clean}

@@ -16,7 +16,7 @@ use Rattle.pc_scope.specs.Resolution.{is_one_of}
 use Rattle.pc_scope.specs.Internal.WalkViews.{texts_in}
 use Rattle.pc_types.specs.Tree.{Tree}
 use Rattle.pc_types.specs.Below.{Bases, base_of}
-use Rattle.pc_types.specs.Annotations.{read_ann, read_option}
+use Rattle.pc_ann.specs.Annotations.{read_ann, read_option}
 use Rattle.pc_ann.specs.Listed.{ann_findings, option_findings}
 use Rattle.pc_class.specs.Bases.{bases_of}
 use Rattle.pc_class.specs.Facts.{ClassFacts, field_by_name, method_by_name, base_facts, classes_of}

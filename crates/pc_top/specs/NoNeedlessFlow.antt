@@ -4,7 +4,7 @@ use Rattle.std.specs.Prelude.{◌≡◌, ℕ, List, Some}
 use Rattle.pc_source.specs.declared.place.Place.{Place}
 use Rattle.pc_tree.specs.Tree.{Module}
 use Rattle.pc_types.specs.Tree.{Tree}
-use Rattle.pc_types.specs.Bases.{bases_of}
+use Rattle.pc_ann.specs.Bases.{bases_of}
 use Rattle.pc_types.specs.Below.{Static}
 use Rattle.pc_types.specs.Assignable.{Assignable}
 use Rattle.pc_class.specs.Facts.{classes_of}

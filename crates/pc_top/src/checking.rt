@@ -10,6 +10,7 @@ ghost use Rattle.pc_notes.specs.Notes.{findings_of, flow_noted, notes_of};
 ghost use Rattle.pc_labels.specs.DynamicFlows.{dynamic_flow};
 ghost use Rattle.pc_labels.specs.Modules.{IsFinding};
 
+use pc_ann::parents_of;
 use pc_check::check_module;
 use pc_class::{class_table, override_findings};
 use pc_intern::InternStore;
@@ -59,8 +60,8 @@ pub(crate) fn findings(alloc: Global, module: &Module) -> Result<Notes, OutOfMem
         (λ v. (p : Place) → flow_noted p (notes_of v) ≡ dynamic_flow (module_of «module».now) p) }
 {
     let scopes = scopes(alloc, module)?;
-    let parents = Parents::of(alloc, module, &scopes)?;
-    let own_parents = Parents::of(alloc, module, &scopes)?;
+    let parents = parents_of(alloc, module, &scopes)?;
+    let own_parents = parents_of(alloc, module, &scopes)?;
     let mut store = InternStore::new(alloc, own_parents)?;
     findings_by(&mut store, alloc, &parents, module, &scopes)
 }

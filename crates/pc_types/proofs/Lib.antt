@@ -5,7 +5,6 @@ pub mod Consistent
 pub mod DecidedSubtyping
 pub mod Deciding
 pub mod Descent
-pub mod Earlier
 pub mod Heads
 pub mod Incomparable
 pub mod JoinNormal
@@ -14,8 +13,6 @@ pub mod Joined
 pub mod Lookup
 pub mod Meets
 pub mod Nodes
-pub mod ParentsOf
-pub mod Readings
 pub mod Rebuilt
 pub mod Sound
 pub mod Structural

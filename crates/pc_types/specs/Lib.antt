@@ -1,6 +1,4 @@
-pub mod Annotations
 pub mod Assignable
-pub mod Bases
 pub mod Below
 pub mod Boxed
 pub mod Computed

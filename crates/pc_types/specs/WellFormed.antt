@@ -1,13 +1,11 @@
 -- Well-formed types, and the laws that what makes types of well-formed ones makes well-formed ones.
 -- Own rule of the profile.
-use Rattle.std.specs.Prelude.{◌≡◌, ◌≤◌, Option, Some}
-use Rattle.pc_tree.specs.Tree.{Ann, Module}
+use Rattle.std.specs.Prelude.{◌≡◌, ◌≤◌, Some}
 use Rattle.pc_types.specs.Tree.{Tree}
 use Rattle.pc_types.specs.Below.{Bases, AreSmaller}
 use Rattle.pc_types.specs.Shape.{nodes, node_limit}
 use Rattle.pc_types.specs.Normal.{IsNormal, IsReduced}
 use Rattle.pc_types.specs.Join.{join}
-use Rattle.pc_types.specs.Annotations.{read_ann, read_option}
 
 -- a well-formed type: in normal form, without an absorbed member, of at most 256 nodes
 abbrev pub IsWellFormed : Bases → Tree → Type 0
@@ -17,13 +15,3 @@ IsWellFormed bases t = IsNormal t × IsReduced bases t × (nodes t ≤ node_limi
 abbrev pub JoinsAreWellFormed : Type 0
 JoinsAreWellFormed = (bases : Bases) (s t u : Tree) → AreSmaller bases → IsNormal s → IsNormal t → IsReduced bases s
     → IsReduced bases t → join bases s t ≡ Some u → IsWellFormed bases u
-
--- what an annotation is read as is well-formed
-abbrev pub AnnotationsAreWellFormed : Type 0
-AnnotationsAreWellFormed = (m : Module) (bases : Bases) → AreSmaller bases → (a : Ann)
-    → IsWellFormed bases (read_ann m bases a)
-
--- and so is what stands for an annotation that is left out
-abbrev pub OptionalAnnotationsAreWellFormed : Type 0
-OptionalAnnotationsAreWellFormed = (m : Module) (bases : Bases) → AreSmaller bases → (a : Option Ann)
-    → IsWellFormed bases (read_option m bases a)

@@ -12,8 +12,6 @@ mod store;
 
 pub use boxed::{BoxStore, BoxType};
 pub use head::Head;
-pub use laws::{
-    annotations_are_well_formed, bases_stand_before, joins_are_well_formed, subtyping_is_decided,
-};
+pub use laws::{joins_are_well_formed, subtyping_is_decided};
 pub use parents::Parents;
 pub use store::TypeStore;

@@ -1,18 +1,11 @@
 //! The parents of a module's classes.
 
-ghost use Rattle.std.specs.Prelude.{◌≡◌, ◌↔◌, List, Option, ℕ, IfOk, IsTrue, length};
+ghost use Rattle.std.specs.Prelude.{◌≡◌, ◌↔◌, List, Option, ℕ, IsTrue, length};
 ghost use Rattle.std.specs.Option.{SomeIff};
-ghost use Rattle.pc_tree.specs.Tree.{Module as Tree, module_of, option_name_of};
-ghost use Rattle.pc_scope.specs.ModuleScopes.{AreScopes};
-ghost use Rattle.pc_types.specs.Bases.{base_named, bases_of};
 ghost use Rattle.pc_types.specs.Below.{AreSmaller, Below, base_of};
 ghost use Rattle.pc_types.specs.Tree.{Class};
 ghost use Rattle.pc_types.specs.Join.{reaches};
 
-use pc_scope::{Owner, Res, Scopes};
-use pc_source::OutOfMemory;
-use pc_tree::{ItemKind, Module, Name};
-use std::alloc::Global;
 use std::marker::Model;
 
 /// The parents of the classes of a module: for each class number, from 0, its base's number or none.
@@ -47,21 +40,6 @@ impl Parents {
             }
         }
         Some(Parents { bases })
-    }
-
-    /// The parents of the classes of a module, by its scopes: of each class the class that its base
-    /// names, where that one stands before it.
-    pub fn of(alloc: Global, tree: &Module, scopes: &Scopes) -> Result<Parents, OutOfMemory>
-        requires { AreScopes (module_of tree.now) scopes.now }
-        ensures { IfOk result (λ p. p ≡ bases_of (module_of tree.now)) }
-    {
-        let mut bases = Vec::new(alloc);
-        for item in &tree.items {
-            if let ItemKind::Class(class) = &item.kind {
-                bases.push(base_named(scopes, bases.len(), &class.base))?;
-            }
-        }
-        Ok(Parents { bases })
     }
 
     /// A class's base, none of a class past the list.
@@ -106,20 +84,6 @@ impl Parents {
         ensures { AreSmaller self.now }
     {
         let _ = &self.bases;
-    }
-}
-
-/// The class before the one of this number that the name of a base means, if there is a name and it means
-/// one.
-fn base_named(scopes: &Scopes, class: usize, base: &Option<Name>) -> Option<usize>
-    ensures { (m : Tree) → AreScopes m scopes.now → result ≡ base_named m class (option_name_of base.now) }
-{
-    match base {
-        None => None,
-        Some(name) => match scopes.resolve(Owner::Module, name.text.as_str()) {
-            Res::Class(earlier) => { if earlier < class { Some(earlier) } else { None } }
-            _ => None,
-        },
     }
 }
 

@@ -1,11 +1,11 @@
 //! Annotations, what they are read as, and what is found in them, by `pc_ann`.
-use pc_ann::{read_ann, type_text};
+use pc_ann::{parents_of, read_ann, type_text};
 use pc_front::read_module;
 use pc_scope::scopes;
 use pc_source::Fault;
 use pc_tables::{TableFault, Tally, written_out};
 use pc_tree::{Ann, Finding, ItemKind, Module};
-use pc_types::{BoxStore, Parents};
+use pc_types::BoxStore;
 use std::alloc::{AllocError, Global};
 
 /// What stands behind an annotation: a class below another one, and the end of the module.
@@ -44,7 +44,7 @@ pub fn annotation_of(module: &Module) -> Option<&Ann> {
 fn reading(alloc: Global, text: &str) -> Result<String, Fault> {
     let tree = read_module(alloc, text.as_bytes())?;
     let scopes = scopes(alloc, &tree)?;
-    let parents = Parents::of(alloc, &tree, &scopes)?;
+    let parents = parents_of(alloc, &tree, &scopes)?;
     let mut store = BoxStore::new();
     let mut found = Vec::new(alloc);
     let Some(annotation) = annotation_of(&tree) else {

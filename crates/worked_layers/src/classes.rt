@@ -2,11 +2,11 @@
 ghost use Rattle.std.specs.Prelude.{◌≡◌, All};
 ghost use Rattle.pc_tree.specs.Tree.{module_of};
 ghost use Rattle.pc_scope.specs.ModuleScopes.{AreScopes};
-ghost use Rattle.pc_types.specs.Bases.{bases_of};
+ghost use Rattle.pc_ann.specs.Bases.{bases_of};
 ghost use Rattle.pc_types.specs.Boxed.{IsGiven};
 ghost use Rattle.pc_class.specs.Tables.{HasParameter, HasMethod, HasEntries};
 
-use pc_ann::type_text;
+use pc_ann::{parents_of, type_text};
 use pc_class::{ClassTable, Method, Parameter, class_table, override_findings};
 use pc_front::module_in;
 use pc_scope::{Scopes, scopes};
@@ -266,7 +266,7 @@ fn reading(alloc: Global, text: &str) -> Result<String, Fault> {
     let source = read_source(alloc, text.as_bytes())?;
     let tree = module_in(alloc, &source)?;
     let scopes = scopes(alloc, &tree)?;
-    let parents = Parents::of(alloc, &tree, &scopes)?;
+    let parents = parents_of(alloc, &tree, &scopes)?;
     described(alloc, &source, &tree, &scopes, &parents)
 }
 

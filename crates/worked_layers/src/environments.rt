@@ -8,7 +8,7 @@ ghost use Rattle.pc_types.specs.WellFormed.{IsWellFormed};
 ghost use Rattle.pc_flow.specs.WellFormed.{IsWellFormedEnv, AreWellFormed};
 ghost use Rattle.pc_flow.specs.Stored.{env_of, declared_of, HasOne, HasEach};
 
-use pc_ann::{read_option, type_text};
+use pc_ann::{parents_of, read_option, type_text};
 use pc_flow::{
     DeclaredTypes, Env, OwnerNames, assigned_type, copy_env, join_env, join_or_object, loop_head,
     narrow, narrow_false, narrow_true,
@@ -441,7 +441,7 @@ fn done(setting: &Setting, alloc: Global, action: &Action) -> Result<String, Fau
 fn reading(alloc: Global, text: &str, action: &Action) -> Result<String, Fault> {
     let tree = read_module(alloc, text.as_bytes())?;
     let scopes = scopes(alloc, &tree)?;
-    let parents = Parents::of(alloc, &tree, &scopes)?;
+    let parents = parents_of(alloc, &tree, &scopes)?;
     let functions = (
         function(&tree, "declared"),
         function(&tree, "one"),

@@ -2,11 +2,11 @@
 ghost use Rattle.std.specs.Prelude.{◌≡◌};
 ghost use Rattle.pc_tree.specs.Tree.{module_of};
 ghost use Rattle.pc_scope.specs.ModuleScopes.{AreScopes};
-ghost use Rattle.pc_types.specs.Bases.{bases_of};
+ghost use Rattle.pc_ann.specs.Bases.{bases_of};
 
 use crate::annotations::annotation_of;
 use crate::environments::row_answer;
-use pc_ann::read_ann;
+use pc_ann::{parents_of, read_ann};
 use pc_class::{class_table, override_findings};
 use pc_front::read_module;
 use pc_scope::{Scopes, scopes};
@@ -113,7 +113,7 @@ fn class_counts(
 fn classes_in(alloc: Global, text: &str) -> Result<String, Fault> {
     let tree = read_module(alloc, text.as_bytes())?;
     let scopes = scopes(alloc, &tree)?;
-    let parents = Parents::of(alloc, &tree, &scopes)?;
+    let parents = parents_of(alloc, &tree, &scopes)?;
     class_counts(alloc, &tree, &scopes, &parents)
 }
 
@@ -121,7 +121,7 @@ fn classes_in(alloc: Global, text: &str) -> Result<String, Fault> {
 fn nodes_in(alloc: Global, text: &str) -> Result<String, Fault> {
     let tree = read_module(alloc, text.as_bytes())?;
     let scopes = scopes(alloc, &tree)?;
-    let parents = Parents::of(alloc, &tree, &scopes)?;
+    let parents = parents_of(alloc, &tree, &scopes)?;
     let mut store = BoxStore::new();
     let mut found = Vec::new(alloc);
     let Some(annotation) = annotation_of(&tree) else {

@@ -1,11 +1,12 @@
 //! Types as annotations spell them, by both stores.
 use crate::questions::{Question, Setting, answer};
+use pc_ann::parents_of;
 use pc_front::read_module;
 use pc_intern::InternStore;
 use pc_scope::scopes;
 use pc_source::{Fault, OutOfMemory};
 use pc_tables::{BETWEEN, TableFault, Tally};
-use pc_types::{BoxStore, Parents};
+use pc_types::BoxStore;
 use std::alloc::{AllocError, Global};
 
 /// What stands behind the types of a row in its module.
@@ -75,7 +76,7 @@ fn ask(
     text.push_str(TAIL)?;
     let module = read_module(alloc, text.as_bytes())?;
     let scopes = scopes(alloc, &module)?;
-    let parents = Parents::of(alloc, &module, &scopes)?;
+    let parents = parents_of(alloc, &module, &scopes)?;
     let setting = Setting {
         tree: &module,
         scopes: &scopes,
@@ -121,7 +122,7 @@ fn store_for(alloc: Global, head: &str) -> Result<InternStore, Fault> {
     let text = format!(in alloc; "{head}{TAIL}")?;
     let module = read_module(alloc, text.as_bytes())?;
     let scopes = scopes(alloc, &module)?;
-    let parents = Parents::of(alloc, &module, &scopes)?;
+    let parents = parents_of(alloc, &module, &scopes)?;
     Ok(InternStore::new(alloc, parents)?)
 }
 

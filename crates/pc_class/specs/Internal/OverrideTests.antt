@@ -5,7 +5,7 @@ use Rattle.std.specs.List.{list_all}
 use Rattle.pc_tree.specs.Tree.{Module, module_of}
 use Rattle.pc_types.specs.Tree.{Tree}
 use Rattle.pc_types.specs.Below.{Bases}
-use Rattle.pc_types.specs.Bases.{bases_of}
+use Rattle.pc_ann.specs.Bases.{bases_of}
 use Rattle.pc_class.specs.declared.overriding.Relation.{Relation}
 use Rattle.pc_class.specs.declared.overriding.Relation.TheVariants.{Static, Assignable}
 use Rattle.pc_class.specs.declared.overriding.Judging.{Judging}

@@ -20,7 +20,7 @@ use Rattle.pc_scope.specs.Resolution.{index_of, is_one_of, entry_texts, locals, 
 use Rattle.pc_types.specs.Tree.{Tree, NoneType}
 use Rattle.pc_class.specs.Bases.{bases_of}
 use Rattle.pc_class.specs.Facts.{TypedParameter, return_type, classes_of}
-use Rattle.pc_types.proofs.Earlier.{smaller}
+use Rattle.pc_ann.proofs.Earlier.{smaller}
 use Rattle.pc_flow.specs.Environment.{Env, none_assigned}
 use Rattle.pc_labels.specs.StatementLabels.{breaks_in_suite}
 use Rattle.pc_rules.specs.Labels.{IsCodeAt}

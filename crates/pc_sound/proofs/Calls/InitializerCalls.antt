@@ -14,7 +14,7 @@ use Rattle.pc_scope.specs.Bindings.{classes_in}
 use Rattle.pc_types.specs.Tree.{Tree}
 use Rattle.pc_class.specs.Bases.{bases_of}
 use Rattle.pc_class.specs.Facts.{classes_of, class_facts_at}
-use Rattle.pc_types.proofs.Earlier.{smaller}
+use Rattle.pc_ann.proofs.Earlier.{smaller}
 use Rattle.pc_flow.specs.Environment.{Env}
 use Rattle.pc_rules.specs.Operations.{in_error}
 use Rattle.pc_rules.specs.Context.{Context, name_mark}

@@ -24,8 +24,8 @@ use Rattle.pc_scope.specs.Expressions.{is_instance_test}
 use Rattle.pc_types.specs.Tree.{Tree}
 use Rattle.pc_types.specs.Below.{Bases}
 use Rattle.pc_types.specs.Shape.{nodes, node_limit}
-use Rattle.pc_types.specs.Annotations as ann
-use Rattle.pc_types.specs.Annotations.{named_type, applied_type, empty_type, union_type, reading, readings, PartFinds, PartsFind, IsTooLarge, AnnFinds}
+use Rattle.pc_ann.specs.Annotations as ann
+use Rattle.pc_ann.specs.Annotations.{named_type, applied_type, empty_type, union_type, reading, readings, PartFinds, PartsFind, IsTooLarge, AnnFinds}
 use Rattle.pc_class.specs.Bases.{bases_of}
 use Rattle.pc_rules.specs.Operations.{FlowMark}
 use Rattle.pc_rules.specs.Context.{Context}

@@ -14,7 +14,7 @@ use Rattle.pc_types.specs.Tree.{Tree, Any, Int, Str}
 use Rattle.pc_types.specs.Below.{Bases}
 use Rattle.pc_types.specs.Shape.{nodes, node_limit, union}
 use Rattle.pc_types.specs.Join.{is_before}
-use Rattle.pc_types.specs.Annotations.{atom, named_type, dict_type, built_type, applied_type, empty_type, is_union, insert_member, in_union_order, union_type, reading, readings, read_ann, read_option}
+use Rattle.pc_ann.specs.Annotations.{atom, named_type, dict_type, built_type, applied_type, empty_type, is_union, insert_member, in_union_order, union_type, reading, readings, read_ann, read_option}
 use Rattle.pc_class.specs.Bases.{bases_of, base_named}
 use Rattle.pc_class.specs.Facts.{TypedParameter, Method, ClassFacts, class_facts_at, base_facts, binds_field, binds_method, parameters_of, return_type, own_fields, own_methods, class_facts_behind, classes_behind, classes_of}
 use Rattle.pc_rules.specs.Context.{Signature}

@@ -18,7 +18,7 @@ use Rattle.pc_scope.specs.Resolution.{is_one_of}
 use Rattle.pc_types.specs.Tree.{Tree, Any, Object, Int, Str, Class, ListOf, DictOf, TupleOf, Union}
 use Rattle.pc_types.specs.Below.{Bases}
 use Rattle.pc_types.specs.Shape.{members, list_of_trees}
-use Rattle.pc_types.specs.Annotations.{read_ann}
+use Rattle.pc_ann.specs.Annotations.{read_ann}
 use Rattle.pc_flow.specs.Environment.{Env, current, declared_type, assigned_type, join_env, join_envs_onto, join_ways, head_local, loop_head}
 use Rattle.pc_flow.specs.Narrowing.{narrow}
 use Rattle.pc_rules.specs.Context.{Context}

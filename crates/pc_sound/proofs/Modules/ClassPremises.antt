@@ -18,7 +18,7 @@ use Rattle.pc_scope.specs.Bindings.{classes_in}
 use Rattle.pc_scope.specs.Resolution.{is_one_of}
 use Rattle.pc_scope.specs.Findings as scope
 use Rattle.pc_types.specs.Tree.{Tree}
-use Rattle.pc_types.specs.Annotations.{read_ann}
+use Rattle.pc_ann.specs.Annotations.{read_ann}
 use Rattle.pc_class.specs.Bases.{bases_of, base_named}
 use Rattle.pc_class.specs.Facts as facts
 use Rattle.pc_class.specs.Facts.{TypedParameter, base_facts, classes_of, class_facts_at, field_by_name, method_by_name, binds_field, own_fields}

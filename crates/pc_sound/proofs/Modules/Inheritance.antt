@@ -9,7 +9,7 @@ use Rattle.pc_scope.specs.Bindings.{classes_in}
 use Rattle.pc_types.specs.Below.{base_of}
 use Rattle.pc_class.specs.Bases.{base_named, bases_from, bases_of}
 use Rattle.pc_class.specs.Facts.{TypedParameter, ClassFacts, field_by_name, class_in, class_facts_at, base_facts, own_fields, own_methods, class_facts_behind, classes_behind, classes_of}
-use Rattle.pc_types.proofs.Earlier.{smaller}
+use Rattle.pc_ann.proofs.Earlier.{smaller}
 use Rattle.pc_sound.proofs.Lists.{get_at_end}
 use Rattle.pc_sound.proofs.Heap.Fields.{Inherits}
 

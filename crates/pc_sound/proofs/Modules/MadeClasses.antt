@@ -14,7 +14,7 @@ use Rattle.pc_scope.specs.Bindings.{classes_in, methods_in}
 use Rattle.pc_scope.specs.Reserved.{is_builtin_name as is_reserved_name}
 use Rattle.pc_scope.specs.Resolution.{function_of, method_at, is_one_of, resolve_in_module}
 use Rattle.pc_types.specs.Tree.{Tree}
-use Rattle.pc_types.specs.Annotations.{read_ann}
+use Rattle.pc_ann.specs.Annotations.{read_ann}
 use Rattle.pc_types.specs.Tree as tree
 use Rattle.pc_types.specs.Below as subtyping
 use Rattle.pc_types.specs.Below.{Bases, Below, same, through}

@@ -16,7 +16,7 @@ use Rattle.pc_scope.specs.Reserved.{is_builtin_name}
 use Rattle.pc_scope.specs.Bindings.{classes_in}
 use Rattle.pc_scope.specs.Resolution.{is_one_of, resolve_in_module}
 use Rattle.pc_types.specs.Tree.{Tree}
-use Rattle.pc_types.specs.Annotations.{read_ann, read_option}
+use Rattle.pc_ann.specs.Annotations.{read_ann, read_option}
 use Rattle.pc_class.specs.Bases.{bases_of}
 use Rattle.pc_class.specs.Facts.{parameters_of, classes_of}
 use Rattle.pc_rules.specs.Labels.{FlowMarks, Marks, mark_of, type_of, Finds, IsFlowAt, IsCodeAt}

@@ -18,8 +18,8 @@ use Rattle.pc_types.specs.Tree.{Tree, Any, Never, Int, Str}
 use Rattle.pc_types.specs.Below.{Bases}
 use Rattle.pc_types.specs.Shape.{nodes, node_limit, trees, ahead, union}
 use Rattle.pc_types.specs.Join.{is_before}
-use Rattle.pc_types.specs.Annotations.{atom, named_type, dict_type, built_type, applied_type, empty_type, is_union, insert_member, in_union_order, union_type, reading, readings, read_ann}
-use Rattle.pc_types.specs.Bases.{bases_of, base_named}
+use Rattle.pc_ann.specs.Annotations.{atom, named_type, dict_type, built_type, applied_type, empty_type, is_union, insert_member, in_union_order, union_type, reading, readings, read_ann}
+use Rattle.pc_ann.specs.Bases.{bases_of, base_named}
 use Rattle.pc_class.specs.Facts as facts
 use Rattle.pc_class.specs.Facts.{TypedParameter, class_facts_at, base_facts, binds_field, own_fields, class_facts_behind, classes_behind, classes_of}
 use Rattle.pc_sound.specs.Needed.{HasNoNever, HaveNoNever, NoneHasNever, FieldsHaveNoNever}

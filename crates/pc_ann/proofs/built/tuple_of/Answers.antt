@@ -1,6 +1,6 @@
 use Rattle.std.proofs.Common.{◌∙◌}
 use Rattle.pc_tree.specs.Tree.{module_of}
-use Rattle.pc_types.specs.Annotations.{readings}
+use Rattle.pc_ann.specs.Annotations.{readings}
 use Rattle.pc_ann.specs.Listed.{anns_of_list}
 use Rattle.pc_ann.proofs.Tuples.{tuple_none, tuple_some}
 use Rattle.pc_ann.proofs.built.tuple_of.Goals as goal

@@ -1,5 +1,5 @@
 use Rattle.std.proofs.Common.{◌≡◌, All, map, vec_len}
-use Rattle.pc_types.specs.Annotations.{in_union_order}
+use Rattle.pc_ann.specs.Annotations.{in_union_order}
 use Rattle.pc_ann.proofs.Ordering.{placed_each}
 use Rattle.pc_ann.proofs.ordered.in_order.Given as goal
 

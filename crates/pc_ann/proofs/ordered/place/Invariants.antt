@@ -1,5 +1,5 @@
 use Rattle.std.proofs.Common.{◌≡◌, ◌++◌, map, take, drop}
-use Rattle.pc_types.specs.Annotations.{insert_member}
+use Rattle.pc_ann.specs.Annotations.{insert_member}
 use Rattle.pc_ann.proofs.ordered.place.Given as goal
 
 abbrev pub invariant-loop-i : goal.invariant-loop-i

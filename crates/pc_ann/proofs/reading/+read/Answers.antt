@@ -2,7 +2,7 @@ use Rattle.std.proofs.Common.{◌≡◌, ◌++◌, ◌∷◌, [], Some, None, On
 use Rattle.pc_tree.specs.Code.{finding}
 use Rattle.pc_tree.specs.declared.code.Code.TheVariants.{E09, E10}
 use Rattle.pc_tree.specs.Tree.{module_of, ann_of, name_of}
-use Rattle.pc_types.specs.Annotations.{applied_type, union_type, reading, readings}
+use Rattle.pc_ann.specs.Annotations.{applied_type, union_type, reading, readings}
 use Rattle.pc_ann.specs.Listed.{anns_of_list, part_findings, parts_findings}
 use Rattle.pc_ann.specs.Internal.TypesRead.{IsRead, AreRead, IsReadAny}
 use Rattle.pc_ann.proofs.Each.{read_more, readings_more, findings_more}

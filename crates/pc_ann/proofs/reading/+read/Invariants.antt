@@ -1,7 +1,7 @@
 use Rattle.std.proofs.Common.{◌≡◌, ◌++◌, take}
 use Rattle.pc_tree.specs.Tree.{module_of}
 use Rattle.pc_types.specs.Store.{KeepsTypes}
-use Rattle.pc_types.specs.Annotations.{readings}
+use Rattle.pc_ann.specs.Annotations.{readings}
 use Rattle.pc_ann.specs.Listed.{anns_of_list, parts_findings}
 use Rattle.pc_ann.specs.Internal.TypesRead.{AreRead}
 use Rattle.pc_ann.proofs.reading.+read.Given as goal

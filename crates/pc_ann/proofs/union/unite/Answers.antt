@@ -4,7 +4,7 @@ use Rattle.pc_tree.specs.Tree.{module_of}
 use Rattle.pc_types.specs.Shape.{nodes_of, node_limit, trees, union}
 use Rattle.pc_types.specs.Normal.{IsNormal}
 use Rattle.pc_types.specs.Store.{MeansWithin}
-use Rattle.pc_types.specs.Annotations.{in_union_order, readings}
+use Rattle.pc_ann.specs.Annotations.{in_union_order, readings}
 use Rattle.pc_ann.specs.Listed.{anns_of_list}
 use Rattle.pc_ann.specs.Internal.TypesRead.{united_head}
 use Rattle.pc_ann.proofs.Uniting.{no_union, one_union, is_one, union_large, union_of_many, union_is_normal}

@@ -3,7 +3,7 @@ use Rattle.pc_tree.specs.declared.code.Finding.{Finding}
 use Rattle.pc_ann.specs.Listed.{ann_findings}
 use Rattle.pc_tree.specs.Tree.{name_of, ann_of, module_of}
 use Rattle.pc_types.specs.WellFormed.{IsWellFormed}
-use Rattle.pc_types.proofs.Readings.{read_ann_well_formed}
+use Rattle.pc_ann.proofs.Readings.{read_ann_well_formed}
 use Rattle.pc_flow.specs.Stored.{env_of}
 use Rattle.pc_notes.specs.Notes.{Note, notes_of, plain_note}
 use Rattle.pc_labels.specs.ComputedStatements.{bound_name}

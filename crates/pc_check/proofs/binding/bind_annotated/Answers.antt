@@ -1,7 +1,7 @@
 use Rattle.std.proofs.Common.{◌≡◌, ◌∙◌, ◌++◌, ap, subst}
 use Rattle.pc_scope.specs.declared.resolution.Res.{Res}
 use Rattle.pc_tree.specs.Tree.{ann_of, name_of, module_of}
-use Rattle.pc_types.specs.Annotations.{read_ann}
+use Rattle.pc_ann.specs.Annotations.{read_ann}
 use Rattle.pc_flow.specs.Stored.{env_of}
 use Rattle.pc_notes.specs.Notes.{notes_of}
 use Rattle.pc_labels.specs.ComputedStatements.{annotation_finds, bound_name, declared_alone}

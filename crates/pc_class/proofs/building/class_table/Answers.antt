@@ -6,7 +6,7 @@ use Rattle.pc_tree.specs.Tree.{module_of, item_of}
 use Rattle.pc_scope.specs.Bindings.{classes_in}
 use Rattle.pc_scope.specs.Internal.FindingLists.{at_code}
 use Rattle.pc_types.specs.Below.{Bases}
-use Rattle.pc_types.specs.Bases.{bases_of}
+use Rattle.pc_ann.specs.Bases.{bases_of}
 use Rattle.pc_class.specs.Entries.{missing_bases}
 use Rattle.pc_class.specs.Built.{found_behind, class_findings}
 use Rattle.pc_class.specs.Facts.{ClassFacts}
@@ -30,9 +30,9 @@ returns-clause-found g c =
     ∙ ap (λ (fs : List Finding). old ++ (at_code E07 (missing_bases (bases_of m) 0 cs) ++ fs)) (found_listed m)
 
 pub returns-clause-given : goal.returns-clause-given
-returns-clause-given g c = subst (HasEntries (g.S.TypeStore.has c.all_classes.new.store)) (sym c.of-2.ensures) (table_given (g.S.TypeStore.has c.all_classes.new.store) c.in_ok-parts.parts c.in_ok-parts.ensures.given)
+returns-clause-given g c = subst (HasEntries (g.S.TypeStore.has c.all_classes.new.store)) (sym c.of.ensures) (table_given (g.S.TypeStore.has c.all_classes.new.store) c.in_ok-parts.parts c.in_ok-parts.ensures.given)
 
-pub of-requires-2-clause-parents : goal.of-requires-2-clause-parents
-of-requires-2-clause-parents g c =
+pub of-requires-clause-parents : goal.of-requires-clause-parents
+of-requires-clause-parents g c =
     c.in_ok-own_parents.ensures ∙ sym (bases_are (module_of c.args.tree.now)) ∙ ap (map (λ (x : ClassFacts). x.base)) (sym c.in_ok-parts.ensures.classes)
     ∙ bases_there g.S.TypeStore.tree (entries_in c.in_ok-parts.parts)

@@ -3,7 +3,7 @@ use Rattle.std.specs.Prelude.{slice_index_or}
 use Rattle.std.proofs.Math.ListN.{drop_of_length-le}
 use Rattle.pc_tree.specs.Tree.{module_of}
 use Rattle.pc_types.specs.Below.{base_of}
-use Rattle.pc_types.specs.Bases.{base_named}
+use Rattle.pc_ann.specs.Bases.{base_named}
 use Rattle.pc_class.specs.declared.table.Method.{Method as RustMethod}
 use Rattle.pc_class.specs.Facts.{Method, base_facts, own_methods, classes_of}
 use Rattle.pc_class.specs.Internal.OverrideTests.{methods_above}

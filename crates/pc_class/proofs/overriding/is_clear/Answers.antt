@@ -1,7 +1,7 @@
 use Rattle.std.proofs.Common.{◌∙◌, sym, ap, subst}
 use Rattle.std.specs.Prelude.{Some, None, string_bytes}
 use Rattle.pc_tree.specs.Tree.{module_of}
-use Rattle.pc_types.specs.Bases.{bases_of}
+use Rattle.pc_ann.specs.Bases.{bases_of}
 use Rattle.pc_class.specs.Overrides.{overridden}
 use Rattle.pc_class.specs.OverrideFindings.{is_static_to, override_code}
 use Rattle.pc_class.specs.Internal.OverrideTests.{methods_above}

@@ -1,5 +1,5 @@
-use Rattle.pc_types.specs.Bases.{bases_of}
-use Rattle.pc_types.proofs.Earlier.{smaller}
+use Rattle.pc_ann.specs.Bases.{bases_of}
+use Rattle.pc_ann.proofs.Earlier.{smaller}
 use Rattle.pc_class.specs.Facts.{classes_of}
 use Rattle.pc_dynamic.proofs.RightFlows.{flows_dynamic, flows_well_formed}
 use Rattle.pc_sound.proofs.Heap.FurnishedHeaps.{is_needed}

@@ -1,7 +1,7 @@
 use Rattle.std.proofs.Common.{sym, subst}
 use Rattle.pc_tree.specs.Tree.{module_of, option_ann_of}
 use Rattle.pc_types.specs.WellFormed.{IsWellFormed}
-use Rattle.pc_types.proofs.Readings.{read_option_well_formed}
+use Rattle.pc_ann.proofs.Readings.{read_option_well_formed}
 use Rattle.worked_layers.proofs.environments.type_of.Goals as goal
 
 pub returns-clause-well_formed : goal.returns-clause-well_formed

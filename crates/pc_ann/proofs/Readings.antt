@@ -16,7 +16,7 @@ use Rattle.pc_types.specs.Below.{Bases, AreSmaller}
 use Rattle.pc_types.specs.Shape.{nodes, node_limit, trees, union}
 use Rattle.pc_types.specs.Normal.{member_rank, IsRankBefore, IsMember, IsNormal, AreNormal, AreReduced}
 use Rattle.pc_types.specs.Join.{absorbs, is_before}
-use Rattle.pc_types.specs.Annotations.{atom, named_type, dict_type, built_type, applied_type, empty_type, is_member, has_same_head, are_apart, is_union, insert_member, in_union_order, union_type, reading, readings, read_ann, read_option}
+use Rattle.pc_ann.specs.Annotations.{atom, named_type, dict_type, built_type, applied_type, empty_type, is_member, has_same_head, are_apart, is_union, insert_member, in_union_order, union_type, reading, readings, read_ann, read_option}
 use Rattle.pc_types.specs.WellFormed.{IsWellFormed}
 use Rattle.pc_types.proofs.Together.{AllBehind, before_true, before_of}
 use Rattle.pc_types.proofs.JoinNormal.{InOrder, union_normal, all_through}

@@ -5,7 +5,7 @@ use Rattle.pc_tree.specs.Tree.{Item, Module, item_of}
 use Rattle.pc_tree.specs.declared.tree.Item.{Item as RustItem}
 use Rattle.pc_scope.specs.Bindings.{classes_in}
 use Rattle.pc_types.specs.Below.{Bases}
-use Rattle.pc_types.specs.Bases.{bases_from}
+use Rattle.pc_ann.specs.Bases.{bases_from}
 
 -- so many bases and those of the classes among items
 abbrev pub bases_with : Module → Bases → List Item → Bases

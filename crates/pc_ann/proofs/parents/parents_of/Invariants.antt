@@ -1,9 +1,9 @@
 use Rattle.std.proofs.Common.{◌≡◌, map, drop}
 use Rattle.pc_tree.specs.Tree.{module_of, item_of}
 use Rattle.pc_scope.specs.Bindings.{classes_in}
-use Rattle.pc_types.specs.Bases.{bases_from}
-use Rattle.pc_types.proofs.ParentsOf.{bases_with}
-use Rattle.pc_types.proofs.parents.Parents.of.Given as goal
+use Rattle.pc_ann.specs.Bases.{bases_from}
+use Rattle.pc_ann.proofs.ParentsOf.{bases_with}
+use Rattle.pc_ann.proofs.parents.parents_of.Given as goal
 
 abbrev pub invariant-loop-item : goal.invariant-loop-item
 invariant-loop-item l =

@@ -8,7 +8,7 @@ use Rattle.pc_scope.specs.declared.resolution.Res.TheVariants as res
 use Rattle.pc_scope.specs.Bindings.{classes_in}
 use Rattle.pc_scope.specs.Resolution.{resolve_in_module}
 use Rattle.pc_types.specs.Below.{AreSmaller}
-use Rattle.pc_types.specs.Bases.{earlier_class, base_named, bases_from, bases_of}
+use Rattle.pc_ann.specs.Bases.{earlier_class, base_named, bases_from, bases_of}
 
 tested : (c b b' : ℕ) (t : Bool) → nat_lt b c ≡ t → (if t then Some b else None) ≡ Some b' → b' < c
 tested c b b' true e is = grind (arith, nat_tests)
