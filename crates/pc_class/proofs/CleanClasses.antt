@@ -12,7 +12,7 @@ use Rattle.pc_tree.specs.declared.code.Code.{Code}
 use Rattle.pc_tree.specs.declared.code.Finding.{Finding}
 use Rattle.pc_tree.specs.Tree.{ClassDef, Module}
 use Rattle.pc_scope.specs.Bindings.{classes_in}
-use Rattle.pc_scope.proofs.Among.{none_among, among_first}
+use Rattle.pc_tree.proofs.Among.{none_among, among_first}
 use Rattle.pc_types.specs.Tree.{Tree}
 use Rattle.pc_types.specs.Below.{Bases, base_of}
 use Rattle.pc_ann.specs.Bases.{bases_of}

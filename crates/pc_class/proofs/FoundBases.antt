@@ -5,12 +5,11 @@ use Rattle.std.proofs.lemmas.List.Elements.{Contains-append_left, Contains-appen
 use Rattle.std.proofs.lemmas.Option.{same_Some}
 use Rattle.pc_tree.specs.declared.code.Code.TheVariants.{E07}
 use Rattle.pc_tree.specs.declared.code.Finding.{Finding}
-use Rattle.pc_tree.specs.Code.{finding}
+use Rattle.pc_tree.specs.Code.{finding, at_code}
 use Rattle.pc_tree.specs.Tree.{Name, ClassDef, Module}
 use Rattle.pc_scope.specs.Bindings.{classes_in}
-use Rattle.pc_scope.specs.Internal.FindingLists.{at_code}
-use Rattle.pc_scope.proofs.Among.{none_among, first_among, among_first, either}
-use Rattle.pc_scope.proofs.Finds.{at_both}
+use Rattle.pc_tree.proofs.Among.{none_among, first_among, among_first, either}
+use Rattle.pc_tree.proofs.Finds.{at_both}
 use Rattle.pc_types.specs.Below.{base_of}
 use Rattle.pc_ann.specs.Bases.{base_named, bases_of}
 use Rattle.pc_class.specs.Findings.{ClassNumbered, HasNoBase}

@@ -8,13 +8,12 @@ use Rattle.std.proofs.lemmas.Option.{same_Some}
 use Rattle.pc_source.specs.declared.place.Place.{Place}
 use Rattle.pc_tree.specs.declared.code.Code.TheVariants.{E06}
 use Rattle.pc_tree.specs.declared.code.Finding.{Finding}
-use Rattle.pc_tree.specs.Code.{finding}
+use Rattle.pc_tree.specs.Code.{finding, at_code}
 use Rattle.pc_tree.specs.Stopping.{HeldMember, option_text, own_members, members_of, clashing_in, clashing_members}
 use Rattle.pc_tree.specs.Tree.{Name, ClassDef, Item, constant_item, class_item, def_item, Module}
 use Rattle.pc_scope.specs.Bindings.{classes_in}
-use Rattle.pc_scope.specs.Internal.FindingLists.{at_code}
 use Rattle.pc_scope.specs.Resolution.{resolve_in_module}
-use Rattle.pc_scope.proofs.Among.{none_among, in_code, to_code}
+use Rattle.pc_tree.proofs.Among.{none_among, in_code, to_code}
 use Rattle.pc_ann.specs.Bases.{earlier_class, base_named}
 use Rattle.pc_class.specs.Built.{class_findings}
 use Rattle.pc_class.specs.ClassFindingsLaw.{clashes_from}

@@ -8,13 +8,12 @@ use Rattle.std.proofs.lemmas.Option.{same_Some}
 use Rattle.pc_source.specs.declared.place.Place.{Place}
 use Rattle.pc_tree.specs.declared.code.Code.TheVariants.{E08}
 use Rattle.pc_tree.specs.declared.code.Finding.{Finding}
-use Rattle.pc_tree.specs.Code.{finding}
+use Rattle.pc_tree.specs.Code.{finding, at_code}
 use Rattle.pc_tree.specs.Stopping.{one_if, name_of_member}
 use Rattle.pc_tree.specs.Tree.{Field, Member, field_member, method_member, ClassDef, Module}
 use Rattle.pc_scope.specs.Resolution.{is_one_of}
-use Rattle.pc_scope.specs.Internal.FindingLists.{at_code}
-use Rattle.pc_scope.proofs.Among.{none_among, first_among, among_first, either}
-use Rattle.pc_scope.proofs.Finds.{at_both}
+use Rattle.pc_tree.proofs.Among.{none_among, first_among, among_first, either}
+use Rattle.pc_tree.proofs.Finds.{at_both}
 use Rattle.pc_class.specs.Facts.{TypedParameter, ClassFacts}
 use Rattle.pc_class.specs.Findings.{IsFieldBehind, base_class, member_texts, has_default_before}
 use Rattle.pc_class.specs.Entries.{Inherited, inherited_by, member_binds, entry_of, number_after, entries_of, class_entries, member_default, entry_default, defaulted_after, is_late, late_places, defaulted_in}

@@ -8,7 +8,7 @@ use Rattle.pc_tree.specs.declared.code.Code.TheVariants.{E06, E07, E08}
 use Rattle.pc_tree.specs.declared.code.Finding.{Finding}
 use Rattle.pc_tree.specs.Tree.{ClassDef, Module}
 use Rattle.pc_scope.specs.Bindings.{classes_in}
-use Rattle.pc_scope.specs.Internal.FindingLists.{at_code}
+use Rattle.pc_tree.specs.Code.{at_code}
 use Rattle.pc_ann.specs.Bases.{bases_of}
 use Rattle.pc_class.specs.Facts.{TypedParameter}
 use Rattle.pc_class.specs.Entries.{inherited_by, class_entries, clash_places, late_places, missing_bases}

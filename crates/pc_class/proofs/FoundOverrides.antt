@@ -12,7 +12,7 @@ use Rattle.pc_tree.specs.Code.{finding}
 use Rattle.pc_tree.specs.Tree.{FuncDef, Member, field_member, method_member, ClassDef, Module}
 use Rattle.pc_scope.specs.Bindings.{classes_in, methods_in}
 use Rattle.pc_scope.specs.Resolution.{is_one_of}
-use Rattle.pc_scope.proofs.Among.{none_among, first_among, among_first}
+use Rattle.pc_tree.proofs.Among.{none_among, first_among, among_first}
 use Rattle.pc_types.specs.Below.{Bases, AreSmaller, Static}
 use Rattle.pc_types.specs.Assignable.{Assignable}
 use Rattle.pc_ann.specs.Bases.{bases_of}

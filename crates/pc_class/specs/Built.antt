@@ -5,7 +5,7 @@ use Rattle.pc_tree.specs.Tree.{ClassDef, Module, module_of}
 use Rattle.pc_tree.specs.declared.code.Code.TheVariants.{E07}
 use Rattle.pc_tree.specs.declared.code.Finding.{Finding}
 use Rattle.pc_scope.specs.Bindings.{classes_in}
-use Rattle.pc_scope.specs.Internal.FindingLists.{at_code}
+use Rattle.pc_tree.specs.Code.{at_code}
 use Rattle.pc_scope.specs.ModuleScopes.{AreScopes}
 use Rattle.pc_ann.specs.Bases.{bases_of, base_named}
 use Rattle.pc_class.specs.declared.reading.Setting.{Setting}

@@ -11,7 +11,7 @@ use Rattle.pc_ann.specs.Bases.{base_named}
 use Rattle.pc_tree.specs.declared.code.Code.TheVariants.{E06, E08}
 use Rattle.pc_tree.specs.declared.code.Finding.{Finding}
 use Rattle.pc_scope.specs.Bindings.{as_class, classes_in}
-use Rattle.pc_scope.specs.Internal.FindingLists.{at_code}
+use Rattle.pc_tree.specs.Code.{at_code}
 use Rattle.pc_class.specs.Facts.{TypedParameter, Method, ClassFacts, method_made, base_facts, classes_of}
 use Rattle.pc_class.specs.NameMaps.{NameMaps, IsMap, named_at}
 use Rattle.pc_class.specs.Entries.{MemberEntry, parameter_made, field_made, methods_made, inherited_by, class_entries}

@@ -1,11 +1,11 @@
 //! Bases that are no earlier class: E07.
-#![tactic(auto, using(pc_scope::proofs::Finds::at_both, pc_scope::proofs::Joints::joined))]
+#![tactic(auto, using(pc_tree::proofs::Finds::at_both, pc_tree::proofs::Joints::joined))]
 
 ghost use Rattle.std.specs.Prelude.{◌≡◌, ◌++◌, map, OnOk};
 ghost use Rattle.pc_tree.specs.declared.code.Code.TheVariants.{E07};
 ghost use Rattle.pc_tree.specs.Tree.{item_of, option_name_of};
 ghost use Rattle.pc_scope.specs.Bindings.{classes_in};
-ghost use Rattle.pc_scope.specs.Internal.FindingLists.{at_code};
+ghost use Rattle.pc_tree.specs.Code.{at_code};
 ghost use Rattle.pc_class.specs.Entries.{missing_base, missing_bases};
 
 use pc_source::OutOfMemory;

@@ -1,5 +1,5 @@
 //! The members of a class, with those that it inherits.
-#![tactic(auto, using(pc_scope::proofs::Finds::at_both, pc_scope::proofs::Joints::joined))]
+#![tactic(auto, using(pc_tree::proofs::Finds::at_both, pc_tree::proofs::Joints::joined))]
 
 ghost use Rattle.std.specs.Prelude.{◌≡◌, ◌++◌, [], map, OnOk, IfOk};
 ghost use Rattle.pc_tree.specs.declared.code.Code.TheVariants.{E06, E08};
@@ -7,7 +7,7 @@ ghost use Rattle.pc_tree.specs.Tree.{name_of, member_of};
 ghost use Rattle.pc_tree.specs.Stopping.{name_of_member};
 ghost use Rattle.pc_scope.specs.Reserved.{is_builtin_name};
 ghost use Rattle.pc_scope.specs.Resolution.{is_one_of};
-ghost use Rattle.pc_scope.specs.Internal.FindingLists.{at_code};
+ghost use Rattle.pc_tree.specs.Code.{at_code};
 ghost use Rattle.pc_scope.specs.Internal.WalkViews.{texts_in};
 ghost use Rattle.pc_class.specs.Entries.{HasMaps, inherited_in, member_binds, member_clashes, entry_of, entries_of};
 ghost use Rattle.pc_class.specs.Entries.{entry_seen, entry_default, clash_places, late_places, defaulted_in};

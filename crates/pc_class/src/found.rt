@@ -1,7 +1,7 @@
 //! One more finding where a condition holds.
 
 ghost use Rattle.std.specs.Prelude.{◌≡◌, ◌++◌, OnOk};
-ghost use Rattle.pc_scope.specs.Internal.FindingLists.{at_code};
+ghost use Rattle.pc_tree.specs.Code.{at_code};
 ghost use Rattle.pc_tree.specs.Stopping.{one_if};
 
 use pc_source::{OutOfMemory, Place};

@@ -8,8 +8,8 @@ use Rattle.pc_tree.specs.declared.code.Code.TheVariants.{A1}
 use Rattle.pc_tree.specs.declared.code.Finding.{Finding}
 use Rattle.pc_tree.specs.Code.{finding}
 use Rattle.pc_tree.specs.Tree.{Module}
-use Rattle.pc_scope.specs.Findings.{IsScopeCode, IsUnknown, in_constant, in_body, decorator, ScopeFinds, stopping, unknown, early, unreachable}
-use Rattle.pc_scope.proofs.Among.{none_among, first_among, later_among, among_first}
+use Rattle.pc_scope_findings.specs.Findings.{IsScopeCode, IsUnknown, in_constant, in_body, decorator, ScopeFinds, stopping, unknown, early, unreachable}
+use Rattle.pc_tree.proofs.Among.{none_among, first_among, later_among, among_first}
 use Rattle.pc_types.specs.Tree.{Tree}
 use Rattle.pc_types.specs.Below.{Bases}
 use Rattle.pc_types.specs.Computed.{static_test, assignable_test}

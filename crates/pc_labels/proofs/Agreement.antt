@@ -23,8 +23,8 @@ use Rattle.pc_scope.specs.Reserved.{builtin_of}
 use Rattle.pc_scope.specs.Bindings.{as_constant, as_class, as_function, constants_in, classes_in, functions_in, methods_in, Body, bodies}
 use Rattle.pc_scope.specs.Resolution.{index_of, locals, local_meaning, or_meaning, bound_first, builtin_meaning, resolve_in_module, resolve_among, resolve, locals_of_function, method_at, function_of, receiver}
 use Rattle.pc_scope.specs.Expressions.{is_name, parts_in, other_callee, exprs_in_all}
-use Rattle.pc_scope.specs.Findings as scope
-use Rattle.pc_scope.specs.Findings.{IsUnknownIn, IsEarlyMeaning, IsEarlyName, IsEarlyCallee, ScopeFinds}
+use Rattle.pc_scope_findings.specs.Findings as scope
+use Rattle.pc_scope_findings.specs.Findings.{IsUnknownIn, IsEarlyMeaning, IsEarlyName, IsEarlyCallee, ScopeFinds}
 use Rattle.pc_types.specs.Tree.{Tree}
 use Rattle.pc_types.specs.Below.{Bases}
 use Rattle.pc_ann.specs.Annotations.{OptionAnnFinds}

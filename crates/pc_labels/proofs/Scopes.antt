@@ -3,7 +3,7 @@ use Rattle.std.proofs.Common.{◌≡◌, true, false, refl, inl, inr}
 use Rattle.std.specs.Prelude.{Bool as Test}
 use Rattle.pc_tree.specs.declared.code.Finding.{Finding}
 use Rattle.pc_tree.specs.Tree.{Module}
-use Rattle.pc_scope.specs.Findings.{ScopeFinds}
+use Rattle.pc_scope_findings.specs.Findings.{ScopeFinds}
 use Rattle.pc_rules.specs.Labels.{is_of_scopes}
 use Rattle.pc_labels.specs.Modules.{Labelling, IsLawful, LabelsSay, IsFinding}
 use Rattle.pc_labels.proofs.Agreement.{agrees}

@@ -7,7 +7,7 @@ use Rattle.pc_source.specs.declared.place.Place.{Place}
 use Rattle.pc_tree.specs.declared.code.Code.{Code}
 use Rattle.pc_tree.specs.declared.code.Finding.{Finding}
 use Rattle.pc_tree.specs.Tree.{Expr, Ann, number, index, Module}
-use Rattle.pc_scope.proofs.Among.{none_among, first_among, among_first, either}
+use Rattle.pc_tree.proofs.Among.{none_among, first_among, among_first, either}
 use Rattle.pc_types.specs.Tree.{Any}
 use Rattle.pc_types.specs.Below.{Bases}
 use Rattle.pc_ann.specs.Annotations.{AnnFinds}

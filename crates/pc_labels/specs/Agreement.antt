@@ -11,7 +11,7 @@ use Rattle.pc_scope.specs.declared.resolution.Owner.TheVariants as owners
 use Rattle.pc_scope.specs.Bindings.{constants_in, classes_in, Body, bodies}
 use Rattle.pc_scope.specs.Resolution.{resolve_in_module}
 use Rattle.pc_scope.specs.Expressions.{parts_in, other_callee, exprs_in_all}
-use Rattle.pc_scope.specs.Findings.{IsUnknownIn, IsEarlyMeaning, ScopeFinds}
+use Rattle.pc_scope_findings.specs.Findings.{IsUnknownIn, IsEarlyMeaning, ScopeFinds}
 use Rattle.pc_rules.specs.Labels.{is_of_scopes}
 use Rattle.pc_labels.specs.Modules.{Labelling, LabelsSay}
 

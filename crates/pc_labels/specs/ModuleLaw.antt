@@ -4,7 +4,7 @@
 use Rattle.std.specs.Prelude.{◌≡◌, ◌⊎◌, ◌↔◌, List, [], Contains}
 use Rattle.pc_tree.specs.declared.code.Finding.{Finding}
 use Rattle.pc_tree.specs.Tree.{Module}
-use Rattle.pc_scope.specs.Findings.{ScopeFinds}
+use Rattle.pc_scope_findings.specs.Findings.{ScopeFinds}
 use Rattle.pc_class.specs.Findings.{ClassFinds}
 use Rattle.pc_notes.specs.Notes.{Note, findings_of}
 use Rattle.pc_rules.specs.SignaturesFound.{constants_of}

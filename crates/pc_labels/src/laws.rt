@@ -4,7 +4,7 @@ ghost use Rattle.std.specs.Prelude.{◌≡◌, ℕ, List, None, Option, Some};
 ghost use Rattle.pc_source.specs.declared.place.Place.{Place};
 ghost use Rattle.pc_tree.specs.declared.code.Finding.{Finding};
 ghost use Rattle.pc_tree.specs.Tree.{Expr, Module, Name, Stmts, for_loop, returns};
-ghost use Rattle.pc_scope.specs.Findings.{ScopeFinds};
+ghost use Rattle.pc_scope_findings.specs.Findings.{ScopeFinds};
 ghost use Rattle.pc_types.specs.Tree.{Tree};
 ghost use Rattle.pc_types.specs.Below.{Static};
 ghost use Rattle.pc_flow.specs.Environment.{Env, current};

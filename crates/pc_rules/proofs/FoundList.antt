@@ -10,7 +10,7 @@ use Rattle.pc_tree.specs.Code.{finding}
 use Rattle.pc_tree.specs.Tree.{Expr, Exprs, Entries, Keywords, name, number, text, truth, nothing, tuple, list, dict, negative, negation, binary, compare, is_none, is_not_none, conjunction, disjunction, attribute, index, call, no_exprs, more_exprs, no_entries, more_entries, no_keywords, more_keywords}
 use Rattle.pc_tree.specs.Depth.{place_of}
 use Rattle.pc_scope.specs.Expressions.{is_instance_test}
-use Rattle.pc_scope.proofs.Among.{none_among, first_among, later_among, among_first, either}
+use Rattle.pc_tree.proofs.Among.{none_among, first_among, later_among, among_first, either}
 use Rattle.pc_rules.specs.Operations.{FlowMark}
 use Rattle.pc_rules.specs.Labels.{FlowMarks, Marks, ItemsMarks, EntriesMarks, KeywordsMarks, is_of_scopes, second_place, IsFoundAt, IsFlowAt, IsCodeAt, Finds, ItemsFind, ArgumentsFind, EntriesFind, KeywordsFind}
 use Rattle.pc_notes.specs.Notes.{Note, plain_note, findings_of}

@@ -2,14 +2,4 @@ pub mod Unbound
 pub mod TextSets
 pub mod TextMaps
 pub mod Meanings
-pub mod Among
-pub mod FoundNames
-pub mod FoundItems
-pub mod FoundEarly
-pub mod FoundCodes
-pub mod Finds
-pub mod Joints
-pub mod Reached
-pub mod Seeking
-pub mod UnknownIn
-pub mod Suites
+pub mod TwoArguments

@@ -1,6 +1,5 @@
 pub mod Bindings
 pub mod Expressions
-pub mod Findings
 pub mod Reach
 pub mod Reserved
 pub mod Resolution

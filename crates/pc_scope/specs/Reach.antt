@@ -1,24 +1,9 @@
--- Which statements can complete, and which no run reaches.
+-- Which statements can complete.
 -- Own rule of the profile.
-use Rattle.std.specs.Prelude.{List, [], ◌∷◌, ◌++◌, Bool, true, false, ◌&&◌, ◌||◌, if◌then◌else◌}
-use Rattle.pc_source.specs.declared.place.Place.{Place}
+use Rattle.std.specs.Prelude.{Bool, true, false, ◌&&◌, ◌||◌}
 use Rattle.pc_tree.specs.Tree.{Stmt, Stmts, Branches, pass, breaks, continues, returns, asserts, annotated, assigns}
 use Rattle.pc_tree.specs.Tree.{evaluates, while_loop, for_loop, conditional, no_stmts, more_stmts, no_branches}
 use Rattle.pc_tree.specs.Tree.{more_branches}
-
--- the place of a statement's first token
-abbrev pub first_of : Stmt → Place
-first_of (pass p) = p
-first_of (breaks p) = p
-first_of (continues p) = p
-first_of (returns p value) = p
-first_of (asserts p condition message) = p
-first_of (annotated p n annotation value) = p
-first_of (assigns p target value) = p
-first_of (evaluates p value) = p
-first_of (while_loop p condition body) = p
-first_of (for_loop p n iterable body) = p
-first_of (conditional p arms otherwise) = p
 
 -- the suite has no statement, as that of a missing `else`
 abbrev pub is_empty : Stmts → Bool
@@ -48,25 +33,3 @@ abbrev mutual
   pub some_completes : Branches → Bool
   some_completes no_branches = false
   some_completes (more_branches condition body rest) = completes_all body || some_completes rest
-
--- the first statement of a suite, if it has one
-abbrev pub first_places : Stmts → List Place
-first_places no_stmts = []
-first_places (more_stmts s rest) = first_of s ∷ []
-
--- the first statements behind one that cannot complete, in the suites that are reached
-abbrev mutual
-  pub unreached_in : Stmt → List Place
-  unreached_in (while_loop p condition body) = unreached_places body
-  unreached_in (for_loop p n iterable body) = unreached_places body
-  unreached_in (conditional p branches otherwise) = unreached_in_branches branches ++ unreached_places otherwise
-  unreached_in _ = []
-
-  pub unreached_places : Stmts → List Place
-  unreached_places no_stmts = []
-  unreached_places (more_stmts s rest) = unreached_in s
-      ++ (if completes s then unreached_places rest else first_places rest)
-
-  pub unreached_in_branches : Branches → List Place
-  unreached_in_branches no_branches = []
-  unreached_in_branches (more_branches condition body rest) = unreached_places body ++ unreached_in_branches rest

@@ -4,7 +4,6 @@ ghost use Rattle.std.specs.Prelude.{IfOk};
 ghost use Rattle.pc_tree.specs.Tree.{module_of};
 ghost use Rattle.pc_scope.specs.ModuleScopes.{AreScopes};
 
-use crate::module_findings::find_all;
 use crate::module_names::names_of;
 use crate::module_scopes::Scopes;
 use pc_source::OutOfMemory;
@@ -16,6 +15,5 @@ pub fn scopes(alloc: Allocator, module: &Module) -> Result<Scopes, OutOfMemory>
     ensures scopes { IfOk result (λ s. AreScopes (module_of module.now) s) }
 {
     let names = names_of(alloc, module)?;
-    let found = find_all(alloc, &names, module)?;
-    Ok(Scopes { names, found })
+    Ok(Scopes { names })
 }

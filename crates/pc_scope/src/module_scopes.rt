@@ -1,30 +1,25 @@
 //! The scopes of a module.
 
-ghost use Rattle.std.specs.Prelude.{◌≡◌, ◌↔◌, length, Contains};
+ghost use Rattle.std.specs.Prelude.{◌≡◌, length};
 ghost use Rattle.pc_tree.specs.Tree.{Module as Tree};
-ghost use Rattle.pc_tree.specs.declared.code.Finding.{Finding as FindingOf};
 ghost use Rattle.pc_scope.specs.Resolution.{resolve, locals_of};
-ghost use Rattle.pc_scope.specs.Findings.{ScopeFinds};
 ghost use Rattle.pc_scope.specs.Tables.{meaning_by_tables};
 ghost use Rattle.pc_scope.specs.ModuleScopes.{ModuleScopes, AreScopes};
 
 use crate::resolution::{Owner, Res};
 use crate::tables::Names;
-use pc_tree::Findings;
 use std::marker::Model;
 
-/// The scopes of a module: what each name of it means, and what is found of its names and of the places of its
-/// statements.
+/// The scopes of a module: what each name of it means.
 #[derive(Drop)]
 pub struct Scopes {
     pub(crate) names: Names,
-    pub(crate) found: Findings,
 }
 
 impl Model for Scopes {
     ghost Value = { ModuleScopes };
 
-    ghost view = { λ s. record { tables = s.names; findings = s.found.items } };
+    ghost view = { λ s. record { tables = s.names } };
 }
 
 impl Scopes {
@@ -43,14 +38,5 @@ impl Scopes {
         ensures { (m : Tree) → AreScopes m self.now → result ≡ length (locals_of m owner) }
     {
         self.names.count_locals(owner)
-    }
-
-    /// What is found of the module's names and of the places of its statements, in any order: E01, E02, E03, E05, E28,
-    /// E29, E30, E31. Own rules of the profile.
-    pub fn findings(&self) -> &Findings
-        ensures found { (m : Tree) → AreScopes m self.now → (f : FindingOf)
-            → Contains result.now.items f ↔ ScopeFinds m f }
-    {
-        &self.found
     }
 }

@@ -6,11 +6,11 @@ use Rattle.pc_source.specs.declared.place.Place.{Place}
 use Rattle.pc_tree.specs.declared.code.Code.{Code}
 use Rattle.pc_tree.specs.declared.code.Code.TheVariants.{E01, E05, E06, E28, E29, E31}
 use Rattle.pc_tree.specs.declared.code.Finding.{Finding}
-use Rattle.pc_tree.specs.Code.{finding}
+use Rattle.pc_tree.specs.Code.{finding, at_code}
 use Rattle.pc_tree.specs.Tree.{Module}
 use Rattle.pc_tree.specs.Stopping.{has_none, twice, outside_loop, clashing_members, no_main, reserved_bound, default_order, stopping_places, IsStopping, is_runnable}
-use Rattle.pc_stop.specs.Found.{at_code, found_in_scopes, found_in_classes}
-use Rattle.pc_stop.proofs.Among.{none_among, either, in_code, to_code}
+use Rattle.pc_stop.specs.Found.{found_in_scopes, found_in_classes}
+use Rattle.pc_tree.proofs.Among.{none_among, either, in_code, to_code}
 
 -- ---- there are findings where there are places
 

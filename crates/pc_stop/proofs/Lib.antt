@@ -1,6 +1,3 @@
-pub mod Among
-pub mod Finds
-pub mod Joints
 pub mod Passed
 pub mod SharedTables
 pub mod HeldNames

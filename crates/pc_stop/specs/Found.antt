@@ -1,21 +1,17 @@
 -- The findings that stop a run, as lists that walks over the tree make.
 -- Each code is an own rule of the profile.
-use Rattle.std.specs.Prelude.{Bool, true, false, List, ◌++◌, map}
+use Rattle.std.specs.Prelude.{Bool, true, false, List, ◌++◌}
 use Rattle.pc_source.specs.declared.place.Place.{Place}
 use Rattle.pc_tree.specs.declared.code.Code.{Code}
 use Rattle.pc_tree.specs.declared.code.Code.TheVariants.{E01, E05, E06, E28, E29, E31}
 use Rattle.pc_tree.specs.declared.code.Finding.{Finding}
-use Rattle.pc_tree.specs.Code.{finding}
+use Rattle.pc_tree.specs.Code.{at_code}
 use Rattle.pc_tree.specs.Tree.{FuncDef, Item, Module}
 use Rattle.pc_tree.specs.Stopping.{params_again, self_before, given_in_def, loose_in_def, reserved_in_def}
 use Rattle.pc_tree.specs.Stopping.{late_plain_in, of_defs, twice, outside_loop, clashing_members, no_main}
 use Rattle.pc_tree.specs.Stopping.{reserved_bound, default_order}
 use Rattle.pc_stop.specs.declared.defs.FunctionRule.{FunctionRule}
 use Rattle.pc_stop.specs.declared.defs.FunctionRule.TheVariants as rule
-
--- a code at each of these places
-abbrev pub at_code : Code → List Place → List Finding
-at_code c places = map (λ p. finding p c) places
 
 -- ---- the rules on one function
 

@@ -1,5 +1,5 @@
 //! E01 in calls: a name that a call is given again. Language Reference 6.3.4 "Calls".
-#![tactic(auto, using(crate::proofs::Finds::at_both))]
+#![tactic(auto, using(pc_tree::proofs::Finds::at_both))]
 
 ghost use Rattle.std.specs.Prelude.{◌≡◌, ◌++◌, [], map, OnOk};
 ghost use Rattle.pc_source.specs.declared.place.Place.{Place as PlaceOf};
@@ -9,7 +9,7 @@ ghost use Rattle.pc_tree.specs.Lists.{exprs_of_list, entries_of_list, keywords_o
 ghost use Rattle.pc_tree.specs.Stopping.{given_again, given_in_constants, given_in, given_in_all, given_in_entries};
 ghost use Rattle.pc_tree.specs.Stopping.{given_in_keywords, given_in_optional, given_in_target, given_in_stmt};
 ghost use Rattle.pc_tree.specs.Stopping.{given_in_stmts, given_in_branches};
-ghost use Rattle.pc_stop.specs.Found.{at_code};
+ghost use Rattle.pc_tree.specs.Code.{at_code};
 
 use crate::found::find_if;
 use indexmap::IndexSet;

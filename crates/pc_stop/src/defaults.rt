@@ -3,7 +3,7 @@ ghost use Rattle.std.specs.Prelude.{◌≡◌, ◌++◌, map, false, OnOk};
 ghost use Rattle.pc_tree.specs.declared.code.Code.TheVariants.{E31};
 ghost use Rattle.pc_tree.specs.Tree.{param_of};
 ghost use Rattle.pc_tree.specs.Stopping.{late_plain};
-ghost use Rattle.pc_stop.specs.Found.{at_code};
+ghost use Rattle.pc_tree.specs.Code.{at_code};
 
 use crate::found::find_if;
 use pc_source::OutOfMemory;

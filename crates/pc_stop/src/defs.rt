@@ -1,10 +1,11 @@
 //! What stands in functions and methods, by one rule after another.
-#![tactic(auto, using(crate::proofs::Finds::at_both, crate::proofs::Joints::joined))]
+#![tactic(auto, using(pc_tree::proofs::Finds::at_both, pc_tree::proofs::Joints::joined))]
 
 ghost use Rattle.std.specs.Prelude.{◌≡◌, ◌++◌, map, true, OnOk};
 ghost use Rattle.pc_tree.specs.Tree.{func_of, member_of, item_of};
 ghost use Rattle.pc_tree.specs.Stopping.{of_members};
-ghost use Rattle.pc_stop.specs.Found.{at_code, code_of, places_by, in_defs};
+ghost use Rattle.pc_tree.specs.Code.{at_code};
+ghost use Rattle.pc_stop.specs.Found.{code_of, places_by, in_defs};
 
 use crate::calls::find_given_in_body;
 use crate::defaults::find_late_plain;

@@ -3,7 +3,7 @@ ghost use Rattle.std.specs.Prelude.{◌≡◌, ◌++◌, map, codes, OnOk};
 ghost use Rattle.pc_tree.specs.declared.code.Code.TheVariants.{E28};
 ghost use Rattle.pc_tree.specs.Tree.{item_of, module_of};
 ghost use Rattle.pc_tree.specs.Stopping.{is_plain_def, no_main};
-ghost use Rattle.pc_stop.specs.Found.{at_code};
+ghost use Rattle.pc_tree.specs.Code.{at_code};
 
 use crate::found::find_if;
 use pc_source::OutOfMemory;

@@ -1,6 +1,6 @@
 //! One more finding.
 ghost use Rattle.std.specs.Prelude.{◌≡◌, ◌++◌, ◌∷◌, [], OnOk};
-ghost use Rattle.pc_stop.specs.Found.{at_code};
+ghost use Rattle.pc_tree.specs.Code.{at_code};
 ghost use Rattle.pc_tree.specs.Stopping.{one_if};
 
 use pc_source::{OutOfMemory, Place};

@@ -4,7 +4,7 @@ ghost use Rattle.pc_tree.specs.declared.code.Code.TheVariants.{E05};
 ghost use Rattle.pc_tree.specs.Tree.{stmts_of_list, stmt_of_kind};
 ghost use Rattle.pc_tree.specs.Lists.{branches_of_list};
 ghost use Rattle.pc_tree.specs.Stopping.{loose_in, loose_in_stmt, loose_in_branches};
-ghost use Rattle.pc_stop.specs.Found.{at_code};
+ghost use Rattle.pc_tree.specs.Code.{at_code};
 
 use crate::found::find;
 use pc_source::{OutOfMemory, Place};

@@ -6,7 +6,7 @@ ghost use Rattle.pc_tree.specs.Tree.{Item as ItemOf, item_of, member_of, module_
 ghost use Rattle.pc_tree.specs.Stopping.{HeldMember, is_field, is_among, is_reserved_member, name_of_member};
 ghost use Rattle.pc_tree.specs.Stopping.{clashes_among, clashing_in, clashing_members, own_members, option_text};
 ghost use Rattle.pc_names.specs.Names.{texts_in};
-ghost use Rattle.pc_stop.specs.Found.{at_code};
+ghost use Rattle.pc_tree.specs.Code.{at_code};
 ghost use Rattle.pc_stop.specs.Holdings.{HasIn, IsReady, Keeps};
 ghost use Rattle.pc_stop.specs.Members.{clashes_with, held_unless, base_at, Stands, IsTableOf};
 

@@ -1,5 +1,5 @@
 //! E29: a reserved name that is bound, or a field named `mro`. Own rule of the profile.
-#![tactic(auto, using(crate::proofs::Finds::at_both, crate::proofs::Joints::joined))]
+#![tactic(auto, using(pc_tree::proofs::Finds::at_both, pc_tree::proofs::Joints::joined))]
 
 ghost use Rattle.std.specs.Prelude.{◌≡◌, ◌++◌, ◌∷◌, [], map, OnOk};
 ghost use Rattle.pc_tree.specs.declared.code.Code.TheVariants.{E29};
@@ -7,7 +7,7 @@ ghost use Rattle.pc_tree.specs.Lists.{name_seen};
 ghost use Rattle.pc_tree.specs.Tree.{func_of, member_of, item_of};
 ghost use Rattle.pc_tree.specs.Stopping.{name_of_item, reserved_among, reserved_members, reserved_in_classes};
 ghost use Rattle.pc_tree.specs.Stopping.{reserved_in_def, is_reserved_member};
-ghost use Rattle.pc_stop.specs.Found.{at_code};
+ghost use Rattle.pc_tree.specs.Code.{at_code};
 
 use crate::found::find_if;
 use crate::names::{add_params, names_of};

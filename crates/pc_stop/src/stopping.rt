@@ -4,7 +4,8 @@ ghost use Rattle.pc_tree.specs.declared.code.Code.TheVariants.{E01, E29};
 ghost use Rattle.pc_tree.specs.declared.code.Finding.{Finding as FindingOf};
 ghost use Rattle.pc_tree.specs.Tree.{module_of};
 ghost use Rattle.pc_tree.specs.Stopping.{twice, reserved_bound, has_none, is_runnable, IsStopping};
-ghost use Rattle.pc_stop.specs.Found.{at_code, found_in_scopes};
+ghost use Rattle.pc_tree.specs.Code.{at_code};
+ghost use Rattle.pc_stop.specs.Found.{found_in_scopes};
 
 use crate::calls::find_given_in_constants;
 use crate::defs::{FunctionRule, find_in_defs};
@@ -18,7 +19,7 @@ use std::alloc::Global as Allocator;
 use std::hash::RandomState;
 
 /// Finds what is bound or given twice: E01.
-#[tactic(auto, using(crate::proofs::Finds::at_both, crate::proofs::Joints::joined))]
+#[tactic(auto, using(pc_tree::proofs::Finds::at_both, pc_tree::proofs::Joints::joined))]
 fn find_twice(
     found: &mut Findings,
     alloc: Allocator,
@@ -35,7 +36,7 @@ fn find_twice(
 }
 
 /// Finds reserved names that are bound: E29.
-#[tactic(auto, using(crate::proofs::Finds::at_both, crate::proofs::Joints::joined))]
+#[tactic(auto, using(pc_tree::proofs::Finds::at_both, pc_tree::proofs::Joints::joined))]
 fn find_reserved(
     found: &mut Findings,
     alloc: Allocator,

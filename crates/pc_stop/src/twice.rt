@@ -5,7 +5,7 @@ ghost use Rattle.pc_tree.specs.declared.code.Code.TheVariants.{E01};
 ghost use Rattle.pc_tree.specs.Lists.{name_seen};
 ghost use Rattle.pc_tree.specs.Tree.{name_of, param_of, item_of};
 ghost use Rattle.pc_tree.specs.Stopping.{is_among, one_if, bound_again, name_of_item, name_of_param, self_before};
-ghost use Rattle.pc_stop.specs.Found.{at_code};
+ghost use Rattle.pc_tree.specs.Code.{at_code};
 ghost use Rattle.pc_names.specs.Names.{texts_in};
 
 use crate::found::find_if;

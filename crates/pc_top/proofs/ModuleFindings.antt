@@ -7,7 +7,7 @@ use Rattle.std.proofs.lemmas.List.Elements.{Contains-append_left, Contains-appen
 use Rattle.pc_source.specs.declared.place.Place.{Place}
 use Rattle.pc_tree.specs.declared.code.Finding.{Finding}
 use Rattle.pc_tree.specs.Tree.{Module}
-use Rattle.pc_scope.specs.Findings.{ScopeFinds}
+use Rattle.pc_scope_findings.specs.Findings.{ScopeFinds}
 use Rattle.pc_types.specs.Tree.{Tree}
 use Rattle.pc_class.specs.Built.{class_findings}
 use Rattle.pc_class.specs.Findings.{ClassFinds}

@@ -16,6 +16,7 @@ use pc_class::{class_table, override_findings};
 use pc_intern::InternStore;
 use pc_notes::Notes;
 use pc_scope::{Scopes, scopes};
+use pc_scope_findings::scope_findings;
 use pc_source::OutOfMemory;
 use pc_tree::Module;
 use pc_types::{Parents, TypeStore};
@@ -47,7 +48,8 @@ pub fn findings_by<S: TypeStore>(
     override_findings(store, parents, module, &classes, &mut of_classes)?;
     let mut found = Notes::new(alloc);
     check_module(store, alloc, parents, module, scopes, &classes, &mut found)?;
-    found.put_all(scopes.findings())?;
+    let of_scopes = scope_findings(alloc, module, scopes)?;
+    found.put_all(&of_scopes)?;
     found.put_all(&of_classes)?;
     Ok(found)
 }

@@ -1,3 +1,4 @@
+pub mod Among
 pub mod CompleteExpressions
 pub mod CompleteModules
 pub mod CompleteStatements
@@ -6,7 +7,9 @@ pub mod CompleteBrackets
 pub mod Ending
 pub mod Examples
 pub mod ExamplesOfStops
+pub mod Finds
 pub mod Front
+pub mod Joints
 pub mod Operators
 pub mod Runs
 pub mod SameKind

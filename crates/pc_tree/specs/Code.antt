@@ -1,5 +1,5 @@
 -- The codes of findings: how a report prints them, and which of them are errors. Own rule of the profile.
-use Rattle.std.specs.Prelude.{ℕ, List, codes, Bool, true, false, IsTrue}
+use Rattle.std.specs.Prelude.{ℕ, List, codes, Bool, true, false, IsTrue, map}
 use Rattle.pc_source.specs.declared.place.Place.{Place}
 use Rattle.pc_tree.specs.declared.code.Code.{Code}
 use Rattle.pc_tree.specs.declared.code.Code.TheVariants.{A1, A2, A3, A4, A5, A6, A7, A8, E01, E02, E03, E04, E05, E06}
@@ -141,3 +141,7 @@ IsError code = IsTrue (is_error code)
 -- a code at a place
 abbrev pub finding : Place → Code → Finding
 finding place code = record { place = place; code = code }
+
+-- a code at each of these places
+abbrev pub at_code : Code → List Place → List Finding
+at_code c places = map (λ p. finding p c) places

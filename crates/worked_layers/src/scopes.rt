@@ -1,6 +1,7 @@
-//! Findings of names and of the places of statements, by `pc_scope`.
+//! Findings of names and of the places of statements, by `pc_scope_findings`.
 use pc_front::read_module;
 use pc_scope::scopes;
+use pc_scope_findings::scope_findings;
 use pc_source::Fault;
 use pc_tables::{TableFault, Tally, rows};
 use pc_tree::Finding;
@@ -25,8 +26,9 @@ fn listed(alloc: Global, found: &[Finding]) -> Result<String, AllocError> {
 /// What is found of the scopes of a module.
 fn found_in(alloc: Global, text: &str) -> Result<String, Fault> {
     let module = read_module(alloc, text.as_bytes())?;
-    let found = scopes(alloc, &module)?;
-    Ok(listed(alloc, found.findings())?)
+    let scopes = scopes(alloc, &module)?;
+    let found = scope_findings(alloc, &module, &scopes)?;
+    Ok(listed(alloc, &found)?)
 }
 
 /// Counts the modules of a table.

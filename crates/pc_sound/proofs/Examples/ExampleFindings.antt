@@ -18,10 +18,10 @@ use Rattle.pc_scope.specs.declared.resolution.Res.{Res}
 use Rattle.pc_scope.specs.declared.resolution.Res.TheVariants as res
 use Rattle.pc_scope.specs.Bindings.{constants_in, classes_in, bodies}
 use Rattle.pc_scope.specs.Resolution.{resolve, resolve_in_module}
-use Rattle.pc_scope.specs.Reach.{unreached_places}
+use Rattle.pc_scope_findings.specs.Unreached.{unreached_places}
 use Rattle.pc_scope.specs.Expressions.{parts_in, other_callee, exprs_in_all}
-use Rattle.pc_scope.specs.Findings as scope
-use Rattle.pc_scope.specs.Findings.{IsUnknownIn, IsUnknown, IsEarlyMeaning, IsEarlyName, IsEarlyCallee, IsEarly, IsUnreachable, ScopeFinds}
+use Rattle.pc_scope_findings.specs.Findings as scope
+use Rattle.pc_scope_findings.specs.Findings.{IsUnknownIn, IsUnknown, IsEarlyMeaning, IsEarlyName, IsEarlyCallee, IsEarly, IsUnreachable, ScopeFinds}
 use Rattle.pc_types.specs.Tree.{Tree}
 use Rattle.pc_types.specs.Below.{Bases}
 use Rattle.pc_class.specs.Findings as class

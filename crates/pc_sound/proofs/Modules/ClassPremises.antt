@@ -16,7 +16,7 @@ use Rattle.pc_tree.specs.Stopping.{name_of_member}
 use Rattle.pc_scope.specs.Reserved.{is_builtin_name}
 use Rattle.pc_scope.specs.Bindings.{classes_in}
 use Rattle.pc_scope.specs.Resolution.{is_one_of}
-use Rattle.pc_scope.specs.Findings as scope
+use Rattle.pc_scope_findings.specs.Findings as scope
 use Rattle.pc_types.specs.Tree.{Tree}
 use Rattle.pc_ann.specs.Annotations.{read_ann}
 use Rattle.pc_class.specs.Bases.{bases_of, base_named}

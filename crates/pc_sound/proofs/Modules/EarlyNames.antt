@@ -16,8 +16,8 @@ use Rattle.pc_scope.specs.declared.resolution.Res.TheVariants as res
 use Rattle.pc_scope.specs.Expressions.{parts_in, parts_in_all, parts_in_entries, parts_in_keywords}
 use Rattle.pc_scope.specs.Bindings.{constants_in, classes_in}
 use Rattle.pc_scope.specs.Resolution.{resolve_in_module}
-use Rattle.pc_scope.specs.Findings as scope
-use Rattle.pc_scope.specs.Findings.{IsEarlyMeaning}
+use Rattle.pc_scope_findings.specs.Findings as scope
+use Rattle.pc_scope_findings.specs.Findings.{IsEarlyMeaning}
 use Rattle.pc_types.specs.Tree.{Tree}
 use Rattle.pc_flow.specs.Environment.{Env, current}
 use Rattle.pc_rules.specs.Operations.{in_error}

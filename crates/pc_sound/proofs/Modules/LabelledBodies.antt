@@ -19,8 +19,8 @@ use Rattle.pc_scope.specs.declared.resolution.Owner.TheVariants as owners
 use Rattle.pc_scope.specs.Reserved.{reserved_builtins, beside, builtin_of, is_builtin_name}
 use Rattle.pc_scope.specs.Bindings.{texts, param_names, classes_in, functions_in, methods_in}
 use Rattle.pc_scope.specs.Resolution.{is_one_of, entry_texts, method_at, function_of}
-use Rattle.pc_scope.specs.Findings as scope
-use Rattle.pc_scope.specs.Findings.{IsScopeCode}
+use Rattle.pc_scope_findings.specs.Findings as scope
+use Rattle.pc_scope_findings.specs.Findings.{IsScopeCode}
 use Rattle.pc_types.specs.Tree.{Tree}
 use Rattle.pc_labels.specs.Modules.{FunctionMarks, LawfulFunction, ItemsMarks, ItemsFind, BeforeItem, before_next, nothing_before, Labelling, IsLawful, constant_types, item_constants}
 use Rattle.pc_labels.proofs.Functions.{function_labels}

@@ -20,7 +20,7 @@ use Rattle.pc_scope.specs.declared.resolution.Builtin.TheVariants as builtin
 use Rattle.pc_scope.specs.Reserved.{builtin_of, is_builtin_name}
 use Rattle.pc_scope.specs.Bindings.{classes_in}
 use Rattle.pc_scope.specs.Resolution.{is_one_of, resolve_in_module}
-use Rattle.pc_scope.specs.Findings as scope
+use Rattle.pc_scope_findings.specs.Findings as scope
 use Rattle.pc_ann.specs.Annotations.{read_ann}
 use Rattle.pc_class.specs.Bases.{bases_of, base_named}
 use Rattle.pc_class.specs.Facts as facts

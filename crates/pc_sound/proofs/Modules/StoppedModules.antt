@@ -7,8 +7,8 @@ use Rattle.pc_tree.specs.declared.code.Code.TheVariants.{E01, E05, E06, E28, E29
 use Rattle.pc_tree.specs.Code.{finding, IsError}
 use Rattle.pc_tree.specs.Stopping.{has_none, twice, outside_loop, clashing_members, no_main, reserved_bound, default_order, IsStopping, is_runnable}
 use Rattle.pc_tree.specs.Tree.{Module}
-use Rattle.pc_scope.specs.Findings as scope
-use Rattle.pc_scope.specs.Findings.{ScopeFinds}
+use Rattle.pc_scope_findings.specs.Findings as scope
+use Rattle.pc_scope_findings.specs.Findings.{ScopeFinds}
 use Rattle.pc_class.specs.Findings as class
 use Rattle.pc_class.specs.Findings.{ClassFinds}
 use Rattle.pc_labels.specs.Modules.{HasLabelling}

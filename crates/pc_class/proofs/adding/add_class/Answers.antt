@@ -3,7 +3,7 @@ use Rattle.pc_tree.specs.Tree.{class_of, member_of}
 use Rattle.pc_tree.specs.declared.tree.Member.{Member as RustMember}
 use Rattle.pc_tree.specs.declared.code.Code.TheVariants.{E06, E08}
 use Rattle.pc_tree.specs.declared.code.Finding.{Finding}
-use Rattle.pc_scope.specs.Internal.FindingLists.{at_code}
+use Rattle.pc_tree.specs.Code.{at_code}
 use Rattle.pc_types.specs.Below.{Bases, base_of}
 use Rattle.pc_ann.specs.Bases.{base_named, bases_of}
 use Rattle.pc_class.specs.declared.entries.Entry.{Entry as RustEntry}

@@ -2,7 +2,7 @@ use Rattle.std.proofs.Common.{◌≡◌, ◌≤◌, ◌++◌, map, drop}
 use Rattle.pc_tree.specs.declared.code.Code.TheVariants.{E07}
 use Rattle.pc_tree.specs.Tree.{item_of}
 use Rattle.pc_scope.specs.Bindings.{classes_in}
-use Rattle.pc_scope.specs.Internal.FindingLists.{at_code}
+use Rattle.pc_tree.specs.Code.{at_code}
 use Rattle.pc_class.specs.Entries.{missing_bases}
 use Rattle.pc_class.proofs.bases.find_missing_bases.Given as goal
 

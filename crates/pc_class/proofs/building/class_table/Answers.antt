@@ -4,7 +4,7 @@ use Rattle.pc_tree.specs.declared.code.Finding.{Finding}
 use Rattle.pc_tree.specs.declared.tree.Item.{Item as RustItem}
 use Rattle.pc_tree.specs.Tree.{module_of, item_of}
 use Rattle.pc_scope.specs.Bindings.{classes_in}
-use Rattle.pc_scope.specs.Internal.FindingLists.{at_code}
+use Rattle.pc_tree.specs.Code.{at_code}
 use Rattle.pc_types.specs.Below.{Bases}
 use Rattle.pc_ann.specs.Bases.{bases_of}
 use Rattle.pc_class.specs.Entries.{missing_bases}

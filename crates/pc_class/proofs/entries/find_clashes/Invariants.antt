@@ -1,6 +1,6 @@
 use Rattle.std.proofs.Common.{◌≡◌, ◌++◌, map, drop}
 use Rattle.pc_tree.specs.declared.code.Code.TheVariants.{E06}
-use Rattle.pc_scope.specs.Internal.FindingLists.{at_code}
+use Rattle.pc_tree.specs.Code.{at_code}
 use Rattle.pc_class.specs.Entries.{entry_seen, clash_places}
 use Rattle.pc_class.proofs.entries.find_clashes.Given as goal
 

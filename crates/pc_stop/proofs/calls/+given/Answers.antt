@@ -5,8 +5,8 @@ use Rattle.pc_tree.specs.Tree.{Expr, expr_of}
 use Rattle.pc_tree.specs.Lists.{exprs_of_list, keywords_of_list}
 use Rattle.pc_tree.specs.Stopping.{given_again, given_in, given_in_all, given_in_keywords}
 use Rattle.pc_tree.proofs.Trees.{tuple_tree, list_tree, dict_tree, call_tree}
-use Rattle.pc_stop.specs.Found.{at_code}
-use Rattle.pc_stop.proofs.Finds.{joined}
+use Rattle.pc_tree.specs.Code.{at_code}
+use Rattle.pc_tree.proofs.Finds.{joined}
 use Rattle.pc_stop.proofs.calls.+given.Goals as goal
 
 pub find_given-returns-in-Tuple : goal.find_given-returns-in-Tuple

@@ -2,7 +2,7 @@ use Rattle.std.proofs.Common.{◌≡◌, ◌++◌, drop}
 use Rattle.pc_tree.specs.declared.code.Code.TheVariants.{E01}
 use Rattle.pc_tree.specs.Stopping.{given_in_all, given_in_entries, given_in_keywords}
 use Rattle.pc_tree.specs.Lists.{exprs_of_list, entries_of_list, keywords_of_list}
-use Rattle.pc_stop.specs.Found.{at_code}
+use Rattle.pc_tree.specs.Code.{at_code}
 use Rattle.pc_stop.proofs.calls.+given.Given as goal
 
 abbrev pub invariant-find_given_in_all-loop-item : goal.invariant-find_given_in_all-loop-item

@@ -5,7 +5,7 @@ use Rattle.pc_tree.specs.Tree.{Stmt, Branches, expr_of, stmts_of_list}
 use Rattle.pc_tree.specs.Lists.{branches_of_list}
 use Rattle.pc_tree.specs.Stopping.{given_in, given_in_stmt, given_in_stmts, given_in_branches}
 use Rattle.pc_tree.proofs.Trees.{while_tree, for_tree, if_tree, branches_next}
-use Rattle.pc_stop.proofs.Finds.{stepped, joined}
+use Rattle.pc_tree.proofs.Finds.{stepped, joined}
 use Rattle.pc_stop.proofs.calls.+given_in_body.Goals as goal
 
 pub find_given_in_branches-loop-branch-preserved : goal.find_given_in_branches-loop-branch-preserved

@@ -3,7 +3,7 @@ use Rattle.pc_tree.specs.declared.code.Code.TheVariants.{E01}
 use Rattle.pc_tree.specs.Stopping.{given_in_stmts, given_in_branches}
 use Rattle.pc_tree.specs.Tree.{stmts_of_list}
 use Rattle.pc_tree.specs.Lists.{branches_of_list}
-use Rattle.pc_stop.specs.Found.{at_code}
+use Rattle.pc_tree.specs.Code.{at_code}
 use Rattle.pc_stop.proofs.calls.+given_in_body.Given as goal
 
 abbrev pub invariant-find_given_in_body-loop-statement : goal.invariant-find_given_in_body-loop-statement

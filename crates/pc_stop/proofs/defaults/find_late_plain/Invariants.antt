@@ -2,7 +2,7 @@ use Rattle.std.proofs.Common.{◌≡◌, drop, map, ◌++◌, false}
 use Rattle.pc_tree.specs.declared.code.Code.TheVariants.{E31}
 use Rattle.pc_tree.specs.Tree.{param_of}
 use Rattle.pc_tree.specs.Stopping.{late_plain}
-use Rattle.pc_stop.specs.Found.{at_code}
+use Rattle.pc_tree.specs.Code.{at_code}
 use Rattle.pc_stop.proofs.defaults.find_late_plain.Given as goal
 
 abbrev pub invariant-loop-param : goal.invariant-loop-param

@@ -1,6 +1,7 @@
 use Rattle.std.proofs.Common.{◌≡◌, ◌++◌, map, drop}
 use Rattle.pc_tree.specs.Tree.{item_of}
-use Rattle.pc_stop.specs.Found.{at_code, code_of, in_defs}
+use Rattle.pc_tree.specs.Code.{at_code}
+use Rattle.pc_stop.specs.Found.{code_of, in_defs}
 use Rattle.pc_stop.proofs.defs.find_in_defs.Given as goal
 
 abbrev pub invariant-loop-item : goal.invariant-loop-item

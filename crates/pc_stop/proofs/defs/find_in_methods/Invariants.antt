@@ -1,7 +1,8 @@
 use Rattle.std.proofs.Common.{◌≡◌, ◌++◌, map, drop, true}
 use Rattle.pc_tree.specs.Tree.{member_of}
 use Rattle.pc_tree.specs.Stopping.{of_members}
-use Rattle.pc_stop.specs.Found.{at_code, code_of, places_by}
+use Rattle.pc_tree.specs.Code.{at_code}
+use Rattle.pc_stop.specs.Found.{code_of, places_by}
 use Rattle.pc_stop.proofs.defs.find_in_methods.Given as goal
 
 abbrev pub invariant-loop-member : goal.invariant-loop-member

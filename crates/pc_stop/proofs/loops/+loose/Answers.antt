@@ -7,8 +7,8 @@ use Rattle.pc_tree.specs.Tree.{stmts_of_list, stmt_of, Stmt, Stmts, Branches}
 use Rattle.pc_tree.specs.Lists.{branches_of_list}
 use Rattle.pc_tree.specs.Stopping.{loose_in, loose_in_stmt, loose_in_branches}
 use Rattle.pc_tree.proofs.Trees.{if_tree, branches_next, stmts_next}
-use Rattle.pc_stop.specs.Found.{at_code}
-use Rattle.pc_stop.proofs.Joints.{joined}
+use Rattle.pc_tree.specs.Code.{at_code}
+use Rattle.pc_tree.proofs.Joints.{joined}
 use Rattle.pc_stop.proofs.loops.+loose.Goals as goal
 
 pub find_loose-loop-statement-preserved : goal.find_loose-loop-statement-preserved

@@ -3,7 +3,7 @@ use Rattle.pc_tree.specs.declared.code.Code.TheVariants.{E05}
 use Rattle.pc_tree.specs.Tree.{stmts_of_list}
 use Rattle.pc_tree.specs.Lists.{branches_of_list}
 use Rattle.pc_tree.specs.Stopping.{loose_in, loose_in_branches}
-use Rattle.pc_stop.specs.Found.{at_code}
+use Rattle.pc_tree.specs.Code.{at_code}
 use Rattle.pc_stop.proofs.loops.+loose.Given as goal
 
 abbrev pub invariant-find_loose-loop-statement : goal.invariant-find_loose-loop-statement

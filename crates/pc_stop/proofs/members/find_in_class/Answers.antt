@@ -4,8 +4,8 @@ use Rattle.pc_tree.specs.declared.code.Code.TheVariants.{E06}
 use Rattle.pc_tree.specs.Tree.{member_of}
 use Rattle.pc_tree.specs.Stopping.{HeldMember, name_of_member, clashes_among, own_members}
 use Rattle.pc_names.specs.Names.{text_seen, texts_in}
-use Rattle.pc_stop.specs.Found.{at_code}
-use Rattle.pc_stop.proofs.Finds.{stepped}
+use Rattle.pc_tree.specs.Code.{at_code}
+use Rattle.pc_tree.proofs.Finds.{stepped}
 use Rattle.pc_stop.proofs.Clashes.{Owns, none_left, same_clashing, clash_next, owns_first, owns_more, owns_all}
 use Rattle.pc_stop.proofs.members.find_in_class.Goals as goal
 

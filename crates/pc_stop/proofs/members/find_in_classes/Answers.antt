@@ -8,10 +8,10 @@ use Rattle.pc_tree.specs.Tree.{Name, Item, item_of}
 use Rattle.pc_tree.specs.Stopping.{clashing_in}
 use Rattle.pc_tree.proofs.Stops.{cons_at}
 use Rattle.pc_names.specs.Names.{at_text, first_of, bound_as}
-use Rattle.pc_stop.specs.Found.{at_code}
+use Rattle.pc_tree.specs.Code.{at_code}
 use Rattle.pc_stop.specs.Holdings.{HasIn}
 use Rattle.pc_stop.specs.Members.{Stands}
-use Rattle.pc_stop.proofs.Finds.{stepped}
+use Rattle.pc_tree.proofs.Finds.{stepped}
 use Rattle.pc_stop.proofs.Clashes.{none_left}
 use Rattle.pc_stop.proofs.ClashingItems.{stands_more, items_next, reverse_more}
 use Rattle.pc_stop.proofs.members.find_in_classes.Goals as goal

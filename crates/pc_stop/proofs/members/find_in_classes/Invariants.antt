@@ -2,7 +2,7 @@ use Rattle.std.proofs.Common.{◌≡◌, ◌++◌, [], map, take, drop, reverse}
 use Rattle.pc_tree.specs.declared.code.Code.TheVariants.{E06}
 use Rattle.pc_tree.specs.Tree.{item_of}
 use Rattle.pc_tree.specs.Stopping.{clashing_in}
-use Rattle.pc_stop.specs.Found.{at_code}
+use Rattle.pc_tree.specs.Code.{at_code}
 use Rattle.pc_stop.specs.Members.{Stands}
 use Rattle.pc_stop.proofs.members.find_in_classes.Given as goal
 

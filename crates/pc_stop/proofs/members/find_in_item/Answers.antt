@@ -4,7 +4,7 @@ use Rattle.pc_tree.specs.declared.code.Code.TheVariants.{E06}
 use Rattle.pc_tree.specs.declared.tree.ItemKind.{ItemKind}
 use Rattle.pc_tree.specs.Tree.{Item, item_of_kind, class_of, member_of}
 use Rattle.pc_tree.specs.Stopping.{members_of, own_members, option_text, clashes_among, clashing_in}
-use Rattle.pc_stop.specs.Found.{at_code}
+use Rattle.pc_tree.specs.Code.{at_code}
 use Rattle.pc_stop.specs.Holdings.{HasIn}
 use Rattle.pc_stop.specs.Members.{IsTableOf}
 use Rattle.pc_stop.proofs.ClashingItems.{base_has, unbound, reserved_class, free_class}

@@ -8,7 +8,7 @@ use Rattle.pc_tree.specs.Tree.{Name, member_of}
 use Rattle.pc_tree.specs.Stopping.{HeldMember, is_field, name_of_member, is_among, is_clash, one_if}
 use Rattle.pc_names.specs.Names.{texts_in}
 use Rattle.pc_stop.specs.declared.holdings.TheConstants.{DIGITS}
-use Rattle.pc_stop.specs.Found.{at_code}
+use Rattle.pc_tree.specs.Code.{at_code}
 use Rattle.pc_stop.specs.Holdings.{HasIn}
 use Rattle.pc_stop.proofs.Clashes.{if_ok, on_ok, on_any, judged, own_one, clash_one}
 use Rattle.pc_stop.proofs.members.find_member.Goals as goal

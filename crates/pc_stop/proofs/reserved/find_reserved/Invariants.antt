@@ -1,7 +1,7 @@
 use Rattle.std.proofs.Common.{◌≡◌, drop, map, ◌++◌}
 use Rattle.pc_tree.specs.declared.code.Code.TheVariants.{E29}
 use Rattle.pc_tree.specs.Stopping.{reserved_among}
-use Rattle.pc_stop.specs.Found.{at_code}
+use Rattle.pc_tree.specs.Code.{at_code}
 use Rattle.pc_tree.specs.Lists.{name_seen}
 use Rattle.pc_stop.proofs.reserved.find_reserved.Given as goal
 

@@ -2,7 +2,7 @@ use Rattle.std.proofs.Common.{◌≡◌, ◌++◌, map, drop}
 use Rattle.pc_tree.specs.Tree.{member_of}
 use Rattle.pc_tree.specs.declared.code.Code.TheVariants.{E29}
 use Rattle.pc_tree.specs.Stopping.{reserved_members}
-use Rattle.pc_stop.specs.Found.{at_code}
+use Rattle.pc_tree.specs.Code.{at_code}
 use Rattle.pc_stop.proofs.reserved.find_reserved_members.Given as goal
 
 abbrev pub invariant-loop-member : goal.invariant-loop-member

@@ -2,8 +2,8 @@ use Rattle.std.proofs.Common.{◌++◌}
 use Rattle.pc_tree.specs.declared.code.Code.TheVariants.{E01, E05, E28, E29, E31}
 use Rattle.pc_tree.specs.Tree.{module_of}
 use Rattle.pc_tree.specs.Stopping.{twice, outside_loop, no_main, reserved_bound, default_order}
-use Rattle.pc_stop.specs.Found.{at_code}
-use Rattle.pc_stop.proofs.Finds.{behind}
+use Rattle.pc_tree.specs.Code.{at_code}
+use Rattle.pc_tree.proofs.Finds.{behind}
 use Rattle.pc_stop.proofs.stopping.find_in_scopes.Goals as goal
 
 pub returns : goal.returns

@@ -4,7 +4,7 @@ use Rattle.pc_tree.specs.Tree.{item_of}
 use Rattle.pc_tree.specs.Stopping.{bound_again, given_in_constants, name_of_item}
 use Rattle.pc_stop.specs.declared.defs.FunctionRule.TheVariants as rule
 use Rattle.pc_stop.specs.Found.{in_defs}
-use Rattle.pc_stop.proofs.Finds.{joined}
+use Rattle.pc_tree.proofs.Finds.{joined}
 use Rattle.pc_stop.proofs.stopping.find_twice.Goals as goal
 
 pub returns : goal.returns

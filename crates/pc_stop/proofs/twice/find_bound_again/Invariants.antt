@@ -1,7 +1,7 @@
 use Rattle.std.proofs.Common.{◌≡◌, drop, map, ◌++◌}
 use Rattle.pc_tree.specs.declared.code.Code.TheVariants.{E01}
 use Rattle.pc_tree.specs.Stopping.{bound_again}
-use Rattle.pc_stop.specs.Found.{at_code}
+use Rattle.pc_tree.specs.Code.{at_code}
 use Rattle.pc_tree.specs.Lists.{name_seen}
 use Rattle.pc_names.specs.Names.{texts_in}
 use Rattle.pc_stop.proofs.twice.find_bound_again.Given as goal

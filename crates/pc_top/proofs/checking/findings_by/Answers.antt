@@ -13,7 +13,7 @@ use Rattle.pc_top.proofs.checking.findings_by.Goals as goal
 pub returns : goal.returns
 returns g c =
     let m = module_of c.args.module.now in
-    let of_scopes = c.findings.result.now.items in
+    let of_scopes = c.in_ok-of_scopes.of_scopes.items in
     let noted : notes_of c.check_module.new.found ≡ module_finds m [] = c.in_ok-check_module.ensures.found ∙ ap (λ (l : List Entry). module_finds m (notes_of l)) c.new-found.ensures in
     let classes : c.override_findings.new.found.items ≡ class_findings m ++ override_findings m =
     c.in_ok-override_findings.ensures.found ∙ ap (λ (l : List Finding). l ++ override_findings m) (c.in_ok-classes.ensures.found ∙ ap (λ (l : List Finding). l ++ class_findings m) c.new-of_classes.ensures.items) in
@@ -21,7 +21,7 @@ returns g c =
     let listed = c.deref-2.ensures.value ∙ classes in
     let all : notes_of c.put_all-2.new.self ≡ (module_finds m [] ++ map plain_note of_scopes) ++ map plain_note (class_findings m ++ override_findings m) = c.in_ok-put_all-2.ensures ∙ (λ i. first i ++ map plain_note (listed i)) in
     record {
-      found = exactly m of_scopes (c.findings.ensures.found m c.requires.scopes) (notes_of c.put_all-2.new.self) all;
+      found = exactly m of_scopes (c.in_ok-of_scopes.ensures.found c.requires.scopes) (notes_of c.put_all-2.new.self) all;
       flows = λ p. same_flows p (notes_of c.put_all-2.new.self) (module_finds m []) of_scopes (class_findings m ++ override_findings m) all;
     }
 

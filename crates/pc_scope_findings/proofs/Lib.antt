@@ -1,0 +1,9 @@
+pub mod Disjunctions
+pub mod FoundCodes
+pub mod FoundEarly
+pub mod FoundItems
+pub mod FoundNames
+pub mod Reached
+pub mod Seeking
+pub mod Suites
+pub mod UnknownIn

@@ -1,0 +1,26 @@
+-- The statements of a suite behind one that can complete, or that cannot.
+use Rattle.std.proofs.Common.{◌≡◌, Bool, List, refl}
+use Rattle.std.specs.Prelude.{if◌then◌else◌}
+use Rattle.pc_source.specs.declared.place.Place.{Place}
+use Rattle.pc_tree.specs.declared.tree.StmtKind.{StmtKind}
+use Rattle.pc_tree.specs.declared.tree.StmtKind.TheVariants as rust_stmt
+use Rattle.pc_tree.specs.Tree.{Stmts, stmt_of_kind}
+use Rattle.pc_scope_findings.specs.Unreached.{first_of, first_places, unreached_places}
+
+-- what is unreached of the statements behind one, by whether it can complete
+abbrev pub behind : Bool → Stmts → List Place
+behind reached rest = if reached then unreached_places rest else first_places rest
+
+-- a statement's first token is at the place that stands beside its kind
+pub first_is : (p : Place) (k : StmtKind) → first_of (stmt_of_kind p k) ≡ p
+first_is p rust_stmt.Pass = refl
+first_is p rust_stmt.Break = refl
+first_is p rust_stmt.Continue = refl
+first_is p (rust_stmt.Return value) = refl
+first_is p (rust_stmt.Assert condition message) = refl
+first_is p (rust_stmt.Annotated target annotation value) = refl
+first_is p (rust_stmt.Assign target value) = refl
+first_is p (rust_stmt.Expr value) = refl
+first_is p (rust_stmt.While' condition shape body) = refl
+first_is p (rust_stmt.For' target iterable shape body) = refl
+first_is p (rust_stmt.If' shape branches shape' otherwise) = refl

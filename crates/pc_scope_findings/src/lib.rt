@@ -1,0 +1,11 @@
+//! What is found of a module's names and of the places of its statements: conditions that need no types.
+#![tactic(auto)]
+
+mod completion;
+mod early;
+mod module_findings;
+mod parts;
+mod unknown;
+mod unreached;
+
+pub use module_findings::scope_findings;

@@ -1,0 +1,271 @@
+//! The walk over the parts of an expression.
+#![tactic(auto, using(crate::proofs::Seeking::sought_both, pc_tree::proofs::Finds::at_both))]
+
+ghost use Rattle.std.specs.Prelude.{◌≡◌, ◌++◌, ◌&&◌, OnOk};
+ghost use Rattle.pc_tree.specs.declared.code.Code.TheVariants.{E02, E03};
+ghost use Rattle.pc_tree.specs.Tree.{expr_of};
+ghost use Rattle.pc_tree.specs.Lists.{exprs_of_list, entries_of_list, keywords_of_list};
+ghost use Rattle.pc_tree.specs.Machine.Finishing.{name_of_tree};
+ghost use Rattle.pc_scope.specs.declared.resolution.Owner.TheVariants as owners;
+ghost use Rattle.pc_scope.specs.Expressions.{parts_in, parts_in_entries, parts_in_keywords, is_name};
+ghost use Rattle.pc_scope.specs.Expressions.{is_instance_test, other_callee};
+ghost use Rattle.pc_tree.specs.Code.{at_code};
+ghost use Rattle.pc_scope_findings.specs.Internal.FindingLists.{means_nothing, is_early_meaning, unknown_at, early_at};
+ghost use Rattle.pc_scope_findings.specs.Internal.FindingLists.{callee_at};
+ghost use Rattle.pc_scope_findings.specs.Internal.SoughtParts.{is_judged, sought_at, sought_among, some_parts};
+ghost use Rattle.pc_scope_findings.specs.Internal.SoughtParts.{inner_parts};
+ghost use Rattle.pc_scope.specs.Tables.{meaning_by_tables};
+
+use pc_scope::{Owner, Res, Scopes, is_instance_test};
+use pc_source::OutOfMemory;
+use pc_stop::{find, find_if};
+use pc_tree::{Code, Entry, Expr, Findings, KeywordArgument};
+
+/// What a walk over the parts of an expression seeks.
+#[derive(Clone, Copy, PartialEq, Eq, Debug)]
+pub enum Sought {
+    /// Names that mean nothing to their owner.
+    Unknown(Owner),
+    /// Names of what is not among so many constants and classes of the module, and callees that are no names.
+    Early(usize, usize),
+}
+
+impl Sought {
+    /// The second argument of a test of an instance is passed over.
+    fn is_judged(self) -> bool
+        ensures { result ≡ is_judged self }
+    {
+        match self {
+            Sought::Unknown(_) => true,
+            Sought::Early(_, _) => false,
+        }
+    }
+}
+
+/// A name means nothing.
+fn is_nothing(meaning: Res) -> bool
+    ensures { result ≡ means_nothing meaning }
+{
+    matches!(meaning, Res::None)
+}
+
+/// A name means what an initializer behind so many constants and classes may not name.
+fn is_early(constants: usize, classes: usize, meaning: Res) -> bool
+    ensures { result ≡ is_early_meaning constants classes meaning }
+{
+    match meaning {
+        Res::Func(_) => true,
+        Res::Const(constant) => constants <= constant,
+        Res::Class(class) => classes <= class,
+        Res::Local(_) => false,
+        Res::Builtin(_) => false,
+        Res::None => false,
+    }
+}
+
+/// An expression is a name.
+fn is_name(e: &Expr) -> bool
+    ensures { result ≡ is_name (expr_of e.now) }
+{
+    matches!(e, Expr::Name(_))
+}
+
+/// The second argument of a call is passed over, as a test of an instance has it where it is judged.
+fn passes_over(
+    sought: Sought,
+    callee: &Expr,
+    arguments: &[Expr],
+    by_name: &[KeywordArgument],
+) -> bool
+    ensures { result ≡ (is_judged sought
+        && is_instance_test (expr_of callee.now) (exprs_of_list arguments.now) (keywords_of_list by_name.now)) }
+{
+    sought.is_judged() && is_instance_test(callee, arguments, by_name)
+}
+
+/// Adds an expression that is a name which means nothing.
+fn find_unknown_at(
+    found: &mut Findings,
+    scopes: &Scopes,
+    owner: Owner,
+    e: &Expr,
+) -> Result<(), OutOfMemory>
+    ensures { OnOk result (found.new.items
+        ≡ found.old.items ++ at_code E02
+        (unknown_at (meaning_by_tables scopes.now.tables owner) (name_of_tree (expr_of e.now)))) }
+{
+    let Expr::Name(name) = e else {
+        return Ok(());
+    };
+    let meaning = scopes.resolve(owner, name.text.as_str());
+    find_if(found, is_nothing(meaning), Code::E02, name.place)
+}
+
+/// Adds an expression that is a name which stands too early.
+fn find_early_at(
+    found: &mut Findings,
+    scopes: &Scopes,
+    constants: usize,
+    classes: usize,
+    e: &Expr,
+) -> Result<(), OutOfMemory>
+    ensures { OnOk result (found.new.items
+        ≡ found.old.items ++ at_code E03
+        (early_at constants classes (meaning_by_tables scopes.now.tables owners.Module)
+            (name_of_tree (expr_of e.now)))) }
+{
+    let Expr::Name(name) = e else {
+        return Ok(());
+    };
+    let meaning = scopes.resolve(Owner::Module, name.text.as_str());
+    find_if(
+        found,
+        is_early(constants, classes, meaning),
+        Code::E03,
+        name.place,
+    )
+}
+
+/// Adds the callee of a call, if it is no name.
+fn find_other_callee(found: &mut Findings, e: &Expr) -> Result<(), OutOfMemory>
+    ensures { OnOk result (found.new.items
+        ≡ found.old.items ++ at_code E03 (callee_at (other_callee (expr_of e.now)))) }
+{
+    let Expr::Call(_, callee, _, _) = e else {
+        return Ok(());
+    };
+    if is_name(callee) {
+        return Ok(());
+    }
+    find(found, Code::E03, callee.place())
+}
+
+/// Adds what is sought at an expression itself.
+fn seek_at(found: &mut Findings, scopes: &Scopes, sought: Sought, e: &Expr) -> Result<(), OutOfMemory>
+    ensures { OnOk result (found.new.items ≡ found.old.items ++ sought_at scopes.now.tables sought (expr_of e.now)) }
+{
+    match sought {
+        Sought::Unknown(owner) => find_unknown_at(found, scopes, owner, e),
+        Sought::Early(constants, classes) => {
+            find_early_at(found, scopes, constants, classes, e)?;
+            find_other_callee(found, e)
+        }
+    }
+}
+
+/// Adds what is sought at an expression and its parts.
+#[cycle(parts)]
+pub fn seek(
+    found: &mut Findings,
+    scopes: &Scopes,
+    sought: Sought,
+    e: &Expr,
+) -> Result<(), OutOfMemory>
+    ensures { OnOk result (found.new.items
+        ≡ found.old.items ++ sought_among scopes.now.tables sought (parts_in (is_judged sought) (expr_of e.now))) }
+{
+    seek_at(found, scopes, sought, e)?;
+    seek_inside(found, scopes, sought, e)
+}
+
+/// Adds what is sought at the parts of an expression.
+#[cycle(parts)]
+fn seek_inside(
+    found: &mut Findings,
+    scopes: &Scopes,
+    sought: Sought,
+    e: &Expr,
+) -> Result<(), OutOfMemory>
+    ensures { OnOk result (found.new.items
+        ≡ found.old.items ++ sought_among scopes.now.tables sought (inner_parts (is_judged sought) (expr_of e.now))) }
+{
+    match e {
+        Expr::Name(_) | Expr::Int(_, _) | Expr::Str(_, _) => Ok(()),
+        Expr::True(_) | Expr::False(_) | Expr::NoneValue(_) => Ok(()),
+        Expr::Tuple(_, items) => seek_all(found, scopes, sought, false, items),
+        Expr::List(_, items) => seek_all(found, scopes, sought, false, items),
+        Expr::Dict(_, entries) => seek_entries(found, scopes, sought, entries),
+        Expr::Negative(_, operand) => seek(found, scopes, sought, operand),
+        Expr::Not(_, operand) => seek(found, scopes, sought, operand),
+        Expr::IsNone(_, operand) => seek(found, scopes, sought, operand),
+        Expr::IsNotNone(_, operand) => seek(found, scopes, sought, operand),
+        Expr::Attribute(_, object, _) => seek(found, scopes, sought, object),
+        Expr::Binary(_, _, left, right) => {
+            seek(found, scopes, sought, left)?;
+            seek(found, scopes, sought, right)
+        }
+        Expr::Compare(_, _, left, right) => {
+            seek(found, scopes, sought, left)?;
+            seek(found, scopes, sought, right)
+        }
+        Expr::And(_, left, right) | Expr::Or(_, left, right) | Expr::Index(_, left, right) => {
+            seek(found, scopes, sought, left)?;
+            seek(found, scopes, sought, right)
+        }
+        Expr::Call(_, callee, arguments, by_name) => {
+            seek(found, scopes, sought, callee)?;
+            let first_alone = passes_over(sought, callee, arguments, by_name);
+            seek_all(found, scopes, sought, first_alone, arguments)?;
+            seek_values(found, scopes, sought, by_name)
+        }
+    }
+}
+
+/// Adds what is sought at several expressions and their parts, or at the first alone.
+#[cycle(parts)]
+fn seek_all(
+    found: &mut Findings,
+    scopes: &Scopes,
+    sought: Sought,
+    first_alone: bool,
+    items: &[Expr],
+) -> Result<(), OutOfMemory>
+    ensures { OnOk result (found.new.items
+        ≡ found.old.items ++ sought_among scopes.now.tables sought
+        (some_parts (is_judged sought) first_alone (exprs_of_list items.now))) }
+{
+    for item in items {
+        seek(found, scopes, sought, item)?;
+        if first_alone {
+            return Ok(());
+        }
+    }
+    Ok(())
+}
+
+/// Adds what is sought at keys and values and their parts.
+#[cycle(parts)]
+fn seek_entries(
+    found: &mut Findings,
+    scopes: &Scopes,
+    sought: Sought,
+    entries: &[Entry],
+) -> Result<(), OutOfMemory>
+    ensures { OnOk result (found.new.items
+        ≡ found.old.items ++ sought_among scopes.now.tables sought
+        (parts_in_entries (is_judged sought) (entries_of_list entries.now))) }
+{
+    for entry in entries {
+        seek(found, scopes, sought, &entry.key)?;
+        seek(found, scopes, sought, &entry.value)?;
+    }
+    Ok(())
+}
+
+/// Adds what is sought at the values of arguments by name and their parts.
+#[cycle(parts)]
+fn seek_values(
+    found: &mut Findings,
+    scopes: &Scopes,
+    sought: Sought,
+    by_name: &[KeywordArgument],
+) -> Result<(), OutOfMemory>
+    ensures { OnOk result (found.new.items
+        ≡ found.old.items ++ sought_among scopes.now.tables sought
+        (parts_in_keywords (is_judged sought) (keywords_of_list by_name.now))) }
+{
+    for argument in by_name {
+        seek(found, scopes, sought, &argument.value)?;
+    }
+    Ok(())
+}
