@@ -307,7 +307,8 @@ fn read_constant<S: TypeStore>(
     requires constants { All (S.has store.old) walk.now.constants.items }
     ensures typed { IfOk result
         (λ t. Means S.has S.tree store.new t
-        (type_of_constant (module_in globals.now.frame.now) (reached_with S.tree walk.now) (constant_of constant.now))) }
+        (type_of_constant (module_in globals.now.frame.now) (reached_with S.tree walk.now) (constant_of constant.now)))
+            }
     ensures pushed { OnOk result
         (notes_of found.new ≡ notes_of found.old
         ++ constant_findings (module_in globals.now.frame.now) (reached_with S.tree walk.now)
@@ -420,7 +421,8 @@ fn add_item<S: TypeStore>(
 
 /// The types of the constants of a module, and what the methods of its classes take and return; what is found of its
 /// constants and classes.
-#[tactic(auto, unfolding(pc_rules::specs::SignaturesFound::constants_of, pc_rules::specs::SignaturesFound::method_signatures))]
+#[tactic(auto, unfolding(pc_rules::specs::SignaturesFound::constants_of,
+    pc_rules::specs::SignaturesFound::method_signatures))]
 pub(crate) fn read_items<S: TypeStore>(
     store: &mut S,
     alloc: Global,

@@ -27,7 +27,7 @@ fn find_early(
     ensures { OnOk result (found.new.items
         ≡ found.old.items ++ at_code E03
         (early_among constants classes (meaning_by_tables scopes.now.tables owners.Module)
-            (parts_in false (expr_of e.now)))) }
+        (parts_in false (expr_of e.now)))) }
 {
     seek(found, scopes, Sought::Early(constants, classes), e)
 }

@@ -112,7 +112,7 @@ fn find_early_at(
     ensures { OnOk result (found.new.items
         ≡ found.old.items ++ at_code E03
         (early_at constants classes (meaning_by_tables scopes.now.tables owners.Module)
-            (name_of_tree (expr_of e.now)))) }
+        (name_of_tree (expr_of e.now)))) }
 {
     let Expr::Name(name) = e else {
         return Ok(());
@@ -141,7 +141,12 @@ fn find_other_callee(found: &mut Findings, e: &Expr) -> Result<(), OutOfMemory>
 }
 
 /// Adds what is sought at an expression itself.
-fn seek_at(found: &mut Findings, scopes: &Scopes, sought: Sought, e: &Expr) -> Result<(), OutOfMemory>
+fn seek_at(
+    found: &mut Findings,
+    scopes: &Scopes,
+    sought: Sought,
+    e: &Expr,
+) -> Result<(), OutOfMemory>
     ensures { OnOk result (found.new.items ≡ found.old.items ++ sought_at scopes.now.tables sought (expr_of e.now)) }
 {
     match sought {

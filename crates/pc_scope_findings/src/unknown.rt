@@ -150,7 +150,7 @@ fn find_unknown_in_branches(
     ensures { OnOk result (found.new.items
         ≡ found.old.items ++ at_code E02
         (unknown_in (meaning_by_tables scopes.now.tables owner)
-            (exprs_in_branches true (branches_of_list branches.now)))) }
+        (exprs_in_branches true (branches_of_list branches.now)))) }
 {
     for branch in branches {
         find_unknown(found, scopes, owner, &branch.condition)?;
