@@ -257,6 +257,14 @@ fn inherited(classes: &[ClassNode], base: Option<usize>) -> ClassNode
     }
 }
 
+/// The places from one on and before another.
+fn places_between(start: usize, end: usize) -> Span
+    ensures start { result.start ≡ start }
+    ensures end { result.end ≡ end }
+{
+    Span { start, end }
+}
+
 /// One more class, over its base among those before it; what is found of its members by their names: E06, E08. Library
 /// reference, `dataclasses`; own rules of the profile.
 pub(crate) fn add_class<S: TypeStore>(
@@ -319,14 +327,8 @@ pub(crate) fn add_class<S: TypeStore>(
         base,
         held: Held { fields, methods },
         defaulted,
-        fields: Span {
-            start: fields_start,
-            end: fields_end,
-        },
-        methods: Span {
-            start: methods_start,
-            end: methods_end,
-        },
+        fields: places_between(fields_start, fields_end),
+        methods: places_between(methods_start, methods_end),
     })?;
     Ok(())
 }

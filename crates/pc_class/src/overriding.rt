@@ -177,8 +177,9 @@ fn is_clean(clean: &[bool], class: usize) -> bool
 }
 
 /// Whether the nearest method of its name tells that nothing is found at a method of a class of this base: it is static
-/// to that one, and nothing was found in the class of that one, so it is static to those above too. Typing
-/// specification, "Type system concepts": the subtype relation is transitive.
+/// to that one, and nothing was found in the class of that one, so it is static to those above too.
+///
+/// Typing specification, "Type system concepts", subtype relations: they are transitive.
 fn is_clear<S: TypeStore>(
     judging: &Judging<S::Ty>,
     store: &mut S,

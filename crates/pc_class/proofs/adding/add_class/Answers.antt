@@ -117,10 +117,14 @@ returns-clause-table g c =
     (c.in_ok-methods.ensures.added [] I.methods (held_on stored_method_name d c.add_fields.new.named M o.held.methods I.methods (subst (λ (n : ClassNode). IsMapOf stored_method_name d M n.held.methods I.methods) (sym o_is) H.methods) c.in_ok-fields.ensures.kept)
     (subst (AreNew class_method_name (own_method m c.len-class.result) []) (sym entries6) (methods_new tree m d F M ns es c.requires.table class c.requires.class base based c.len-class.result)))) in
     let b_is = c.in_ok-defaulted.ensures.defaulted ∙ ap (defaulted_in o.defaulted) entries4 ∙ ap (λ (n : ClassNode). defaulted_in n.defaulted xs) o_is in
-    let fs : c.len-fields_start.result ≡ length F = search rules in
-    let fe : c.len-fields_end.result ≡ length c.add_fields.new.fields.items = search rules in
-    let ms : c.len-methods_start.result ≡ length M = search rules in
-    let me : c.len-methods_end.result ≡ length c.add_methods.new.methods.items = search rules in
+    let fs0 : c.len-fields_start.result ≡ length F = search rules in
+    let fs = c.places_between.ensures.start ∙ fs0 in
+    let fe0 : c.len-fields_end.result ≡ length c.add_fields.new.fields.items = search rules in
+    let fe = c.places_between.ensures.end ∙ fe0 in
+    let ms0 : c.len-methods_start.result ≡ length M = search rules in
+    let ms = c.places_between-2.ensures.start ∙ ms0 in
+    let me0 : c.len-methods_end.result ≡ length c.add_methods.new.methods.items = search rules in
+    let me = c.places_between-2.ensures.end ∙ me0 in
     let n_is = node_same base c.in_ok-fields.fields c.in_ok-methods.methods c.in_ok-defaulted.defaulted _ _ _ _ _ _ _ _ fs fe ms me in
     let q : TableParts _ = record { named = c.add_methods.new.named; classes = c.push.new.self; fields = c.add_fields.new.fields; methods = c.add_methods.new.methods } in
     table_new tree m p q c.requires.table class c.requires.class base based c.add_fields.new.named c.in_ok-fields.ensures.kept c.in_ok-methods.ensures.kept c.in_ok-fields.fields c.in_ok-methods.methods (g.S.TypeStore.has c.args.store.now) has has2 xs refl c.in_ok-defaulted.defaulted b_is f k _ n_is c.in_ok-push.ensures.items
@@ -162,10 +166,14 @@ returns-clause-given g c =
     (c.in_ok-methods.ensures.added [] I.methods (held_on stored_method_name d c.add_fields.new.named M o.held.methods I.methods (subst (λ (n : ClassNode). IsMapOf stored_method_name d M n.held.methods I.methods) (sym o_is) H.methods) c.in_ok-fields.ensures.kept)
     (subst (AreNew class_method_name (own_method m c.len-class.result) []) (sym entries6) (methods_new tree m d F M ns es c.requires.table class c.requires.class base based c.len-class.result)))) in
     let b_is = c.in_ok-defaulted.ensures.defaulted ∙ ap (defaulted_in o.defaulted) entries4 ∙ ap (λ (n : ClassNode). defaulted_in n.defaulted xs) o_is in
-    let fs : c.len-fields_start.result ≡ length F = search rules in
-    let fe : c.len-fields_end.result ≡ length c.add_fields.new.fields.items = search rules in
-    let ms : c.len-methods_start.result ≡ length M = search rules in
-    let me : c.len-methods_end.result ≡ length c.add_methods.new.methods.items = search rules in
+    let fs0 : c.len-fields_start.result ≡ length F = search rules in
+    let fs = c.places_between.ensures.start ∙ fs0 in
+    let fe0 : c.len-fields_end.result ≡ length c.add_fields.new.fields.items = search rules in
+    let fe = c.places_between.ensures.end ∙ fe0 in
+    let ms0 : c.len-methods_start.result ≡ length M = search rules in
+    let ms = c.places_between-2.ensures.start ∙ ms0 in
+    let me0 : c.len-methods_end.result ≡ length c.add_methods.new.methods.items = search rules in
+    let me = c.places_between-2.ensures.end ∙ me0 in
     let n_is = node_same base c.in_ok-fields.fields c.in_ok-methods.methods c.in_ok-defaulted.defaulted _ _ _ _ _ _ _ _ fs fe ms me in
     let q : TableParts _ = record { named = c.add_methods.new.named; classes = c.push.new.self; fields = c.add_fields.new.fields; methods = c.add_methods.new.methods } in
     given_new tree m p q c.requires.table class c.requires.class base based c.add_fields.new.named c.in_ok-fields.ensures.kept c.in_ok-methods.ensures.kept c.in_ok-fields.fields c.in_ok-methods.methods (g.S.TypeStore.has c.args.store.now) has has2 xs refl c.in_ok-defaulted.defaulted b_is f k _ n_is c.in_ok-push.ensures.items c.requires.given (λ t h. c.add_methods.ensures.store t (c.add_fields.ensures.store t h)) c.add_methods.ensures.store
@@ -207,10 +215,14 @@ returns-clause-classes g c =
     (c.in_ok-methods.ensures.added [] I.methods (held_on stored_method_name d c.add_fields.new.named M o.held.methods I.methods (subst (λ (n : ClassNode). IsMapOf stored_method_name d M n.held.methods I.methods) (sym o_is) H.methods) c.in_ok-fields.ensures.kept)
     (subst (AreNew class_method_name (own_method m c.len-class.result) []) (sym entries6) (methods_new tree m d F M ns es c.requires.table class c.requires.class base based c.len-class.result)))) in
     let b_is = c.in_ok-defaulted.ensures.defaulted ∙ ap (defaulted_in o.defaulted) entries4 ∙ ap (λ (n : ClassNode). defaulted_in n.defaulted xs) o_is in
-    let fs : c.len-fields_start.result ≡ length F = search rules in
-    let fe : c.len-fields_end.result ≡ length c.add_fields.new.fields.items = search rules in
-    let ms : c.len-methods_start.result ≡ length M = search rules in
-    let me : c.len-methods_end.result ≡ length c.add_methods.new.methods.items = search rules in
+    let fs0 : c.len-fields_start.result ≡ length F = search rules in
+    let fs = c.places_between.ensures.start ∙ fs0 in
+    let fe0 : c.len-fields_end.result ≡ length c.add_fields.new.fields.items = search rules in
+    let fe = c.places_between.ensures.end ∙ fe0 in
+    let ms0 : c.len-methods_start.result ≡ length M = search rules in
+    let ms = c.places_between-2.ensures.start ∙ ms0 in
+    let me0 : c.len-methods_end.result ≡ length c.add_methods.new.methods.items = search rules in
+    let me = c.places_between-2.ensures.end ∙ me0 in
     let n_is = node_same base c.in_ok-fields.fields c.in_ok-methods.methods c.in_ok-defaulted.defaulted _ _ _ _ _ _ _ _ fs fe ms me in
     let q : TableParts _ = record { named = c.add_methods.new.named; classes = c.push.new.self; fields = c.add_fields.new.fields; methods = c.add_methods.new.methods } in
     classes_new tree m p q c.requires.table class c.requires.class base based c.add_fields.new.named c.in_ok-fields.ensures.kept c.in_ok-methods.ensures.kept c.in_ok-fields.fields c.in_ok-methods.methods (g.S.TypeStore.has c.args.store.now) has has2 xs refl c.in_ok-defaulted.defaulted b_is f k _ n_is c.in_ok-push.ensures.items
