@@ -1,6 +1,6 @@
 //! Names that are bound: their declared types, the flows into them, and their current types.
 
-ghost use Rattle.std.specs.Prelude.{◌≡◌, ◌++◌, ◌∷◌, [], IfOk, OnOk, Option, None, Some, slice_index_or, unwrap_or};
+ghost use Rattle.std.specs.Prelude.{◌≡◌, ◌++◌, IfOk, OnOk, Option, None, Some, slice_index_or, unwrap_or};
 ghost use Rattle.std.specs.Prelude.{is_some};
 ghost use Rattle.std.specs.Option.{option_map};
 ghost use Rattle.pc_tree.specs.Tree.{expr_of, ann_of, name_of, option_expr_of, module_of};
@@ -14,7 +14,7 @@ ghost use Rattle.pc_rules.specs.Found.{brief};
 ghost use Rattle.pc_rules.specs.Standing.{mark_with};
 ghost use Rattle.pc_labels.specs.ComputedStatements.{BodyFrame as FrameOf, with_declared, known_declared, bound_type};
 ghost use Rattle.pc_labels.specs.ComputedStatements.{bound_name, bind_label, bind_value, annotation_finds};
-ghost use Rattle.pc_labels.specs.ComputedStatements.{declared_alone, bind_annotated};
+ghost use Rattle.pc_labels.specs.ComputedStatements.{bind_annotated};
 ghost use Rattle.pc_check.specs.Internal.StatementWalk.{frame_with, HoldsFrame, HoldsTypes, HoldsTypeIfAny, HoldsType};
 ghost use Rattle.pc_check.specs.Internal.StatementWalk.{GivesBound, annotation_unless, declared_by};
 

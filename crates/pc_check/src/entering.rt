@@ -173,20 +173,13 @@ pub(crate) fn check_function<S: TypeStore, R: Resolver>(
     let mut declared = DeclaredTypes::new(alloc, count)?;
     let mut env = Env::new(alloc, count)?;
     let parents = frame.parents;
-    enter_receiver(
-        store,
-        alloc,
-        parents,
-        frame.names,
-        &mut declared,
-        &mut env,
-        owner,
-    )?;
+    let names = frame.names;
+    enter_receiver(store, alloc, parents, names, &mut declared, &mut env, owner)?;
     enter(
         store,
         alloc,
         parents,
-        frame.names,
+        names,
         &mut declared,
         &mut env,
         params,

@@ -1,6 +1,6 @@
 //! Ways that part and meet: `break`, `return`, `assert`, and the ways out of branches.
 
-ghost use Rattle.std.specs.Prelude.{◌≡◌, ◌++◌, ◌∷◌, [], IfOk, OnOk, true, false, Option, None, Some};
+ghost use Rattle.std.specs.Prelude.{◌≡◌, ◌++◌, IfOk, OnOk, true, false, Option, None, Some};
 ghost use Rattle.std.specs.Option.{option_map};
 ghost use Rattle.pc_tree.specs.Tree.{expr_of, option_expr_of};
 ghost use Rattle.pc_types.specs.Store.{KeepsTypes};

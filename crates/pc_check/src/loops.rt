@@ -1,15 +1,13 @@
 //! Heads of loops, and the targets of `for`.
 
 ghost use Rattle.std.specs.Prelude.{◌≡◌, ◌∷◌, List, IfOk};
-ghost use Rattle.std.specs.Option.{option_map};
 ghost use Rattle.pc_tree.specs.Tree.{Name as NameOf, name_of, stmts_of_list};
 ghost use Rattle.pc_tree.specs.Stopping.{bound_by};
 ghost use Rattle.pc_types.specs.Store.{KeepsTypes};
 ghost use Rattle.pc_flow.specs.Stored.{env_of};
 ghost use Rattle.pc_notes.specs.Notes.{notes_of};
-ghost use Rattle.pc_rules.specs.Found.{codes_at};
-ghost use Rattle.pc_labels.specs.ComputedStatements.{at, head_at, bind_item, item_mark_of, iterable_finds};
-ghost use Rattle.pc_check.specs.Internal.StatementWalk.{frame_with, HoldsFrame, HoldsType, HoldsTypes, GivesTypes};
+ghost use Rattle.pc_labels.specs.ComputedStatements.{head_at, bind_item};
+ghost use Rattle.pc_check.specs.Internal.StatementWalk.{frame_with, HoldsType, HoldsTypes, GivesTypes};
 ghost use Rattle.pc_check.specs.Internal.StatementWalk.{GivesBound, numbers_of};
 
 use crate::binding::{bind_label, known_type};

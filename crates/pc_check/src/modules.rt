@@ -1,6 +1,6 @@
 //! The check of a module.
 
-ghost use Rattle.std.specs.Prelude.{◌≡◌, ◌++◌, length, map, slice_get, OnOk, Some};
+ghost use Rattle.std.specs.Prelude.{◌≡◌, length, map, slice_get, OnOk, Some};
 ghost use Rattle.pc_tree.specs.Tree.{class_of, item_of, module_of};
 ghost use Rattle.pc_scope.specs.Bindings.{classes_in};
 ghost use Rattle.pc_scope.specs.ModuleScopes.{AreScopes};

@@ -140,16 +140,12 @@ fn check_stmt<S: TypeStore, R: Resolver>(
             find_return(store, alloc, frame, declared, &env, first, value, found)?;
             Ok(None)
         }
-        StmtKind::Assert(condition, message) => {
-            let env = check_assert(
-                store, alloc, frame, declared, env, condition, message, found,
-            )?;
+        StmtKind::Assert(condition, text) => {
+            let env = check_assert(store, alloc, frame, declared, env, condition, text, found)?;
             Ok(Some(env))
         }
-        StmtKind::Annotated(name, annotation, value) => {
-            let env = bind_annotated(
-                store, alloc, frame, declared, env, name, annotation, value, found,
-            )?;
+        StmtKind::Annotated(name, hint, value) => {
+            let env = bind_annotated(store, alloc, frame, declared, env, name, hint, value, found)?;
             Ok(Some(env))
         }
         StmtKind::Assign(target, value) => {
@@ -168,11 +164,9 @@ fn check_stmt<S: TypeStore, R: Resolver>(
                 store, alloc, frame, declared, &env, body, name, iterable, found,
             )
         }
-        StmtKind::If(branches, otherwise) => {
+        StmtKind::If(branches, suite) => {
             let fork = check_branches(store, alloc, frame, declared, env, broken, branches, found)?;
-            check_otherwise(
-                store, alloc, frame, declared, fork, broken, otherwise, found,
-            )
+            check_otherwise(store, alloc, frame, declared, fork, broken, suite, found)
         }
     }
 }

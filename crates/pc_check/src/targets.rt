@@ -1,11 +1,11 @@
 //! What is assigned to: a name, an attribute or an item.
 
-ghost use Rattle.std.specs.Prelude.{◌≡◌, ◌++◌, IfOk, OnOk, None};
+ghost use Rattle.std.specs.Prelude.{IfOk, None};
 ghost use Rattle.pc_tree.specs.Tree.{expr_of, target_of};
 ghost use Rattle.pc_types.specs.Store.{KeepsTypes};
 ghost use Rattle.pc_flow.specs.Stored.{env_of};
 ghost use Rattle.pc_notes.specs.Notes.{notes_of};
-ghost use Rattle.pc_labels.specs.ComputedStatements.{at, assign_target, store_finds};
+ghost use Rattle.pc_labels.specs.ComputedStatements.{assign_target};
 ghost use Rattle.pc_check.specs.Internal.StatementWalk.{frame_with, HoldsFrame, HoldsTypes, GivesBound};
 
 use crate::binding::bind_value;

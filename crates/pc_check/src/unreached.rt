@@ -1,6 +1,6 @@
 //! Locals that are first bound where no run comes.
 
-ghost use Rattle.std.specs.Prelude.{◌≡◌, OnOk};
+ghost use Rattle.std.specs.Prelude.{OnOk};
 ghost use Rattle.pc_source.specs.declared.place.Place.{Place as PlaceOf};
 ghost use Rattle.pc_tree.specs.Tree.{stmt_of_kind};
 ghost use Rattle.pc_tree.specs.Stopping.{bound_by_stmt};

@@ -217,7 +217,7 @@ check_stmt-returns-in_ok-fork-in-If-clause-walked g t c =
     let stepped : Stmt → Walk = step frame (env_of tree c.args.declared.now) (Some (env_of tree c.args.env)) (option_map (env_of tree) c.args.broken.now) (notes_of c.args.found.now) in
     subst (λ (w : Walk). IfOk c.check_otherwise.result (λ out. GivesWalk has tree bases c.check_otherwise.new.store c.check_otherwise.new.declared out c.check_otherwise.new.broken (notes_of c.check_otherwise.new.found) w))
     (branches_from frame (forked_with tree c.check_branches.new.declared c.in_ok-fork-in-If.fork.last c.in_ok-fork-in-If.fork.ways c.check_branches.new.broken (notes_of c.check_branches.new.found)) _ (stmts_of_list c.deref-in-If-2.result.now) f.is
-    ∙ ap stepped (ap (λ bs. conditional c.args.first (branches_of_list bs) (stmts_of_list c.deref-in-If-2.result.now)) c.deref-in-If.ensures.value ∙ ap (λ ss. conditional c.args.first (branches_of_list c.in-If.branches.items) (stmts_of_list ss)) c.deref-in-If-2.ensures.value ∙ sym (if_tree c.args.first c.in-If.branches c.in-If.otherwise) ∙ sym (ap (stmt_of_kind c.args.first) c.in-If.is)))
+    ∙ ap stepped (ap (λ bs. conditional c.args.first (branches_of_list bs) (stmts_of_list c.deref-in-If-2.result.now)) c.deref-in-If.ensures.value ∙ ap (λ ss. conditional c.args.first (branches_of_list c.in-If.branches.items) (stmts_of_list ss)) c.deref-in-If-2.ensures.value ∙ sym (if_tree c.args.first c.in-If.branches c.in-If.suite) ∙ sym (ap (stmt_of_kind c.args.first) c.in-If.is)))
     c.check_otherwise.ensures.walked
 
 pub check_stmt-returns-in_ok-fork-in-If-clause-kept : goal.check_stmt-returns-in_ok-fork-in-If-clause-kept
