@@ -91,8 +91,8 @@ pub fn read_option<S: TypeStore>(
     ensures typed { IfOk result
         (λ t. Means S.has S.tree store.new t (read_option (module_of tree.now) parents.now (option_ann_of ann.now))) }
     ensures pushed { OnOk result
-        (found.new.items ≡ found.old.items ++ option_findings (module_of tree.now) parents.now (option_ann_of ann.now))
-            }
+        (found.new.items ≡ found.old.items
+        ++ option_findings (module_of tree.now) parents.now (option_ann_of ann.now)) }
     ensures found { OnOk result
         ((f : FindingOf) → Contains found.new.items f
         ↔ (Contains found.old.items f ⊎ OptionAnnFinds (module_of tree.now) parents.now (option_ann_of ann.now) f)) }

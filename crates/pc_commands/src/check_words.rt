@@ -107,8 +107,8 @@ pub fn check_options(alloc: Global, words: &[&str]) -> Result<CheckOptions, Opti
     ensures none { IfErr result
         (OnFault (asked (map (λ w. w.now) words.now) ≡ None) (asked (map (λ w. w.now) words.now) ≡ None)) }
     ensures which { IfErr result
-        (OnFault (is_mistaken (map (λ w. w.now) words.now) ≡ true) (asks_for_help (map (λ w. w.now) words.now) ≡ true))
-            }
+        (OnFault (is_mistaken (map (λ w. w.now) words.now) ≡ true)
+        (asks_for_help (map (λ w. w.now) words.now) ≡ true)) }
 {
     let matches = match command(alloc)?.try_get_matches_from(words) {
         Ok(matches) => matches,

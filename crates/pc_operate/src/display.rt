@@ -176,8 +176,8 @@ fn own_dict_label<S: TypeStore>(
     requires keys { All (S.has store.old) keys.now }
     requires values { All (S.has store.old) values.now }
     ensures value { IfOk result
-        (λ l. IsMark S.has S.tree store.new l (own_dict_mark parents.now (map S.tree keys.now) (map S.tree values.now)))
-            }
+        (λ l. IsMark S.has S.tree store.new l
+        (own_dict_mark parents.now (map S.tree keys.now) (map S.tree values.now))) }
     ensures kept { KeepsTypes S.has store.old store.new }
 {
     if keys.is_empty() {

@@ -161,8 +161,8 @@ pub fn label_junction<S: TypeStore>(
     requires left { S.has store.old left.now }
     requires right { S.has store.old right.now }
     ensures value { IfOk result
-        (λ l. IsMark S.has S.tree store.new l (clean (join_or_object parents.now (S.tree left.now) (S.tree right.now))))
-            }
+        (λ l. IsMark S.has S.tree store.new l
+        (clean (join_or_object parents.now (S.tree left.now) (S.tree right.now)))) }
     ensures kept { KeepsTypes S.has store.old store.new }
 {
     let ty = join_or_object(store, alloc, parents, left, right)?;

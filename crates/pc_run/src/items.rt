@@ -256,8 +256,8 @@ fn bind_class<'m>(
     class: Class<'m>,
 ) -> Result<(), OutOfMemory>
     ensures plain { OnOk result
-        (progress_of machine.new ≡ after_change (binds_class name.now (class_of class.entry)) (progress_of machine.old))
-            }
+        (progress_of machine.new
+        ≡ after_change (binds_class name.now (class_of class.entry)) (progress_of machine.old)) }
     ensures fuel { machine.new.fuel ≡ machine.old.fuel }
 {
     let number = machine.classes.len();
