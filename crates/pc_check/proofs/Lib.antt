@@ -1,9 +1,4 @@
-pub mod Bound
 pub mod CheckedModules
 pub mod Entered
-pub mod FoundStores
-pub mod Held
-pub mod Iterating
 pub mod ModuleSettings
-pub mod Numbers
 pub mod Walked

@@ -23,7 +23,7 @@ use Rattle.pc_class.specs.declared.table.Parameter.{Parameter as RustParameter}
 use Rattle.pc_rules.specs.Context.{Signature}
 use Rattle.pc_rules.specs.Signatures.{signature_of, signatures_of}
 use Rattle.pc_rules.specs.SignaturesFound.{class_methods, method_signatures}
-use Rattle.pc_expr.specs.SignaturesHeld.{HeldSignatures, HasSigned, signature_numbered, all_signatures_with}
+use Rattle.pc_signatures.specs.SignaturesHeld.{HeldSignatures, HasSigned, signature_numbered, all_signatures_with}
 use Rattle.pc_rules.specs.Standing.{HasSignature, signature_with}
 use Rattle.pc_rules.specs.declared.setting.Signature.{Signature as RustSignature}
 use Rattle.pc_check.specs.declared.bodies.ModuleSetting.{ModuleSetting}

@@ -14,7 +14,8 @@ use Rattle.pc_flow.specs.Stored.{env_of}
 use Rattle.pc_notes.specs.Notes.{Note}
 use Rattle.pc_rules.specs.Standing.{finds_in}
 use Rattle.pc_labels.specs.ComputedStatements.{BodyFrame, Table, Walk, BranchesResult, BindingResult, at, narrowed_at, with_way, behind_binding, behind_branches, walk_suite, walk_branches}
-use Rattle.pc_check.specs.Internal.StatementWalk.{HoldsTypesIfAny, GivesBound, GivesWalk}
+use Rattle.pc_statements.specs.StatementsHeld.{HoldsTypesIfAny, GivesBound}
+use Rattle.pc_check.specs.Internal.StatementWalk.{GivesWalk}
 
 -- nothing is left of a suite, and of branches
 pub no_statement_left : (body : List RustStmt) (i : ℕ) → length body ≤ i → stmts_of_list (drop i body) ≡ no_stmts

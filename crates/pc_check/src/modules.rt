@@ -15,9 +15,9 @@ ghost use Rattle.pc_check.specs.Internal.ModuleWalk.{module_in, IsModuleSetting}
 
 use crate::bodies::{ModuleSetting, check_owned};
 use pc_class::ClassTable;
-use pc_expr::read_signatures;
 use pc_notes::Notes;
 use pc_scope::{Owner, Scopes};
+use pc_signatures::read_signatures;
 use pc_source::OutOfMemory;
 use pc_tree::{ClassDef, Item, ItemKind, Member, Module};
 use pc_types::{Parents, TypeStore};

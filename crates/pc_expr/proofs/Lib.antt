@@ -2,13 +2,8 @@ pub mod CallForms
 pub mod CalleesTyped
 pub mod EntrySteps
 pub mod Forms
-pub mod HeldSignatures
-pub mod InitializerStanding
-pub mod LiteralPlaces
 pub mod NamesBefore
-pub mod NamesBound
 pub mod RangeForms
 pub mod SeatsKept
-pub mod SignatureWalks
 pub mod Steps
 pub mod Typed

@@ -50,8 +50,7 @@ fn head_types<S: TypeStore>(
     requires env { HasEach (S.has store.old) types.now }
     ensures value { IfOk result
         (λ v. GivesEnv S.has S.tree store.new v.items
-        (loop_head (λ x. slice_index_or bound.now x false) (declared_of S.tree declared.now) (env_of S.tree types.now)))
-            }
+        (loop_head (λ x. slice_index_or bound.now x false) (declared_of S.tree declared.now) (env_of S.tree types.now))) }
     ensures kept { KeepsTypes S.has store.old store.new }
 {
     let mut heads = Vec::new(alloc);

@@ -84,8 +84,7 @@ fn join_local<S: TypeStore>(
     requires right { HasOne (S.has store.old) t.now }
     ensures value { IfOk result
         (λ o. GivesOne S.has S.tree store.new o
-        (join_local parents.now (declared_one S.tree declared.now) (option_map S.tree s.now) (option_map S.tree t.now)))
-            }
+        (join_local parents.now (declared_one S.tree declared.now) (option_map S.tree s.now) (option_map S.tree t.now))) }
     ensures kept { KeepsTypes S.has store.old store.new }
 {
     match s {

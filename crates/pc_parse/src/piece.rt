@@ -27,7 +27,8 @@ fn begins_last_line<X: AsStr + Drop, I: Iterator<Item = Result<Token<X>, Fault>>
     reader: &Reader<X, I>,
     name: &Name,
 ) -> bool
-    ensures { result ≡ (IsAhead (kind.Operator sign.LeftParenthesis) reader.now.ahead && bytes_eq (name_of name.now).text (codes "main")) }
+    ensures { result ≡ (IsAhead (kind.Operator sign.LeftParenthesis) reader.now.ahead
+        && bytes_eq (name_of name.now).text (codes "main")) }
 {
     reader.sees(TokenKind::Operator(Operator::LeftParenthesis)) && name.text.as_str() == "main"
 }

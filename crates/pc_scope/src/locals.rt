@@ -82,8 +82,7 @@ fn locals(alloc: Allocator, is_method: bool, def: &FuncDef) -> Result<Locals, Ou
 
 /// The locals of each method of a class.
 fn locals_of_methods(alloc: Allocator, members: &[Member]) -> Result<Vec<Locals>, OutOfMemory>
-    ensures { IfOk result (λ ls. map texts_in ls.items ≡ map (locals_by true) (methods_in (map member_of members.now)))
-        }
+    ensures { IfOk result (λ ls. map texts_in ls.items ≡ map (locals_by true) (methods_in (map member_of members.now))) }
 {
     let mut all = Vec::new(alloc);
     for member in members {

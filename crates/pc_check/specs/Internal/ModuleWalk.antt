@@ -12,7 +12,7 @@ use Rattle.pc_class.specs.Facts.{classes_of}
 use Rattle.pc_class.specs.Tables.{HasEntries, classes_with}
 use Rattle.pc_rules.specs.Signatures.{signatures_of}
 use Rattle.pc_rules.specs.SignaturesFound.{constants_of, method_signatures}
-use Rattle.pc_expr.specs.SignaturesHeld.{HeldSignatures, HasSigned, method_numbered, all_signatures_with}
+use Rattle.pc_signatures.specs.SignaturesHeld.{HeldSignatures, HasSigned, method_numbered, all_signatures_with}
 use Rattle.pc_rules.specs.Standing.{signature_with}
 use Rattle.pc_rules.specs.declared.setting.Signature.{Signature as RustSignature}
 use Rattle.pc_check.specs.declared.bodies.ModuleSetting.{ModuleSetting}

@@ -1,77 +1,13 @@
--- What the program that walks over statements is given and answers, in terms of the definitions.
+-- What the program that walks over statements has come to, in terms of the definitions.
 -- Own rule of the profile.
-use Rattle.std.specs.Prelude.{◌≡◌, ℕ, List, [], ◌∷◌, All, map, filter_map, true, Option, Some, None, slice_index_or}
+use Rattle.std.specs.Prelude.{◌≡◌, List, Option}
 use Rattle.std.specs.Option.{option_map}
-use Rattle.pc_tree.specs.Tree.{Name, module_of}
-use Rattle.pc_scope.specs.declared.resolution.Res.{Res}
-use Rattle.pc_scope.specs.declared.resolution.Res.TheVariants as res
-use Rattle.pc_scope.specs.ModuleScopes.{AreScopes}
-use Rattle.pc_types.specs.Tree.{Tree, Any}
+use Rattle.pc_types.specs.Tree.{Tree}
 use Rattle.pc_types.specs.Below.{Bases}
-use Rattle.pc_types.specs.WellFormed.{IsWellFormed}
-use Rattle.pc_class.specs.Tables.{HasEntries, classes_with}
-use Rattle.pc_flow.specs.WellFormed.{IsWellFormedEnv}
-use Rattle.pc_flow.specs.Narrowing.{as_local}
-use Rattle.pc_flow.specs.Stored.{HasEach, env_of}
+use Rattle.pc_flow.specs.Stored.{env_of}
 use Rattle.pc_notes.specs.Notes.{Note}
-use Rattle.pc_rules.specs.Operations.{Mark}
-use Rattle.pc_rules.specs.Context.{Context}
-use Rattle.pc_rules.specs.Standing.{HasSignature, IsMark, signature_with}
-use Rattle.pc_rules.specs.WellFormed.{ContextWellFormed}
-use Rattle.pc_rules.specs.declared.label.Label.{Label}
-use Rattle.pc_labels.specs.ComputedStatements.{BodyFrame, Table, Walk, BindingResult, BranchesResult, with_declared}
-use Rattle.pc_labels.specs.ComputedStatements.{bound_type}
-use Rattle.pc_check.specs.declared.frame.Frame.{Frame as RustFrame}
-
-module _ {Ty R : Type 0} (tree : Ty → Tree) (meaning : R → List ℕ → Res) where
-  -- what the statements of a function may name
-  abbrev pub context_in : RustFrame Ty R → Context
-  context_in f = record {
-    bases = f.parents.now;
-    classes = classes_with tree f.classes.now;
-    functions = map (signature_with tree) f.functions.now;
-    constants = map tree f.constants.now;
-    known = f.known;
-    in_body = true;
-    resolve = meaning f.names.now;
-  }
-
-  -- what the statements of a function stand in
-  abbrev pub frame_with : RustFrame Ty R → BodyFrame
-  frame_with f = record { whole = module_of f.tree.now; context = context_in f; returned = tree f.returned.now }
-
--- a type is of the store and well-formed
-pub record HoldsType {Ty : Type 0} (has : Ty → Type 0) (tree : Ty → Tree) (bases : Bases) (ty : Ty) : Type 0 where
-  pub given : has ty
-  pub well_formed : IsWellFormed bases (tree ty)
-
--- so is a type that there may be
-abbrev pub HoldsTypeIfAny : {Ty : Type 0} (has : Ty → Type 0) (tree : Ty → Tree) (bases : Bases) → Option Ty → Type 0
-HoldsTypeIfAny has tree bases None = Unit {0}
-HoldsTypeIfAny has tree bases (Some ty) = HoldsType has tree bases ty
-
--- so are the types of locals, declared or current, of each that has one
-pub record HoldsTypes {Ty : Type 0} (has : Ty → Type 0) (tree : Ty → Tree) (bases : Bases)
-    (types : List (Option Ty)) : Type 0 where
-  pub given : HasEach has types
-  pub well_formed : IsWellFormedEnv bases (env_of tree types)
-
--- so are those of an environment that there may be
-abbrev pub HoldsTypesIfAny : {Ty : Type 0} (has : Ty → Type 0) (tree : Ty → Tree) (bases : Bases)
-    → Option (List (Option Ty)) → Type 0
-HoldsTypesIfAny has tree bases None = Unit {0}
-HoldsTypesIfAny has tree bases (Some types) = HoldsTypes has tree bases types
-
--- the store gave all types of what statements stand in, all of them are well-formed, and names mean what the module's
--- scopes say
-pub record HoldsFrame {Ty R : Type 0} (has : Ty → Type 0) (tree : Ty → Tree) (meaning : R → List ℕ → Res)
-    (f : RustFrame Ty R) : Type 0 where
-  pub classes : HasEntries has f.classes.now
-  pub functions : All (HasSignature has) f.functions.now
-  pub constants : All has f.constants.now
-  pub returned : HoldsType has tree f.parents.now f.returned.now
-  pub context : ContextWellFormed (context_in tree meaning f)
-  pub scopes : AreScopes (module_of f.tree.now) f.scopes.now
+use Rattle.pc_labels.specs.ComputedStatements.{Walk, BranchesResult}
+use Rattle.pc_statements.specs.StatementsHeld.{HoldsTypes, HoldsTypesIfAny}
 
 module _ {Ty : Type 0} (tree : Ty → Tree) where
   -- what a walk has come to: the declared types, an environment if a run comes here, the way out of a loop, and what
@@ -83,10 +19,6 @@ module _ {Ty : Type 0} (tree : Ty → Tree) where
     broken = option_map (env_of tree) broken;
     found = found;
   }
-
-  -- what a name bound comes to
-  abbrev pub bound_with : (declared env : List (Option Ty)) → List Note → BindingResult
-  bound_with declared env found = record { table = env_of tree declared; env = env_of tree env; found = found }
 
   -- what a walk over branches has come to
   abbrev pub forked_with : (declared last : List (Option Ty)) → (ways broken : Option (List (Option Ty))) → List Note
@@ -100,16 +32,6 @@ module _ {Ty : Type 0} (tree : Ty → Tree) where
   }
 
 module _ {Store Ty : Type 0} (has : Store → Ty → Type 0) (tree : Ty → Tree) (bases : Bases) where
-  -- a label with a well-formed type of the store, which means this one, but with each code once
-  pub record GivesLabel (store : Store) (l : Label Ty) (m : Mark) : Type 0 where
-    pub mark : IsMark has tree store l m
-    pub well_formed : IsWellFormed bases (tree l.ty)
-
-  -- well-formed types of the store: those of locals, and those that mean this environment
-  pub record GivesTypes (store : Store) (types : List (Option Ty)) (env : List (Option Tree)) : Type 0 where
-    pub holds : HoldsTypes (has store) tree bases types
-    pub is : env_of tree types ≡ env
-
   -- a walk has come to this
   pub record GivesWalk (store : Store) (declared : List (Option Ty)) (env broken : Option (List (Option Ty)))
       (found : List Note) (w : Walk) : Type 0 where
@@ -117,13 +39,6 @@ module _ {Store Ty : Type 0} (has : Store → Ty → Type 0) (tree : Ty → Tree
     pub env_holds : HoldsTypesIfAny (has store) tree bases env
     pub broken_holds : HoldsTypesIfAny (has store) tree bases broken
     pub is : walk_with tree declared env broken found ≡ w
-
-  -- a name bound has come to this
-  pub record GivesBound (store : Store) (declared env : List (Option Ty)) (found : List Note)
-      (b : BindingResult) : Type 0 where
-    pub declared_holds : HoldsTypes (has store) tree bases declared
-    pub env_holds : HoldsTypes (has store) tree bases env
-    pub is : bound_with tree declared env found ≡ b
 
   -- a walk over branches has come to this
   pub record GivesForked (store : Store) (declared last : List (Option Ty)) (ways broken : Option (List (Option Ty)))
@@ -133,32 +48,3 @@ module _ {Store Ty : Type 0} (has : Store → Ty → Type 0) (tree : Ty → Tree
     pub ways_holds : HoldsTypesIfAny (has store) tree bases ways
     pub broken_holds : HoldsTypesIfAny (has store) tree bases broken
     pub is : forked_with tree declared last ways broken found ≡ w
-
-  -- well-formed types of the store that mean an environment that there may be
-  pub record GivesTypesIfAny (store : Store) (types : Option (List (Option Ty)))
-      (env : Option (List (Option Tree))) : Type 0 where
-    pub holds : HoldsTypesIfAny (has store) tree bases types
-    pub is : option_map (env_of tree) types ≡ env
-
--- ---- locals that statements bind
-
--- the numbers of the locals that names mean
-abbrev pub numbers_of : (List ℕ → Res) → List Name → List ℕ
-numbers_of resolve names = filter_map (λ n. as_local (resolve n.text)) names
-
--- each of these locals that has no declared type so far has Any
-abbrev pub unreached_numbers : Table → List ℕ → Table
-unreached_numbers table [] = table
-unreached_numbers table (x ∷ xs) = unreached_numbers (with_declared (bound_type table x) table x Any) xs
-
--- ---- annotations of names
-
--- an annotation of a name that is bound already doesn't count
-abbrev pub annotation_unless : (bound : Option Tree) → Tree → Option Tree
-annotation_unless (Some d) t = None
-annotation_unless None t = Some t
-
--- declared types with that of the local that a name means, if its annotation counts
-abbrev pub declared_by : {A : Type 0} → List (Option A) → Res → Option A → List (Option A)
-declared_by types (res.Local x) (Some t) = with_declared (slice_index_or types x None) types x t
-declared_by types r t = types

@@ -1,0 +1,5 @@
+pub mod HeldSignatures
+pub mod InitializerStanding
+pub mod LiteralPlaces
+pub mod NamesBound
+pub mod SignatureWalks

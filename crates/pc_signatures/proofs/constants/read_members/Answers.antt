@@ -1,0 +1,39 @@
+use Rattle.std.proofs.Common.{◌∙◌, ap, arith}
+use Rattle.pc_tree.specs.Tree.{Name}
+use Rattle.pc_class.specs.Facts.{base_facts, classes_of}
+use Rattle.pc_notes.specs.Notes.{notes_of}
+use Rattle.pc_rules.specs.SignaturesFound.{bound_in, with_name}
+use Rattle.pc_signatures.specs.Internal.SignaturesRead.{module_in, signatures_with}
+use Rattle.pc_signatures.proofs.HeldSignatures.{globals_kept}
+use Rattle.pc_signatures.proofs.SignatureWalks.{stepped, walked, methods_apart, no_methods, members_found}
+use Rattle.pc_signatures.proofs.constants.read_members.Goals as goal
+
+pub loop-member-preserved : goal.loop-member-preserved
+loop-member-preserved g c =
+    let has = g.S.TypeStore.has in
+    let tree = g.S.TypeStore.tree in
+    let m = module_in c.args.globals.now.frame.now in
+    let base = base_facts (classes_of m) c.args.base in
+    let ms = c.args.members.now in
+    let i = c.loop-member.member-index in
+    let x = c.member-item.result in
+    let v = c.loop-member.invariant in
+    let less = c.loop-member-test.true in
+    let is = c.member-item.is in
+    let text = c.as_str.ensures.value ∙ ap (λ (n : Name). n.text) c.name_of.ensures in
+    record {
+      globals = globals_kept has tree c.loop-member.store c.add_member.new.store c.args.globals.now c.add_member.ensures.kept v.globals;
+      held = c.in_ok-add_member.ensures.held;
+      are = stepped (signatures_with tree c.loop-member.methods.items) (signatures_with tree c.add_member.new.methods.items) _ _ _ _ v.are (methods_apart m ms i x less is) c.in_ok-add_member.ensures.typed;
+      found = stepped (notes_of c.loop-member.found) (notes_of c.add_member.new.found) _ _ _ _ v.found (members_found m base (bound_in c.loop-member.bound) (bound_in c.bind.new.bound) ms i x less is (c.in_ok-bind.ensures ∙ ap (with_name (bound_in c.loop-member.bound)) text)) c.in_ok-add_member.ensures.pushed;
+      kept = λ ty h. c.add_member.ensures.kept ty (v.kept ty h);
+    }
+
+pub returns-clause-typed : goal.returns-clause-typed
+returns-clause-typed g c =
+    let m = module_in c.args.globals.now.frame.now in
+    let v = c.loop-member.invariant in
+    record {
+      given = v.held;
+      are = walked (signatures_with g.S.TypeStore.tree c.loop-member.methods.items) _ _ v.are (no_methods m c.args.members.now c.loop-member.member-index (omega arith));
+    }

@@ -1,0 +1,21 @@
+use Rattle.pc_notes.specs.Notes.{notes_of}
+use Rattle.pc_signatures.specs.Internal.SignaturesRead.{module_in, signatures_with}
+use Rattle.pc_signatures.proofs.SignatureWalks.{stepped, functions_apart, functions_found}
+use Rattle.pc_signatures.proofs.signatures.read_functions.Goals as goal
+
+pub loop-item-preserved : goal.loop-item-preserved
+loop-item-preserved g c =
+    let tree = g.S.TypeStore.tree in
+    let m = module_in c.args.frame.now in
+    let items = c.as_slice-items.result.now in
+    let i = c.loop-item.item-index in
+    let x = c.item-item.result in
+    let v = c.loop-item.invariant in
+    let less = c.loop-item-test.true in
+    let is = c.item-item.is in
+    record {
+      given = c.in_ok-add_function.ensures.held;
+      are = stepped (signatures_with tree c.loop-item.functions.items) (signatures_with tree c.add_function.new.functions.items) _ _ _ _ v.are (functions_apart m items i x less is) c.in_ok-add_function.ensures.typed;
+      found = stepped (notes_of c.loop-item.found) (notes_of c.add_function.new.found) _ _ _ _ v.found (functions_found m items i x less is) c.in_ok-add_function.ensures.pushed;
+      kept = λ ty h. c.add_function.ensures.kept ty (v.kept ty h);
+    }

@@ -1,0 +1,87 @@
+-- What the program that reads signatures and constants is given and answers, in terms of the definitions.
+-- Own rule of the profile.
+use Rattle.std.specs.Prelude.{◌≡◌, List, map, length, All, Vec}
+use Rattle.std.specs.Global.{Global}
+use Rattle.pc_tree.specs.Tree.{Module, module_of}
+use Rattle.pc_scope.specs.ModuleScopes.{AreScopes}
+use Rattle.pc_types.specs.Tree.{Tree}
+use Rattle.pc_class.specs.Bases.{bases_of}
+use Rattle.pc_class.specs.Facts.{TypedParameter, classes_of}
+use Rattle.pc_class.specs.Tables.{HasParameter, HasEntries, parameter_with, parameters_with, classes_with}
+use Rattle.pc_class.specs.declared.table.Parameter.{Parameter as RustParameter}
+use Rattle.pc_rules.specs.declared.setting.Signature.{Signature as RustSignature}
+use Rattle.pc_signatures.specs.declared.signatures.Frame.{Frame}
+use Rattle.pc_signatures.specs.declared.constants.Globals.{Globals}
+use Rattle.pc_signatures.specs.declared.constants.Walk.{Walk}
+use Rattle.pc_rules.specs.Context.{Signature}
+use Rattle.pc_rules.specs.Signatures.{signatures_of}
+use Rattle.pc_rules.specs.SignaturesFound.{ItemsReached, bound_in}
+use Rattle.pc_rules.specs.Standing.{HasSignature, signature_with}
+
+-- the module in which annotations are read
+abbrev pub module_in : Frame → Module
+module_in f = module_of f.tree.now
+
+-- annotations are read in a module, with its scopes and the bases of its classes
+pub record IsFrame (f : Frame) : Type 0 where
+  pub scopes : AreScopes (module_in f) f.scopes.now
+  pub parents : f.parents.now ≡ bases_of (module_in f)
+
+module _ {Ty : Type 0} (tree : Ty → Tree) where
+  -- the signatures that these mean
+  abbrev pub signatures_with : List (RustSignature Ty) → List Signature
+  signatures_with ss = map (signature_with tree) ss
+
+  -- the signatures of the methods of a class
+  abbrev pub methods_with : Vec (RustSignature Ty) Global → List Signature
+  methods_with v = signatures_with v.items
+
+  -- what a walk has reached
+  abbrev pub reached_with : Walk Ty → ItemsReached
+  reached_with w = record {
+    constants = map tree w.constants.items;
+    classes = length w.methods.items;
+    bound = bound_in w.bound;
+  }
+
+module _ {Ty : Type 0} (has : Ty → Type 0) where
+  -- the store gave what signatures take and return
+  abbrev pub HasSignatures : List (RustSignature Ty) → Type 0
+  HasSignatures ss = All (HasSignature has) ss
+
+  -- so of the methods of a class
+  abbrev pub HasMethods : Vec (RustSignature Ty) Global → Type 0
+  HasMethods v = HasSignatures v.items
+
+  -- the store gave the types of the constants and of the methods that a walk has reached
+  pub record HasReached (w : Walk Ty) : Type 0 where
+    pub constants : All has w.constants.items
+    pub methods : All HasMethods w.methods.items
+
+module _ {Store Ty : Type 0} (has : Store → Ty → Type 0) (tree : Ty → Tree) where
+  -- a parameter with a type of the store, which means this one
+  pub record IsParameter (store : Store) (p : RustParameter Ty) (is_of : TypedParameter) : Type 0 where
+    pub given : HasParameter (has store) p
+    pub is : parameter_with tree p ≡ is_of
+
+  -- so of several parameters
+  pub record AreParameters (store : Store) (ps : List (RustParameter Ty)) (are_of : List TypedParameter) : Type 0 where
+    pub given : All (HasParameter (has store)) ps
+    pub are : parameters_with tree ps ≡ are_of
+
+  -- a signature with types of the store, which means this one
+  pub record IsSignature (store : Store) (s : RustSignature Ty) (is_of : Signature) : Type 0 where
+    pub given : HasSignature (has store) s
+    pub is : signature_with tree s ≡ is_of
+
+  -- so of several signatures
+  pub record AreSignatures (store : Store) (ss : List (RustSignature Ty)) (are_of : List Signature) : Type 0 where
+    pub given : HasSignatures (has store) ss
+    pub are : signatures_with tree ss ≡ are_of
+
+  -- what members and initializers may name but for constants: the classes and the functions of the module
+  pub record AreGlobals (store : Store) (g : Globals Ty) : Type 0 where
+    pub frame : IsFrame g.frame.now
+    pub classes : classes_with tree g.classes.now ≡ classes_of (module_in g.frame.now)
+    pub entries : HasEntries (has store) g.classes.now
+    pub functions : AreSignatures store g.functions.now (signatures_of (module_in g.frame.now))

@@ -1,0 +1,129 @@
+//! The signatures and constants of a module.
+
+ghost use Rattle.std.specs.Prelude.{◌≡◌, ◌++◌, map, slice_get, IfOk, OnOk};
+ghost use Rattle.std.specs.Option.{option_copied};
+ghost use Rattle.pc_tree.specs.Tree.{module_of};
+ghost use Rattle.pc_scope.specs.ModuleScopes.{AreScopes};
+ghost use Rattle.pc_types.specs.Store.{KeepsTypes};
+ghost use Rattle.pc_class.specs.Bases.{bases_of};
+ghost use Rattle.pc_class.specs.Facts.{classes_of};
+ghost use Rattle.pc_class.specs.Tables.{HasEntries, classes_with};
+ghost use Rattle.pc_notes.specs.Notes.{notes_of};
+ghost use Rattle.pc_rules.specs.Signatures.{signatures_of};
+ghost use Rattle.pc_rules.specs.SignaturesFound.{constants_of, method_signatures, signatures_find};
+ghost use Rattle.pc_signatures.specs.SignaturesHeld.{HeldSignatures, methods_seen, method_numbered, HasSigned};
+ghost use Rattle.pc_signatures.specs.SignaturesHeld.{all_signatures_with};
+ghost use Rattle.pc_rules.specs.Standing.{signature_with};
+
+use crate::constants::{Globals, read_items};
+use crate::signatures::{Frame, read_functions};
+use pc_class::ClassTable;
+use pc_notes::Notes;
+use pc_rules::Signature;
+use pc_scope::Scopes;
+use pc_source::OutOfMemory;
+use pc_tree::Module;
+use pc_types::{Parents, TypeStore};
+use std::alloc::Global;
+use std::marker::Model;
+
+/// The types of the constants of a module, and what its functions and the methods of its classes take and return, each
+/// in text order. Contracts see it as these lists.
+///
+/// Language Reference 3.12, 8.7 "Function definitions"; typing specification, "Type annotations".
+#[derive(Drop)]
+pub struct Sigs<Ty: Drop> {
+    constants: Vec<Ty>,
+    functions: Vec<Signature<Ty>>,
+    methods: Vec<Vec<Signature<Ty>>>,
+}
+
+impl<Ty: Drop> Model for Sigs<Ty> {
+    ghost Value = { HeldSignatures Ty };
+
+    ghost view = { λ s. record {
+      constants = s.constants.items;
+      functions = s.functions.items;
+      methods = methods_seen s.methods.items;
+    } };
+}
+
+impl<Ty: Drop> Sigs<Ty> {
+    /// The types of the constants.
+    pub fn constants(&self) -> &[Ty]
+        ensures { result.now ≡ self.now.constants }
+    {
+        &self.constants
+    }
+
+    /// What the functions take and return.
+    pub fn functions(&self) -> &[Signature<Ty>]
+        ensures { result.now ≡ self.now.functions }
+    {
+        &self.functions
+    }
+
+    /// What the function of a number takes and returns, if there is one.
+    pub fn function(&self, number: usize) -> Option<&Signature<Ty>>
+        ensures { option_copied result ≡ slice_get self.now.functions number }
+    {
+        self.functions.get(number)
+    }
+
+    /// What the method of a number of a class takes, but for `self`, and returns, if there is one.
+    pub fn method(&self, class: usize, number: usize) -> Option<&Signature<Ty>>
+        ensures { option_copied result ≡ method_numbered self.now.methods class number }
+    {
+        match self.methods.get(class) {
+            None => None,
+            Some(methods) => methods.get(number),
+        }
+    }
+}
+
+/// The types of the constants of a module, and what its functions and methods take and return, with what is found in
+/// annotations, in initializers and of their flows, and at defaults, put behind `found`: first what is found of
+/// functions, then of classes and constants in text order.
+///
+/// Language Reference 3.12, 7.2 "Assignment statements" and 8.7 "Function definitions"; library reference,
+/// `dataclasses`; typing specification, "Type annotations"; own rules of the profile.
+#[tactic(auto, unfolding(pc_rules::specs::SignaturesFound::signatures_find))]
+pub fn read_signatures<S: TypeStore>(
+    store: &mut S,
+    alloc: Global,
+    parents: &Parents,
+    tree: &Module,
+    scopes: &Scopes,
+    classes: &ClassTable<S::Ty>,
+    found: &mut Notes,
+) -> Result<Sigs<S::Ty>, OutOfMemory>
+    requires scopes { AreScopes (module_of tree.now) scopes.now }
+    requires parents { parents.now ≡ bases_of (module_of tree.now) }
+    requires classes { classes_with S.tree classes.now ≡ classes_of (module_of tree.now) }
+    requires entries { HasEntries (S.has store.old) classes.now }
+    ensures held { IfOk result (HasSigned (S.has store.new)) }
+    ensures constants { IfOk result (λ s. map S.tree s.constants ≡ constants_of (module_of tree.now)) }
+    ensures functions { IfOk result
+        (λ s. map (signature_with S.tree) s.functions ≡ signatures_of (module_of tree.now)) }
+    ensures methods { IfOk result (λ s. all_signatures_with S.tree s.methods ≡ method_signatures (module_of tree.now)) }
+    ensures pushed { OnOk result (notes_of found.new ≡ notes_of found.old ++ signatures_find (module_of tree.now)) }
+    ensures kept { KeepsTypes S.has store.old store.new }
+{
+    let frame = Frame {
+        tree,
+        scopes,
+        parents,
+    };
+    let functions = read_functions(store, alloc, &frame, found)?;
+    let globals = Globals {
+        frame: &frame,
+        classes,
+        functions: &functions,
+    };
+    let walk = read_items(store, alloc, &globals, found)?;
+    Ok(Sigs {
+        constants: walk.constants,
+        functions,
+        methods: walk.methods,
+    })
+}
