@@ -1,6 +1,6 @@
 //! Runs as deep as the model goes: 64 open calls, each inside 47 suites and 62 levels of an expression.
 use crate::traces::{AMPLE, ended};
-use pc_run::End;
+use pc_run::{End, plain_runs_are_runs};
 use std::alloc::Global;
 use std::string::String;
 use std::test::Fail;
@@ -67,4 +67,10 @@ fn deepest_runs(rt: HostRuntime) -> Result<(), Fail> {
         }
     }
     Ok(())
+}
+
+/// Each run that is tried here is a run of the model.
+#[test]
+fn law_of_runs() {
+    plain_runs_are_runs();
 }

@@ -1,4 +1,4 @@
-//! Layouts of lines, of texts and built by hand.
+//! Layouts of lines that are built by hand, and how lines are asked for.
 use pc_layout::{layout, layout_of};
 use pc_source::{Fault, Place, Refusal, RefusalCode, Source, read_source};
 use pc_token::{Keyword, Line, Tok, Token, TokenKind, tokens};
@@ -6,8 +6,6 @@ use std::alloc::{AllocError, Global};
 use std::cell::Cell;
 use std::test::Fail;
 use std::vec::IntoIter;
-
-const MAIN: &str = "from __future__ import annotations\ndef main():\n";
 
 /// The refusal of lines, if there is one.
 fn refusal<'a>(
@@ -20,74 +18,6 @@ fn refusal<'a>(
         Err(Fault::Refused(refusal)) => Ok(Some((refusal.code, refusal.byte))),
         Err(Fault::OutOfMemory) => Err(Fault::OutOfMemory),
     }
-}
-
-/// The refusal of a text's lines, if there is one.
-fn refusal_of(alloc: Global, text: &str) -> Result<Option<(RefusalCode, usize)>, Fault> {
-    let source = read_source(alloc, text.as_bytes())?;
-    let lines = tokens(alloc, &source)?;
-    refusal(alloc, &source, lines.as_slice())
-}
-
-/// `main` with so many suites inside each other in its own.
-fn nested(alloc: Global, suites: usize) -> Result<String, AllocError> {
-    let mut text = String::from_str(alloc, MAIN)?;
-    let mut spaces = String::from_str(alloc, " ")?;
-    for _ in 0..suites {
-        text.push_str(spaces.as_str())?;
-        text.push_str("if True:\n")?;
-        spaces.push_str(" ")?;
-    }
-    text.push_str(spaces.as_str())?;
-    text.push_str("pass\nmain()\n")?;
-    Ok(text)
-}
-
-#[test]
-fn limits_suites(rt: HostRuntime) -> Result<(), Fail> {
-    let most = nested(rt.alloc(), 49)?;
-    assert_eq!(rt; refusal_of(rt.alloc(), most.as_str())?, None);
-    let past = nested(rt.alloc(), 50)?;
-    assert_eq!(rt;
-        refusal_of(rt.alloc(), past.as_str())?,
-        Some((RefusalCode::I3, 1823))
-    );
-    Ok(())
-}
-
-/// The tokens of two suites: the kind of each, and the bytes at which it starts and ends.
-const TOKENS: &str = "\
-Keyword(If) 0 2
-Name 3 4
-Operator(Colon) 4 5
-Newline 5 7
-Indent 9 9
-Keyword(If) 9 11
-Name 12 13
-Operator(Colon) 13 14
-Newline 14 15
-Indent 21 21
-Name 21 22
-Newline 28 29
-Dedent 31 31
-Dedent 31 31
-Name 31 32
-Newline 32 32
-End 32 32
-";
-
-#[test]
-fn gives_tokens(rt: HostRuntime) -> Result<(), Fail> {
-    let source = read_source(rt.alloc(), b"if x:\r\n  if y:\n      z # end\n\n\nw")?;
-    let lines = tokens(rt.alloc(), &source)?;
-    let mut got = String::new(rt.alloc());
-    for token in layout(rt.alloc(), &source, lines.as_slice())? {
-        let Place { start, end } = token.place;
-        writeln!(got, "{:?} {start} {end}", token.kind)?;
-        assert_eq!(rt; source.text().get(start..end), Some(token.text));
-    }
-    assert_eq!(rt; got.as_str(), TOKENS);
-    Ok(())
 }
 
 /// A name, which is compared by its form.
@@ -259,24 +189,5 @@ fn settles_faults(rt: HostRuntime) -> Result<(), Fail> {
         let source = read_source(rt.alloc(), text.as_bytes())?;
         assert_eq!(rt; fault_after(rt.alloc(), &source, after)?, want, "{text}");
     }
-    Ok(())
-}
-
-/// How many tokens the layout of so many copies of a text has.
-fn count(alloc: Global, piece: &str, copies: usize) -> Result<usize, Fault> {
-    let mut text = String::new(alloc);
-    for _ in 0..copies {
-        text.push_str(piece)?;
-    }
-    let source = read_source(alloc, text.as_bytes())?;
-    let lines = tokens(alloc, &source)?;
-    Ok(layout(alloc, &source, lines.as_slice())?.len())
-}
-
-#[test]
-fn lays_out_long_texts(rt: HostRuntime) -> Result<(), Fail> {
-    assert_eq!(rt; count(rt.alloc(), "x\n", 20_000)?, 40_001);
-    assert_eq!(rt; count(rt.alloc(), "x ", 20_000)?, 20_002);
-    assert_eq!(rt; count(rt.alloc(), "if x:\n  y\n", 10_000)?, 80_001);
     Ok(())
 }

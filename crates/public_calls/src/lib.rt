@@ -8,27 +8,17 @@ mod depth_tests;
 #[cfg(test)]
 mod device_tests;
 #[cfg(test)]
-mod expression_tests;
-#[cfg(test)]
 mod form_tests;
-#[cfg(test)]
-mod fuel_tests;
 #[cfg(test)]
 mod heap_tests;
 #[cfg(test)]
 mod layout_tests;
-#[cfg(test)]
-mod limits_tests;
 #[cfg(test)]
 mod line_tests;
 #[cfg(test)]
 mod note_tests;
 #[cfg(test)]
 mod run_words_tests;
-#[cfg(test)]
-mod source_tests;
-#[cfg(test)]
-mod token_list_tests;
 #[cfg(test)]
 mod traces;
 #[cfg(test)]

@@ -1,4 +1,4 @@
-//! Lines of tokens, and where texts are refused that are made.
+//! Texts that are made of random bytes and of random characters.
 use pc_source::{Fault, Refusal, RefusalCode, read_source};
 use pc_token::lines;
 use std::alloc::{AllocError, Global};
@@ -17,8 +17,6 @@ fn refused(alloc: Global, text: &str) -> Result<Option<(usize, Refusal)>, Fault>
     }
     Ok(None)
 }
-
-const HEADERS: &str = "from __future__ import annotations\ndef main():\n";
 
 /// So many bytes of a linear congruential generator.
 fn random_bytes(alloc: Global, count: usize) -> Result<Vec<u8>, AllocError> {
@@ -46,37 +44,5 @@ fn random_texts(rt: HostRuntime) -> Result<(), Fail> {
     }
     assert_eq!(rt; text.len(), 1_048_576);
     assert_eq!(rt; refused(rt.alloc(), text.as_str())?, None);
-    Ok(())
-}
-
-#[test]
-fn fronts_of_a_module(rt: HostRuntime) -> Result<(), Fail> {
-    let text = format!(in rt.alloc(); "{HEADERS}    return 1 + \"a\"\nmain()\n")?;
-    assert_eq!(rt; text.len(), 73);
-    for len in 0..74 {
-        let wanted = match len {
-            7..=14 => Some((0, RefusalCode::L4, 5)),
-            44 => Some((1, RefusalCode::L5, 44)),
-            63 | 64 => Some((2, RefusalCode::L2, 62)),
-            71 => Some((3, RefusalCode::L5, 71)),
-            _ => None,
-        };
-        let wanted = wanted.map(|(before, code, byte)| (before, Refusal { code, byte }));
-        let front = text.as_str().get(..len).ok_or("no front")?;
-        assert_eq!(rt; refused(rt.alloc(), front)?, wanted, "at {len}");
-    }
-    Ok(())
-}
-
-#[test]
-fn iterators_end_for_good(rt: HostRuntime) -> Result<(), Fail> {
-    for text in ["x\n$\ny", "x\ny"] {
-        let source = read_source(rt.alloc(), text.as_bytes())?;
-        let mut left = lines(rt.alloc(), &source);
-        assert!(rt; matches!(left.next(), Some(Ok(_))));
-        assert!(rt; left.next().is_some());
-        assert!(rt; left.next().is_none());
-        assert!(rt; left.next().is_none());
-    }
     Ok(())
 }

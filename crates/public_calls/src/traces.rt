@@ -1,7 +1,7 @@
 //! What the tests of runs share.
 use pc_front::read_module;
 use pc_names::fixed_keys;
-use pc_run::{End, Trace, run, trace_text};
+use pc_run::{End, Trace, run};
 use std::alloc::Global;
 use std::test::Fail;
 
@@ -14,18 +14,7 @@ pub fn traced(alloc: Global, text: &str, fuel: u64, choices: &[u8]) -> Result<Tr
     Ok(run(alloc, fixed_keys()?, &program, fuel, choices)?)
 }
 
-/// The text of the trace of a module.
-pub fn trace_of(alloc: Global, text: &str, fuel: u64, choices: &[u8]) -> Result<String, Fail> {
-    let trace = traced(alloc, text, fuel, choices)?;
-    Ok(trace_text(alloc, &trace)?)
-}
-
 /// How a module ends.
 pub fn ended(alloc: Global, text: &str, fuel: u64, choices: &[u8]) -> Result<End, Fail> {
     Ok(traced(alloc, text, fuel, choices)?.end)
-}
-
-/// How many lines of a trace are this one.
-pub fn count_of(trace: &str, line: &str) -> usize {
-    trace.split('\n').filter(|each| *each == line).count()
 }

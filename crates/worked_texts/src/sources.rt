@@ -26,7 +26,7 @@ fn placed(alloc: Global, text: &[u8], byte: usize) -> Result<String, Fault> {
     Ok(format!(in alloc; "{line} {column}")?)
 }
 
-/// Counts the bytes of a text: a text, a line of four dashes, and then a row for each: the byte, its line and its column.
+/// Counts the bytes of a text: the text, a line of four dashes, and then a row for each byte: its line and its column.
 pub fn count_places(alloc: Global, table: &str, tally: &mut Tally) -> Result<(), TableFault> {
     let (text, lines) = table.split_once("\n----\n").ok_or(TableFault::Form)?;
     let text = bytes_of(alloc, text)?;
