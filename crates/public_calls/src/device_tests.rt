@@ -1,6 +1,6 @@
 //! Tests of reports over devices that fail or take few bytes a call.
 use pc_report::{Format, ReadFault, Report, WriteFault, read_at_most};
-use pc_source::{Counted, Place, read_source};
+use pc_source::{Counted, Fault, Place, Refusal, RefusalCode, read_source};
 use pc_tree::{Code, Finding};
 use std::alloc::Global;
 use std::io;
@@ -256,5 +256,16 @@ fn faults_as_text(rt: HostRuntime) -> Result<(), Fail> {
     ] {
         assert_eq!(rt; format!(in rt.alloc(); "{fault}")?.as_str(), want);
     }
+    Ok(())
+}
+
+#[test]
+fn refusals_as_text(rt: HostRuntime) -> Result<(), Fail> {
+    let refusal = Refusal {
+        code: RefusalCode::N4,
+        byte: 7,
+    };
+    let text = format!(in rt.alloc(); "{}; {}", Fault::Refused(refusal), Fault::OutOfMemory)?;
+    assert_eq!(rt; text.as_str(), "refused N4 at byte 7; out of memory");
     Ok(())
 }
