@@ -1,20 +1,16 @@
 -- The label of a call and what is found in it, by its callee and its arguments as the program holds them.
-use Rattle.std.proofs.Common.{◌≡◌, ◌<◌, length, arith, refl, List, [], ◌∷◌, ◌++◌, sym, ap, ◌∙◌, append_assoc, Option, None}
-use Rattle.std.specs.Prelude.{Vec, Bool as Test, true, false, ◌&&◌, codes, flat_map}
-use Rattle.std.specs.Global.{Global}
+use Rattle.std.proofs.Common.{◌≡◌, ◌<◌, length, arith, refl, List, [], ◌∷◌, ◌++◌, sym, ap, ◌∙◌, Option, None}
+use Rattle.std.specs.Prelude.{Bool as Test, true, false, ◌&&◌, codes, flat_map}
 use Rattle.pc_source.specs.declared.place.Place.{Place}
 use Rattle.pc_tree.specs.declared.code.Code.{Code}
-use Rattle.pc_tree.specs.Tree.{Expr, Exprs, Keywords, no_keywords, more_keywords, call, expr_of}
+use Rattle.pc_tree.specs.Tree.{Expr, Exprs, Keywords, no_keywords, more_keywords, call}
 use Rattle.pc_tree.specs.declared.tree.Expr.{Expr as RustExpr}
-use Rattle.pc_tree.specs.declared.tree.Expr.TheViews as View
-use Rattle.pc_tree.specs.declared.tree.KeywordArgument.{KeywordArgument as RustKeyword}
 use Rattle.pc_tree.specs.Depth.{place_of}
-use Rattle.pc_tree.specs.Lists.{exprs_of_list, keywords_of_list}
-use Rattle.pc_tree.proofs.Trees.{call_tree}
+use Rattle.pc_tree.specs.Lists.{exprs_of_list}
 use Rattle.pc_scope.specs.Expressions.{is_named, are_two, is_instance_test}
 use Rattle.pc_types.specs.Tree.{Tree}
 use Rattle.pc_notes.specs.Notes.{Note}
-use Rattle.pc_rules.specs.Calls.{GivenArguments, CallOffer, CallRule, member_rule, length_rule, test_rule, CalleeLabel, arguments_given, positional_seat, named_seat}
+use Rattle.pc_rules.specs.Calls.{GivenArguments, CallOffer, CallRule, member_rule, length_rule, test_rule, arguments_given, positional_seat, named_seat}
 use Rattle.pc_rules.specs.Labels.{ItemsMarks, second_place}
 use Rattle.pc_rules.specs.Lawful.{whole_call_mark, whole_second_code, early_second}
 use Rattle.pc_rules.specs.Context.{Context}

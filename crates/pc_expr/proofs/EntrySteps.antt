@@ -1,10 +1,10 @@
 -- One more entry of a dict, and one more argument by name: from one to the next.
-use Rattle.std.proofs.Common.{◌≡◌, ◌<◌, ◌≤◌, ◌+◌, ℕ, List, [], ◌∷◌, ◌++◌, refl, sym, ap, ◌∙◌, map, length, drop, get_or, append_assoc, Option, Some, None}
-use Rattle.std.specs.Prelude.{Bool as Test, ◌||◌, bytes_eq, if◌then◌else◌}
+use Rattle.std.proofs.Common.{◌≡◌, ◌<◌, ◌≤◌, ◌+◌, ℕ, List, [], ◌∷◌, ◌++◌, refl, sym, ap, ◌∙◌, map, length, drop, get_or, append_assoc, Option}
+use Rattle.std.specs.Prelude.{◌||◌, bytes_eq, if◌then◌else◌}
 use Rattle.std.proofs.lemmas.List.{map_push, append-nil, drop_all}
 use Rattle.pc_tree.specs.declared.tree.Entry.{Entry as RustEntry}
 use Rattle.pc_tree.specs.declared.tree.KeywordArgument.{KeywordArgument as RustKeyword}
-use Rattle.pc_tree.specs.Tree.{Entries, Keywords, no_entries, more_entries, no_keywords, more_keywords, expr_of, name_of}
+use Rattle.pc_tree.specs.Tree.{Keywords, no_keywords, more_keywords, expr_of, name_of}
 use Rattle.pc_tree.specs.Depth.{place_of}
 use Rattle.pc_tree.specs.Lists.{entries_of_list, keywords_of_list}
 use Rattle.pc_tree.proofs.Stops.{cons_at}
@@ -18,7 +18,7 @@ use Rattle.pc_rules.specs.Found.{brief, flows_at}
 use Rattle.pc_rules.specs.declared.label.Label.{Label}
 use Rattle.pc_rules.specs.Standing.{Standing, mark_with, mark_in, finds_in, keys_in, values_in, entries_find, keywords_find}
 use Rattle.pc_expr.proofs.Forms.{keys_none, keys_more, values_none, values_more, entries_none, entries_more, keywords_none, keywords_more}
-use Rattle.pc_expr.proofs.Typed.{type_is, two_found, three_found}
+use Rattle.pc_expr.proofs.Typed.{type_is, two_found}
 
 -- ---- entries
 

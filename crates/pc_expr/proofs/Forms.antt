@@ -1,26 +1,23 @@
 -- The label of an expression of each form and what is found in its parts, by the labels and findings of its parts.
-use Rattle.std.proofs.Common.{◌≡◌, ℕ, zero, suc, List, [], ◌∷◌, ◌++◌, refl, sym, ap, ◌∙◌, map, Option, Some, None}
+use Rattle.std.proofs.Common.{◌≡◌, ℕ, suc, List, [], ◌∷◌, ◌++◌, refl, sym, ap, ◌∙◌, map, Option, None}
 use Rattle.std.specs.Prelude.{Bool as Test, true, false, if◌then◌else◌}
 use Rattle.pc_source.specs.declared.place.Place.{Place}
-use Rattle.pc_tree.specs.declared.code.Code.{Code}
 use Rattle.pc_tree.specs.declared.code.Code.TheVariants.{E03}
 use Rattle.pc_tree.specs.declared.tree.BinaryOperator.{BinaryOperator}
 use Rattle.pc_tree.specs.declared.tree.ComparisonOperator.{ComparisonOperator}
 use Rattle.pc_tree.specs.Tree.{Name, Expr, Exprs, Entries, Keywords, name, number, text, truth, nothing, tuple, list, dict, negative, negation, binary, compare, is_none, is_not_none, conjunction, disjunction, attribute, index, call, no_exprs, more_exprs, no_entries, more_entries, no_keywords, more_keywords}
 use Rattle.pc_tree.specs.Depth.{place_of}
-use Rattle.pc_scope.specs.Expressions.{is_instance_test}
 use Rattle.pc_types.specs.Tree.{Tree, Int, Bool, Str, NoneType, TupleOf}
 use Rattle.pc_types.specs.Shape.{members, trees}
 use Rattle.pc_types.specs.Computed.{static_test, assignable_test}
 use Rattle.pc_flow.specs.Environment.{join_or_object}
-use Rattle.pc_notes.specs.Notes.{Note}
 use Rattle.pc_rules.specs.Operations.{Mark, clean, in_error, offers_mark, operand_types, negative_member, attribute_member, index_member, binary_mark, display_mark}
-use Rattle.pc_rules.specs.Context.{Context, name_mark, is_early}
-use Rattle.pc_rules.specs.Calls.{Seat, GivenArguments, CalleeLabel, CallRule, member_rule, length_rule, test_rule, arguments_given, count_exprs, value_callee, name_callee, method_callee, positional_seat, named_seat}
-use Rattle.pc_rules.specs.Labels.{Marks, ItemsMarks, mark_of, type_of, with_mark, second_place}
-use Rattle.pc_rules.specs.Lawful.{list_item, dict_parts, tuple_parts, members_of_expected, item_seat, part_seat, list_mark, key_seat, value_seat, int_literal, compare_mark, compare_types, whole_call_mark, whole_second_code, early_second, keyword_seat}
+use Rattle.pc_rules.specs.Context.{name_mark, is_early}
+use Rattle.pc_rules.specs.Calls.{Seat, GivenArguments, arguments_given, count_exprs, value_callee, name_callee, method_callee, positional_seat}
+use Rattle.pc_rules.specs.Labels.{Marks, ItemsMarks, mark_of, type_of, with_mark}
+use Rattle.pc_rules.specs.Lawful.{list_item, dict_parts, tuple_parts, members_of_expected, item_seat, part_seat, list_mark, key_seat, value_seat, int_literal, compare_mark, compare_types, whole_call_mark, keyword_seat}
 use Rattle.pc_rules.specs.Computed.{flows_of, dict_mark, labels_of}
-use Rattle.pc_rules.specs.Found.{codes_at, notes_of_code, flows_at, notes_under, found_in_parts, found_in_items, found_in_arguments}
+use Rattle.pc_rules.specs.Found.{codes_at, flows_at, notes_under, found_in_parts, found_in_items, found_in_arguments}
 use Rattle.pc_rules.specs.Standing.{Standing, narrowed_standing, mark_in, finds_in, parts_find, items_in, types_in, items_find, arguments_find, keys_in, values_in, entries_find, keywords_find}
 use Rattle.pc_rules.proofs.PartsKept.{parts_kept}
 use Rattle.pc_expr.specs.Typing.{is_other, unnamed_callee, callee_in, callee_finds, early_in}

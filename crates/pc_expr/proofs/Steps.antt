@@ -1,5 +1,5 @@
 -- One more item of several: their types and what is found in them, from one item to the next.
-use Rattle.std.proofs.Common.{◌≡◌, ◌<◌, ◌+◌, ℕ, zero, suc, List, [], ◌∷◌, ◌++◌, refl, sym, ap, ◌∙◌, map, length, drop, get_or, append_assoc, Option, Some, None, arith}
+use Rattle.std.proofs.Common.{◌≡◌, ◌<◌, ◌+◌, ℕ, zero, suc, List, [], ◌∷◌, ◌++◌, refl, sym, ap, ◌∙◌, map, length, drop, get_or, append_assoc, Option, arith}
 use Rattle.std.proofs.lemmas.List.{map_push, append-nil, drop_all}
 use Rattle.std.proofs.lemmas.Bool.Decides.{nat_tests}
 use Rattle.std.specs.Prelude.{Bool as Test, true, false, ◌||◌, ◌&&◌, nat_eq, ◌≤◌}

@@ -2,6 +2,8 @@
 #![tactic(auto)]
 
 mod call_labels;
+mod calls;
+mod displays;
 mod entries;
 mod items;
 mod range_typing;

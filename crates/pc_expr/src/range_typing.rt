@@ -9,7 +9,7 @@ ghost use Rattle.pc_rules.specs.Calls.{arguments_given, range_item};
 ghost use Rattle.pc_rules.specs.Standing.{standing_of, HasGivenAll, IsMark};
 ghost use Rattle.pc_rules.specs.RangesFound.{range_finds};
 
-use crate::typing::{type_arguments, type_keywords};
+use crate::calls::{type_arguments, type_keywords};
 use pc_call::given::given;
 use pc_call::{call_codes, range_item, range_offers};
 use pc_flow::{Env, Resolver};

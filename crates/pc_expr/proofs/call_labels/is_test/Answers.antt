@@ -1,4 +1,4 @@
-use Rattle.std.proofs.Common.{◌≡◌, sym, ◌∙◌}
+use Rattle.std.proofs.Common.{sym, ◌∙◌}
 use Rattle.pc_tree.specs.Tree.{expr_of}
 use Rattle.pc_tree.specs.Lists.{keywords_of_list}
 use Rattle.pc_expr.proofs.CallForms.{two_tested}

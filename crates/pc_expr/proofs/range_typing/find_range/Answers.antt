@@ -1,4 +1,4 @@
-use Rattle.std.proofs.Common.{◌≡◌, ◌++◌, ◌∙◌, map, length, sym, ap, subst, List}
+use Rattle.std.proofs.Common.{◌∙◌, map, sym}
 use Rattle.pc_tree.specs.Tree.{expr_of}
 use Rattle.pc_tree.specs.Lists.{exprs_of_list, keywords_of_list}
 use Rattle.pc_notes.specs.Notes.{notes_of}

@@ -10,10 +10,10 @@ use Rattle.pc_expr.specs.Typing.{early_in}
 use Rattle.pc_expr.specs.Internal.Seats.{seats_of, seat_with, HasSeats, HasEntrySeats}
 use Rattle.pc_expr.proofs.Steps.{seats_from, types_from, finds_from, early_from}
 use Rattle.pc_expr.proofs.EntrySteps.{keys_from, values_from, entries_from}
-use Rattle.pc_expr.proofs.typing.+typing.Given as goal
+use Rattle.pc_expr.proofs.+typing.Given as goal
 
-abbrev pub invariant-type_items-loop-item : goal.invariant-type_items-loop-item
-invariant-type_items-loop-item g l = record {
+abbrev pub invariant-displays::type_items-loop-item : goal.invariant-displays::type_items-loop-item
+invariant-displays::type_items-loop-item g l = record {
   count : vec_len l.types ≡ l.item-index;
   given : HasGivenAll (g.S.TypeStore.has l.store) g.S.TypeStore.tree l.setting l.env;
   seats : HasSeats (g.S.TypeStore.has l.store) l.seats;
@@ -23,8 +23,8 @@ invariant-type_items-loop-item g l = record {
   kept : KeepsTypes g.S.TypeStore.has l.fn.store l.store;
 }
 
-abbrev pub invariant-type_entries-loop-entry : goal.invariant-type_entries-loop-entry
-invariant-type_entries-loop-entry g l = record {
+abbrev pub invariant-displays::type_entries-loop-entry : goal.invariant-displays::type_entries-loop-entry
+invariant-displays::type_entries-loop-entry g l = record {
   given : HasGivenAll (g.S.TypeStore.has l.store) g.S.TypeStore.tree l.setting l.env;
   seats : HasEntrySeats (g.S.TypeStore.has l.store) l.seats;
   held_keys : All (g.S.TypeStore.has l.store) l.keys.items;
@@ -35,8 +35,8 @@ invariant-type_entries-loop-entry g l = record {
   kept : KeepsTypes g.S.TypeStore.has l.fn.store l.store;
 }
 
-abbrev pub invariant-type_arguments-loop-argument : goal.invariant-type_arguments-loop-argument
-invariant-type_arguments-loop-argument g l = record {
+abbrev pub invariant-calls::type_arguments-loop-argument : goal.invariant-calls::type_arguments-loop-argument
+invariant-calls::type_arguments-loop-argument g l = record {
   count : vec_len l.types ≡ l.argument-index;
   given : HasGivenAll (g.S.TypeStore.has l.store) g.S.TypeStore.tree l.setting l.env;
   offers : All (HasCallOffer (g.S.TypeStore.has l.store)) l.offers;
@@ -47,8 +47,8 @@ invariant-type_arguments-loop-argument g l = record {
   kept : KeepsTypes g.S.TypeStore.has l.fn.store l.store;
 }
 
-abbrev pub invariant-type_keywords-loop-argument : goal.invariant-type_keywords-loop-argument
-invariant-type_keywords-loop-argument g l = record {
+abbrev pub invariant-calls::type_keywords-loop-argument : goal.invariant-calls::type_keywords-loop-argument
+invariant-calls::type_keywords-loop-argument g l = record {
   given : HasGivenAll (g.S.TypeStore.has l.store) g.S.TypeStore.tree l.setting l.env;
   offers : All (HasCallOffer (g.S.TypeStore.has l.store)) l.offers;
   found : (notes_of l.found) ++ keywords_find (standing_of g.S.TypeStore.tree g.R.Resolver.meaning l.setting l.env) (named_seat (map (offer_called g.S.TypeStore.tree) l.offers)) (names_in l.before) (keywords_of_list (drop l.argument-index l.by_name)) ≡ (notes_of l.fn.found) ++ keywords_find (standing_of g.S.TypeStore.tree g.R.Resolver.meaning l.setting l.env) (named_seat (map (offer_called g.S.TypeStore.tree) l.offers)) [] (keywords_of_list l.by_name);
