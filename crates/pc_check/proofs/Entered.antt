@@ -23,9 +23,9 @@ use Rattle.pc_flow.specs.Stored.{HasOne, env_of}
 use Rattle.pc_notes.specs.Notes.{Note}
 use Rattle.pc_labels.specs.ComputedStatements.{BodyFrame, Table, Walk, enter_parameters, enter_local, enter_name, end_finds, body_frame_of, function_finds, walk_suite}
 use Rattle.pc_labels.specs.Modules.{entry_parameters, receiver_parameter}
-use Rattle.pc_statements.specs.StatementsHeld.{HoldsType, HoldsTypes}
+use Rattle.pc_frames.specs.StatementsHeld.{HoldsType, HoldsTypes}
 use Rattle.pc_check.specs.Internal.Entry.{HoldsParameter, GivesEntry}
-use Rattle.pc_statements.proofs.Bound.{set_gives, bound_is}
+use Rattle.pc_frames.proofs.Bound.{set_gives, bound_is}
 
 -- what is borrowed is none where there is none
 pub none_copied : {Ty : Type 0} (o : Option (Bor Ty)) → is_some o ≡ false → option_copied o ≡ None

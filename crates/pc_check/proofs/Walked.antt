@@ -14,7 +14,7 @@ use Rattle.pc_flow.specs.Stored.{env_of}
 use Rattle.pc_notes.specs.Notes.{Note}
 use Rattle.pc_rules.specs.Standing.{finds_in}
 use Rattle.pc_labels.specs.ComputedStatements.{BodyFrame, Table, Walk, BranchesResult, BindingResult, at, narrowed_at, with_way, behind_binding, behind_branches, walk_suite, walk_branches}
-use Rattle.pc_statements.specs.StatementsHeld.{HoldsTypesIfAny, GivesBound}
+use Rattle.pc_frames.specs.StatementsHeld.{HoldsTypesIfAny, GivesBound}
 use Rattle.pc_check.specs.Internal.StatementWalk.{GivesWalk}
 
 -- nothing is left of a suite, and of branches

@@ -15,12 +15,12 @@ ghost use Rattle.pc_check.specs.Internal.ModuleWalk.{module_in, signature_for, I
 use crate::entering::check_function;
 use pc_class::ClassTable;
 use pc_flow::OwnerNames;
+use pc_frames::Frame;
 use pc_notes::Notes;
 use pc_rules::Signature;
 use pc_scope::{Owner, Scopes};
 use pc_signatures::Sigs;
 use pc_source::OutOfMemory;
-use pc_statements::Frame;
 use pc_tree::{FuncDef, Module};
 use pc_types::{Parents, TypeStore};
 use std::alloc::Global;

@@ -12,16 +12,16 @@ ghost use Rattle.pc_notes.specs.Notes.{notes_of};
 ghost use Rattle.pc_labels.specs.Modules.{receiver_parameter};
 ghost use Rattle.pc_labels.specs.ComputedStatements.{body_frame_of, function_finds, enter_parameters, enter_name};
 ghost use Rattle.pc_labels.specs.ComputedStatements.{end_finds};
-ghost use Rattle.pc_statements.specs.StatementsHeld.{frame_with, HoldsFrame, HoldsType, HoldsTypes};
+ghost use Rattle.pc_frames.specs.StatementsHeld.{frame_with, HoldsFrame, HoldsType, HoldsTypes};
 ghost use Rattle.pc_check.specs.Internal.Entry.{HoldsParameter, GivesEntry};
 
 use crate::statements::check_suite;
 use pc_class::Parameter;
 use pc_flow::{DeclaredTypes, Env, Resolver};
+use pc_frames::Frame;
 use pc_notes::Notes;
 use pc_scope::{Owner, Res};
 use pc_source::{OutOfMemory, Place};
-use pc_statements::Frame;
 use pc_tree::{Code, FuncDef};
 use pc_types::{Parents, TypeStore};
 use std::alloc::Global;

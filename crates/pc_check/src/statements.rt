@@ -10,18 +10,16 @@ ghost use Rattle.pc_types.specs.Store.{KeepsTypes};
 ghost use Rattle.pc_flow.specs.Stored.{env_of};
 ghost use Rattle.pc_notes.specs.Notes.{notes_of};
 ghost use Rattle.pc_labels.specs.ComputedStatements.{step, walk_suite, walk_branches, behind_branches};
-ghost use Rattle.pc_statements.specs.StatementsHeld.{frame_with, HoldsFrame, HoldsTypes};
-ghost use Rattle.pc_check.specs.Internal.StatementWalk.{walk_with, forked_with};
-ghost use Rattle.pc_statements.specs.StatementsHeld.{HoldsTypesIfAny};
-ghost use Rattle.pc_check.specs.Internal.StatementWalk.{GivesWalk, GivesForked};
+ghost use Rattle.pc_frames.specs.StatementsHeld.{frame_with, HoldsFrame, HoldsTypes, HoldsTypesIfAny};
+ghost use Rattle.pc_check.specs.Internal.StatementWalk.{walk_with, forked_with, GivesWalk, GivesForked};
 
 use pc_flow::{BothWays, DeclaredTypes, Env, Resolver, copy_env};
+use pc_frames::{
+    Frame, bind_item, break_out, declare_unreached, for_start, meet, narrow_in, while_start,
+};
 use pc_notes::Notes;
 use pc_source::{OutOfMemory, Place};
-use pc_statements::{
-    Frame, assign_target, bind_annotated, bind_item, break_out, check_assert, declare_unreached,
-    find_return, for_start, item_type, meet, narrow_in, type_in, while_start,
-};
+use pc_statements::{assign_target, bind_annotated, check_assert, find_return, item_type, type_in};
 use pc_tree::{Branch, Expr, Name, Stmt, StmtKind};
 use pc_types::TypeStore;
 use std::alloc::Global;

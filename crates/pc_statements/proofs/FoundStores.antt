@@ -6,7 +6,7 @@ use Rattle.pc_types.specs.Below.{Bases}
 use Rattle.pc_flow.specs.WellFormed.{AreWellFormed, IsWellFormedIfAny}
 use Rattle.pc_rules.specs.Operations.{StoreOffer, only_type}
 use Rattle.pc_rules.specs.Standing.{HasIfAny}
-use Rattle.pc_statements.specs.StatementsHeld.{HoldsTypeIfAny}
+use Rattle.pc_frames.specs.StatementsHeld.{HoldsTypeIfAny}
 use Rattle.pc_labels.proofs.StoredTypes.{only_well_formed}
 
 -- findings pushed twice, and three times

@@ -12,13 +12,13 @@ ghost use Rattle.pc_rules.specs.Found.{codes_at};
 ghost use Rattle.pc_rules.specs.Standing.{finds_in};
 ghost use Rattle.pc_labels.specs.ComputedStatements.{at, item_mark_of, values_item, iterable_finds};
 ghost use Rattle.pc_statements.specs.Internal.Ranges.{over_range};
-ghost use Rattle.pc_statements.specs.StatementsHeld.{frame_with, HoldsFrame, HoldsType, HoldsTypes, GivesLabel};
+ghost use Rattle.pc_frames.specs.StatementsHeld.{frame_with, HoldsFrame, HoldsType, HoldsTypes, GivesLabel};
 
-use crate::frame::Frame;
 use crate::typing::type_in;
 use pc_call::is_range;
 use pc_expr::type_range;
 use pc_flow::{DeclaredTypes, Env, Resolver};
+use pc_frames::Frame;
 use pc_notes::Notes;
 use pc_operate::item_label;
 use pc_rules::{Label, Setting, find_codes};

@@ -1,80 +1,23 @@
-//! Ways that part and meet: `break`, `return`, `assert`, and the ways out of branches.
+//! What stands in a `return` and in an `assert`.
 
-ghost use Rattle.std.specs.Prelude.{◌≡◌, ◌++◌, IfOk, OnOk, true, false, Option, None, Some};
-ghost use Rattle.std.specs.Option.{option_map};
+ghost use Rattle.std.specs.Prelude.{◌≡◌, ◌++◌, IfOk, OnOk, true, false, None};
 ghost use Rattle.pc_tree.specs.Tree.{expr_of, option_expr_of};
 ghost use Rattle.pc_types.specs.Store.{KeepsTypes};
 ghost use Rattle.pc_flow.specs.Stored.{env_of};
 ghost use Rattle.pc_notes.specs.Notes.{notes_of};
 ghost use Rattle.pc_rules.specs.Standing.{finds_in};
-ghost use Rattle.pc_labels.specs.ComputedStatements.{at, narrowed_at, join_onto_way, with_way, return_finds};
-ghost use Rattle.pc_labels.specs.ComputedStatements.{option_finds};
-ghost use Rattle.pc_statements.specs.StatementsHeld.{frame_with, HoldsFrame, HoldsTypes, HoldsTypesIfAny};
-ghost use Rattle.pc_statements.specs.StatementsHeld.{GivesTypes, GivesTypesIfAny};
+ghost use Rattle.pc_labels.specs.ComputedStatements.{at, narrowed_at, return_finds, option_finds};
+ghost use Rattle.pc_frames.specs.StatementsHeld.{frame_with, HoldsFrame, HoldsTypes, GivesTypes};
 
-use crate::frame::Frame;
-use crate::typing::{flow_in, join_in, narrow_in, type_in};
+use crate::typing::type_in;
 use pc_flow::{BothWays, DeclaredTypes, Env, Resolver};
+use pc_frames::{Frame, flow_in, narrow_in};
 use pc_notes::Notes;
 use pc_rules::Label;
 use pc_source::{OutOfMemory, Place};
 use pc_tree::Expr;
 use pc_types::TypeStore;
 use std::alloc::Global;
-
-/// Joins the environment at a `break` onto the way out of its loop, if it stands in one.
-/// Language Reference 7.9 "The break statement".
-pub fn break_out<S: TypeStore, R: Resolver>(
-    store: &mut S,
-    alloc: Global,
-    frame: &Frame<'_, S::Ty, R>,
-    declared: &DeclaredTypes<S::Ty>,
-    env: &Env<S::Ty>,
-    broken: &mut Option<Env<S::Ty>>,
-) -> Result<(), OutOfMemory>
-    requires declared { HoldsTypes (S.has store.old) S.tree frame.now.parents.now declared.now }
-    requires env { HoldsTypes (S.has store.old) S.tree frame.now.parents.now env.now }
-    requires broken { HoldsTypesIfAny (S.has store.old) S.tree frame.now.parents.now broken.old }
-    ensures joined { OnOk result
-        (GivesTypesIfAny S.has S.tree frame.now.parents.now store.new broken.new
-        (join_onto_way frame.now.parents.now (env_of S.tree declared.now) (option_map (env_of S.tree) broken.old)
-        (env_of S.tree env.now))) }
-    ensures kept { KeepsTypes S.has store.old store.new }
-{
-    let joined = match broken {
-        None => None,
-        Some(way) => Some(join_in(store, alloc, frame, declared, way, env)?),
-    };
-    *broken = joined;
-    Ok(())
-}
-
-/// Joins the way out of a suite onto the ways out of those before it, if a run comes out of it.
-pub fn meet<S: TypeStore, R: Resolver>(
-    store: &mut S,
-    alloc: Global,
-    frame: &Frame<'_, S::Ty, R>,
-    declared: &DeclaredTypes<S::Ty>,
-    ways: Option<Env<S::Ty>>,
-    out: Option<Env<S::Ty>>,
-) -> Result<Option<Env<S::Ty>>, OutOfMemory>
-    requires declared { HoldsTypes (S.has store.old) S.tree frame.now.parents.now declared.now }
-    requires ways { HoldsTypesIfAny (S.has store.old) S.tree frame.now.parents.now ways }
-    requires out { HoldsTypesIfAny (S.has store.old) S.tree frame.now.parents.now out }
-    ensures joined { IfOk result
-        (λ w. GivesTypesIfAny S.has S.tree frame.now.parents.now store.new w
-        (with_way frame.now.parents.now (env_of S.tree declared.now) (option_map (env_of S.tree) ways)
-        (option_map (env_of S.tree) out))) }
-    ensures kept { KeepsTypes S.has store.old store.new }
-{
-    match out {
-        None => Ok(ways),
-        Some(out) => match ways {
-            None => Ok(Some(out)),
-            Some(way) => Ok(Some(join_in(store, alloc, frame, declared, &way, &out)?)),
-        },
-    }
-}
 
 /// Finds what stands in a `return`: in its value, and of the flow into the return type. Without a value `None` flows.
 /// Language Reference 7.6 "The return statement".

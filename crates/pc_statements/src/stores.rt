@@ -9,11 +9,11 @@ ghost use Rattle.pc_notes.specs.Notes.{notes_of};
 ghost use Rattle.pc_rules.specs.Operations.{stored_types};
 ghost use Rattle.pc_operate.specs.Storing.{HasStoreOffer, store_offer_with};
 ghost use Rattle.pc_labels.specs.ComputedStatements.{at, store_finds, stored_finds};
-ghost use Rattle.pc_statements.specs.StatementsHeld.{frame_with, HoldsFrame, HoldsTypes};
+ghost use Rattle.pc_frames.specs.StatementsHeld.{frame_with, HoldsFrame, HoldsTypes};
 
-use crate::frame::Frame;
 use crate::typing::type_in;
 use pc_flow::{DeclaredTypes, Env, Resolver};
+use pc_frames::Frame;
 use pc_notes::Notes;
 use pc_operate::{
     StoreOffer, StoreTarget, only_type, store_codes, store_index_types, store_offers, stored_types,

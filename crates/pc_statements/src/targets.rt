@@ -6,12 +6,12 @@ ghost use Rattle.pc_types.specs.Store.{KeepsTypes};
 ghost use Rattle.pc_flow.specs.Stored.{env_of};
 ghost use Rattle.pc_notes.specs.Notes.{notes_of};
 ghost use Rattle.pc_labels.specs.ComputedStatements.{assign_target};
-ghost use Rattle.pc_statements.specs.StatementsHeld.{frame_with, HoldsFrame, HoldsTypes, GivesBound};
+ghost use Rattle.pc_frames.specs.StatementsHeld.{frame_with, HoldsFrame, HoldsTypes, GivesBound};
 
 use crate::binding::bind_value;
-use crate::frame::Frame;
 use crate::stores::find_store;
 use pc_flow::{DeclaredTypes, Env, Resolver};
+use pc_frames::Frame;
 use pc_notes::Notes;
 use pc_source::OutOfMemory;
 use pc_tree::{Expr, Target};

@@ -1,30 +1,23 @@
-//! Expressions, conditions and environments where a walk over statements stands.
+//! Expressions where a walk over statements stands.
 
-ghost use Rattle.std.specs.Prelude.{◌≡◌, ◌++◌, ◌∷◌, [], IfOk, OnOk, true, false, slice_index_or};
+ghost use Rattle.std.specs.Prelude.{◌≡◌, ◌++◌, IfOk, OnOk};
 ghost use Rattle.std.specs.Option.{option_map};
 ghost use Rattle.pc_tree.specs.Tree.{expr_of};
-ghost use Rattle.pc_types.specs.Computed.{static_test, assignable_test};
 ghost use Rattle.pc_types.specs.Store.{KeepsTypes};
-ghost use Rattle.pc_flow.specs.Environment.{join_env, loop_head};
 ghost use Rattle.pc_flow.specs.Stored.{env_of};
 ghost use Rattle.pc_notes.specs.Notes.{notes_of};
-ghost use Rattle.pc_rules.specs.Operations.{Mark};
-ghost use Rattle.pc_rules.specs.Context.{is_early};
-ghost use Rattle.pc_rules.specs.Computed.{code_unless, flows_of};
-ghost use Rattle.pc_rules.specs.Found.{brief, flows_at};
-ghost use Rattle.pc_rules.specs.Standing.{mark_in, mark_with, finds_in};
-ghost use Rattle.pc_labels.specs.ComputedStatements.{type_table, at, narrowed_at};
-ghost use Rattle.pc_statements.specs.StatementsHeld.{frame_with, HoldsFrame, HoldsTypes, HoldsTypeIfAny, GivesLabel};
-ghost use Rattle.pc_statements.specs.StatementsHeld.{GivesTypes};
+ghost use Rattle.pc_rules.specs.Standing.{mark_in, finds_in};
+ghost use Rattle.pc_labels.specs.ComputedStatements.{at};
+ghost use Rattle.pc_frames.specs.StatementsHeld.{frame_with, HoldsFrame, HoldsTypes, HoldsTypeIfAny, GivesLabel};
 
-use crate::frame::Frame;
 use pc_expr::type_expr;
-use pc_flow::{BothWays, DeclaredTypes, Env, Resolver, join_env, loop_head, narrow};
+use pc_flow::{DeclaredTypes, Env, Resolver};
+use pc_frames::Frame;
 use pc_notes::Notes;
-use pc_rules::{Label, Setting, find_flow};
-use pc_source::{OutOfMemory, Place};
-use pc_tree::{Code, Expr};
-use pc_types::{Parents, TypeStore};
+use pc_rules::{Label, Setting};
+use pc_source::OutOfMemory;
+use pc_tree::Expr;
+use pc_types::TypeStore;
 use std::alloc::Global;
 
 /// The label of an expression in the body of a function, with what is found in it.
@@ -63,102 +56,4 @@ pub fn type_in<S: TypeStore, R: Resolver>(
         declared,
     };
     type_expr(store, alloc, &setting, env, want, e, found)
-}
-
-/// The code of the flow of a labelled expression, which stands at this place, into a type, with what is found of it.
-pub(crate) fn flow_in<S: TypeStore>(
-    store: &mut S,
-    alloc: Global,
-    parents: &Parents,
-    place: Place,
-    label: &Label<S::Ty>,
-    into: &S::Ty,
-    found: &mut Notes,
-) -> Result<Option<Code>, OutOfMemory>
-    requires label { S.has store.old label.now.ty }
-    requires into { S.has store.old into.now }
-    ensures code { IfOk result
-        (λ c. c ≡ code_unless (static_test parents.now) (assignable_test parents.now) (is_early label.now.codes.items)
-        (S.tree label.now.ty) (S.tree into.now)) }
-    ensures pushed { (m : Mark) → mark_with S.tree label.now ≡ brief m
-        → OnOk result (notes_of found.new
-        ≡ notes_of found.old ++ flows_at place (flows_of parents.now m (S.tree into.now ∷ []))) }
-    ensures kept { KeepsTypes S.has store.old store.new }
-{
-    let code = find_flow(store, alloc, parents, place, label, into, found)?;
-    Ok(code)
-}
-
-/// The environments where a condition is true and where it is false.
-pub fn narrow_in<S: TypeStore, R: Resolver>(
-    store: &mut S,
-    alloc: Global,
-    frame: &Frame<'_, S::Ty, R>,
-    declared: &DeclaredTypes<S::Ty>,
-    condition: &Expr,
-    env: Env<S::Ty>,
-) -> Result<BothWays<S::Ty>, OutOfMemory>
-    requires declared { HoldsTypes (S.has store.old) S.tree frame.now.parents.now declared.now }
-    requires env { HoldsTypes (S.has store.old) S.tree frame.now.parents.now env }
-    ensures where_true { IfOk result
-        (λ n. GivesTypes S.has S.tree frame.now.parents.now store.new n.where_true
-        (narrowed_at (frame_with S.tree R.meaning frame.now) (env_of S.tree declared.now) true (expr_of condition.now)
-        (env_of S.tree env))) }
-    ensures where_false { IfOk result
-        (λ n. GivesTypes S.has S.tree frame.now.parents.now store.new n.where_false
-        (narrowed_at (frame_with S.tree R.meaning frame.now) (env_of S.tree declared.now) false (expr_of condition.now)
-        (env_of S.tree env))) }
-    ensures kept { KeepsTypes S.has store.old store.new }
-{
-    narrow(
-        store,
-        alloc,
-        frame.parents,
-        declared,
-        frame.names,
-        condition,
-        env,
-    )
-}
-
-/// Two environments where their ways meet.
-pub(crate) fn join_in<S: TypeStore, R: Resolver>(
-    store: &mut S,
-    alloc: Global,
-    frame: &Frame<'_, S::Ty, R>,
-    declared: &DeclaredTypes<S::Ty>,
-    a: &Env<S::Ty>,
-    b: &Env<S::Ty>,
-) -> Result<Env<S::Ty>, OutOfMemory>
-    requires declared { HoldsTypes (S.has store.old) S.tree frame.now.parents.now declared.now }
-    requires left { HoldsTypes (S.has store.old) S.tree frame.now.parents.now a.now }
-    requires right { HoldsTypes (S.has store.old) S.tree frame.now.parents.now b.now }
-    ensures value { IfOk result
-        (λ e. GivesTypes S.has S.tree frame.now.parents.now store.new e
-        (join_env frame.now.parents.now (type_table (env_of S.tree declared.now)) (env_of S.tree a.now)
-        (env_of S.tree b.now))) }
-    ensures kept { KeepsTypes S.has store.old store.new }
-{
-    frame.parents.ordered();
-    join_env(store, alloc, frame.parents, declared, a, b)
-}
-
-/// The environment at the head of a loop, from the one before it and a mark for each local that the loop binds.
-pub(crate) fn head_in<S: TypeStore, R: Resolver>(
-    store: &mut S,
-    alloc: Global,
-    frame: &Frame<'_, S::Ty, R>,
-    bound: &[bool],
-    declared: &DeclaredTypes<S::Ty>,
-    env: &Env<S::Ty>,
-) -> Result<Env<S::Ty>, OutOfMemory>
-    requires declared { HoldsTypes (S.has store.old) S.tree frame.now.parents.now declared.now }
-    requires env { HoldsTypes (S.has store.old) S.tree frame.now.parents.now env.now }
-    ensures value { IfOk result
-        (λ e. GivesTypes S.has S.tree frame.now.parents.now store.new e
-        (loop_head (λ x. slice_index_or bound.now x false) (type_table (env_of S.tree declared.now))
-        (env_of S.tree env.now))) }
-    ensures kept { KeepsTypes S.has store.old store.new }
-{
-    loop_head(store, alloc, bound, declared, env)
 }

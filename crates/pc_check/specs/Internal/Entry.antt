@@ -7,7 +7,7 @@ use Rattle.pc_class.specs.declared.table.Parameter.{Parameter}
 use Rattle.pc_flow.specs.Environment.{Env}
 use Rattle.pc_flow.specs.Stored.{env_of}
 use Rattle.pc_labels.specs.ComputedStatements.{Table}
-use Rattle.pc_statements.specs.StatementsHeld.{HoldsType, HoldsTypes}
+use Rattle.pc_frames.specs.StatementsHeld.{HoldsType, HoldsTypes}
 
 -- the type of a parameter is of the store and well-formed
 abbrev pub HoldsParameter : {Ty : Type 0} (has : Ty → Type 0) (tree : Ty → Tree) (bases : Bases) → Parameter Ty → Type 0

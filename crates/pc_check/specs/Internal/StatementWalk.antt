@@ -7,7 +7,7 @@ use Rattle.pc_types.specs.Below.{Bases}
 use Rattle.pc_flow.specs.Stored.{env_of}
 use Rattle.pc_notes.specs.Notes.{Note}
 use Rattle.pc_labels.specs.ComputedStatements.{Walk, BranchesResult}
-use Rattle.pc_statements.specs.StatementsHeld.{HoldsTypes, HoldsTypesIfAny}
+use Rattle.pc_frames.specs.StatementsHeld.{HoldsTypes, HoldsTypesIfAny}
 
 module _ {Ty : Type 0} (tree : Ty → Tree) where
   -- what a walk has come to: the declared types, an environment if a run comes here, the way out of a loop, and what

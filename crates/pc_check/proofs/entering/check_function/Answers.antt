@@ -11,9 +11,9 @@ use Rattle.pc_flow.specs.Stored.{env_of}
 use Rattle.pc_notes.specs.Notes.{notes_of}
 use Rattle.pc_labels.specs.ComputedStatements.{BodyFrame, Table, Walk, enter_parameters, walk_suite}
 use Rattle.pc_labels.specs.Modules.{receiver_parameter}
-use Rattle.pc_statements.specs.StatementsHeld.{frame_with}
+use Rattle.pc_frames.specs.StatementsHeld.{frame_with}
 use Rattle.pc_check.specs.Internal.StatementWalk.{walk_with}
-use Rattle.pc_statements.proofs.Held.{frame_kept}
+use Rattle.pc_frames.proofs.Held.{frame_kept}
 use Rattle.pc_check.proofs.Entered.{none_holds, none_is, parameters_hold, function_found}
 use Rattle.pc_check.proofs.entering.check_function.Goals as goal
 

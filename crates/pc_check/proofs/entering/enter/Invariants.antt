@@ -2,7 +2,7 @@ use Rattle.std.proofs.Common.{◌≡◌, drop}
 use Rattle.pc_class.specs.Tables.{parameters_with}
 use Rattle.pc_flow.specs.Stored.{env_of}
 use Rattle.pc_labels.specs.ComputedStatements.{enter_parameters}
-use Rattle.pc_statements.specs.StatementsHeld.{HoldsTypes}
+use Rattle.pc_frames.specs.StatementsHeld.{HoldsTypes}
 use Rattle.pc_check.proofs.entering.enter.Given as goal
 
 abbrev pub invariant-loop-param : goal.invariant-loop-param

@@ -10,9 +10,9 @@ use Rattle.pc_flow.specs.Stored.{env_of}
 use Rattle.pc_flow.proofs.Given.{keeps_both}
 use Rattle.pc_notes.specs.Notes.{notes_of}
 use Rattle.pc_labels.specs.ComputedStatements.{Walk, step, walk_suite, walk_branches, with_way, behind_branches}
-use Rattle.pc_statements.specs.StatementsHeld.{frame_with, GivesTypesIfAny}
+use Rattle.pc_frames.specs.StatementsHeld.{frame_with, GivesTypesIfAny}
 use Rattle.pc_check.specs.Internal.StatementWalk.{walk_with, forked_with, GivesWalk}
-use Rattle.pc_statements.proofs.Held.{gives_types, types_kept, types_kept_if_any, frame_kept}
+use Rattle.pc_frames.proofs.Held.{gives_types, types_kept, types_kept_if_any, frame_kept}
 use Rattle.pc_check.proofs.Walked.{no_statement_left, no_branch_left, found_by, branch_walked, branches_from, otherwise_walked, binding_walked}
 use Rattle.pc_tree.proofs.tree.Stmt.TheLaws.{the_size}
 use Rattle.pc_tree.proofs.tree.Branch.TheLaws.{the_size as branch_size}

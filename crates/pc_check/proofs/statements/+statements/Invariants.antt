@@ -5,7 +5,7 @@ use Rattle.pc_types.specs.Store.{KeepsTypes}
 use Rattle.pc_notes.specs.Notes.{notes_of}
 use Rattle.pc_labels.specs.ComputedStatements.{walk_suite, walk_branches}
 use Rattle.std.specs.Prelude.{None}
-use Rattle.pc_statements.specs.StatementsHeld.{frame_with, HoldsTypes, HoldsTypesIfAny}
+use Rattle.pc_frames.specs.StatementsHeld.{frame_with, HoldsTypes, HoldsTypesIfAny}
 use Rattle.pc_check.specs.Internal.StatementWalk.{walk_with, forked_with}
 use Rattle.pc_check.proofs.statements.+statements.Given as goal
 

@@ -5,10 +5,10 @@ use Rattle.pc_ann.specs.Annotations.{read_ann}
 use Rattle.pc_flow.specs.Stored.{env_of}
 use Rattle.pc_notes.specs.Notes.{notes_of}
 use Rattle.pc_labels.specs.ComputedStatements.{annotation_finds, bound_name, declared_alone}
-use Rattle.pc_statements.specs.StatementsHeld.{frame_with, GivesBound}
-use Rattle.pc_statements.specs.Internal.BoundNames.{declared_by}
-use Rattle.pc_statements.proofs.Bound.{alone_gives}
-use Rattle.pc_statements.proofs.Held.{types_kept, frame_kept}
+use Rattle.pc_frames.specs.StatementsHeld.{frame_with, GivesBound}
+use Rattle.pc_frames.specs.AnnotatedNames.{declared_by}
+use Rattle.pc_frames.proofs.Bound.{alone_gives}
+use Rattle.pc_frames.proofs.Held.{types_kept, frame_kept}
 use Rattle.pc_statements.proofs.binding.bind_annotated.Goals as goal
 
 pub bind_value-requires-clause-frame : goal.bind_value-requires-clause-frame

@@ -4,9 +4,9 @@ use Rattle.pc_tree.specs.Tree.{expr_of}
 use Rattle.pc_flow.specs.Stored.{env_of}
 use Rattle.pc_notes.specs.Notes.{Note, notes_of}
 use Rattle.pc_labels.specs.ComputedStatements.{BindingResult}
-use Rattle.pc_statements.specs.StatementsHeld.{frame_with}
-use Rattle.pc_statements.proofs.Bound.{known_holds, value_elsewhere}
-use Rattle.pc_statements.proofs.Held.{types_kept, type_kept_if_any, want_well_formed}
+use Rattle.pc_frames.specs.StatementsHeld.{frame_with}
+use Rattle.pc_frames.proofs.Bound.{known_holds, value_elsewhere}
+use Rattle.pc_frames.proofs.Held.{types_kept, type_kept_if_any, want_well_formed}
 use Rattle.pc_statements.proofs.binding.bind_value.Goals as goal
 
 pub type_in-requires-clause-want : goal.type_in-requires-clause-want

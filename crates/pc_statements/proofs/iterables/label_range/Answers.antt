@@ -13,8 +13,8 @@ use Rattle.pc_rules.specs.Calls.{arguments_given, range_item, range_offers, posi
 use Rattle.pc_rules.specs.Found.{codes_at}
 use Rattle.pc_rules.specs.Standing.{Standing, IsMark, arguments_find, keywords_find}
 use Rattle.pc_labels.specs.ComputedStatements.{at, item_mark_of}
-use Rattle.pc_statements.specs.StatementsHeld.{frame_with, context_in, GivesLabel}
-use Rattle.pc_statements.proofs.Held.{declared_is, declared_well_formed}
+use Rattle.pc_frames.specs.StatementsHeld.{frame_with, context_in, GivesLabel}
+use Rattle.pc_frames.proofs.Held.{declared_is, declared_well_formed}
 use Rattle.pc_statements.proofs.Iterating.{range_items, range_found, range_well_formed}
 use Rattle.pc_statements.proofs.iterables.label_range.Goals as goal
 

@@ -9,7 +9,7 @@ use Rattle.pc_rules.specs.Operations.{Mark, offers_mark, iterate_member}
 use Rattle.pc_rules.specs.Standing.{IsMark}
 use Rattle.pc_operate.proofs.Offering.{entries_kept}
 use Rattle.pc_labels.specs.ComputedStatements.{at, values_item}
-use Rattle.pc_statements.specs.StatementsHeld.{frame_with, GivesLabel}
+use Rattle.pc_frames.specs.StatementsHeld.{frame_with, GivesLabel}
 use Rattle.pc_labels.proofs.StoredTypes.{turns_well_formed}
 use Rattle.pc_statements.proofs.iterables.label_values.Goals as goal
 

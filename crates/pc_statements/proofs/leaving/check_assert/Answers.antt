@@ -1,4 +1,4 @@
-use Rattle.pc_statements.proofs.Held.{types_kept, frame_kept, gives_types_kept}
+use Rattle.pc_frames.proofs.Held.{types_kept, frame_kept, gives_types_kept}
 use Rattle.pc_flow.proofs.Given.{keeps_both}
 use Rattle.pc_statements.proofs.leaving.check_assert.Goals as goal
 

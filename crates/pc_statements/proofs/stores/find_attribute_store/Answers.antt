@@ -11,8 +11,8 @@ use Rattle.pc_rules.specs.Standing.{mark_in, finds_in}
 use Rattle.pc_operate.specs.Storing.{HasStoreOffer, store_offer_with}
 use Rattle.pc_operate.proofs.Offering.{entries_kept}
 use Rattle.pc_labels.specs.ComputedStatements.{at, stored_finds, attribute_stores}
-use Rattle.pc_statements.specs.StatementsHeld.{frame_with}
-use Rattle.pc_statements.proofs.Held.{types_kept, frame_kept}
+use Rattle.pc_frames.specs.StatementsHeld.{frame_with}
+use Rattle.pc_frames.proofs.Held.{types_kept, frame_kept}
 use Rattle.pc_labels.proofs.StoredTypes.{fields_stored}
 use Rattle.pc_statements.proofs.stores.find_attribute_store.Goals as goal
 

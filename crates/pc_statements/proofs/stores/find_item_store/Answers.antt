@@ -14,8 +14,8 @@ use Rattle.pc_operate.specs.Storing.{HasStoreOffer, store_offer_with}
 use Rattle.pc_operate.proofs.Offering.{entries_kept}
 use Rattle.pc_operate.proofs.Storing.{all_stores_kept}
 use Rattle.pc_labels.specs.ComputedStatements.{at, stored_finds, index_stores}
-use Rattle.pc_statements.specs.StatementsHeld.{frame_with}
-use Rattle.pc_statements.proofs.Held.{types_kept, frame_kept}
+use Rattle.pc_frames.specs.StatementsHeld.{frame_with}
+use Rattle.pc_frames.proofs.Held.{types_kept, frame_kept}
 use Rattle.pc_labels.proofs.StoredTypes.{items_stored}
 use Rattle.pc_statements.proofs.FoundStores.{pushed_along}
 use Rattle.pc_statements.proofs.stores.find_item_store.Goals as goal

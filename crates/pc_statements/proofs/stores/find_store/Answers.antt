@@ -4,7 +4,7 @@ use Rattle.pc_tree.specs.Tree.{Target, expr_of, target_of}
 use Rattle.pc_flow.specs.Stored.{env_of}
 use Rattle.pc_notes.specs.Notes.{notes_of}
 use Rattle.pc_labels.specs.ComputedStatements.{at, store_finds}
-use Rattle.pc_statements.specs.StatementsHeld.{frame_with}
+use Rattle.pc_frames.specs.StatementsHeld.{frame_with}
 use Rattle.pc_statements.proofs.stores.find_store.Goals as goal
 
 pub returns-in-Attribute-clause-pushed : goal.returns-in-Attribute-clause-pushed

@@ -8,8 +8,8 @@ use Rattle.pc_flow.specs.Stored.{env_of}
 use Rattle.pc_notes.specs.Notes.{notes_of}
 use Rattle.pc_rules.specs.Standing.{IsMark, mark_in, finds_in}
 use Rattle.pc_labels.specs.ComputedStatements.{at}
-use Rattle.pc_statements.specs.StatementsHeld.{frame_with, context_in, GivesLabel}
-use Rattle.pc_statements.proofs.Held.{declared_is, declared_well_formed, table_well_formed, gives_label, want_well_formed, want_given}
+use Rattle.pc_frames.specs.StatementsHeld.{frame_with, context_in, GivesLabel}
+use Rattle.pc_frames.proofs.Held.{declared_is, declared_well_formed, table_well_formed, gives_label, want_well_formed, want_given}
 use Rattle.pc_statements.proofs.typing.type_in.Goals as goal
 
 pub type_expr-requires-clause-given : goal.type_expr-requires-clause-given

@@ -1,0 +1,3 @@
+pub mod AnnotatedNames
+pub mod Internal
+pub mod StatementsHeld

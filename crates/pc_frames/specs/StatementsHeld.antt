@@ -1,0 +1,100 @@
+-- What statements stand in, as the program holds it, and what it answers of expressions, environments and names that
+-- are bound, in terms of the definitions. Own rule of the profile.
+use Rattle.std.specs.Prelude.{◌≡◌, ℕ, List, All, map, true, Option, Some, None}
+use Rattle.std.specs.Option.{option_map}
+use Rattle.pc_tree.specs.Tree.{module_of}
+use Rattle.pc_scope.specs.declared.resolution.Res.{Res}
+use Rattle.pc_scope.specs.ModuleScopes.{AreScopes}
+use Rattle.pc_types.specs.Tree.{Tree}
+use Rattle.pc_types.specs.Below.{Bases}
+use Rattle.pc_types.specs.WellFormed.{IsWellFormed}
+use Rattle.pc_class.specs.Tables.{HasEntries, classes_with}
+use Rattle.pc_flow.specs.WellFormed.{IsWellFormedEnv}
+use Rattle.pc_flow.specs.Stored.{HasEach, env_of}
+use Rattle.pc_notes.specs.Notes.{Note}
+use Rattle.pc_rules.specs.Operations.{Mark}
+use Rattle.pc_rules.specs.Context.{Context}
+use Rattle.pc_rules.specs.Standing.{HasSignature, IsMark, signature_with}
+use Rattle.pc_rules.specs.WellFormed.{ContextWellFormed}
+use Rattle.pc_rules.specs.declared.label.Label.{Label}
+use Rattle.pc_labels.specs.ComputedStatements.{BodyFrame, BindingResult}
+use Rattle.pc_frames.specs.declared.frame.Frame.{Frame as RustFrame}
+
+module _ {Ty R : Type 0} (tree : Ty → Tree) (meaning : R → List ℕ → Res) where
+  -- what the statements of a function may name
+  abbrev pub context_in : RustFrame Ty R → Context
+  context_in f = record {
+    bases = f.parents.now;
+    classes = classes_with tree f.classes.now;
+    functions = map (signature_with tree) f.functions.now;
+    constants = map tree f.constants.now;
+    known = f.known;
+    in_body = true;
+    resolve = meaning f.names.now;
+  }
+
+  -- what the statements of a function stand in
+  abbrev pub frame_with : RustFrame Ty R → BodyFrame
+  frame_with f = record { whole = module_of f.tree.now; context = context_in f; returned = tree f.returned.now }
+
+-- a type is of the store and well-formed
+pub record HoldsType {Ty : Type 0} (has : Ty → Type 0) (tree : Ty → Tree) (bases : Bases) (ty : Ty) : Type 0 where
+  pub given : has ty
+  pub well_formed : IsWellFormed bases (tree ty)
+
+-- so is a type that there may be
+abbrev pub HoldsTypeIfAny : {Ty : Type 0} (has : Ty → Type 0) (tree : Ty → Tree) (bases : Bases) → Option Ty → Type 0
+HoldsTypeIfAny has tree bases None = Unit {0}
+HoldsTypeIfAny has tree bases (Some ty) = HoldsType has tree bases ty
+
+-- so are the types of locals, declared or current, of each that has one
+pub record HoldsTypes {Ty : Type 0} (has : Ty → Type 0) (tree : Ty → Tree) (bases : Bases)
+    (types : List (Option Ty)) : Type 0 where
+  pub given : HasEach has types
+  pub well_formed : IsWellFormedEnv bases (env_of tree types)
+
+-- so are those of an environment that there may be
+abbrev pub HoldsTypesIfAny : {Ty : Type 0} (has : Ty → Type 0) (tree : Ty → Tree) (bases : Bases)
+    → Option (List (Option Ty)) → Type 0
+HoldsTypesIfAny has tree bases None = Unit {0}
+HoldsTypesIfAny has tree bases (Some types) = HoldsTypes has tree bases types
+
+-- the store gave all types of what statements stand in, all of them are well-formed, and names mean what the module's
+-- scopes say
+pub record HoldsFrame {Ty R : Type 0} (has : Ty → Type 0) (tree : Ty → Tree) (meaning : R → List ℕ → Res)
+    (f : RustFrame Ty R) : Type 0 where
+  pub classes : HasEntries has f.classes.now
+  pub functions : All (HasSignature has) f.functions.now
+  pub constants : All has f.constants.now
+  pub returned : HoldsType has tree f.parents.now f.returned.now
+  pub context : ContextWellFormed (context_in tree meaning f)
+  pub scopes : AreScopes (module_of f.tree.now) f.scopes.now
+
+module _ {Ty : Type 0} (tree : Ty → Tree) where
+  -- what a name bound comes to
+  abbrev pub bound_with : (declared env : List (Option Ty)) → List Note → BindingResult
+  bound_with declared env found = record { table = env_of tree declared; env = env_of tree env; found = found }
+
+module _ {Store Ty : Type 0} (has : Store → Ty → Type 0) (tree : Ty → Tree) (bases : Bases) where
+  -- a label with a well-formed type of the store, which means this one, but with each code once
+  pub record GivesLabel (store : Store) (l : Label Ty) (m : Mark) : Type 0 where
+    pub mark : IsMark has tree store l m
+    pub well_formed : IsWellFormed bases (tree l.ty)
+
+  -- well-formed types of the store: those of locals, and those that mean this environment
+  pub record GivesTypes (store : Store) (types : List (Option Ty)) (env : List (Option Tree)) : Type 0 where
+    pub holds : HoldsTypes (has store) tree bases types
+    pub is : env_of tree types ≡ env
+
+  -- a name bound has come to this
+  pub record GivesBound (store : Store) (declared env : List (Option Ty)) (found : List Note)
+      (b : BindingResult) : Type 0 where
+    pub declared_holds : HoldsTypes (has store) tree bases declared
+    pub env_holds : HoldsTypes (has store) tree bases env
+    pub is : bound_with tree declared env found ≡ b
+
+  -- well-formed types of the store that mean an environment that there may be
+  pub record GivesTypesIfAny (store : Store) (types : Option (List (Option Ty)))
+      (env : Option (List (Option Tree))) : Type 0 where
+    pub holds : HoldsTypesIfAny (has store) tree bases types
+    pub is : option_map (env_of tree) types ≡ env

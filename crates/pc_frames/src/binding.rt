@@ -1,0 +1,180 @@
+//! Names that are bound: their declared types, the annotations of names, and a local bound to what has a label.
+
+ghost use Rattle.std.specs.Prelude.{◌≡◌, ◌++◌, IfOk, OnOk, None, slice_index_or, unwrap_or};
+ghost use Rattle.std.specs.Prelude.{is_some};
+ghost use Rattle.std.specs.Option.{option_map};
+ghost use Rattle.pc_tree.specs.Tree.{ann_of, name_of, module_of};
+ghost use Rattle.pc_types.specs.Tree.{Tree};
+ghost use Rattle.pc_types.specs.Store.{KeepsTypes, Means};
+ghost use Rattle.pc_ann.specs.Annotations.{read_ann};
+ghost use Rattle.pc_flow.specs.Stored.{env_of, HasOne, HasEach, GivesOne};
+ghost use Rattle.pc_notes.specs.Notes.{notes_of};
+ghost use Rattle.pc_rules.specs.Operations.{Mark};
+ghost use Rattle.pc_rules.specs.Found.{brief};
+ghost use Rattle.pc_rules.specs.Standing.{mark_with};
+ghost use Rattle.pc_labels.specs.ComputedStatements.{BodyFrame as FrameOf, with_declared, known_declared, bound_type};
+ghost use Rattle.pc_labels.specs.ComputedStatements.{bound_name, bind_label, annotation_finds};
+ghost use Rattle.pc_frames.specs.AnnotatedNames.{annotation_unless, declared_by};
+ghost use Rattle.pc_frames.specs.StatementsHeld.{frame_with, HoldsFrame, HoldsTypes, HoldsTypeIfAny, HoldsType};
+ghost use Rattle.pc_frames.specs.StatementsHeld.{GivesBound};
+
+use crate::frame::Frame;
+use crate::standing::flow_in;
+use pc_ann::read_ann;
+use pc_flow::{DeclaredTypes, Env, Resolver, assigned_type};
+use pc_notes::Notes;
+use pc_rules::Label;
+use pc_scope::Res;
+use pc_source::{OutOfMemory, Place};
+use pc_tree::{Ann, Code, Name};
+use pc_types::TypeStore;
+use std::alloc::Global;
+
+/// Declares a local, unless its declared type is settled already.
+pub(crate) fn settle<Ty: Drop>(declared: &mut DeclaredTypes<Ty>, local: usize, ty: Ty)
+    ensures { declared.new ≡ with_declared (slice_index_or declared.old local None) declared.old local ty }
+{
+    match declared.declared(local) {
+        Some(_) => {}
+        None => declared.declare(local, ty),
+    }
+}
+
+/// The declared type of a local that is known before a value is bound to it: the one that it has, else its annotation.
+pub fn known_type<S: TypeStore>(
+    store: &S,
+    alloc: Global,
+    declared: &DeclaredTypes<S::Ty>,
+    local: usize,
+    annotation: Option<S::Ty>,
+) -> Result<Option<S::Ty>, OutOfMemory>
+    requires declared { HasEach (S.has store.now) declared.now }
+    requires annotation { HasOne (S.has store.now) annotation }
+    ensures { IfOk result (λ o.
+        GivesOne S.has S.tree store.now o
+        (known_declared (bound_type (env_of S.tree declared.now) local) (option_map S.tree annotation))) }
+{
+    match declared.declared(local) {
+        Some(ty) => Ok(Some(store.copy(alloc, ty)?)),
+        None => Ok(annotation),
+    }
+}
+
+/// A type, or else this one again.
+fn type_or<S: TypeStore>(
+    store: &S,
+    alloc: Global,
+    ty: Option<S::Ty>,
+    other: &S::Ty,
+) -> Result<S::Ty, OutOfMemory>
+    requires ty { HasOne (S.has store.now) ty }
+    requires other { S.has store.now other.now }
+    ensures { IfOk result (λ t. Means S.has S.tree store.now t (unwrap_or (option_map S.tree ty) (S.tree other.now))) }
+{
+    match ty {
+        Some(ty) => Ok(ty),
+        None => store.copy(alloc, other),
+    }
+}
+
+/// Binds a local to what has this label, at this place. Where its declared type isn't known it is that of the label.
+pub fn bind_label<S: TypeStore, R: Resolver>(
+    store: &mut S,
+    alloc: Global,
+    frame: &Frame<'_, S::Ty, R>,
+    declared: &mut DeclaredTypes<S::Ty>,
+    env: Env<S::Ty>,
+    local: usize,
+    want: Option<S::Ty>,
+    place: Place,
+    label: &Label<S::Ty>,
+    found: &mut Notes,
+) -> Result<Env<S::Ty>, OutOfMemory>
+    requires declared { HoldsTypes (S.has store.old) S.tree frame.now.parents.now declared.old }
+    requires env { HoldsTypes (S.has store.old) S.tree frame.now.parents.now env }
+    requires want { HoldsTypeIfAny (S.has store.old) S.tree frame.now.parents.now want }
+    requires label { HoldsType (S.has store.old) S.tree frame.now.parents.now label.now.ty }
+    ensures bound { (m : Mark) → mark_with S.tree label.now ≡ brief m
+        → IfOk result (λ e. GivesBound S.has S.tree frame.now.parents.now store.new declared.new e (notes_of found.new)
+        (bind_label (frame_with S.tree R.meaning frame.now) (env_of S.tree declared.old) (env_of S.tree env) local
+        (option_map S.tree want) place m (notes_of found.old))) }
+    ensures kept { KeepsTypes S.has store.old store.new }
+{
+    let ty = type_or(store, alloc, want, &label.ty)?;
+    let code = flow_in(store, alloc, frame.parents, place, label, &ty, found)?;
+    let current = assigned_type(store, alloc, &ty, &label.ty, code)?;
+    settle(declared, local, ty);
+    let mut env = env;
+    env.assign(local, current);
+    Ok(env)
+}
+
+/// Whether a name means a local whose declared type is settled.
+fn is_bound<Ty: Drop>(declared: &DeclaredTypes<Ty>, meaning: Res) -> bool
+    ensures { (f : FrameOf) (tree : Ty → Tree) → result ≡ is_some (bound_name f (env_of tree declared.now) meaning) }
+{
+    match meaning {
+        Res::Local(local) => declared.declared(local).is_some(),
+        _ => false,
+    }
+}
+
+/// The type that the annotation of a name is read as, with what is found in it; none with E24 where the name means a
+/// local that is bound already.
+pub fn annotated_type<S: TypeStore, R: Resolver>(
+    store: &mut S,
+    alloc: Global,
+    frame: &Frame<'_, S::Ty, R>,
+    declared: &DeclaredTypes<S::Ty>,
+    meaning: Res,
+    name: &Name,
+    annotation: &Ann,
+    found: &mut Notes,
+) -> Result<Option<S::Ty>, OutOfMemory>
+    requires frame { HoldsFrame (S.has store.old) S.tree R.meaning frame.now }
+    ensures typed { IfOk result
+        (λ t. HoldsTypeIfAny (S.has store.new) S.tree frame.now.parents.now t
+        × (option_map S.tree t ≡ annotation_unless
+        (bound_name (frame_with S.tree R.meaning frame.now) (env_of S.tree declared.now) meaning)
+        (read_ann (module_of frame.now.tree.now) frame.now.parents.now (ann_of annotation.now)))) }
+    ensures pushed { OnOk result
+        (notes_of found.new ≡ notes_of found.old
+        ++ annotation_finds (frame_with S.tree R.meaning frame.now)
+        (bound_name (frame_with S.tree R.meaning frame.now) (env_of S.tree declared.now) meaning) (name_of name.now)
+        (ann_of annotation.now)) }
+    ensures kept { KeepsTypes S.has store.old store.new }
+{
+    if is_bound(declared, meaning) {
+        found.put(name.place, Code::E24)?;
+        return Ok(None);
+    }
+    let mut in_it = Vec::new(alloc);
+    let ty = read_ann(
+        store,
+        alloc,
+        frame.parents,
+        frame.tree,
+        frame.scopes,
+        &mut in_it,
+        annotation,
+    )?;
+    found.put_all(&in_it)?;
+    Ok(Some(ty))
+}
+
+/// Declares what a name that is annotated alone means, if it is a local and the annotation counts.
+pub fn declare_alone<Ty: Drop>(
+    declared: &mut DeclaredTypes<Ty>,
+    meaning: Res,
+    annotation: Option<Ty>,
+)
+    ensures { declared.new ≡ declared_by declared.old meaning annotation }
+{
+    match annotation {
+        None => {}
+        Some(ty) => match meaning {
+            Res::Local(local) => settle(declared, local, ty),
+            _ => {}
+        },
+    }
+}

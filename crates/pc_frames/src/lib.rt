@@ -1,0 +1,17 @@
+//! What the statements of a function stand in, and what they come to where no expression is typed.
+#![tactic(auto)]
+
+mod binding;
+mod frame;
+mod locals;
+mod loops;
+mod standing;
+mod unreached;
+mod ways;
+
+pub use binding::{annotated_type, bind_label, declare_alone, known_type};
+pub use frame::Frame;
+pub use loops::{bind_item, for_start, while_start};
+pub use standing::{flow_in, narrow_in};
+pub use unreached::declare_unreached;
+pub use ways::{break_out, meet};

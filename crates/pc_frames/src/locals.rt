@@ -1,0 +1,146 @@
+//! The locals that statements bind.
+
+ghost use Rattle.std.specs.Prelude.{◌≡◌, ◌++◌, ◌∷◌, ◌||◌, [], ℕ, map, nat_eq, IfOk, OnOk, false, slice_index_or};
+ghost use Rattle.std.specs.List.{list_any};
+ghost use Rattle.pc_source.specs.declared.place.Place.{Place as PlaceOf};
+ghost use Rattle.pc_tree.specs.Tree.{stmts_of_list, stmt_of_kind, target_of, name_of};
+ghost use Rattle.pc_tree.specs.Lists.{branches_of_list};
+ghost use Rattle.pc_tree.specs.Stopping.{bound_by, bound_by_stmt, bound_by_branches, name_of_target};
+ghost use Rattle.pc_scope.specs.Internal.WalkViews.{name_seen};
+ghost use Rattle.pc_frames.specs.Internal.BoundNames.{numbers_of};
+
+use pc_flow::Resolver;
+use pc_scope::Res;
+use pc_source::OutOfMemory;
+use pc_tree::{Branch, Name, Stmt, StmtKind, Target};
+use std::alloc::Global;
+
+/// Adds the names that statements bind, in text order. Language Reference 4.2.1 "Binding of names".
+#[cycle(bound)]
+pub(crate) fn add_bound<'m>(names: &mut Vec<&'m Name>, body: &'m [Stmt]) -> Result<(), OutOfMemory>
+    ensures { OnOk result (map name_seen names.new.items
+        ≡ map name_seen names.old.items ++ bound_by (stmts_of_list body.now)) }
+{
+    for statement in body {
+        add_bound_by(names, &statement.kind)?;
+    }
+    Ok(())
+}
+
+/// Adds those that a statement binds.
+#[cycle(bound)]
+pub(crate) fn add_bound_by<'m>(
+    names: &mut Vec<&'m Name>,
+    kind: &'m StmtKind,
+) -> Result<(), OutOfMemory>
+    ensures { (p : PlaceOf) → OnOk result
+        (map name_seen names.new.items ≡ map name_seen names.old.items ++ bound_by_stmt (stmt_of_kind p kind.now)) }
+{
+    match kind {
+        StmtKind::Pass => Ok(()),
+        StmtKind::Break => Ok(()),
+        StmtKind::Continue => Ok(()),
+        StmtKind::Return(_) => Ok(()),
+        StmtKind::Assert(_, _) => Ok(()),
+        StmtKind::Annotated(name, _, _) => add_name(names, name),
+        StmtKind::Assign(target, _) => add_target(names, target),
+        StmtKind::Expr(_) => Ok(()),
+        StmtKind::While(_, body) => add_bound(names, body),
+        StmtKind::For(name, _, body) => {
+            add_name(names, name)?;
+            add_bound(names, body)
+        }
+        StmtKind::If(branches, otherwise) => {
+            add_bound_in(names, branches)?;
+            add_bound(names, otherwise)
+        }
+    }
+}
+
+/// Adds those that the suites of conditions bind.
+#[cycle(bound)]
+fn add_bound_in<'m>(names: &mut Vec<&'m Name>, branches: &'m [Branch]) -> Result<(), OutOfMemory>
+    ensures { OnOk result (map name_seen names.new.items
+        ≡ map name_seen names.old.items ++ bound_by_branches (branches_of_list branches.now)) }
+{
+    for branch in branches {
+        add_bound(names, &branch.body)?;
+    }
+    Ok(())
+}
+
+/// Adds the name that a target is, if it is one.
+fn add_target<'m>(names: &mut Vec<&'m Name>, target: &'m Target) -> Result<(), OutOfMemory>
+    ensures { OnOk result (map name_seen names.new.items
+        ≡ map name_seen names.old.items ++ name_of_target (target_of target.now)) }
+{
+    match target {
+        Target::Name(name) => add_name(names, name),
+        Target::Attribute(_, _, _) => Ok(()),
+        Target::Index(_, _, _) => Ok(()),
+    }
+}
+
+/// Adds a name.
+pub(crate) fn add_name<'m>(names: &mut Vec<&'m Name>, name: &'m Name) -> Result<(), OutOfMemory>
+    ensures { OnOk result (map name_seen names.new.items ≡ map name_seen names.old.items ++ (name_of name.now ∷ [])) }
+{
+    names.push(name)?;
+    Ok(())
+}
+
+/// Adds the local that a name means, if it means one.
+fn add_local<R: Resolver>(
+    locals: &mut Vec<usize>,
+    names: &R,
+    name: &Name,
+) -> Result<(), OutOfMemory>
+    ensures { OnOk result (locals.new.items
+        ≡ locals.old.items ++ numbers_of (R.meaning names.now) (name_of name.now ∷ [])) }
+{
+    match names.resolve(name.text.as_str()) {
+        Res::Local(local) => {
+            locals.push(local)?;
+            Ok(())
+        }
+        _ => Ok(()),
+    }
+}
+
+/// The numbers of the locals that these names mean, in order.
+pub(crate) fn locals_of<R: Resolver>(
+    alloc: Global,
+    names: &R,
+    bound: &[&Name],
+) -> Result<Vec<usize>, OutOfMemory>
+    ensures { IfOk result (λ locals. locals.items ≡ numbers_of (R.meaning names.now) (map name_seen bound.now)) }
+{
+    let mut locals = Vec::new(alloc);
+    for name in bound {
+        add_local(&mut locals, names, name)?;
+    }
+    Ok(locals)
+}
+
+/// Marks a local, and those with no mark before it as not marked.
+fn mark(marks: &mut Vec<bool>, local: usize) -> Result<(), OutOfMemory>
+    ensures { OnOk result ((x : ℕ)
+        → slice_index_or marks.new.items x false ≡ (nat_eq x local || slice_index_or marks.old.items x false)) }
+{
+    while marks.len() <= local {
+        marks.push(false)?;
+    }
+    marks[local] = true;
+    Ok(())
+}
+
+/// A mark for each of these locals, by its number.
+pub(crate) fn marks_of(alloc: Global, locals: &[usize]) -> Result<Vec<bool>, OutOfMemory>
+    ensures { IfOk result (λ marks. (x : ℕ) → slice_index_or marks.items x false ≡ list_any (nat_eq x) locals.now) }
+{
+    let mut marks = Vec::new(alloc);
+    for local in locals {
+        mark(&mut marks, *local)?;
+    }
+    Ok(marks)
+}
