@@ -1,6 +1,6 @@
 -- What statements keep of the machine's, unless something in them is too deep.
 use Rattle.std.proofs.Common.{◌≡◌, ℕ, List, [], ◌∷◌, ◌++◌, Option, Some, None, ap, sym, ◌∙◌}
-use Rattle.std.specs.Prelude.{Vec}
+use Rattle.std.specs.Prelude.{Vec, Box}
 use Rattle.std.specs.declared.alloc.Global.{Global}
 use Rattle.pc_source.specs.declared.place.Place.{Place}
 use Rattle.pc_tree.specs.declared.tree.Ann.{Ann as RustAnn}
@@ -95,10 +95,10 @@ keep_if {before = before} {w = w} {bs = bs} {ss = ss} s first i k l = record {
 }
 
 -- loops with their bodies
-pub keep_while : {before after : Option ℕ} {head : Expr} {body : Stmts} (p : Place) (e : RustExpr) (v : Vec RustStmt Global) → after ≡ deep_after before (whole_expr head ∷ wholes_of_stmts body)
-    → (after ≡ None → expr_of e ≡ head) → (after ≡ None → stmts_of_list v.items ≡ body) → KeepsTree stmt_of wholes_of_stmt before after (record { first = p; kind = rust.While e v }) (while_loop p head body)
-keep_while {head = head} p e v d f g = record { deep = d; kept = λ n. while_is p e v ∙ ap (λ z. while_loop p z (stmts_of_list v.items)) (f n) ∙ ap (while_loop p head) (g n) }
+pub keep_while : {before after : Option ℕ} {head : Expr} {body : Stmts} (p : Place) (b : Box RustExpr Global) (e : RustExpr) → b.value ≡ e → (v : Vec RustStmt Global) → after ≡ deep_after before (whole_expr head ∷ wholes_of_stmts body)
+    → (after ≡ None → expr_of e ≡ head) → (after ≡ None → stmts_of_list v.items ≡ body) → KeepsTree stmt_of wholes_of_stmt before after (record { first = p; kind = rust.While b v }) (while_loop p head body)
+keep_while {head = head} p b e i v d f g = record { deep = d; kept = λ n. while_is p b v ∙ ap (λ z. while_loop p z (stmts_of_list v.items)) (ap expr_of i ∙ f n) ∙ ap (while_loop p head) (g n) }
 
-pub keep_for : {before after : Option ℕ} {head : Expr} {body : Stmts} (p : Place) (t : RustName) (e : RustExpr) (v : Vec RustStmt Global) → after ≡ deep_after before (whole_expr head ∷ wholes_of_stmts body)
-    → (after ≡ None → expr_of e ≡ head) → (after ≡ None → stmts_of_list v.items ≡ body) → KeepsTree stmt_of wholes_of_stmt before after (record { first = p; kind = rust.For t e v }) (for_loop p (name_of t) head body)
-keep_for {head = head} p t e v d f g = record { deep = d; kept = λ n. for_is p t e v ∙ ap (λ z. for_loop p (name_of t) z (stmts_of_list v.items)) (f n) ∙ ap (for_loop p (name_of t) head) (g n) }
+pub keep_for : {before after : Option ℕ} {head : Expr} {body : Stmts} (p : Place) (t : RustName) (b : Box RustExpr Global) (e : RustExpr) → b.value ≡ e → (v : Vec RustStmt Global) → after ≡ deep_after before (whole_expr head ∷ wholes_of_stmts body)
+    → (after ≡ None → expr_of e ≡ head) → (after ≡ None → stmts_of_list v.items ≡ body) → KeepsTree stmt_of wholes_of_stmt before after (record { first = p; kind = rust.For t b v }) (for_loop p (name_of t) head body)
+keep_for {head = head} p t b e i v d f g = record { deep = d; kept = λ n. for_is p t b v ∙ ap (λ z. for_loop p (name_of t) z (stmts_of_list v.items)) (ap expr_of i ∙ f n) ∙ ap (for_loop p (name_of t) head) (g n) }

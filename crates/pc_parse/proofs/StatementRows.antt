@@ -1,6 +1,6 @@
 -- Lists of statements, as the tree holds them.
 use Rattle.std.proofs.Common.{◌≡◌, List, [], ◌∷◌, ◌++◌, refl, ap, ◌∙◌}
-use Rattle.std.specs.Prelude.{Vec}
+use Rattle.std.specs.Prelude.{Vec, Box}
 use Rattle.std.specs.declared.alloc.Global.{Global}
 use Rattle.pc_source.specs.declared.place.Place.{Place}
 use Rattle.pc_tree.specs.declared.tree.Expr.{Expr as RustExpr}
@@ -26,11 +26,11 @@ branch_rows : {n : _} (k : Row_of-Branch n) → branches_of k ≡ branches_of_li
 branch_rows end_of-Branch = refl
 branch_rows (more_of-Branch (Branch' condition shape body) rest) = ap (λ z. more_branches (expr_of condition) (stmts_of body) z) (branch_rows rest)
 
-pub while_is : (p : Place) (e : RustExpr) (v : Vec RustStmt Global) → stmt_of_kind p (rust.While e v) ≡ while_loop p (expr_of e) (stmts_of_list v.items)
-while_is p e v = ap (λ z. while_loop p (expr_of e) z) (stmts_in v)
+pub while_is : (p : Place) (e : Box RustExpr Global) (v : Vec RustStmt Global) → stmt_of_kind p (rust.While e v) ≡ while_loop p (expr_of e.value) (stmts_of_list v.items)
+while_is p e v = ap (λ z. while_loop p (expr_of e.value) z) (stmts_in v)
 
-pub for_is : (p : Place) (n : RustName) (e : RustExpr) (v : Vec RustStmt Global) → stmt_of_kind p (rust.For n e v) ≡ for_loop p (name_of n) (expr_of e) (stmts_of_list v.items)
-for_is p n e v = ap (λ z. for_loop p (name_of n) (expr_of e) z) (stmts_in v)
+pub for_is : (p : Place) (n : RustName) (e : Box RustExpr Global) (v : Vec RustStmt Global) → stmt_of_kind p (rust.For n e v) ≡ for_loop p (name_of n) (expr_of e.value) (stmts_of_list v.items)
+for_is p n e v = ap (λ z. for_loop p (name_of n) (expr_of e.value) z) (stmts_in v)
 
 pub if_is : (p : Place) (v : Vec RustBranch Global) (w : Vec RustStmt Global) → stmt_of_kind p (rust.If v w) ≡ conditional p (branches_of_list v.items) (stmts_of_list w.items)
 if_is p v w = ap (λ z. conditional p z (stmts_of (Block.hidden-the_row-Stmt-0 w))) (branch_rows (Block.hidden-the_row-Branch-1 v) ∙ ap branches_of_list (items_hidden-the_row-Branch-1 v))

@@ -79,14 +79,8 @@ fn target(operand: Operand) -> Option<Target>
     }
     match operand.expr {
         Expr::Name(name) => Some(Target::Name(name)),
-        Expr::Attribute(place, object, field) => {
-            Some(Target::Attribute(place, Box::into_inner(object), field))
-        },
-        Expr::Index(place, object, key) => Some(Target::Index(
-            place,
-            Box::into_inner(object),
-            Box::into_inner(key),
-        )),
+        Expr::Attribute(place, object, field) => Some(Target::Attribute(place, object, field)),
+        Expr::Index(place, object, key) => Some(Target::Index(place, object, key)),
         _ => None,
     }
 }
@@ -138,9 +132,10 @@ impl<X: AsStr + Drop, I: Iterator<Item = Result<Token<X>, Fault>> + Drop> Parser
             });
         }
         let value = self.expression(alloc)?;
+        let boxed = Box::new(alloc, value.expr)?;
         self.line_end(Stmt {
             first: first.place,
-            kind: StmtKind::Return(Some(value.expr)),
+            kind: StmtKind::Return(Some(boxed)),
         })
     }
 
@@ -152,17 +147,19 @@ impl<X: AsStr + Drop, I: Iterator<Item = Result<Token<X>, Fault>> + Drop> Parser
     {
         let first = self.reader.take()?;
         let condition = self.expression(alloc)?;
+        let boxed = Box::new(alloc, condition.expr)?;
         if self.reader.sees(TokenKind::Operator(Operator::Comma)) {
             self.reader.take()?;
             let message = self.expression(alloc)?;
+            let boxed_message = Box::new(alloc, message.expr)?;
             return self.line_end(Stmt {
                 first: first.place,
-                kind: StmtKind::Assert(condition.expr, Some(message.expr)),
+                kind: StmtKind::Assert(boxed, Some(boxed_message)),
             });
         }
         self.line_end(Stmt {
             first: first.place,
-            kind: StmtKind::Assert(condition.expr, None),
+            kind: StmtKind::Assert(boxed, None),
         })
     }
 
@@ -183,9 +180,10 @@ impl<X: AsStr + Drop, I: Iterator<Item = Result<Token<X>, Fault>> + Drop> Parser
             };
             self.reader.take()?;
             let value = self.expression(alloc)?;
+            let boxed = Box::new(alloc, value.expr)?;
             return self.line_end(Stmt {
                 first,
-                kind: StmtKind::Assign(target, value.expr),
+                kind: StmtKind::Assign(target, boxed),
             });
         }
         if self.reader.sees(TokenKind::Operator(Operator::Colon)) {
@@ -207,17 +205,19 @@ impl<X: AsStr + Drop, I: Iterator<Item = Result<Token<X>, Fault>> + Drop> Parser
         ensures { ReadsLocal X.text I.next_gives I.can_next I.remaining first name self.old self.new result }
     {
         let annotation = self.annotation(alloc)?;
+        let boxed = Box::new(alloc, annotation)?;
         if self.reader.sees(TokenKind::Operator(Operator::Equal)) {
             self.reader.take()?;
             let value = self.expression(alloc)?;
+            let boxed_value = Box::new(alloc, value.expr)?;
             return self.line_end(Stmt {
                 first,
-                kind: StmtKind::Annotated(name, annotation, Some(value.expr)),
+                kind: StmtKind::Annotated(name, boxed, Some(boxed_value)),
             });
         }
         self.line_end(Stmt {
             first,
-            kind: StmtKind::Annotated(name, annotation, None),
+            kind: StmtKind::Annotated(name, boxed, None),
         })
     }
 }

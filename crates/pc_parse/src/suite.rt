@@ -63,9 +63,10 @@ impl<X: AsStr + Drop, I: Iterator<Item = Result<Token<X>, Fault>> + Drop> Parser
     {
         let first = self.reader.take()?;
         let (condition, body) = self.headed(alloc)?;
+        let boxed = Box::new(alloc, condition)?;
         Ok(Stmt {
             first: first.place,
-            kind: StmtKind::While(condition, body),
+            kind: StmtKind::While(boxed, body),
         })
     }
 
@@ -80,9 +81,10 @@ impl<X: AsStr + Drop, I: Iterator<Item = Result<Token<X>, Fault>> + Drop> Parser
         let target = self.reader.name(alloc)?;
         self.reader.expect(TokenKind::Keyword(Keyword::In))?;
         let (iterable, body) = self.headed(alloc)?;
+        let boxed = Box::new(alloc, iterable)?;
         Ok(Stmt {
             first: first.place,
-            kind: StmtKind::For(target, iterable, body),
+            kind: StmtKind::For(target, boxed, body),
         })
     }
 

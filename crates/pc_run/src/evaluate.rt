@@ -610,7 +610,7 @@ fn exec_assert<'m>(
     machine: &mut Machine<'m>,
     alloc: Allocator,
     condition: &'m Expr,
-    message: &'m Option<Expr>,
+    message: &'m Option<Box<Expr>>,
 ) -> Result<Flow, Halt>
     ensures plain { (n : ℕ) (p : PlaceOf) → machine.old.fuel < n
         → TellsProgress flow_of result machine.new

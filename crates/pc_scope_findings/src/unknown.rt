@@ -42,7 +42,7 @@ fn find_unknown_in_option(
     found: &mut Findings,
     scopes: &Scopes,
     owner: Owner,
-    e: &Option<Expr>,
+    e: &Option<Box<Expr>>,
 ) -> Result<(), OutOfMemory>
     ensures { OnOk result (found.new.items
         ≡ found.old.items ++ at_code E02

@@ -77,7 +77,7 @@ pub fn bind_annotated<S: TypeStore, R: Resolver>(
     env: Env<S::Ty>,
     name: &Name,
     annotation: &Ann,
-    value: &Option<Expr>,
+    value: &Option<Box<Expr>>,
     found: &mut Notes,
 ) -> Result<Env<S::Ty>, OutOfMemory>
     requires frame { HoldsFrame (S.has store.old) S.tree R.meaning frame.now }

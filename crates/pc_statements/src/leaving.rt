@@ -28,7 +28,7 @@ pub fn find_return<S: TypeStore, R: Resolver>(
     declared: &DeclaredTypes<S::Ty>,
     env: &Env<S::Ty>,
     first: Place,
-    value: &Option<Expr>,
+    value: &Option<Box<Expr>>,
     found: &mut Notes,
 ) -> Result<(), OutOfMemory>
     requires frame { HoldsFrame (S.has store.old) S.tree R.meaning frame.now }
@@ -83,7 +83,7 @@ fn find_option<S: TypeStore, R: Resolver>(
     frame: &Frame<'_, S::Ty, R>,
     declared: &DeclaredTypes<S::Ty>,
     env: &Env<S::Ty>,
-    e: &Option<Expr>,
+    e: &Option<Box<Expr>>,
     found: &mut Notes,
 ) -> Result<(), OutOfMemory>
     requires frame { HoldsFrame (S.has store.old) S.tree R.meaning frame.now }
@@ -114,7 +114,7 @@ pub fn check_assert<S: TypeStore, R: Resolver>(
     declared: &DeclaredTypes<S::Ty>,
     env: Env<S::Ty>,
     condition: &Expr,
-    message: &Option<Expr>,
+    message: &Option<Box<Expr>>,
     found: &mut Notes,
 ) -> Result<Env<S::Ty>, OutOfMemory>
     requires frame { HoldsFrame (S.has store.old) S.tree R.meaning frame.now }

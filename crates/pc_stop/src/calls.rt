@@ -144,7 +144,7 @@ fn find_given_in_optional(
     found: &mut Findings,
     alloc: Allocator,
     keys: RandomState,
-    e: &Option<Expr>,
+    e: &Option<Box<Expr>>,
 ) -> Result<(), OutOfMemory>
     ensures { OnOk result (found.new.items ≡ found.old.items ++ at_code E01 (given_in_optional (option_expr_of e.now))) }
 {

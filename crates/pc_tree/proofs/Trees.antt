@@ -1,6 +1,6 @@
 -- Trees of the program through the lists that they hold.
 use Rattle.std.proofs.Common.{◌≡◌, ◌<◌, ℕ, zero, suc, ◌+◌, List, drop, sym, [], ◌∷◌, length, get_or, refl, ap, ◌∙◌, arith}
-use Rattle.std.specs.Prelude.{Vec}
+use Rattle.std.specs.Prelude.{Vec, Box}
 use Rattle.std.specs.Global.{Global}
 use Rattle.pc_source.specs.declared.place.Place.{Place}
 use Rattle.pc_tree.specs.Tree.{more_exprs, more_keywords, more_entries, name_of, tuple, list, dict, call, expr_of, exprs_of, entries_of, keywords_of, more_stmts, Branches, more_branches, stmts_of, stmts_of_list, branches_of, stmt_of_kind, stmt_of, while_loop, for_loop, conditional}
@@ -64,11 +64,11 @@ stmts_in v = stmts (StmtBlock.hidden-the_row-Stmt-0 v) ∙ ap stmts_of_list (ite
 branches_in : (v : Vec RustBranch Global) → branches_of (StmtBlock.hidden-the_row-Branch-1 v) ≡ branches_of_list v.items
 branches_in v = branches (StmtBlock.hidden-the_row-Branch-1 v) ∙ ap branches_of_list (items_hidden-the_row-Branch-1 v)
 
-pub while_tree : (p : Place) (e : RustExpr) (v : Vec RustStmt Global) → stmt_of_kind p (StmtView.While e v) ≡ while_loop p (expr_of e) (stmts_of_list v.items)
-while_tree p e v = ap (λ ss. while_loop p (expr_of e) ss) (stmts_in v)
+pub while_tree : (p : Place) (e : Box RustExpr Global) (v : Vec RustStmt Global) → stmt_of_kind p (StmtView.While e v) ≡ while_loop p (expr_of e.value) (stmts_of_list v.items)
+while_tree p e v = ap (λ ss. while_loop p (expr_of e.value) ss) (stmts_in v)
 
-pub for_tree : (p : Place) (n : RustName) (e : RustExpr) (v : Vec RustStmt Global) → stmt_of_kind p (StmtView.For n e v) ≡ for_loop p (name_of n) (expr_of e) (stmts_of_list v.items)
-for_tree p n e v = ap (λ ss. for_loop p (name_of n) (expr_of e) ss) (stmts_in v)
+pub for_tree : (p : Place) (n : RustName) (e : Box RustExpr Global) (v : Vec RustStmt Global) → stmt_of_kind p (StmtView.For n e v) ≡ for_loop p (name_of n) (expr_of e.value) (stmts_of_list v.items)
+for_tree p n e v = ap (λ ss. for_loop p (name_of n) (expr_of e.value) ss) (stmts_in v)
 
 pub if_tree : (p : Place) (b : Vec RustBranch Global) (v : Vec RustStmt Global) → stmt_of_kind p (StmtView.If b v) ≡ conditional p (branches_of_list b.items) (stmts_of_list v.items)
 if_tree p b v = ap (λ bs. conditional p bs (stmts_of (StmtBlock.hidden-the_row-Stmt-0 v))) (branches_in b) ∙ ap (λ ss. conditional p (branches_of_list b.items) ss) (stmts_in v)

@@ -1,6 +1,7 @@
 -- Trees without where they lie in memory: what a module, a statement, an expression and an annotation are.
 -- Language Reference 3.12, 6 "Expressions", 7 "Simple statements", 8 "Compound statements".
 use Rattle.std.specs.Prelude.{ℕ, Bool, true, false, List, [], ◌∷◌, map, Option, Some, None, string_bytes}
+use Rattle.std.specs.Global.{Box}
 use Rattle.pc_source.specs.declared.place.Place.{Place}
 use Rattle.pc_tree.specs.declared.tree.BinaryOperator.{BinaryOperator}
 use Rattle.pc_tree.specs.declared.tree.ComparisonOperator.{ComparisonOperator}
@@ -249,13 +250,13 @@ abbrev mutual
 -- the tree of a target
 abbrev pub target_of : RustTarget → Target
 target_of (rust_target.Name n) = to_name (name_of n)
-target_of (rust_target.Attribute p e field) = to_attribute p (expr_of e) (name_of field)
-target_of (rust_target.Index p e i) = to_index p (expr_of e) (expr_of i)
+target_of (rust_target.Attribute p e field) = to_attribute p (expr_of e.value) (name_of field)
+target_of (rust_target.Index p e i) = to_index p (expr_of e.value) (expr_of i.value)
 
 -- the tree of an expression, where there is one
-abbrev pub option_expr_of : Option RustExpr → Option Expr
+abbrev pub option_expr_of : Option (Box RustExpr) → Option Expr
 option_expr_of None = None
-option_expr_of (Some e) = Some (expr_of e)
+option_expr_of (Some e) = Some (expr_of e.value)
 
 -- the tree of an annotation, where there is one
 abbrev pub option_ann_of : Option RustAnn → Option Ann
@@ -293,14 +294,15 @@ abbrev mutual
   stmt_of_kind p rust_stmt.Break = breaks p
   stmt_of_kind p rust_stmt.Continue = continues p
   stmt_of_kind p (rust_stmt.Return value) = returns p (option_expr_of value)
-  stmt_of_kind p (rust_stmt.Assert condition message) = asserts p (expr_of condition) (option_expr_of message)
+  stmt_of_kind p (rust_stmt.Assert condition message) =
+      asserts p (expr_of condition.value) (option_expr_of message)
   stmt_of_kind p (rust_stmt.Annotated target annotation value) =
-      annotated p (name_of target) (ann_of annotation) (option_expr_of value)
-  stmt_of_kind p (rust_stmt.Assign target value) = assigns p (target_of target) (expr_of value)
+      annotated p (name_of target) (ann_of annotation.value) (option_expr_of value)
+  stmt_of_kind p (rust_stmt.Assign target value) = assigns p (target_of target) (expr_of value.value)
   stmt_of_kind p (rust_stmt.Expr value) = evaluates p (expr_of value)
-  stmt_of_kind p (rust_stmt.While' condition shape body) = while_loop p (expr_of condition) (stmts_of body)
+  stmt_of_kind p (rust_stmt.While' condition shape body) = while_loop p (expr_of condition.value) (stmts_of body)
   stmt_of_kind p (rust_stmt.For' target iterable shape body) =
-      for_loop p (name_of target) (expr_of iterable) (stmts_of body)
+      for_loop p (name_of target) (expr_of iterable.value) (stmts_of body)
   stmt_of_kind p (rust_stmt.If' shape branches shape' otherwise) =
       conditional p (branches_of branches) (stmts_of otherwise)
 

@@ -125,16 +125,16 @@ pub enum StmtKind {
     Pass,
     Break,
     Continue,
-    Return(Option<Expr>),
+    Return(Option<Box<Expr>>),
     /// `assert`, its condition, and its message if it has one.
-    Assert(Expr, Option<Expr>),
+    Assert(Box<Expr>, Option<Box<Expr>>),
     /// A name with its annotation, and what is assigned to it if anything is.
-    Annotated(Name, Ann, Option<Expr>),
-    Assign(Target, Expr),
+    Annotated(Name, Box<Ann>, Option<Box<Expr>>),
+    Assign(Target, Box<Expr>),
     /// An expression as a statement.
     Expr(Expr),
-    While(Expr, Vec<Stmt>),
-    For(Name, Expr, Vec<Stmt>),
+    While(Box<Expr>, Vec<Stmt>),
+    For(Name, Box<Expr>, Vec<Stmt>),
     /// `if` and each `elif`, of which there is at least one, and the suite of `else`, which is empty
     /// where there is none.
     If(Vec<Branch>, Vec<Stmt>),
@@ -152,8 +152,8 @@ pub struct Branch {
 #[derive(Debug, Drop)]
 pub enum Target {
     Name(Name),
-    Attribute(Place, Expr, Name),
-    Index(Place, Expr, Expr),
+    Attribute(Place, Box<Expr>, Name),
+    Index(Place, Box<Expr>, Box<Expr>),
 }
 
 /// `+`, `-`, `*`, `//` and `%`. Language Reference 6.7 "Binary arithmetic operations".

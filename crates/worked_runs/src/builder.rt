@@ -170,31 +170,31 @@ impl Builder {
         if let Some(name) = word.strip_prefix("for:") {
             let target = self.name(name)?;
             let body = self.suite();
-            return Ok(Some(StmtKind::For(target, self.pop(), body)));
+            return Ok(Some(StmtKind::For(target, self.boxed()?, body)));
         }
         if let Some(field) = word.strip_prefix("=.") {
-            let object = self.pop();
+            let object = self.boxed()?;
             let target = Target::Attribute(self.place, object, self.name(field)?);
-            return Ok(Some(StmtKind::Assign(target, self.pop())));
+            return Ok(Some(StmtKind::Assign(target, self.boxed()?)));
         }
         if let Some(name) = word.strip_prefix("=:") {
             let target = Target::Name(self.name(name)?);
-            return Ok(Some(StmtKind::Assign(target, self.pop())));
+            return Ok(Some(StmtKind::Assign(target, self.boxed()?)));
         }
         match word {
             "pass" => Ok(Some(StmtKind::Pass)),
             "break" => Ok(Some(StmtKind::Break)),
-            "return" => Ok(Some(StmtKind::Return(Some(self.pop())))),
+            "return" => Ok(Some(StmtKind::Return(Some(self.boxed()?)))),
             "do" => Ok(Some(StmtKind::Expr(self.pop()))),
-            "assert" => Ok(Some(StmtKind::Assert(self.pop(), None))),
+            "assert" => Ok(Some(StmtKind::Assert(self.boxed()?, None))),
             "=[]" => {
-                let key = self.pop();
-                let target = Target::Index(self.place, self.pop(), key);
-                Ok(Some(StmtKind::Assign(target, self.pop())))
+                let key = self.boxed()?;
+                let target = Target::Index(self.place, self.boxed()?, key);
+                Ok(Some(StmtKind::Assign(target, self.boxed()?)))
             }
             "while" => {
                 let body = self.suite();
-                Ok(Some(StmtKind::While(self.pop(), body)))
+                Ok(Some(StmtKind::While(self.boxed()?, body)))
             }
             "if" => {
                 let body = self.suite();

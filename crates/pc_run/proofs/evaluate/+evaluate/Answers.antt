@@ -104,24 +104,24 @@ exec-returns-clause-plain t c n lt =
 
 pub exec_node-returns-in-While-clause-plain : goal.exec_node-returns-in-While-clause-plain
 exec_node-returns-in-While-clause-plain t c n p lt =
-    rw c.in-While.is (tells_as flow_of c.run_while.result c.run_while.new.machine _ _ (ap (λ s. exec_one n s (progress_of c.args.machine.now)) (while_tree p c.in-While.condition c.in-While.body)) (rw c.deref.ensures.value at (c.run_while.ensures.plain n lt)))
+    rw c.in-While.is (tells_as flow_of c.run_while.result c.run_while.new.machine _ _ (ap (λ s. exec_one n s (progress_of c.args.machine.now)) (while_tree p c.in-While.condition c.in-While.body)) (rw (c.deref-in-While.ensures, c.deref-in-While-2.ensures.value) at (c.run_while.ensures.plain n lt)))
 
 pub exec_node-returns-in_ok-over-in-For-clause-plain : goal.exec_node-returns-in_ok-over-in-For-clause-plain
 exec_node-returns-in_ok-over-in-For-clause-plain t c n p lt =
-    rw c.in-For.is (tells_as flow_of c.run_for.result c.run_for.new.machine _ _ (ap (λ s. exec_one n s (progress_of c.args.machine.now)) (for_tree p c.in-For.name c.in-For.e c.in-For.body)) (went flow_of c.run_for.result c.run_for.new.machine _ _ (iteration_of c.in_ok-over-in-For.over) (progress_of c.eval_iterable.new.machine) (c.in_ok-over-in-For.ensures.plain n lt) (rw (c.deref-in-For.ensures.value, c.as_str-in-For.ensures.value) at (c.run_for.ensures.plain n (omega (arith, lt, c.in_ok-over-in-For.ensures.fuel))))))
+    rw c.in-For.is (tells_as flow_of c.run_for.result c.run_for.new.machine _ _ (ap (λ s. exec_one n s (progress_of c.args.machine.now)) (for_tree p c.in-For.name c.in-For.e c.in-For.body)) (went flow_of c.run_for.result c.run_for.new.machine _ _ (iteration_of c.in_ok-over-in-For.over) (progress_of c.eval_iterable.new.machine) (rw c.deref-in-For.ensures at (c.in_ok-over-in-For.ensures.plain n lt)) (rw (c.deref-in-For-2.ensures.value, c.as_str-in-For.ensures.value) at (c.run_for.ensures.plain n (omega (arith, lt, c.in_ok-over-in-For.ensures.fuel))))))
 
 pub exec_node-returns-in-If-clause-plain : goal.exec_node-returns-in-If-clause-plain
 exec_node-returns-in-If-clause-plain t c n p lt =
     rw c.in-If.is (tells_as flow_of c.exec_branches.result c.exec_branches.new.machine _ _ (ap (λ s. exec_one n s (progress_of c.args.machine.now)) (if_tree p c.in-If.branches c.in-If.otherwise)) (rw (c.deref-in-If.ensures.value, c.deref-in-If-2.ensures.value) at (c.exec_branches.ensures.plain n lt)))
 
 pub exec_node-returns-in-Assign-clause-plain : goal.exec_node-returns-in-Assign-clause-plain
-exec_node-returns-in-Assign-clause-plain t c n p lt = rw c.in-Assign.is (c.exec_assignment.ensures.plain n p lt)
+exec_node-returns-in-Assign-clause-plain t c n p lt = rw c.in-Assign.is (rw c.deref-in-Assign.ensures at (c.exec_assignment.ensures.plain n p lt))
 
 pub exec_node-returns-in-Expr-clause-plain : goal.exec_node-returns-in-Expr-clause-plain
 exec_node-returns-in-Expr-clause-plain t c n p lt = rw c.in-Expr.is (c.exec_expression.ensures.plain n p lt)
 
 pub exec_node-returns-in-Assert-clause-plain : goal.exec_node-returns-in-Assert-clause-plain
-exec_node-returns-in-Assert-clause-plain t c n p lt = rw c.in-Assert.is (c.exec_assert.ensures.plain n p lt)
+exec_node-returns-in-Assert-clause-plain t c n p lt = rw c.in-Assert.is (rw c.deref-in-Assert.ensures at (c.exec_assert.ensures.plain n p lt))
 
 pub run_while-returns-in_err-v-clause-plain : goal.run_while-returns-in_err-v-clause-plain
 run_while-returns-in_err-v-clause-plain t c n lt =

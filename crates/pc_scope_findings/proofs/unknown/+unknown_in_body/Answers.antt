@@ -14,15 +14,15 @@ use Rattle.pc_scope_findings.proofs.unknown.+unknown_in_body.Goals as goal
 
 pub find_unknown_in_statement-returns-in_ok-find_unknown-in-While : goal.find_unknown_in_statement-returns-in_ok-find_unknown-in-While
 find_unknown_in_statement-returns-in_ok-find_unknown-in-While t c first =
-    let e = then_in (meaning_by_tables c.args.scopes.now.tables c.args.owner) c.args.found.now.items c.find_unknown-in-While.new.found.items (expr_of c.in-While.condition) (exprs_in_all true (stmts_of_list c.in-While.body.items)) c.in_ok-find_unknown-in-While.ensures in
+    let e = then_in (meaning_by_tables c.args.scopes.now.tables c.args.owner) c.args.found.now.items c.find_unknown-in-While.new.found.items (expr_of c.in-While.condition.value) (exprs_in_all true (stmts_of_list c.in-While.body.items)) (rw c.deref-in-While.ensures at c.in_ok-find_unknown-in-While.ensures) in
     rw c.in-While.is (subst (λ (s : Stmt). OnOk c.find_unknown_in_body.result (c.find_unknown_in_body.new.found.items ≡ c.args.found.now.items ++ at_code E02 (unknown_in (meaning_by_tables c.args.scopes.now.tables c.args.owner) (exprs_in true s)))) (sym (while_tree first c.in-While.condition c.in-While.body))
-    (subst (λ (fs : List Finding). OnOk c.find_unknown_in_body.result (c.find_unknown_in_body.new.found.items ≡ fs)) e (rw c.deref.ensures.value at c.find_unknown_in_body.ensures)))
+    (subst (λ (fs : List Finding). OnOk c.find_unknown_in_body.result (c.find_unknown_in_body.new.found.items ≡ fs)) e (rw c.deref-in-While-2.ensures.value at c.find_unknown_in_body.ensures)))
 
 pub find_unknown_in_statement-returns-in_ok-find_unknown-in-For : goal.find_unknown_in_statement-returns-in_ok-find_unknown-in-For
 find_unknown_in_statement-returns-in_ok-find_unknown-in-For t c first =
-    let e = then_in (meaning_by_tables c.args.scopes.now.tables c.args.owner) c.args.found.now.items c.find_unknown-in-For.new.found.items (expr_of c.in-For.iterable) (exprs_in_all true (stmts_of_list c.in-For.body.items)) c.in_ok-find_unknown-in-For.ensures in
+    let e = then_in (meaning_by_tables c.args.scopes.now.tables c.args.owner) c.args.found.now.items c.find_unknown-in-For.new.found.items (expr_of c.in-For.iterable.value) (exprs_in_all true (stmts_of_list c.in-For.body.items)) (rw c.deref-in-For.ensures at c.in_ok-find_unknown-in-For.ensures) in
     rw c.in-For.is (subst (λ (s : Stmt). OnOk c.find_unknown_in_body-in-For.result (c.find_unknown_in_body-in-For.new.found.items ≡ c.args.found.now.items ++ at_code E02 (unknown_in (meaning_by_tables c.args.scopes.now.tables c.args.owner) (exprs_in true s)))) (sym (for_tree first c.in-For.field-0 c.in-For.iterable c.in-For.body))
-    (subst (λ (fs : List Finding). OnOk c.find_unknown_in_body-in-For.result (c.find_unknown_in_body-in-For.new.found.items ≡ fs)) e (rw c.deref-in-For.ensures.value at c.find_unknown_in_body-in-For.ensures)))
+    (subst (λ (fs : List Finding). OnOk c.find_unknown_in_body-in-For.result (c.find_unknown_in_body-in-For.new.found.items ≡ fs)) e (rw c.deref-in-For-2.ensures.value at c.find_unknown_in_body-in-For.ensures)))
 
 pub find_unknown_in_statement-returns-in_ok-find_unknown_in_branches-in-If : goal.find_unknown_in_statement-returns-in_ok-find_unknown_in_branches-in-If
 find_unknown_in_statement-returns-in_ok-find_unknown_in_branches-in-If t c first =

@@ -12,4 +12,4 @@ returns-in-Attribute-clause-pushed g c =
     let tree = g.S.TypeStore.tree in
     let frame = frame_with tree g.R.Resolver.meaning c.args.frame.now in
     let k = at frame (env_of tree c.args.declared.now) (env_of tree c.args.env.now) in
-    subst (λ (t : Target). OnOk c.find_attribute_store.result ((notes_of c.find_attribute_store.new.found) ≡ (notes_of c.args.found.now) ++ store_finds frame k t (expr_of c.args.value.now))) (sym (ap target_of c.in-Attribute.is)) c.find_attribute_store.ensures.pushed
+    subst (λ (t : Target). OnOk c.find_attribute_store.result ((notes_of c.find_attribute_store.new.found) ≡ (notes_of c.args.found.now) ++ store_finds frame k t (expr_of c.args.value.now))) (sym (ap target_of c.in-Attribute.is)) (rw c.deref.ensures at c.find_attribute_store.ensures.pushed)

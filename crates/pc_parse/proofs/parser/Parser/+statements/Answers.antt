@@ -120,7 +120,7 @@ while_loop-returns-in_err-condition g t c = let u = c.in_ok-first.ensures in let
 pub while_loop-returns : goal.while_loop-returns
 while_loop-returns g t c = let u = c.in_ok-first.ensures in let p = c.in_ok-first.first.place in let h = c.in_ok-condition.ensures in record {
   statement = while_loop p h.head h.body;
-  keeps = keep_while p c.in_ok-condition.condition c.in_ok-condition.body h.deep h.kept_head h.kept_body;
+  keeps = keep_while p c.in_ok-boxed.boxed c.in_ok-condition.condition c.in_ok-boxed.ensures.ok c.in_ok-condition.body h.deep h.kept_head h.kept_body;
   ready = h.ready;
   later = let l = u.later in let m = h.later in omega arith;
   leads = λ d b f o x. step_to (stmts d b) (operand (whole (in_statement looping (site_at p d b)))) u (ap (lead_turn (site_at p d b) _ _) (f _ u.here)) o
@@ -156,7 +156,7 @@ for_loop-returns-in_err-iterable g t c = let u = c.in_ok-first.ensures in let p 
 pub for_loop-returns : goal.for_loop-returns
 for_loop-returns g t c = let u = c.in_ok-first.ensures in let p = c.in_ok-first.first.place in let n = c.in_ok-target.ensures in let m = name_of c.in_ok-target.target in let i = c.in_ok-expect.ensures in let h = c.in_ok-iterable.ensures in record {
   statement = for_loop p m h.head h.body;
-  keeps = keep_for p c.in_ok-target.target c.in_ok-iterable.iterable c.in_ok-iterable.body h.deep h.kept_head h.kept_body;
+  keeps = keep_for p c.in_ok-target.target c.in_ok-boxed.boxed c.in_ok-iterable.iterable c.in_ok-boxed.ensures.ok c.in_ok-iterable.body h.deep h.kept_head h.kept_body;
   ready = h.ready;
   later = let l = u.later in let k = n.takes.later in let j = i.taken.later in let y = h.later in omega arith;
   leads = λ d b f o x. step_to (stmts d b) (target_due (site_at p d b)) u (ap (lead_turn (site_at p d b) _ _) (f _ u.here)) o

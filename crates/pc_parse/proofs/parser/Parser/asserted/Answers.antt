@@ -2,7 +2,7 @@ use Rattle.std.proofs.Common.{Some, None, refl, arith, ap, sym, ◌∙◌}
 use Rattle.std.proofs.lemmas.Result.{err_from_is_err_and}
 use Rattle.pc_token.specs.declared.token.TokenKind.TheVariants as kind
 use Rattle.pc_token.specs.declared.token.Operator.TheVariants as sign
-use Rattle.pc_tree.specs.Tree.{asserts}
+use Rattle.pc_tree.specs.Tree.{asserts, expr_of}
 use Rattle.pc_tree.specs.Machine.{at}
 use Rattle.pc_tree.specs.Machine.States.{whole, in_statement, asserted, asserted_with, stmts, operand, have}
 use Rattle.pc_tree.specs.Machine.Finishing.{after_stmt, finish}
@@ -41,7 +41,8 @@ pub returns-then-sees : goal.returns-then-sees
 returns-then-sees g c = let t = c.in_ok-first.ensures in let p = c.in_ok-first.first.place in let v = c.in_ok-condition.ensures in let u = c.in_ok-take.ensures in let m = c.in_ok-message.ensures in
     line_ended g.X.AsStr.text g.I.Iterator.next_gives g.I.Iterator.can_next g.I.Iterator.remaining (λ d b. stmts d b) (λ d b. have c.in_ok-message.message.level m.part (whole (in_statement (asserted_with v.part.tree) (site_at p d b)))) _
     c.args.self.now c.expression-then-sees.new.self c.line_end.new.self _ c.line_end.result (asserts p v.part.tree (Some m.part.tree))
-    (keep_two _ (λ x y. asserts p x (Some y)) (λ x y. refl) refl v.keeps m.keeps v.deep m.deep) (let l = t.later in let r = v.later in let s = u.later in let q = m.later in omega arith)
+    (keep_two _ (λ x y. asserts p x (Some y)) (λ x y. refl) (ap (λ z. asserts p (expr_of z) (Some (expr_of c.in_ok-boxed_message.boxed_message.value))) c.in_ok-boxed.ensures.ok
+    ∙ ap (λ z. asserts p (expr_of c.in_ok-condition.condition.expr) (Some (expr_of z))) c.in_ok-boxed_message.ensures.ok) v.keeps m.keeps v.deep m.deep) (let l = t.later in let r = v.later in let s = u.later in let q = m.later in omega arith)
     (λ d b f o x. step_to (stmts d b) (operand (whole (in_statement asserted (site_at p d b)))) t (ap (lead_turn (site_at p d b) _ _) (f _ t.here)) o
     (v.leads (in_statement asserted (site_at p d b)) o
     (step_to (have c.in_ok-condition.condition.level v.part (whole (in_statement asserted (site_at p d b)))) (operand (whole (in_statement (asserted_with v.part.tree) (site_at p d b)))) u
@@ -54,7 +55,7 @@ pub returns : goal.returns
 returns g c = let t = c.in_ok-first.ensures in let p = c.in_ok-first.first.place in let v = c.in_ok-condition.ensures in
     line_ended g.X.AsStr.text g.I.Iterator.next_gives g.I.Iterator.can_next g.I.Iterator.remaining (λ d b. stmts d b) (λ d b. have c.in_ok-condition.condition.level v.part (whole (in_statement asserted (site_at p d b)))) _
     c.args.self.now c.expression.new.self c.line_end-2.new.self _ c.line_end-2.result (asserts p v.part.tree None)
-    (keep_one _ (λ x. asserts p x None) (λ x. refl) refl v.keeps v.deep) (let l = t.later in let r = v.later in omega arith)
+    (keep_one _ (λ x. asserts p x None) (λ x. refl) (ap (λ z. asserts p (expr_of z) None) c.in_ok-boxed.ensures.ok) v.keeps v.deep) (let l = t.later in let r = v.later in omega arith)
     (λ d b f o x. step_to (stmts d b) (operand (whole (in_statement asserted (site_at p d b)))) t (ap (lead_turn (site_at p d b) _ _) (f _ t.here)) o (v.leads (in_statement asserted (site_at p d b)) o x))
     (λ d b f. record { unfinished = refl; turns = λ w h. v.goes (in_statement asserted (site_at p d b)) w h ∙ condition_turn v.part.tree (site_at p d b) w.kind (not_seen (kind.Operator sign.Comma) (sym c.sees.ensures ∙ c.if-sees.false) h) })
     c.line_end-2.ensures

@@ -61,7 +61,7 @@ returns-then-sees g c = let v = c.in_ok-begun.ensures in let u = c.in_ok-take.en
     let n = first_place v.part.tokens in let e = first_is c.args.self.now.reader.ahead c.in-Some.first n (sym c.place.ensures ∙ c.in-Some.is) v.begins in
     line_ended g.X.AsStr.text g.I.Iterator.next_gives g.I.Iterator.can_next g.I.Iterator.remaining (λ d b. stmts d b) (λ d b. have c.in_ok-value.value.level y.part (whole (in_statement (assigned i.tree) (line_site d b v.part)))) _
     c.args.self.now c.expression-then-sees.new.self c.line_end.new.self _ c.line_end.result (assigns n i.tree y.part.tree)
-    (keep_assign n _ c.in-Some-target.target i (ap (λ z. assigns z (target_of c.in-Some-target.target) (expr_of c.in_ok-value.value.expr)) (sym e)) c.in-Some-target.ensures v.keeps y.keeps v.deep y.deep)
+    (keep_assign n _ c.in-Some-target.target i (ap (λ z. assigns z (target_of c.in-Some-target.target) (expr_of c.in_ok-boxed.boxed.value)) (sym e) ∙ ap (λ z. assigns n (target_of c.in-Some-target.target) (expr_of z)) c.in_ok-boxed.ensures.ok) c.in-Some-target.ensures v.keeps y.keeps v.deep y.deep)
     (let r = v.later in let s = u.later in let q = y.later in omega arith)
     (λ d b f o x. alike g.X.AsStr.text g.I.Iterator.next_gives c.args.self.now.reader (stmts d b) (operand (whole (in_line d b))) refl refl
     (λ t h. ap (lead_turn (site_at t.place d b) (lexeme g.X.AsStr.text t) t.kind) (f t h)) o (v.leads (in_line d b) o

@@ -1,7 +1,7 @@
 use Rattle.std.proofs.Common.{Some, None, refl, arith, ap, sym, ◌∙◌}
 use Rattle.std.proofs.lemmas.Result.{err_from_is_err_and}
 use Rattle.pc_token.specs.declared.token.TokenKind.TheVariants as kind
-use Rattle.pc_tree.specs.Tree.{returns as returns_tree}
+use Rattle.pc_tree.specs.Tree.{returns as returns_tree, expr_of}
 use Rattle.pc_tree.specs.Machine.{at}
 use Rattle.pc_tree.specs.Machine.Kinds.{same_kind}
 use Rattle.pc_tree.specs.Machine.States.{whole, in_statement, returned, stmts, return_due, operand, have, stuck}
@@ -37,7 +37,7 @@ returns-in_err-value g c = let t = c.in_ok-first.ensures in let p = c.in_ok-firs
 pub returns : goal.returns
 returns g c = let t = c.in_ok-first.ensures in let p = c.in_ok-first.first.place in let v = c.in_ok-value.ensures in
     line_ended g.X.AsStr.text g.I.Iterator.next_gives g.I.Iterator.can_next g.I.Iterator.remaining (λ d b. stmts d b) (λ d b. have c.in_ok-value.value.level v.part (whole (in_statement returned (site_at p d b)))) _ c.args.self.now c.expression.new.self c.line_end-2.new.self _ c.line_end-2.result (returns_tree p (Some v.part.tree))
-    (keep_one _ (λ x. returns_tree p (Some x)) (λ x. refl) refl v.keeps v.deep) (let l = t.later in let m = v.later in omega arith)
+    (keep_one _ (λ x. returns_tree p (Some x)) (λ x. refl) (ap (λ z. returns_tree p (Some (expr_of z))) c.in_ok-boxed.ensures.ok) v.keeps v.deep) (let l = t.later in let m = v.later in omega arith)
     (λ d b f o x. step_to (stmts d b) (return_due (site_at p d b)) t (ap (lead_turn (site_at p d b) _ _) (f _ t.here)) o
     (alike g.X.AsStr.text g.I.Iterator.next_gives c.take.new.self (return_due (site_at p d b)) (operand (whole (in_statement returned (site_at p d b)))) refl refl
     (λ u h. on_unseen (same_kind u.kind kind.Newline) (after_stmt (site_at p d b) (returns_tree p None)) _ (not_seen kind.Newline (sym c.sees.ensures ∙ c.if-sees.false) h)) o (v.leads (in_statement returned (site_at p d b)) o x)))
