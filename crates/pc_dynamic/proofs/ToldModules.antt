@@ -171,7 +171,7 @@ module _ (P : DynamicFlow → Type 0) (m : Module) where
   functions_tell : (all : List Tree) (b : BeforeItem) (items : List Item) (marks : ItemsMarks items) → LawfulModuleItems m all b items marks → Covers (DynamicInItems items marks) → Told (functions_findings m items)
   functions_tell all b [] marks l k = tt
   functions_tell all b (i ∷ rest) marks l k =
-      both (function_findings m i) (functions_findings m rest) (one i marks.0 l.0 (λ d x. k d (inl x))) (functions_tell all (before_next m b i marks.0) rest marks.1 l.1 (λ d x. k d (inr x)))
+      both (function_findings m i) (functions_findings m rest) (one i marks.first l.0 (λ d x. k d (inl x))) (functions_tell all (before_next m b i marks.first) rest marks.rest l.1 (λ d x. k d (inr x)))
     where
       one : (i : Item) (mk : ItemMarks i) → LawfulItem m all b i mk → Covers (DynamicInItem i mk) → Told (function_findings m i)
       one (constant_item p c) mk h k = tt
@@ -187,18 +187,18 @@ module _ (P : DynamicFlow → Type 0) (m : Module) where
   items_tell : (all : List Tree) (b : BeforeItem) → AreWellFormed bases b.constants → (items : List Item) → ClassesFrom m b.classes (classes_in items) → (marks : ItemsMarks items) → LawfulModuleItems m all b items marks → Covers (DynamicInItems items marks) → Told (items_findings m (reached_at b) items)
   items_tell all b kb [] from marks l k = tt
   items_tell all b kb (constant_item p c ∷ rest) from marks l k =
-      let mk = marks.0 in
+      let mk = marks.first in
       let t = constant_type m c.annotation (type_of c.value mk.value) in
       let next = before_next m b (constant_item p c) mk in
       let here : behind m (reached_at b) (constant_item p c) ≡ reached_at next = ap (λ x. record { constants = b.constants ++ x ∷ []; classes = b.classes; bound = λ w. is_one_of w next.names }) (constant_is b kb p c mk all l.0) in
       both (constant_findings m (reached_at b) c) (items_findings m (behind m (reached_at b) (constant_item p c)) rest) (constant_tells b kb p c mk all l.0 (λ d x. k d (inl x)))
-      (subst (λ (x : ItemsReached). Told (items_findings m x rest)) (sym here) (items_tell all next (one_more m b.constants t kb (type_well_formed b kb p c mk all l.0)) rest from marks.1 l.1 (λ d x. k d (inr x))))
+      (subst (λ (x : ItemsReached). Told (items_findings m x rest)) (sym here) (items_tell all next (one_more m b.constants t kb (type_well_formed b kb p c mk all l.0)) rest from marks.rest l.1 (λ d x. k d (inr x))))
   items_tell all b kb (class_item p c ∷ rest) from marks l k =
-      let next = before_next m b (class_item p c) marks.0 in
+      let next = before_next m b (class_item p c) marks.first in
       both (class_notes m b.classes c) (items_findings m (reached_at next) rest)
-      (class_tells all b p c marks.0 (ap (slice_get (classes_in m.items)) (omega arith) ∙ from 0) l.0 (λ d x. k d (inl x)))
-      (items_tell all next kb rest (λ i. ap (slice_get (classes_in m.items)) (omega arith) ∙ from (suc i)) marks.1 l.1 (λ d x. k d (inr x)))
-  items_tell all b kb (def_item p f ∷ rest) from marks l k = items_tell all (before_next m b (def_item p f) marks.0) kb rest from marks.1 l.1 (λ d x. k d (inr x))
+      (class_tells all b p c marks.first (ap (slice_get (classes_in m.items)) (omega arith) ∙ from 0) l.0 (λ d x. k d (inl x)))
+      (items_tell all next kb rest (λ i. ap (slice_get (classes_in m.items)) (omega arith) ∙ from (suc i)) marks.rest l.1 (λ d x. k d (inr x)))
+  items_tell all b kb (def_item p f ∷ rest) from marks l k = items_tell all (before_next m b (def_item p f) marks.first) kb rest from marks.rest l.1 (λ d x. k d (inr x))
 
   -- ---- bodies
 
@@ -232,13 +232,13 @@ module _ (P : DynamicFlow → Type 0) (m : Module) where
 
     bodies_tell : (b : BeforeItem) (items : List Item) (marks : ItemsMarks items) → LawfulModuleItems m all b items marks → (found : List Note) → Told found → Covers (DynamicInItems items marks) → Told (bodies_find m all b.classes b.functions items found)
     bodies_tell b [] marks l found hf k = hf
-    bodies_tell b (constant_item p c ∷ rest) marks l found hf k = bodies_tell (before_next m b (constant_item p c) marks.0) rest marks.1 l.1 found hf (λ d x. k d (inr x))
+    bodies_tell b (constant_item p c ∷ rest) marks l found hf k = bodies_tell (before_next m b (constant_item p c) marks.first) rest marks.rest l.1 found hf (λ d x. k d (inr x))
     bodies_tell b (class_item p c ∷ rest) marks l found hf k =
-        bodies_tell (before_next m b (class_item p c) marks.0) rest marks.1 l.1 (methods_find m all b.classes 0 c.members found)
-        (methods_tell (base_class m b.classes c) b.classes 0 [] c.members marks.0 l.0 found hf (λ d x. k d (inl x))) (λ d x. k d (inr x))
+        bodies_tell (before_next m b (class_item p c) marks.first) rest marks.rest l.1 (methods_find m all b.classes 0 c.members found)
+        (methods_tell (base_class m b.classes c) b.classes 0 [] c.members marks.first l.0 found hf (λ d x. k d (inl x))) (λ d x. k d (inr x))
     bodies_tell b (def_item p f ∷ rest) marks l found hf k =
-        bodies_tell (before_next m b (def_item p f) marks.0) rest marks.1 l.1 (function_finds m all (owners.Func b.functions) f found)
-        (function_tells (owners.Func b.functions) f marks.0 l.0 found hf (λ d x. k d (inl (inr x)))) (λ d x. k d (inr x))
+        bodies_tell (before_next m b (def_item p f) marks.first) rest marks.rest l.1 (function_finds m all (owners.Func b.functions) f found)
+        (function_tells (owners.Func b.functions) f marks.first l.0 found hf (λ d x. k d (inl (inr x)))) (λ d x. k d (inr x))
 
 -- each note of a module that has two types tells of a dynamic flow under its lawful labelling
 pub module_tells : (m : Module) (marks : Labelling m) → IsLawful m marks → AllTell (DynamicUnder m marks) (module_finds m [])

@@ -29,7 +29,7 @@ use Rattle.pc_rules.specs.Computed.{flows_of}
 use Rattle.pc_rules.specs.Found.{codes_at, flows_at}
 use Rattle.pc_rules.specs.Standing.{finds_in}
 use Rattle.pc_rules.proofs.WellFormed.{unwrap_well_formed}
-use Rattle.pc_labels.specs.StatementLabels.{OptionMarks, StmtMarks, SuiteMarks, BranchesMarks, Behind, BehindRule}
+use Rattle.pc_labels.specs.StatementLabels.{OptionMarks, StmtMarks, SuiteMarks, BranchesMarks, Behind, Following, BehindRule}
 use Rattle.pc_labels.specs.Statements.{NamesBound, is_first, binds_number, AreUndeclared, DeclaredAt, known_type, LawfulBinding, LawfulTarget, annotation_at, LawfulAnnotated, LawfulStmt, LawfulSuite, LawfulBranches}
 use Rattle.pc_labels.specs.LabellingLaws.{Setting}
 use Rattle.pc_labels.specs.ComputedStatements.{Table, bound_type, known_declared, BodyFrame, Walk, BranchesResult, at, with_way, narrowed_at, head_at, iterable_finds, bind_label, bind_value, bind_annotated, annotation_finds, bound_name, bind_item, store_finds, assign_target, option_finds, return_finds, behind_loop, inside_for, step, walk_suite, walk_branches}
@@ -187,15 +187,15 @@ module _ (P : DynamicFlow → Type 0) (setting : Setting) (returned : Tree) (kr 
       (marks : SuiteMarks b) (out : Option Env) → LawfulThere seen env b marks out → Told w.found → Covers (DynamicInSuite b marks) → Told (walk_suite frame w b).found
 
   -- what stands behind a statement
-  behind_tells : (b : Test) (seen : NamesBound) (env : Env) (s : Stmt) (rest : Stmts) (s0 : StmtMarks s) (r : Behind b (Env × SuiteMarks rest)) (out : Option Env) (v : Walk)
+  behind_tells : (b : Test) (seen : NamesBound) (env : Env) (s : Stmt) (rest : Stmts) (s0 : StmtMarks s) (r : Behind b (Following (SuiteMarks rest))) (out : Option Env) (v : Walk)
       → ((o : Option Env) → LawfulStmt m ctx declared returned seen env s s0 o → TableHere (texts (bound_by_stmt s) ++ seen) v.table × (v.env ≡ o) × OutFits setting declared v.table o × OutFits setting declared v.table v.broken × Told v.found)
       → SuiteTells (texts (bound_by_stmt s) ++ seen) rest
-      → BehindRule b r (λ x. LawfulStmt m ctx declared returned seen env s s0 (Some x.0) × LawfulThere (texts (bound_by_stmt s) ++ seen) x.0 rest x.1 out) (LawfulStmt m ctx declared returned seen env s s0 None × AreUndeclared m ctx declared (texts (bound_by_stmt s) ++ seen) (bound_by rest) × (out ≡ None))
-      → Covers (λ d. BehindRule b r (λ x. DynamicInSuite rest x.1 d) ⊥)
+      → BehindRule b r (λ x. LawfulStmt m ctx declared returned seen env s s0 (Some x.env) × LawfulThere (texts (bound_by_stmt s) ++ seen) x.env rest x.rest out) (LawfulStmt m ctx declared returned seen env s s0 None × AreUndeclared m ctx declared (texts (bound_by_stmt s) ++ seen) (bound_by rest) × (out ≡ None))
+      → Covers (λ d. BehindRule b r (λ x. DynamicInSuite rest x.rest d) ⊥)
       → Told (walk_suite frame v rest).found
   behind_tells true seen env s rest s0 r out v first next l k =
-      let f = first (Some r.0) l.0 in
-      next v r.0 f.1 f.0 f.2 f.3 r.1 out l.1 f.4 k
+      let f = first (Some r.env) l.0 in
+      next v r.env f.1 f.0 f.2 f.3 r.rest out l.1 f.4 k
   behind_tells false seen env s rest s0 r out v first next l k =
       let f = first None l.0 in
       subst (λ (w : Walk). Told w.found) (sym (unreached_suite setting declared returned v f.1 rest)) f.4
@@ -267,10 +267,10 @@ module _ (P : DynamicFlow → Type 0) (setting : Setting) (returned : Tree) (kr 
     suite_tells seen no_stmts w env e t f kb marks out l hf k = hf
     suite_tells seen (more_stmts s rest) w env e t f kb marks out l hf k =
         subst (λ o. Told (walk_suite frame (step frame w.table o w.broken w.found s) rest).found) (sym e)
-        (behind_tells (completes s) seen env s rest marks.0 marks.1 out (step frame w.table (Some env) w.broken w.found s)
+        (behind_tells (completes s) seen env s rest marks.first marks.behind out (step frame w.table (Some env) w.broken w.found s)
         (λ o y.
-        let says = stmt_says setting returned kr declared seen w.table env w.broken w.found t f kb s marks.0 o y in
-        (says.fits, says.env_is, says.env_fits, says.broken_fits, stmt_tells seen w.table env w.broken w.found t f kb s marks.0 o y hf (λ d x. k d (inl x))))
+        let says = stmt_says setting returned kr declared seen w.table env w.broken w.found t f kb s marks.first o y in
+        (says.fits, says.env_is, says.env_fits, says.broken_fits, stmt_tells seen w.table env w.broken w.found t f kb s marks.first o y hf (λ d x. k d (inl x))))
         (suite_tells (texts (bound_by_stmt s) ++ seen) rest)
         l (λ d x. k d (inr x)))
 

@@ -42,7 +42,7 @@ DynamicInItem (def_item p f) marks d = DynamicInFunction f marks d
 -- in items
 abbrev pub DynamicInItems : (items : List Item) → ItemsMarks items → DynamicFlow → Type 0
 DynamicInItems [] marks d = ⊥
-DynamicInItems (i ∷ rest) marks d = DynamicInItem i marks.0 d ⊎ DynamicInItems rest marks.1 d
+DynamicInItems (i ∷ rest) marks d = DynamicInItem i marks.first d ⊎ DynamicInItems rest marks.rest d
 
 -- what flows dynamically under the labelling of a module
 abbrev pub DynamicUnder : (m : Module) → Labelling m → DynamicFlow → Type 0

@@ -51,8 +51,8 @@ abbrev mutual
   -- in a suite; behind a statement that cannot complete there are no labels
   pub DynamicInSuite : (b : Stmts) → SuiteMarks b → DynamicFlow → Type 0
   DynamicInSuite no_stmts marks d = ⊥
-  DynamicInSuite (more_stmts s rest) marks d = DynamicInStmt s marks.0 d
-      ⊎ BehindRule (completes s) marks.1 (λ r. DynamicInSuite rest r.1 d) ⊥
+  DynamicInSuite (more_stmts s rest) marks d = DynamicInStmt s marks.first d
+      ⊎ BehindRule (completes s) marks.behind (λ r. DynamicInSuite rest r.rest d) ⊥
 
   -- in the conditions and the suites of branches
   pub DynamicInBranches : (bs : Branches) → BranchesMarks bs → DynamicFlow → Type 0

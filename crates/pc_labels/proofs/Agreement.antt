@@ -257,9 +257,9 @@ never_early m constants names n res.None there h = h
 
 constants_counted : (m : Module) (items : List Item) (marks : ItemsMarks items) → length (constant_types m items marks) ≡ length (constants_in items)
 constants_counted m [] marks = refl
-constants_counted m (constant_item p c ∷ rest) marks = ap suc (constants_counted m rest marks.1)
-constants_counted m (class_item p c ∷ rest) marks = constants_counted m rest marks.1
-constants_counted m (def_item p f ∷ rest) marks = constants_counted m rest marks.1
+constants_counted m (constant_item p c ∷ rest) marks = ap suc (constants_counted m rest marks.rest)
+constants_counted m (class_item p c ∷ rest) marks = constants_counted m rest marks.rest
+constants_counted m (def_item p f ∷ rest) marks = constants_counted m rest marks.rest
 
 -- ---- what is not of scopes
 
@@ -425,8 +425,8 @@ module _ (m : Module) (marks : Labelling m) (f : Finding) (s : is_of_scopes f.co
   items_scope : (done items : List Item) (b : BeforeItem) (im : ItemsMarks items) → m.items ≡ done ++ items → Reached done b → LawfulModuleItems m (constant_types m m.items marks) b items im → ItemsFind m (constant_types m m.items marks) b items im f → ScopeFinds m f
   items_scope done [] b im all r law h = absurd h
   items_scope done (i ∷ rest) b im all r law h = elim h [
-    | inl a ↦ here i im.0 all law.0 a
-    | inr k ↦ items_scope (done ++ i ∷ []) rest (before_next m b i im.0) im.1 (all ∙ sym (append_assoc done (i ∷ []) rest)) (reached_next m done b i im.0 r) law.1 k
+    | inl a ↦ here i im.first all law.0 a
+    | inr k ↦ items_scope (done ++ i ∷ []) rest (before_next m b i im.first) im.rest (all ∙ sym (append_assoc done (i ∷ []) rest)) (reached_next m done b i im.first r) law.1 k
   ]
     where
       here : (i : Item) (k : ItemMarks i) → m.items ≡ done ++ i ∷ rest → LawfulItem m (constant_types m m.items marks) b i k → ItemFinds m (constant_types m m.items marks) b i k f → ScopeFinds m f
@@ -465,14 +465,14 @@ module _ (m : Module) (constants : List Tree) where
   constant_in done [] taken b im r law at first c e all = absurd (none-some _ e)
   constant_in done (constant_item p x ∷ rest) taken b im r law zero first c e all =
       subst (λ y. ConstantIn taken y (ItemsFind m constants b (constant_item p x ∷ rest) im)) (constant_of (same_Some _ _ e))
-      (record { before = b; reached = subst (λ l. Reached l b) (sym (all ∙ append-nil done)) r; first = p; marks = im.0; lawful = law.0; within = λ f h. inl (inr (inr h)) })
+      (record { before = b; reached = subst (λ l. Reached l b) (sym (all ∙ append-nil done)) r; first = p; marks = im.first; lawful = law.0; within = λ f h. inl (inr (inr h)) })
     where
       constant_of : constant_item p x ≡ constant_item first c → x ≡ c
       constant_of e = cc
   constant_in done (class_item p x ∷ rest) taken b im r law zero first c e all = absurd (grind (arith, e))
   constant_in done (def_item p x ∷ rest) taken b im r law zero first c e all = absurd (grind (arith, e))
   constant_in done (i ∷ rest) taken b im r law (suc at) first c e all =
-      let h = constant_in (done ++ i ∷ []) rest taken (before_next m b i im.0) im.1 (reached_next m done b i im.0 r) law.1 at first c e (all ∙ sym (append_assoc done (i ∷ []) (take at rest))) in
+      let h = constant_in (done ++ i ∷ []) rest taken (before_next m b i im.first) im.rest (reached_next m done b i im.first r) law.1 at first c e (all ∙ sym (append_assoc done (i ∷ []) (take at rest))) in
       record { before = h.before; reached = h.reached; first = h.first; marks = h.marks; lawful = h.lawful; within = λ f x. inr (h.within f x) }
 
 -- a constant stands somewhere among the items

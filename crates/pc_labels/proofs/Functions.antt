@@ -32,10 +32,10 @@ module _ (m : Module) (constants : List Tree) where
 
   pub function_in : (items : List Item) (b : BeforeItem) (marks : ItemsMarks items) → LawfulModuleItems m constants b items marks → (j i : ℕ) (d : FuncDef) → slice_get (functions_in items) j ≡ Some d → i ≡ b.functions + j → FunctionIn (owners.Func i) d (ItemsFind m constants b items marks)
   function_in [] b marks law j i d e at = absurd (none-some _ e)
-  function_in (constant_item p c ∷ rest) b marks law j i d e at = wider (owners.Func i) d _ _ (λ f h. inr h) (function_in rest (before_next m b (constant_item p c) marks.0) marks.1 law.1 j i d e at)
-  function_in (class_item p c ∷ rest) b marks law j i d e at = wider (owners.Func i) d _ _ (λ f h. inr h) (function_in rest (before_next m b (class_item p c) marks.0) marks.1 law.1 j i d e at)
-  function_in (def_item p x ∷ rest) b marks law zero i d e at = same_function (owners.Func b.functions) (owners.Func i) x d _ (ap owners.Func (omega arith)) (same_Some _ _ e) (record { marks = marks.0; lawful = law.0; within = λ f h. inl h })
-  function_in (def_item p x ∷ rest) b marks law (suc j) i d e at = wider (owners.Func i) d _ _ (λ f h. inr h) (function_in rest (before_next m b (def_item p x) marks.0) marks.1 law.1 j i d e (omega arith))
+  function_in (constant_item p c ∷ rest) b marks law j i d e at = wider (owners.Func i) d _ _ (λ f h. inr h) (function_in rest (before_next m b (constant_item p c) marks.first) marks.rest law.1 j i d e at)
+  function_in (class_item p c ∷ rest) b marks law j i d e at = wider (owners.Func i) d _ _ (λ f h. inr h) (function_in rest (before_next m b (class_item p c) marks.first) marks.rest law.1 j i d e at)
+  function_in (def_item p x ∷ rest) b marks law zero i d e at = same_function (owners.Func b.functions) (owners.Func i) x d _ (ap owners.Func (omega arith)) (same_Some _ _ e) (record { marks = marks.first; lawful = law.0; within = λ f h. inl h })
+  function_in (def_item p x ∷ rest) b marks law (suc j) i d e at = wider (owners.Func i) d _ _ (λ f h. inr h) (function_in rest (before_next m b (def_item p x) marks.first) marks.rest law.1 j i d e (omega arith))
 
   method_in : (base : ClassFacts) (c number : ℕ) (before : List (List ℕ)) (ms : List Member) (marks : MembersMarks ms) → LawfulMembers m constants base c number before ms marks → (j i : ℕ) (d : FuncDef) → slice_get (methods_in ms) j ≡ Some d → i ≡ number + j → FunctionIn (owners.Method c i) d (MembersFind m constants c number ms marks)
   method_in base c number before [] marks law j i d e at = absurd (none-some _ e)
@@ -45,12 +45,12 @@ module _ (m : Module) (constants : List Tree) where
 
   pub method_of_class_in : (items : List Item) (b : BeforeItem) (marks : ItemsMarks items) → LawfulModuleItems m constants b items marks → (j c : ℕ) (class : ClassDef) (i : ℕ) (d : FuncDef) → slice_get (classes_in items) j ≡ Some class → c ≡ b.classes + j → slice_get (methods_in class.members) i ≡ Some d → FunctionIn (owners.Method c i) d (ItemsFind m constants b items marks)
   method_of_class_in [] b marks law j c class i d e at is = absurd (none-some _ e)
-  method_of_class_in (constant_item p x ∷ rest) b marks law j c class i d e at is = wider (owners.Method c i) d _ _ (λ f h. inr h) (method_of_class_in rest (before_next m b (constant_item p x) marks.0) marks.1 law.1 j c class i d e at is)
-  method_of_class_in (def_item p x ∷ rest) b marks law j c class i d e at is = wider (owners.Method c i) d _ _ (λ f h. inr h) (method_of_class_in rest (before_next m b (def_item p x) marks.0) marks.1 law.1 j c class i d e at is)
-  method_of_class_in (class_item p x ∷ rest) b marks law (suc j) c class i d e at is = wider (owners.Method c i) d _ _ (λ f h. inr h) (method_of_class_in rest (before_next m b (class_item p x) marks.0) marks.1 law.1 j c class i d e (omega arith) is)
+  method_of_class_in (constant_item p x ∷ rest) b marks law j c class i d e at is = wider (owners.Method c i) d _ _ (λ f h. inr h) (method_of_class_in rest (before_next m b (constant_item p x) marks.first) marks.rest law.1 j c class i d e at is)
+  method_of_class_in (def_item p x ∷ rest) b marks law j c class i d e at is = wider (owners.Method c i) d _ _ (λ f h. inr h) (method_of_class_in rest (before_next m b (def_item p x) marks.first) marks.rest law.1 j c class i d e at is)
+  method_of_class_in (class_item p x ∷ rest) b marks law (suc j) c class i d e at is = wider (owners.Method c i) d _ _ (λ f h. inr h) (method_of_class_in rest (before_next m b (class_item p x) marks.first) marks.rest law.1 j c class i d e (omega arith) is)
   method_of_class_in (class_item p x ∷ rest) b marks law zero c class i d e at is =
       same_function (owners.Method b.classes i) (owners.Method c i) d d _ (ap (λ z. owners.Method z i) (omega arith)) refl
-      (wider (owners.Method b.classes i) d _ _ (λ f h. inl h) (method_in (base_class m b.classes x) b.classes 0 [] x.members marks.0 law.0 i i d (ap (λ z. slice_get (methods_in z.members) i) (same_Some _ _ e) ∙ is) (omega arith)))
+      (wider (owners.Method b.classes i) d _ _ (λ f h. inl h) (method_in (base_class m b.classes x) b.classes 0 [] x.members marks.first law.0 i i d (ap (λ z. slice_get (methods_in z.members) i) (same_Some _ _ e) ∙ is) (omega arith)))
 
 module _ (m : Module) (marks : Labelling m) (lawful : IsLawful m marks) where
   -- a function's own labels

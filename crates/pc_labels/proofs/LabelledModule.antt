@@ -77,7 +77,7 @@ module _ (m : Module) where
       record {
         types = t ∷ r.types;
         well_formed = (q.well_formed, r.well_formed);
-        found = λ all k. let f = r.found all k in record { marks = (q.marks, f.marks); lawful = (q.lawful all, f.lawful); is = ap (λ ts. t ∷ ts) f.is };
+        found = λ all k. let f = r.found all k in record { marks = record { first = q.marks; rest = f.marks }; lawful = (q.lawful all, f.lawful); is = ap (λ ts. t ∷ ts) f.is };
       }
   items_labelled b kb (class_item p c ∷ rest) =
       let r = items_labelled (record { constants = b.constants; classes = suc b.classes; functions = b.functions; names = c.name.text ∷ b.names }) kb rest in
@@ -87,7 +87,7 @@ module _ (m : Module) where
         found = λ all k.
             let f = r.found all k in
             let q = members_labelled m all k (base_class m b.classes c) b.classes 0 [] c.members in
-            record { marks = (q.marks, f.marks); lawful = (q.lawful, f.lawful); is = f.is };
+            record { marks = record { first = q.marks; rest = f.marks }; lawful = (q.lawful, f.lawful); is = f.is };
       }
   items_labelled b kb (def_item p d ∷ rest) =
       let r = items_labelled (record { constants = b.constants; classes = b.classes; functions = suc b.functions; names = d.name.text ∷ b.names }) kb rest in
@@ -97,7 +97,7 @@ module _ (m : Module) where
         found = λ all k.
             let f = r.found all k in
             let q = function_labelled m all k (owners.Func b.functions) d in
-            record { marks = (q.marks, f.marks); lawful = (q.lawful, f.lawful); is = f.is };
+            record { marks = record { first = q.marks; rest = f.marks }; lawful = (q.lawful, f.lawful); is = f.is };
       }
 
   -- each module has a lawful labelling

@@ -181,7 +181,7 @@ module _ (setting : Setting) where
             marks = q.marks;
             out = q.out;
             ends = out_wider setting q.table inner after q.out wl q.is_table q.ends;
-            broken = all_wider setting q.table inner after (breaks_in st q.marks.0 ++ behind_list (completes st) q.marks.1 (λ r. breaks_in_suite rest r.1)) wl q.is_table q.broken;
+            broken = all_wider setting q.table inner after (breaks_in st q.marks.first ++ behind_list (completes st) q.marks.behind (λ r. breaks_in_suite rest r.rest)) wl q.is_table q.broken;
             reaches = q.reaches;
             lawful = λ F gF s. q.lawful F gF (λ word x a r. s word x (wl word a) r);
           }

@@ -11,7 +11,7 @@ use Rattle.pc_types.specs.WellFormed.{IsWellFormed}
 use Rattle.pc_flow.specs.Environment.{Env, join_ways}
 use Rattle.pc_rules.specs.Operations.{clean}
 use Rattle.pc_rules.specs.Labels.{FlowMarks, mark_of}
-use Rattle.pc_labels.specs.StatementLabels.{Behind, BehindRule, OptionMarks, StmtMarks, SuiteMarks, behind_list, breaks_in, breaks_in_suite}
+use Rattle.pc_labels.specs.StatementLabels.{Behind, Following, BehindRule, OptionMarks, StmtMarks, SuiteMarks, behind_list, breaks_in, breaks_in_suite}
 use Rattle.pc_labels.specs.Statements.{LawfulOption, LawfulReturn, LawfulStmt, LawfulSuite, NamesBound, AreUndeclared}
 use Rattle.pc_labels.specs.LabellingLaws.{Agree, IsDeclaredTable, OutSettled, Setting, GoesByNames, SettledAll, StmtLabelled, SuiteLabelled, any_way}
 use Rattle.pc_labels.proofs.BoundNames.{Within, within_right}
@@ -73,12 +73,12 @@ module _ (setting : Setting) where
       pub table : List Tree
       pub is_table : IsDeclaredTable setting table
       pub same : Agree ctx ds table seen
-      pub marks : StmtMarks s × Behind b (Env × SuiteMarks rest)
+      pub marks : record { first : StmtMarks s; behind : Behind b (Following (SuiteMarks rest)) }
       pub out : Option Env
       pub ends : OutSettled setting table (texts (bound_by rest) ++ (texts (bound_by_stmt s) ++ seen)) out
-      pub broken : SettledAll setting table (texts (bound_by rest) ++ (texts (bound_by_stmt s) ++ seen)) (breaks_in s marks.0 ++ behind_list b marks.1 (λ r. breaks_in_suite rest r.1))
+      pub broken : SettledAll setting table (texts (bound_by rest) ++ (texts (bound_by_stmt s) ++ seen)) (breaks_in s marks.first ++ behind_list b marks.behind (λ r. breaks_in_suite rest r.rest))
       pub reaches : is_some out ≡ (b && completes_all rest)
-      pub lawful : (F : List Tree) → IsDeclaredTable setting F → Agree ctx table F (texts (bound_by rest) ++ (texts (bound_by_stmt s) ++ seen)) → BehindRule b marks.1 (λ r. LawfulStmt m ctx F returned seen env s marks.0 (Some r.0) × LawfulSuite m ctx F returned (texts (bound_by_stmt s) ++ seen) r.0 rest r.1 out) (LawfulStmt m ctx F returned seen env s marks.0 None × AreUndeclared m ctx F (texts (bound_by_stmt s) ++ seen) (bound_by rest) × (out ≡ None))
+      pub lawful : (F : List Tree) → IsDeclaredTable setting F → Agree ctx table F (texts (bound_by rest) ++ (texts (bound_by_stmt s) ++ seen)) → BehindRule b marks.behind (λ r. LawfulStmt m ctx F returned seen env s marks.first (Some r.env) × LawfulSuite m ctx F returned (texts (bound_by_stmt s) ++ seen) r.env rest r.rest out) (LawfulStmt m ctx F returned seen env s marks.first None × AreUndeclared m ctx F (texts (bound_by_stmt s) ++ seen) (bound_by rest) × (out ≡ None))
 
     pub behind_labelled : (b : Test) (ds : List Tree) (seen : NamesBound) (env : Env) (s : Stmt) (rest : Stmts) (t : List Tree) → IsDeclaredTable setting t → Agree ctx ds t seen → (mk : StmtMarks s) (mid : Option Env) → OutSettled setting t (texts (bound_by_stmt s) ++ seen) mid → SettledAll setting t (texts (bound_by_stmt s) ++ seen) (breaks_in s mk) → is_some mid ≡ b → ((F : List Tree) → IsDeclaredTable setting F → Agree ctx t F (texts (bound_by_stmt s) ++ seen) → LawfulStmt m ctx F returned seen env s mk mid) → ((e : Env) → GoesByNames setting t (texts (bound_by_stmt s) ++ seen) e → SuiteLabelled setting returned t (texts (bound_by_stmt s) ++ seen) e rest) → BehindLabelled b ds seen env s rest
     behind_labelled true ds seen env s rest t g same mk (Some mid) ends broken e lawful next =
@@ -88,7 +88,7 @@ module _ (setting : Setting) where
           table = nx.table;
           is_table = nx.is_table;
           same = same_on setting ds t nx.table seen (texts (bound_by_stmt s) ++ seen) (within_right (texts (bound_by_stmt s)) seen) same nx.same;
-          marks = (mk, (mid, nx.marks));
+          marks = record { first = mk; behind = record { env = mid; rest = nx.marks } };
           out = nx.out;
           ends = nx.ends;
           broken = all_both setting nx.table (texts (bound_by rest) ++ (texts (bound_by_stmt s) ++ seen)) (breaks_in s mk) (breaks_in_suite rest nx.marks) (all_on setting t nx.table (texts (bound_by_stmt s) ++ seen) (texts (bound_by rest) ++ (texts (bound_by_stmt s) ++ seen)) (breaks_in s mk) w nx.is_table nx.same broken) nx.broken;
@@ -102,7 +102,7 @@ module _ (setting : Setting) where
           table = u.table;
           is_table = u.is_table;
           same = same_on setting ds t u.table seen (texts (bound_by_stmt s) ++ seen) (within_right (texts (bound_by_stmt s)) seen) same u.same;
-          marks = (mk, tt);
+          marks = record { first = mk; behind = tt };
           out = None;
           ends = tt;
           broken = all_both setting u.table (texts (bound_by rest) ++ (texts (bound_by_stmt s) ++ seen)) (breaks_in s mk) [] (all_on setting t u.table (texts (bound_by_stmt s) ++ seen) (texts (bound_by rest) ++ (texts (bound_by_stmt s) ++ seen)) (breaks_in s mk) w u.is_table u.same broken) tt;

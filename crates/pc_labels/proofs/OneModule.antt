@@ -254,11 +254,11 @@ constant_one m all all' b p c mk mk' h h' =
 types_one : (m : Module) (all all' : List Tree) (b : BeforeItem) (items : List Item) (mk mk' : ItemsMarks items) → LawfulModuleItems m all b items mk → LawfulModuleItems m all' b items mk' → constant_types m items mk ≡ constant_types m items mk'
 types_one m all all' b [] mk mk' h h' = refl
 types_one m all all' b (constant_item p c ∷ rest) mk mk' h h' =
-    let q = constant_one m all all' b p c mk.0 mk'.0 h.0 h'.0 in
-    let r = types_one m all all' (before_next m b (constant_item p c) mk.0) rest mk.1 mk'.1 h.1 (subst (λ x. LawfulModuleItems m all' (before_next m b (constant_item p c) x) rest mk'.1) (sym q) h'.1) in
+    let q = constant_one m all all' b p c mk.first mk'.first h.0 h'.0 in
+    let r = types_one m all all' (before_next m b (constant_item p c) mk.first) rest mk.rest mk'.rest h.1 (subst (λ x. LawfulModuleItems m all' (before_next m b (constant_item p c) x) rest mk'.rest) (sym q) h'.1) in
     λ i. item_constants m (constant_item p c) (q i) ++ r i
-types_one m all all' b (class_item p c ∷ rest) mk mk' h h' = types_one m all all' (before_next m b (class_item p c) mk.0) rest mk.1 mk'.1 h.1 h'.1
-types_one m all all' b (def_item p f ∷ rest) mk mk' h h' = types_one m all all' (before_next m b (def_item p f) mk.0) rest mk.1 mk'.1 h.1 h'.1
+types_one m all all' b (class_item p c ∷ rest) mk mk' h h' = types_one m all all' (before_next m b (class_item p c) mk.first) rest mk.rest mk'.rest h.1 h'.1
+types_one m all all' b (def_item p f ∷ rest) mk mk' h h' = types_one m all all' (before_next m b (def_item p f) mk.first) rest mk.rest mk'.rest h.1 h'.1
 
 item_one : (m : Module) (all : List Tree) (b : BeforeItem) (i : Item) (mk mk' : ItemMarks i) → LawfulItem m all b i mk → LawfulItem m all b i mk' → mk ≡ mk'
 item_one m all b (constant_item p c) mk mk' h h' = constant_one m all all b p c mk mk' h h'
@@ -268,9 +268,9 @@ item_one m all b (def_item p f) mk mk' h h' = function_one m all (owners.Func b.
 all_items_one : (m : Module) (all : List Tree) (b : BeforeItem) (items : List Item) (mk mk' : ItemsMarks items) → LawfulModuleItems m all b items mk → LawfulModuleItems m all b items mk' → mk ≡ mk'
 all_items_one m all b [] mk mk' h h' = refl
 all_items_one m all b (i ∷ rest) mk mk' h h' =
-    let q = item_one m all b i mk.0 mk'.0 h.0 h'.0 in
-    let r = all_items_one m all (before_next m b i mk.0) rest mk.1 mk'.1 h.1 (subst (λ x. LawfulModuleItems m all (before_next m b i x) rest mk'.1) (sym q) h'.1) in
-    λ j. (q j, r j)
+    let q = item_one m all b i mk.first mk'.first h.0 h'.0 in
+    let r = all_items_one m all (before_next m b i mk.first) rest mk.rest mk'.rest h.1 (subst (λ x. LawfulModuleItems m all (before_next m b i x) rest mk'.rest) (sym q) h'.1) in
+    λ j. record { first = q j; rest = r j }
 
 -- a module has at most one lawful labelling
 pub one_labelling : (m : Module) → HasOneLabelling m

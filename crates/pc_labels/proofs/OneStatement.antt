@@ -22,7 +22,7 @@ use Rattle.pc_rules.specs.Labels.{FlowMarks, Marks, mark_of, type_of, with_mark}
 use Rattle.pc_rules.specs.Lawful.{Lawful}
 use Rattle.pc_rules.proofs.Same.{SameWhere, Alike, SameWhereAll, all_joins_alike, heads_alike, narrow_alike}
 use Rattle.pc_rules.proofs.One.{into_one, one, items_one, keywords_one}
-use Rattle.pc_labels.specs.StatementLabels.{OptionMarks, TargetMarks, StmtMarks, SuiteMarks, BranchesMarks, Behind, BehindRule, behind_list, breaks_in, breaks_in_suite, breaks_in_branches, ways_in}
+use Rattle.pc_labels.specs.StatementLabels.{OptionMarks, TargetMarks, StmtMarks, SuiteMarks, BranchesMarks, Behind, Following, BehindRule, behind_list, breaks_in, breaks_in_suite, breaks_in_branches, ways_in}
 use Rattle.pc_labels.specs.Statements.{only_code, NamesBound, is_first, binds_number, LawfulRange, LawfulValues, RangeOrValues, LawfulIterable, DeclaredAt, known_type, LawfulBinding, LawfulDeclaration, LawfulTarget, UndeclaredName, AreUndeclared, attribute_offers, index_offers, LawfulStore, annotation_at, LawfulAnnotated, LawfulReturn, LawfulOption, LawfulStmt, LawfulSuite, LawfulBranches}
 
 -- ---- names among names
@@ -342,21 +342,21 @@ module _ (m : Module) (ctx : Context) (ds ds' : List Tree) where
     StmtRule' seen env s mk out = LawfulStmt m ctx ds' returned seen env s mk out
 
     -- what stands behind a statement
-    behind_one : (seen : NamesBound) (env : Env) (s : Stmt) (rest : Stmts) (b : Test) (s0 s0' : StmtMarks s) (r r' : Behind b (Env × SuiteMarks rest)) (out out' : Option Env)
+    behind_one : (seen : NamesBound) (env : Env) (s : Stmt) (rest : Stmts) (b : Test) (s0 s0' : StmtMarks s) (r r' : Behind b (Following (SuiteMarks rest))) (out out' : Option Env)
         → ((o o' : Option Env) → StmtRule seen env s s0 o → StmtRule' seen env s s0' o' → SameStmt s0 s0' o o' (breaks_in s s0) (texts (bound_by_stmt s) ++ seen))
         → ((mid : Env) → SameWhere ds ds' mid → SameSeen (texts (bound_by_stmt s) ++ seen) → (k k' : SuiteMarks rest) (o o' : Option Env) → LawfulSuite m ctx ds returned (texts (bound_by_stmt s) ++ seen) mid rest k o → LawfulSuite m ctx ds' returned (texts (bound_by_stmt s) ++ seen) mid rest k' o' → SameStmt k k' o o' (breaks_in_suite rest k) (texts (bound_by rest) ++ (texts (bound_by_stmt s) ++ seen)))
-        → BehindRule b r (λ x. StmtRule seen env s s0 (Some x.0) × LawfulSuite m ctx ds returned (texts (bound_by_stmt s) ++ seen) x.0 rest x.1 out) (StmtRule seen env s s0 None × AreUndeclared m ctx ds (texts (bound_by_stmt s) ++ seen) (bound_by rest) × (out ≡ None))
-        → BehindRule b r' (λ x. StmtRule' seen env s s0' (Some x.0) × LawfulSuite m ctx ds' returned (texts (bound_by_stmt s) ++ seen) x.0 rest x.1 out') (StmtRule' seen env s s0' None × AreUndeclared m ctx ds' (texts (bound_by_stmt s) ++ seen) (bound_by rest) × (out' ≡ None))
-        → SameStmt {A = StmtMarks s × Behind b (Env × SuiteMarks rest)} (s0, r) (s0', r') out out' (breaks_in s s0 ++ behind_list b r (λ x. breaks_in_suite rest x.1)) (texts (bound_by rest) ++ (texts (bound_by_stmt s) ++ seen))
+        → BehindRule b r (λ x. StmtRule seen env s s0 (Some x.env) × LawfulSuite m ctx ds returned (texts (bound_by_stmt s) ++ seen) x.env rest x.rest out) (StmtRule seen env s s0 None × AreUndeclared m ctx ds (texts (bound_by_stmt s) ++ seen) (bound_by rest) × (out ≡ None))
+        → BehindRule b r' (λ x. StmtRule' seen env s s0' (Some x.env) × LawfulSuite m ctx ds' returned (texts (bound_by_stmt s) ++ seen) x.env rest x.rest out') (StmtRule' seen env s s0' None × AreUndeclared m ctx ds' (texts (bound_by_stmt s) ++ seen) (bound_by rest) × (out' ≡ None))
+        → SameStmt {A = record { first : StmtMarks s; behind : Behind b (Following (SuiteMarks rest)) }} (record { first = s0; behind = r }) (record { first = s0'; behind = r' }) out out' (breaks_in s s0 ++ behind_list b r (λ x. breaks_in_suite rest x.rest)) (texts (bound_by rest) ++ (texts (bound_by_stmt s) ++ seen))
     behind_one seen env s rest true s0 s0' r r' out out' first next h h' =
-        let f = first (Some r.0) (Some r'.0) h.0 h'.0 in
-        let mid : r.0 ≡ r'.0 = some_inj f.outs in
-        let n = next r.0 f.kept f.seen r.1 r'.1 out out' h.1 (subst (λ x. LawfulSuite m ctx ds' returned (texts (bound_by_stmt s) ++ seen) x rest r'.1 out') (sym mid) h'.1) in
-        record { marks = λ i. (f.marks i, (mid i, n.marks i)); outs = n.outs; kept = n.kept; broken_kept = all_kept_both (breaks_in s s0) (breaks_in_suite rest r.1) f.broken_kept n.broken_kept; seen = n.seen }
+        let f = first (Some r.env) (Some r'.env) h.0 h'.0 in
+        let mid : r.env ≡ r'.env = some_inj f.outs in
+        let n = next r.env f.kept f.seen r.rest r'.rest out out' h.1 (subst (λ x. LawfulSuite m ctx ds' returned (texts (bound_by_stmt s) ++ seen) x rest r'.rest out') (sym mid) h'.1) in
+        record { marks = λ i. record { first = f.marks i; behind = record { env = mid i; rest = n.marks i } }; outs = n.outs; kept = n.kept; broken_kept = all_kept_both (breaks_in s s0) (breaks_in_suite rest r.rest) f.broken_kept n.broken_kept; seen = n.seen }
     behind_one seen env s rest false s0 s0' r r' out out' first next h h' =
         let f = first None None h.0 h'.0 in
         record {
-          marks = λ i. (f.marks i, r);
+          marks = λ i. record { first = f.marks i; behind = r };
           outs = h.2 ∙ sym h'.2;
           kept = subst OutKept (sym h.2) tt;
           broken_kept = all_kept_both (breaks_in s s0) [] f.broken_kept tt;
@@ -451,8 +451,8 @@ module _ (m : Module) (ctx : Context) (ds ds' : List Tree) where
       pub suite_one : (seen : NamesBound) (env : Env) → SameSeen seen → SameWhere ds ds' env → (b : Stmts) (mk mk' : SuiteMarks b) (out out' : Option Env) → LawfulSuite m ctx ds returned seen env b mk out → LawfulSuite m ctx ds' returned seen env b mk' out' → SameStmt mk mk' out out' (breaks_in_suite b mk) (texts (bound_by b) ++ seen)
       suite_one seen env s k no_stmts mk mk' out out' h h' = record { marks = refl; outs = h ∙ sym h'; kept = subst OutKept (sym h) k; broken_kept = tt; seen = s }
       suite_one seen env s k (more_stmts st rest) mk mk' out out' h h' =
-          let q = behind_one seen env st rest (completes st) mk.0 mk'.0 mk.1 mk'.1 out out'
-          (λ o o' l l'. stmt_one seen env s k st mk.0 mk'.0 o o' l l')
+          let q = behind_one seen env st rest (completes st) mk.first mk'.first mk.behind mk'.behind out out'
+          (λ o o' l l'. stmt_one seen env s k st mk.first mk'.first o o' l l')
           (λ mid km sm x x' o o' l l'. suite_one (texts (bound_by_stmt st) ++ seen) mid sm km rest x x' o o' l l')
           h h' in
           record { marks = q.marks; outs = q.outs; kept = q.kept; broken_kept = q.broken_kept; seen = seen_both (bound_by_stmt st) (bound_by rest) seen q.seen }

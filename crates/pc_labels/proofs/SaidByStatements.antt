@@ -30,7 +30,7 @@ use Rattle.pc_rules.specs.Lawful.{Lawful}
 use Rattle.pc_rules.proofs.Silent.{Silent, items_silent, stored_items_silent, stored_fields_silent, called_silent, calls_silent}
 use Rattle.pc_rules.proofs.Saying.{not_of_scopes, no_flow_of_scopes, none_among, IsPart, part_left, part_right, Said, said_left, said_right, said_behind}
 use Rattle.pc_rules.proofs.SaidByLabels.{said, arguments_said, keywords_said}
-use Rattle.pc_labels.specs.StatementLabels.{OptionMarks, TargetMarks, StmtMarks, SuiteMarks, BranchesMarks, Behind, BehindRule}
+use Rattle.pc_labels.specs.StatementLabels.{OptionMarks, TargetMarks, StmtMarks, SuiteMarks, BranchesMarks, Behind, Following, BehindRule}
 use Rattle.pc_labels.specs.Statements.{NamesBound, is_first, RangeOrValues, AreUndeclared, LawfulRange, LawfulValues, LawfulIterable, LawfulBinding, LawfulTarget, LawfulStore, LawfulAssignment, LawfulAnnotated, LawfulReturn, LawfulOption, LawfulStmt, LawfulSuite, LawfulBranches, OptionFinds, option_place, TargetFinds, AnnotationFinds, StmtFinds, SuiteFinds, BranchesFind}
 
 both : {b : Test} → b ≡ true → b ≡ false → ⊥
@@ -249,15 +249,15 @@ module _ (m : Module) (ctx : Context) (declared : List Tree) (f : Finding) (s : 
     message_said env (Some e) marks law h = of_expr env None e marks [] law h
 
     -- a statement, and those behind it where it can complete
-    behind_said : (seen : NamesBound) (env : Env) (st : Stmt) (rest : Stmts) (b : Test) (s0 : StmtMarks st) (r : Behind b (Env × SuiteMarks rest)) (out : Option Env)
-        → BehindRule b r (λ x. LawfulStmt m ctx declared returned seen env st s0 (Some x.0) × LawfulSuite m ctx declared returned (texts (bound_by_stmt st) ++ seen) x.0 rest x.1 out) (LawfulStmt m ctx declared returned seen env st s0 None × AreUndeclared m ctx declared (texts (bound_by_stmt st) ++ seen) (bound_by rest) × (out ≡ None))
-        → StmtFinds m ctx seen st s0 f ⊎ BehindRule b r (λ x. SuiteFinds m ctx (texts (bound_by_stmt st) ++ seen) rest x.1 f) ⊥
+    behind_said : (seen : NamesBound) (env : Env) (st : Stmt) (rest : Stmts) (b : Test) (s0 : StmtMarks st) (r : Behind b (Following (SuiteMarks rest))) (out : Option Env)
+        → BehindRule b r (λ x. LawfulStmt m ctx declared returned seen env st s0 (Some x.env) × LawfulSuite m ctx declared returned (texts (bound_by_stmt st) ++ seen) x.env rest x.rest out) (LawfulStmt m ctx declared returned seen env st s0 None × AreUndeclared m ctx declared (texts (bound_by_stmt st) ++ seen) (bound_by rest) × (out ≡ None))
+        → StmtFinds m ctx seen st s0 f ⊎ BehindRule b r (λ x. SuiteFinds m ctx (texts (bound_by_stmt st) ++ seen) rest x.rest f) ⊥
         → ((o : Option Env) → LawfulStmt m ctx declared returned seen env st s0 o → StmtFinds m ctx seen st s0 f → SaidIn (exprs_in true st))
         → ((x : Env) (k : SuiteMarks rest) → LawfulSuite m ctx declared returned (texts (bound_by_stmt st) ++ seen) x rest k out → SuiteFinds m ctx (texts (bound_by_stmt st) ++ seen) rest k f → SaidIn (exprs_in_all true rest))
         → SaidIn (exprs_in true st ++ (if b then exprs_in_all true rest else []))
     behind_said seen env st rest true s0 r out law h first next = elim h [
-      | inl a ↦ in_left (exprs_in true st) (exprs_in_all true rest) (first (Some r.0) law.0 a)
-      | inr c ↦ in_right (exprs_in true st) (exprs_in_all true rest) (next r.0 r.1 law.1 c)
+      | inl a ↦ in_left (exprs_in true st) (exprs_in_all true rest) (first (Some r.env) law.0 a)
+      | inr c ↦ in_right (exprs_in true st) (exprs_in_all true rest) (next r.env r.rest law.1 c)
     ]
     behind_said seen env st rest false s0 r out law h first next = elim h [ inl a ↦ in_left (exprs_in true st) [] (first None law.0 a) | inr c ↦ absurd c ]
 
@@ -298,7 +298,7 @@ module _ (m : Module) (ctx : Context) (declared : List Tree) (f : Finding) (s : 
 
       pub suite_said : (seen : NamesBound) (env : Env) (b : Stmts) (marks : SuiteMarks b) (out : Option Env) → LawfulSuite m ctx declared returned seen env b marks out → SuiteFinds m ctx seen b marks f → SaidIn (exprs_in_all true b)
       suite_said seen env no_stmts marks out law h = absurd h
-      suite_said seen env (more_stmts st rest) marks out law h = behind_said seen env st rest (completes st) marks.0 marks.1 out law h (λ o l k. stmt_said seen env st marks.0 o l k) (λ x k l g. suite_said (texts (bound_by_stmt st) ++ seen) x rest k out l g)
+      suite_said seen env (more_stmts st rest) marks out law h = behind_said seen env st rest (completes st) marks.first marks.behind out law h (λ o l k. stmt_said seen env st marks.first o l k) (λ x k l g. suite_said (texts (bound_by_stmt st) ++ seen) x rest k out l g)
 
       branches_said : (seen : NamesBound) (env : Env) (bs : Branches) (marks : BranchesMarks bs) (last : Env) → LawfulBranches m ctx declared returned seen env bs marks last → BranchesFind m ctx seen bs marks f → SaidIn (exprs_in_branches true bs)
       branches_said seen env no_branches marks last law h = absurd h

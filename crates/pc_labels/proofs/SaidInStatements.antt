@@ -20,7 +20,7 @@ use Rattle.pc_rules.specs.Labels.{FlowMarks, Marks, Finds}
 use Rattle.pc_rules.specs.Lawful.{Lawful}
 use Rattle.pc_rules.proofs.Saying.{IsPart, part_either, IsEarlyHere, NameSays, PartSays}
 use Rattle.pc_rules.proofs.SaidInLabels.{arguments_found, first_found, items_found, keywords_found, said_found}
-use Rattle.pc_labels.specs.StatementLabels.{OptionMarks, TargetMarks, StmtMarks, SuiteMarks, BranchesMarks, Behind, BehindRule}
+use Rattle.pc_labels.specs.StatementLabels.{OptionMarks, TargetMarks, StmtMarks, SuiteMarks, BranchesMarks, Behind, Following, BehindRule}
 use Rattle.pc_labels.specs.Statements.{NamesBound, RangeOrValues, LawfulRange, LawfulValues, LawfulIterable, LawfulBinding, LawfulStore, LawfulAssignment, LawfulAnnotated, LawfulReturn, LawfulOption, AreUndeclared, LawfulStmt, LawfulSuite, LawfulBranches, OptionFinds, TargetFinds, StmtFinds, SuiteFinds, BranchesFind}
 
 module _ (m : Module) (ctx : Context) (declared : List Tree) (part : Expr) (f : Finding) (says : PartSays ctx part f) (expr : Expr) (judged : IsPart part (parts_in true expr)) where
@@ -108,13 +108,13 @@ module _ (m : Module) (ctx : Context) (declared : List Tree) (part : Expr) (f : 
     message_found env None marks law h = absurd h
     message_found env (Some e) marks law h = elim h [ inl is ↦ is_found env None e marks law is | inr b ↦ absurd b ]
 
-    behind_found : (seen : NamesBound) (env : Env) (st : Stmt) (rest : Stmts) (b : Test) (s0 : StmtMarks st) (r : Behind b (Env × SuiteMarks rest)) (out : Option Env)
-        → BehindRule b r (λ x. LawfulStmt m ctx declared returned seen env st s0 (Some x.0) × LawfulSuite m ctx declared returned (texts (bound_by_stmt st) ++ seen) x.0 rest x.1 out) (LawfulStmt m ctx declared returned seen env st s0 None × AreUndeclared m ctx declared (texts (bound_by_stmt st) ++ seen) (bound_by rest) × (out ≡ None))
+    behind_found : (seen : NamesBound) (env : Env) (st : Stmt) (rest : Stmts) (b : Test) (s0 : StmtMarks st) (r : Behind b (Following (SuiteMarks rest))) (out : Option Env)
+        → BehindRule b r (λ x. LawfulStmt m ctx declared returned seen env st s0 (Some x.env) × LawfulSuite m ctx declared returned (texts (bound_by_stmt st) ++ seen) x.env rest x.rest out) (LawfulStmt m ctx declared returned seen env st s0 None × AreUndeclared m ctx declared (texts (bound_by_stmt st) ++ seen) (bound_by rest) × (out ≡ None))
         → IsPart expr (exprs_in true st ++ (if b then exprs_in_all true rest else []))
         → ((o : Option Env) → LawfulStmt m ctx declared returned seen env st s0 o → IsPart expr (exprs_in true st) → StmtFinds m ctx seen st s0 f)
         → ((x : Env) (k : SuiteMarks rest) → LawfulSuite m ctx declared returned (texts (bound_by_stmt st) ++ seen) x rest k out → IsPart expr (exprs_in_all true rest) → SuiteFinds m ctx (texts (bound_by_stmt st) ++ seen) rest k f)
-        → StmtFinds m ctx seen st s0 f ⊎ BehindRule b r (λ x. SuiteFinds m ctx (texts (bound_by_stmt st) ++ seen) rest x.1 f) ⊥
-    behind_found seen env st rest true s0 r out law h first next = elim (part_either expr (exprs_in true st) (exprs_in_all true rest) h) [ inl a ↦ inl (first (Some r.0) law.0 a) | inr c ↦ inr (next r.0 r.1 law.1 c) ]
+        → StmtFinds m ctx seen st s0 f ⊎ BehindRule b r (λ x. SuiteFinds m ctx (texts (bound_by_stmt st) ++ seen) rest x.rest f) ⊥
+    behind_found seen env st rest true s0 r out law h first next = elim (part_either expr (exprs_in true st) (exprs_in_all true rest) h) [ inl a ↦ inl (first (Some r.env) law.0 a) | inr c ↦ inr (next r.env r.rest law.1 c) ]
     behind_found seen env st rest false s0 r out law h first next = elim (part_either expr (exprs_in true st) [] h) [ inl a ↦ inl (first None law.0 a) | inr c ↦ absurd c ]
 
     mutual
@@ -145,7 +145,7 @@ module _ (m : Module) (ctx : Context) (declared : List Tree) (part : Expr) (f : 
 
       pub suite_found : (seen : NamesBound) (env : Env) (b : Stmts) (marks : SuiteMarks b) (out : Option Env) → LawfulSuite m ctx declared returned seen env b marks out → IsPart expr (exprs_in_all true b) → SuiteFinds m ctx seen b marks f
       suite_found seen env no_stmts marks out law h = h
-      suite_found seen env (more_stmts st rest) marks out law h = behind_found seen env st rest (completes st) marks.0 marks.1 out law h (λ o l k. stmt_found seen env st marks.0 o l k) (λ x k l g. suite_found (texts (bound_by_stmt st) ++ seen) x rest k out l g)
+      suite_found seen env (more_stmts st rest) marks out law h = behind_found seen env st rest (completes st) marks.first marks.behind out law h (λ o l k. stmt_found seen env st marks.first o l k) (λ x k l g. suite_found (texts (bound_by_stmt st) ++ seen) x rest k out l g)
 
       branches_found : (seen : NamesBound) (env : Env) (bs : Branches) (marks : BranchesMarks bs) (last : Env) → LawfulBranches m ctx declared returned seen env bs marks last → IsPart expr (exprs_in_branches true bs) → BranchesFind m ctx seen bs marks f
       branches_found seen env no_branches marks last law h = h

@@ -84,7 +84,7 @@ module _ (m : Module) where
 
   abbrev pub FunctionsSay : (items : List Item) → ItemsMarks items → Finding → Type 0
   FunctionsSay [] marks f = ⊥
-  FunctionsSay (i ∷ rest) marks f = FunctionSays i marks.0 f ⊎ FunctionsSay rest marks.1 f
+  FunctionsSay (i ∷ rest) marks f = FunctionSays i marks.first f ⊎ FunctionsSay rest marks.rest f
 
   -- of constants and classes
   abbrev pub ItemSays : (i : Item) → ItemMarks i → Finding → Type 0
@@ -94,13 +94,13 @@ module _ (m : Module) where
 
   abbrev pub ItemsSay : (items : List Item) → ItemsMarks items → Finding → Type 0
   ItemsSay [] marks f = ⊥
-  ItemsSay (i ∷ rest) marks f = ItemSays i marks.0 f ⊎ ItemsSay rest marks.1 f
+  ItemsSay (i ∷ rest) marks f = ItemSays i marks.first f ⊎ ItemsSay rest marks.rest f
 
   -- ---- functions' signatures
 
   pub functions_listed : (all : List Tree) (b : BeforeItem) (items : List Item) (marks : ItemsMarks items) → LawfulModuleItems m all b items marks → Lists (functions_findings m items) (FunctionsSay items marks)
   functions_listed all b [] marks l = lists_nothing
-  functions_listed all b (i ∷ rest) marks l = lists_both (function_findings m i) (functions_findings m rest) (one i marks.0 l.0) (functions_listed all (before_next m b i marks.0) rest marks.1 l.1)
+  functions_listed all b (i ∷ rest) marks l = lists_both (function_findings m i) (functions_findings m rest) (one i marks.first l.0) (functions_listed all (before_next m b i marks.first) rest marks.rest l.1)
     where
       one : (i : Item) (mk : ItemMarks i) → LawfulItem m all b i mk → Lists (function_findings m i) (FunctionSays i mk)
       one (constant_item p c) mk h = lists_nothing
@@ -129,30 +129,30 @@ module _ (m : Module) where
     listed = lists_nothing;
   }
   items_walked all b kb (constant_item p c ∷ rest) from marks l =
-      let mk = marks.0 in
+      let mk = marks.first in
       let t = constant_type m c.annotation (type_of c.value mk.value) in
       let next = before_next m b (constant_item p c) mk in
-      let r = items_walked all next (one_more m b.constants t kb (type_well_formed b kb p c mk all l.0)) rest from marks.1 l.1 in
+      let r = items_walked all next (one_more m b.constants t kb (type_well_formed b kb p c mk all l.0)) rest from marks.rest l.1 in
       let here : behind m (reached_at b) (constant_item p c) ≡ reached_at next = ap (λ x. record { constants = b.constants ++ x ∷ []; classes = b.classes; bound = λ w. is_one_of w next.names }) (constant_is b kb p c mk all l.0) in
-      let more : next.constants ++ constant_types m rest marks.1 ≡ b.constants ++ (t ∷ constant_types m rest marks.1) = append_assoc b.constants (t ∷ []) (constant_types m rest marks.1) in
+      let more : next.constants ++ constant_types m rest marks.rest ≡ b.constants ++ (t ∷ constant_types m rest marks.rest) = append_assoc b.constants (t ∷ []) (constant_types m rest marks.rest) in
       record {
         types = ap (λ (x : ItemsReached). (behind_all m x rest).constants) here ∙ r.types ∙ more;
         well_formed = subst (AreWellFormed (bases_of m)) more r.well_formed;
         listed = lists_both (constant_findings m (reached_at b) c) (items_findings m (behind m (reached_at b) (constant_item p c)) rest)
             (constant_listed b kb p c mk all l.0)
-            (subst (λ (x : ItemsReached). Lists (items_findings m x rest) (ItemsSay rest marks.1)) (sym here) r.listed);
+            (subst (λ (x : ItemsReached). Lists (items_findings m x rest) (ItemsSay rest marks.rest)) (sym here) r.listed);
       }
   items_walked all b kb (class_item p c ∷ rest) from marks l =
-      let next = before_next m b (class_item p c) marks.0 in
-      let r = items_walked all next kb rest (λ i. ap (slice_get (classes_in m.items)) (omega arith) ∙ from (suc i)) marks.1 l.1 in
+      let next = before_next m b (class_item p c) marks.first in
+      let r = items_walked all next kb rest (λ i. ap (slice_get (classes_in m.items)) (omega arith) ∙ from (suc i)) marks.rest l.1 in
       record {
         types = r.types;
         well_formed = r.well_formed;
-        listed = lists_both (class_notes m b.classes c) (items_findings m (reached_at next) rest) (class_listed all b p c marks.0 (ap (slice_get (classes_in m.items)) (omega arith) ∙ from 0) l.0) r.listed;
+        listed = lists_both (class_notes m b.classes c) (items_findings m (reached_at next) rest) (class_listed all b p c marks.first (ap (slice_get (classes_in m.items)) (omega arith) ∙ from 0) l.0) r.listed;
       }
   items_walked all b kb (def_item p d ∷ rest) from marks l =
-      let next = before_next m b (def_item p d) marks.0 in
-      let r = items_walked all next kb rest from marks.1 l.1 in
+      let next = before_next m b (def_item p d) marks.first in
+      let r = items_walked all next kb rest from marks.rest l.1 in
       record {
         types = r.types;
         well_formed = r.well_formed;
@@ -165,20 +165,20 @@ module _ (m : Module) where
     -- what is said in bodies
     abbrev pub BodiesSay : BeforeItem → (items : List Item) → ItemsMarks items → Finding → Type 0
     BodiesSay b [] marks f = ⊥
-    BodiesSay b (constant_item p c ∷ rest) marks f = BodiesSay (before_next m b (constant_item p c) marks.0) rest marks.1 f
-    BodiesSay b (class_item p c ∷ rest) marks f = MethodsSay m all b.classes 0 c.members marks.0 f ⊎ BodiesSay (before_next m b (class_item p c) marks.0) rest marks.1 f
-    BodiesSay b (def_item p d ∷ rest) marks f = BodySays m all (owners.Func b.functions) d marks.0 f ⊎ BodiesSay (before_next m b (def_item p d) marks.0) rest marks.1 f
+    BodiesSay b (constant_item p c ∷ rest) marks f = BodiesSay (before_next m b (constant_item p c) marks.first) rest marks.rest f
+    BodiesSay b (class_item p c ∷ rest) marks f = MethodsSay m all b.classes 0 c.members marks.first f ⊎ BodiesSay (before_next m b (class_item p c) marks.first) rest marks.rest f
+    BodiesSay b (def_item p d ∷ rest) marks f = BodySays m all (owners.Func b.functions) d marks.first f ⊎ BodiesSay (before_next m b (def_item p d) marks.first) rest marks.rest f
 
     pub all_bodies_say : AreWellFormed (bases_of m) all → (b : BeforeItem) (items : List Item) (marks : ItemsMarks items) → LawfulModuleItems m all b items marks → (found : List Note) → Adds found (bodies_find m all b.classes b.functions items found) (BodiesSay b items marks)
     all_bodies_say k b [] marks l found = adds_nothing found
-    all_bodies_say k b (constant_item p c ∷ rest) marks l found = all_bodies_say k (before_next m b (constant_item p c) marks.0) rest marks.1 l.1 found
+    all_bodies_say k b (constant_item p c ∷ rest) marks l found = all_bodies_say k (before_next m b (constant_item p c) marks.first) rest marks.rest l.1 found
     all_bodies_say k b (class_item p c ∷ rest) marks l found =
         let one = methods_find m all b.classes 0 c.members found in
         adds_both found one (bodies_find m all (suc b.classes) b.functions rest one)
-        (methods_say m all k (base_class m b.classes c) b.classes 0 [] c.members marks.0 l.0 found)
-        (all_bodies_say k (before_next m b (class_item p c) marks.0) rest marks.1 l.1 one)
+        (methods_say m all k (base_class m b.classes c) b.classes 0 [] c.members marks.first l.0 found)
+        (all_bodies_say k (before_next m b (class_item p c) marks.first) rest marks.rest l.1 one)
     all_bodies_say k b (def_item p d ∷ rest) marks l found =
         let one = function_finds m all (owners.Func b.functions) d found in
         adds_both found one (bodies_find m all b.classes (suc b.functions) rest one)
-        (bodies_say m all k (owners.Func b.functions) d marks.0 l.0 found)
-        (all_bodies_say k (before_next m b (def_item p d) marks.0) rest marks.1 l.1 one)
+        (bodies_say m all k (owners.Func b.functions) d marks.first l.0 found)
+        (all_bodies_say k (before_next m b (def_item p d) marks.first) rest marks.rest l.1 one)

@@ -55,24 +55,24 @@ module _ (m : Module) (all : List Tree) (f : Finding) where
   items_split b [] marks h = absurd h
   items_split b (constant_item p c ∷ rest) marks h = elim h [
     | inl x ↦ inl (inr (inl (elim x [ inl a ↦ inl a | inr y ↦ inr (elim y [ inl fl ↦ inr fl | inr v ↦ inl v ]) ])))
-    | inr r ↦ elim (items_split (before_next m b (constant_item p c) marks.0) rest marks.1 r) [
+    | inr r ↦ elim (items_split (before_next m b (constant_item p c) marks.first) rest marks.rest r) [
       | inl t ↦ elim t [ inl d ↦ inl (inl (inr d)) | inr e ↦ inl (inr (inr e)) ]
       | inr u ↦ inr u
     ]
   ]
   items_split b (class_item p c ∷ rest) marks h = elim h [
-    | inl x ↦ elim (members_split m all b.classes 0 c.members marks.0 f x) [ inl y ↦ inl (inr (inl y)) | inr z ↦ inr (inl z) ]
-    | inr r ↦ other_part (items_split (before_next m b (class_item p c) marks.0) rest marks.1 r)
+    | inl x ↦ elim (members_split m all b.classes 0 c.members marks.first f x) [ inl y ↦ inl (inr (inl y)) | inr z ↦ inr (inl z) ]
+    | inr r ↦ other_part (items_split (before_next m b (class_item p c) marks.first) rest marks.rest r)
   ]
   items_split b (def_item p d ∷ rest) marks h = elim h [
-    | inl x ↦ elim (function_split m all (owners.Func b.functions) d marks.0 f x) [ inl y ↦ inl (inl (inl y)) | inr z ↦ inr (inl z) ]
-    | inr r ↦ other_part (items_split (before_next m b (def_item p d) marks.0) rest marks.1 r)
+    | inl x ↦ elim (function_split m all (owners.Func b.functions) d marks.first f x) [ inl y ↦ inl (inl (inl y)) | inr z ↦ inr (inl z) ]
+    | inr r ↦ other_part (items_split (before_next m b (def_item p d) marks.first) rest marks.rest r)
   ]
 
   items_joined : (b : BeforeItem) (items : List Item) (marks : ItemsMarks items) → InParts b items marks → ItemsFind m all b items marks f
   items_joined b [] marks h = elim h [ inl t ↦ elim t [ inl x ↦ x | inr y ↦ y ] | inr z ↦ z ]
   items_joined b (constant_item p c ∷ rest) marks h =
-      let next = items_joined (before_next m b (constant_item p c) marks.0) rest marks.1 in
+      let next = items_joined (before_next m b (constant_item p c) marks.first) rest marks.rest in
       elim h [
         | inl t ↦ elim t [
           | inl x ↦ elim x [ inl none ↦ absurd none | inr d ↦ inr (next (inl (inl d))) ]
@@ -84,12 +84,12 @@ module _ (m : Module) (all : List Tree) (f : Finding) where
         | inr u ↦ inr (next (inr u))
       ]
   items_joined b (class_item p c ∷ rest) marks h = elim (either_part h) [
-    | inl x ↦ inl (members_joined m all b.classes 0 c.members marks.0 f (elim x [ inl t ↦ elim t [ inl none ↦ absurd none | inr y ↦ inl y ] | inr z ↦ inr z ]))
-    | inr r ↦ inr (items_joined (before_next m b (class_item p c) marks.0) rest marks.1 r)
+    | inl x ↦ inl (members_joined m all b.classes 0 c.members marks.first f (elim x [ inl t ↦ elim t [ inl none ↦ absurd none | inr y ↦ inl y ] | inr z ↦ inr z ]))
+    | inr r ↦ inr (items_joined (before_next m b (class_item p c) marks.first) rest marks.rest r)
   ]
   items_joined b (def_item p d ∷ rest) marks h = elim (either_part h) [
-    | inl x ↦ inl (function_joined m all (owners.Func b.functions) d marks.0 f (elim x [ inl t ↦ elim t [ inl y ↦ inl y | inr none ↦ absurd none ] | inr z ↦ inr z ]))
-    | inr r ↦ inr (items_joined (before_next m b (def_item p d) marks.0) rest marks.1 r)
+    | inl x ↦ inl (function_joined m all (owners.Func b.functions) d marks.first f (elim x [ inl t ↦ elim t [ inl y ↦ inl y | inr none ↦ absurd none ] | inr z ↦ inr z ]))
+    | inr r ↦ inr (items_joined (before_next m b (def_item p d) marks.first) rest marks.rest r)
   ]
 
 -- ---- the module

@@ -15,7 +15,7 @@ use Rattle.pc_flow.specs.Narrowing.{narrow}
 use Rattle.pc_notes.specs.Notes.{Note}
 use Rattle.pc_rules.specs.Found.{codes_at}
 use Rattle.pc_rules.specs.Standing.{finds_in}
-use Rattle.pc_labels.specs.StatementLabels.{StmtMarks, SuiteMarks, BranchesMarks, Behind, BehindRule, behind_list, breaks_in, breaks_in_suite, breaks_in_branches, ways_in}
+use Rattle.pc_labels.specs.StatementLabels.{StmtMarks, SuiteMarks, BranchesMarks, Behind, Following, BehindRule, behind_list, breaks_in, breaks_in_suite, breaks_in_branches, ways_in}
 use Rattle.pc_labels.specs.Statements.{NamesBound, binds_number, AreUndeclared, OptionFinds, StmtFinds, SuiteFinds, BranchesFind, LawfulStmt, LawfulSuite, LawfulBranches}
 use Rattle.pc_labels.specs.LabellingLaws.{Setting}
 use Rattle.pc_labels.specs.ComputedStatements.{Table, BodyFrame, Walk, BranchesResult, BindingResult, at, with_way, narrowed_at, head_at, iterable_finds, bind_value, bind_annotated, bind_item, store_finds, option_finds, return_finds, behind_binding, inside_for, behind_loop, unreached_names, step, walk_suite, walk_branches}
@@ -121,16 +121,16 @@ module _ (setting : Setting) (returned : Tree) (kr : IsWellFormed setting.contex
       })
 
   -- a statement, and what stands behind it
-  behind_says : (b : Test) (seen : NamesBound) (table : Table) (env : Env) (broken : Option Env) (found : List Note) (s : Stmt) (rest : Stmts) (s0 : StmtMarks s) (r : Behind b (Env × SuiteMarks rest)) (out : Option Env)
+  behind_says : (b : Test) (seen : NamesBound) (table : Table) (env : Env) (broken : Option Env) (found : List Note) (s : Stmt) (rest : Stmts) (s0 : StmtMarks s) (r : Behind b (Following (SuiteMarks rest))) (out : Option Env)
       → ((o : Option Env) → LawfulHere seen env s s0 o → WalkHere (texts (bound_by_stmt s) ++ seen) table broken found (step frame table (Some env) broken found s) o (breaks_in s s0) (StmtFinds m ctx seen s s0))
       → ((w : Walk) (mid : Env) → w.env ≡ Some mid → TableHere (texts (bound_by_stmt s) ++ seen) w.table → EnvFits setting declared w.table mid → OutFits setting declared w.table w.broken → (k : SuiteMarks rest) (o : Option Env) → LawfulThere (texts (bound_by_stmt s) ++ seen) mid rest k o → WalkHere (texts (bound_by rest) ++ (texts (bound_by_stmt s) ++ seen)) w.table w.broken w.found (walk_suite frame w rest) o (breaks_in_suite rest k) (SuiteFinds m ctx (texts (bound_by_stmt s) ++ seen) rest k))
-      → BehindRule b r (λ x. LawfulHere seen env s s0 (Some x.0) × LawfulThere (texts (bound_by_stmt s) ++ seen) x.0 rest x.1 out) (LawfulHere seen env s s0 None × AreUndeclared m ctx declared (texts (bound_by_stmt s) ++ seen) (bound_by rest) × (out ≡ None))
-      → WalkHere (texts (bound_by rest) ++ (texts (bound_by_stmt s) ++ seen)) table broken found (walk_suite frame (step frame table (Some env) broken found s) rest) out (breaks_in s s0 ++ behind_list b r (λ x. breaks_in_suite rest x.1)) (λ f. StmtFinds m ctx seen s s0 f ⊎ BehindRule b r (λ x. SuiteFinds m ctx (texts (bound_by_stmt s) ++ seen) rest x.1 f) ⊥)
+      → BehindRule b r (λ x. LawfulHere seen env s s0 (Some x.env) × LawfulThere (texts (bound_by_stmt s) ++ seen) x.env rest x.rest out) (LawfulHere seen env s s0 None × AreUndeclared m ctx declared (texts (bound_by_stmt s) ++ seen) (bound_by rest) × (out ≡ None))
+      → WalkHere (texts (bound_by rest) ++ (texts (bound_by_stmt s) ++ seen)) table broken found (walk_suite frame (step frame table (Some env) broken found s) rest) out (breaks_in s s0 ++ behind_list b r (λ x. breaks_in_suite rest x.rest)) (λ f. StmtFinds m ctx seen s s0 f ⊎ BehindRule b r (λ x. SuiteFinds m ctx (texts (bound_by_stmt s) ++ seen) rest x.rest f) ⊥)
   behind_says true seen table env broken found s rest s0 r out first next l =
       let v = step frame table (Some env) broken found s in
-      let f = first (Some r.0) l.0 in
-      let n = next v r.0 f.env_is f.fits f.env_fits f.broken_fits r.1 out l.1 in
-      both_say (texts (bound_by_stmt s) ++ seen) (texts (bound_by rest) ++ (texts (bound_by_stmt s) ++ seen)) table broken found v (walk_suite frame v rest) (Some r.0) out (breaks_in s s0) (breaks_in_suite rest r.1) f n
+      let f = first (Some r.env) l.0 in
+      let n = next v r.env f.env_is f.fits f.env_fits f.broken_fits r.rest out l.1 in
+      both_say (texts (bound_by_stmt s) ++ seen) (texts (bound_by rest) ++ (texts (bound_by_stmt s) ++ seen)) table broken found v (walk_suite frame v rest) (Some r.env) out (breaks_in s s0) (breaks_in_suite rest r.rest) f n
   behind_says false seen table env broken found s rest s0 r out first next l =
       let v = step frame table (Some env) broken found s in
       let f = first None l.0 in
@@ -289,8 +289,8 @@ module _ (setting : Setting) (returned : Tree) (kr : IsWellFormed setting.contex
     suite_says seen w env e t f k (more_stmts s rest) marks out l =
         subst (λ o. WalkHere (texts (bound_by (more_stmts s rest)) ++ seen) w.table w.broken w.found (walk_suite frame (step frame w.table o w.broken w.found s) rest) out (breaks_in_suite (more_stmts s rest) marks) (SuiteFinds m ctx seen (more_stmts s rest) marks)) (sym e)
         (says_named (bound_by_stmt s) (bound_by rest) seen w.table w.broken w.found (walk_suite frame (step frame w.table (Some env) w.broken w.found s) rest) out (breaks_in_suite (more_stmts s rest) marks)
-        (behind_says (completes s) seen w.table env w.broken w.found s rest marks.0 marks.1 out
-        (λ o y. stmt_says seen w.table env w.broken w.found t f k s marks.0 o y)
+        (behind_says (completes s) seen w.table env w.broken w.found s rest marks.first marks.behind out
+        (λ o y. stmt_says seen w.table env w.broken w.found t f k s marks.first o y)
         (λ v mid i tv fv kv x o y. suite_says (texts (bound_by_stmt s) ++ seen) v mid i tv fv kv rest x o y)
         l))
 

@@ -152,7 +152,7 @@ ItemMarks (def_item p f) = FunctionMarks f
 -- the labels of the items of a module, one after another
 abbrev pub ItemsMarks : List Item → Type 0
 ItemsMarks [] = Unit {0}
-ItemsMarks (i ∷ rest) = ItemMarks i × ItemsMarks rest
+ItemsMarks (i ∷ rest) = record { first : ItemMarks i; rest : ItemsMarks rest }
 
 -- the type of an item that is a constant, none for a class or a def
 abbrev pub item_constants : Module → (i : Item) → ItemMarks i → List Tree
@@ -163,7 +163,7 @@ item_constants m (def_item p f) marks = []
 -- the types of the constants among items, in text order
 abbrev pub constant_types : Module → (items : List Item) → ItemsMarks items → List Tree
 constant_types m [] marks = []
-constant_types m (i ∷ rest) marks = item_constants m i marks.0 ++ constant_types m rest marks.1
+constant_types m (i ∷ rest) marks = item_constants m i marks.first ++ constant_types m rest marks.rest
 
 -- what stands before an item: constants' types, the numbers of classes and functions, names
 pub record BeforeItem : Type 0 where
@@ -214,8 +214,8 @@ LawfulItem m constants b (def_item p f) marks = LawfulFunction m constants (owne
 abbrev pub LawfulModuleItems : Module → (constants : List Tree) → BeforeItem → (items : List Item) → ItemsMarks items
     → Type 0
 LawfulModuleItems m constants b [] marks = Unit {0}
-LawfulModuleItems m constants b (i ∷ rest) marks = LawfulItem m constants b i marks.0
-    × LawfulModuleItems m constants (before_next m b i marks.0) rest marks.1
+LawfulModuleItems m constants b (i ∷ rest) marks = LawfulItem m constants b i marks.first
+    × LawfulModuleItems m constants (before_next m b i marks.first) rest marks.rest
 
 -- what is found in an item: a constant, a class or a def
 abbrev pub ItemFinds : Module → (constants : List Tree) → BeforeItem → (i : Item) → ItemMarks i → Finding → Type 0
@@ -228,8 +228,8 @@ ItemFinds m constants b (def_item p d) marks f = FunctionFinds m constants (owne
 abbrev pub ItemsFind : Module → (constants : List Tree) → BeforeItem → (items : List Item) → ItemsMarks items → Finding
     → Type 0
 ItemsFind m constants b [] marks f = ⊥
-ItemsFind m constants b (i ∷ rest) marks f = ItemFinds m constants b i marks.0 f
-    ⊎ ItemsFind m constants (before_next m b i marks.0) rest marks.1 f
+ItemsFind m constants b (i ∷ rest) marks f = ItemFinds m constants b i marks.first f
+    ⊎ ItemsFind m constants (before_next m b i marks.first) rest marks.rest f
 
 -- ---- the module
 

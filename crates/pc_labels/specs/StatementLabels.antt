@@ -26,6 +26,10 @@ abbrev pub Behind : (completes : Test) → Type 0 → Type 0
 Behind true A = A
 Behind false A = Unit {0}
 
+-- behind a statement that can complete: the environment there, and the labels of the other statements
+abbrev pub Following : (others : Type 0) → Type 0
+Following Others = record { env : Env; rest : Others }
+
 -- the labels of statements, suites and branches
 abbrev mutual
   -- of a statement: its expressions' labels, its flows, and environments at `break`, loop heads, `else` and suite ends
@@ -54,10 +58,13 @@ abbrev mutual
     out : Option Env;
   }
 
-  -- the environment behind the first statement, and the labels of the others
+  -- of a suite: the labels of its first statement, and what stands behind that
   pub SuiteMarks : Stmts → Type 0
   SuiteMarks no_stmts = Unit {0}
-  SuiteMarks (more_stmts s rest) = StmtMarks s × Behind (completes s) (Env × SuiteMarks rest)
+  SuiteMarks (more_stmts s rest) = record {
+    first : StmtMarks s;
+    behind : Behind (completes s) (Following (SuiteMarks rest));
+  }
 
   -- of each branch its condition's labels, its body's, and the environment where the body ends, if it can complete
   pub BranchesMarks : Branches → Type 0
@@ -88,8 +95,8 @@ abbrev mutual
 
   pub breaks_in_suite : (b : Stmts) → SuiteMarks b → List Env
   breaks_in_suite no_stmts m = []
-  breaks_in_suite (more_stmts s rest) m = breaks_in s m.0
-      ++ behind_list (completes s) m.1 (λ r. breaks_in_suite rest r.1)
+  breaks_in_suite (more_stmts s rest) m = breaks_in s m.first
+      ++ behind_list (completes s) m.behind (λ r. breaks_in_suite rest r.rest)
 
   pub breaks_in_branches : (bs : Branches) → BranchesMarks bs → List Env
   breaks_in_branches no_branches m = []

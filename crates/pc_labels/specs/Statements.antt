@@ -284,10 +284,10 @@ module _ (m : Module) (ctx : Context) (declared : List Tree) where
       pub LawfulSuite : NamesBound → Env → (b : Stmts) → SuiteMarks b → Option Env → Type 0
       LawfulSuite seen env no_stmts marks out = out ≡ Some env
       LawfulSuite seen env (more_stmts s rest) marks out =
-          BehindRule (completes s) marks.1
-          (λ r. LawfulStmt seen env s marks.0 (Some r.0)
-          × LawfulSuite (texts (bound_by_stmt s) ++ seen) r.0 rest r.1 out)
-          (LawfulStmt seen env s marks.0 None × AreUndeclared (texts (bound_by_stmt s) ++ seen) (bound_by rest)
+          BehindRule (completes s) marks.behind
+          (λ r. LawfulStmt seen env s marks.first (Some r.env)
+          × LawfulSuite (texts (bound_by_stmt s) ++ seen) r.env rest r.rest out)
+          (LawfulStmt seen env s marks.first None × AreUndeclared (texts (bound_by_stmt s) ++ seen) (bound_by rest)
           × (out ≡ None))
 
       -- each condition is checked after the ones before it are false
@@ -349,8 +349,8 @@ module _ (m : Module) (ctx : Context) where
     pub SuiteFinds : NamesBound → (b : Stmts) → SuiteMarks b → Finding → Type 0
     SuiteFinds seen no_stmts marks f = ⊥
     SuiteFinds seen (more_stmts s rest) marks f =
-        StmtFinds seen s marks.0 f
-        ⊎ BehindRule (completes s) marks.1 (λ r. SuiteFinds (texts (bound_by_stmt s) ++ seen) rest r.1 f) ⊥
+        StmtFinds seen s marks.first f
+        ⊎ BehindRule (completes s) marks.behind (λ r. SuiteFinds (texts (bound_by_stmt s) ++ seen) rest r.rest f) ⊥
 
     pub BranchesFind : NamesBound → (bs : Branches) → BranchesMarks bs → Finding → Type 0
     BranchesFind seen no_branches marks f = ⊥

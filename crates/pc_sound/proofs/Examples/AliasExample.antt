@@ -50,46 +50,94 @@ abbrev held : Env
 held = Some (ListOf Int) ∷ []
 
 marks : Labelling program
-marks = (
-  record { params = record { default = []; rest = tt }; declared = ListOf (Union Int Str) ∷ []; body = (tt, (Some (ListOf (Union Int Str)) ∷ [], tt)); out = Some (Some (ListOf (Union Int Str)) ∷ []); completing = None },
-  (
-    record { params = record { default = []; rest = tt }; declared = ListOf Any ∷ []; body = (tt, (Some (ListOf Any) ∷ [], tt)); out = Some (Some (ListOf Any) ∷ []); completing = None },
-    (
-      record { params = record { default = []; rest = tt }; declared = Any ∷ []; body = (tt, (Some Any ∷ [], tt)); out = Some (Some Any ∷ []); completing = None },
-      (
-        record {
+marks = record {
+  first = record {
+    params = record { default = []; rest = tt };
+    declared = ListOf (Union Int Str) ∷ [];
+    body = record { first = tt; behind = record { env = Some (ListOf (Union Int Str)) ∷ []; rest = tt } };
+    out = Some (Some (ListOf (Union Int Str)) ∷ []);
+    completing = None;
+  };
+  rest = record {
+    first = record {
+      params = record { default = []; rest = tt };
+      declared = ListOf Any ∷ [];
+      body = record { first = tt; behind = record { env = Some (ListOf Any) ∷ []; rest = tt } };
+      out = Some (Some (ListOf Any) ∷ []);
+      completing = None;
+    };
+    rest = record {
+      first = record {
+        params = record { default = []; rest = tt };
+        declared = Any ∷ [];
+        body = record { first = tt; behind = record { env = Some Any ∷ []; rest = tt } };
+        out = Some (Some Any ∷ []);
+        completing = None;
+      };
+      rest = record {
+        first = record {
           params = tt;
           declared = ListOf Int ∷ [];
-          body = (
-            record { value = record { here = clean (ListOf Int); items = record { first = clean Int; flows = []; rest = tt } }; target = tt; flows = quiet_flow (ListOf Int) (ListOf Int) ∷ [] },
-            (
-              held,
-              (
-                record { here = clean Any; callee = clean Any; second = None; arguments = record { first = clean (ListOf Int); flows = record { from = ListOf Int; into = ListOf (Union Int Str); code = Some E12 } ∷ []; rest = tt }; keywords = tt },
-                (
-                  held,
-                  (
-                    record { here = clean Any; callee = clean Any; second = None; arguments = record { first = clean (ListOf Int); flows = record { from = ListOf Int; into = ListOf Any; code = Some A1 } ∷ []; rest = tt }; keywords = tt },
-                    (
-                      held,
-                      (
-                        record { here = clean Any; callee = clean Any; second = None; arguments = record { first = clean (ListOf Int); flows = quiet_flow (ListOf Int) Any ∷ []; rest = tt }; keywords = tt },
-                        (held, tt),
-                      ),
-                    ),
-                  ),
-                ),
-              ),
-            ),
-          );
+          body = record {
+            first = record {
+              value = record { here = clean (ListOf Int); items = record { first = clean Int; flows = []; rest = tt } };
+              target = tt;
+              flows = quiet_flow (ListOf Int) (ListOf Int) ∷ [];
+            };
+            behind = record {
+              env = held;
+              rest = record {
+                first = record {
+                  here = clean Any;
+                  callee = clean Any;
+                  second = None;
+                  arguments = record {
+                    first = clean (ListOf Int);
+                    flows = record { from = ListOf Int; into = ListOf (Union Int Str); code = Some E12 } ∷ [];
+                    rest = tt;
+                  };
+                  keywords = tt;
+                };
+                behind = record {
+                  env = held;
+                  rest = record {
+                    first = record {
+                      here = clean Any;
+                      callee = clean Any;
+                      second = None;
+                      arguments = record {
+                        first = clean (ListOf Int);
+                        flows = record { from = ListOf Int; into = ListOf Any; code = Some A1 } ∷ [];
+                        rest = tt;
+                      };
+                      keywords = tt;
+                    };
+                    behind = record {
+                      env = held;
+                      rest = record {
+                        first = record {
+                          here = clean Any;
+                          callee = clean Any;
+                          second = None;
+                          arguments = record { first = clean (ListOf Int); flows = quiet_flow (ListOf Int) Any ∷ []; rest = tt };
+                          keywords = tt;
+                        };
+                        behind = record { env = held; rest = tt };
+                      };
+                    };
+                  };
+                };
+              };
+            };
+          };
           out = Some held;
           completing = None;
-        },
-        tt,
-      ),
-    ),
-  ),
-)
+        };
+        rest = tt;
+      };
+    };
+  };
+}
 
 lawful : IsLawful program marks
 unfolding marks builtin_of bases_of classes_of signatures_of

@@ -27,31 +27,44 @@ abbrev inside : Env
 inside = Some (ListOf Int) ∷ Some Int ∷ []
 
 marks : Labelling program
-marks = (
-  record {
+marks = record {
+  first = record {
     params = tt;
     declared = ListOf Int ∷ Int ∷ [];
-    body = (
-      record { value = record { here = clean (ListOf Int); items = tt }; flows = quiet_flow (ListOf Int) (ListOf Int) ∷ [] },
-      (
-        outside,
-        (
-          record { iterable = clean (ListOf Int); item = clean Int; flows = quiet_flow Int Int ∷ []; head = outside; body = (tt, (inside, tt)); out = Some inside },
-          (
-            outside,
-            (
-              record { here = clean NoneType; callee = clean Any; second = None; arguments = record { first = in_error E04; flows = []; rest = tt }; keywords = tt },
-              (outside, tt),
-            ),
-          ),
-        ),
-      ),
-    );
+    body = record {
+      first = record { value = record { here = clean (ListOf Int); items = tt }; flows = quiet_flow (ListOf Int) (ListOf Int) ∷ [] };
+      behind = record {
+        env = outside;
+        rest = record {
+          first = record {
+            iterable = clean (ListOf Int);
+            item = clean Int;
+            flows = quiet_flow Int Int ∷ [];
+            head = outside;
+            body = record { first = tt; behind = record { env = inside; rest = tt } };
+            out = Some inside;
+          };
+          behind = record {
+            env = outside;
+            rest = record {
+              first = record {
+                here = clean NoneType;
+                callee = clean Any;
+                second = None;
+                arguments = record { first = in_error E04; flows = []; rest = tt };
+                keywords = tt;
+              };
+              behind = record { env = outside; rest = tt };
+            };
+          };
+        };
+      };
+    };
     out = Some outside;
     completing = None;
-  },
-  tt,
-)
+  };
+  rest = tt;
+}
 
 lawful : IsLawful program marks
 unfolding marks builtin_of bases_of classes_of signatures_of

@@ -88,33 +88,48 @@ c_is_good bases =
 -- ---- the labelling
 
 marks : Labelling program
-marks = (
-  record {
-    method = record { params = record { default = []; rest = tt }; declared = Class 0 ∷ Any ∷ []; body = (record { value = clean Int; flows = quiet_flow Int Int ∷ [] }, tt); out = None; completing = None };
+marks = record {
+  first = record {
+    method = record {
+      params = record { default = []; rest = tt };
+      declared = Class 0 ∷ Any ∷ [];
+      body = record { first = record { value = clean Int; flows = quiet_flow Int Int ∷ [] }; behind = tt };
+      out = None;
+      completing = None;
+    };
     rest = tt;
-  },
-  (
-    record {
-      method = record { params = record { default = []; rest = tt }; declared = Class 1 ∷ Int ∷ []; body = (record { value = clean Int; flows = quiet_flow Int Int ∷ [] }, tt); out = None; completing = None };
+  };
+  rest = record {
+    first = record {
+      method = record {
+        params = record { default = []; rest = tt };
+        declared = Class 1 ∷ Int ∷ [];
+        body = record { first = record { value = clean Int; flows = quiet_flow Int Int ∷ [] }; behind = tt };
+        out = None;
+        completing = None;
+      };
       rest = tt;
-    },
-    (
-      record {
+    };
+    rest = record {
+      first = record {
         method = record {
           params = record { default = []; rest = tt };
           declared = Class 2 ∷ Int ∷ [];
-          body = (record { value = record { here = clean Int; left = clean Int; right = clean Int }; flows = quiet_flow Int Int ∷ [] }, tt);
+          body = record {
+            first = record { value = record { here = clean Int; left = clean Int; right = clean Int }; flows = quiet_flow Int Int ∷ [] };
+            behind = tt;
+          };
           out = None;
           completing = None;
         };
         rest = tt;
-      },
-      (
-        record {
+      };
+      rest = record {
+        first = record {
           params = record { default = []; rest = tt };
           declared = Class 0 ∷ [];
-          body = (
-            record {
+          body = record {
+            first = record {
               value = record {
                 here = clean Int;
                 callee = record { here = clean Any; object = clean (Class 0) };
@@ -123,18 +138,18 @@ marks = (
                 keywords = tt;
               };
               flows = quiet_flow Int Int ∷ [];
-            },
-            tt,
-          );
+            };
+            behind = tt;
+          };
           out = None;
           completing = None;
-        },
-        (
-          record {
+        };
+        rest = record {
+          first = record {
             params = tt;
             declared = [];
-            body = (
-              record {
+            body = record {
+              first = record {
                 here = clean Int;
                 callee = clean Any;
                 second = None;
@@ -144,18 +159,18 @@ marks = (
                   rest = tt;
                 };
                 keywords = tt;
-              },
-              ([], tt),
-            );
+              };
+              behind = record { env = []; rest = tt };
+            };
             out = Some [];
             completing = None;
-          },
-          tt,
-        ),
-      ),
-    ),
-  ),
-)
+          };
+          rest = tt;
+        };
+      };
+    };
+  };
+}
 
 lawful : IsLawful program marks
 unfolding marks builtin_of bases_of classes_of signatures_of

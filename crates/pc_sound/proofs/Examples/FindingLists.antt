@@ -279,7 +279,7 @@ module _ (m : Module) (ctx : Context) where
     pub suite_listed : (seen : NamesBound) (b : Stmts) (marks : SuiteMarks b) → Listing (SuiteFinds m ctx seen b marks)
     suite_listed seen no_stmts marks = nothing_listed
     suite_listed seen (more_stmts s rest) marks =
-        both_listed (stmt_listed seen s marks.0) (behind_listed (completes s) marks.1 (λ r. SuiteFinds m ctx (texts (bound_by_stmt s) ++ seen) rest r.1) (λ r. suite_listed (texts (bound_by_stmt s) ++ seen) rest r.1))
+        both_listed (stmt_listed seen s marks.first) (behind_listed (completes s) marks.behind (λ r. SuiteFinds m ctx (texts (bound_by_stmt s) ++ seen) rest r.rest) (λ r. suite_listed (texts (bound_by_stmt s) ++ seen) rest r.rest))
 
     pub branches_listed : (seen : NamesBound) (bs : Branches) (marks : BranchesMarks bs) → Listing (BranchesFind m ctx seen bs marks)
     branches_listed seen no_branches marks = nothing_listed
@@ -315,4 +315,4 @@ module _ (m : Module) where
 
     abbrev pub all_items_listed : (b : BeforeItem) (items : List Item) (marks : modules.ItemsMarks items) → Listing (modules.ItemsFind m constants b items marks)
     all_items_listed b [] marks = nothing_listed
-    all_items_listed b (i ∷ rest) marks = both_listed (item_listed b i marks.0) (all_items_listed (before_next m b i marks.0) rest marks.1)
+    all_items_listed b (i ∷ rest) marks = both_listed (item_listed b i marks.first) (all_items_listed (before_next m b i marks.first) rest marks.rest)

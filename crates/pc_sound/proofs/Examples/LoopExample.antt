@@ -22,44 +22,67 @@ abbrev wide : Env
 wide = Some (Union Int NoneType) ∷ []
 
 marks : Labelling program
-marks = (
-  record {
+marks = record {
+  first = record {
     params = record { default = []; rest = tt };
     declared = Union Int NoneType ∷ [];
-    body = (
-      record {
-        branches = record { condition = record { here = clean Bool; operand = clean (Union Int NoneType) }; body = (record { value = tt; flows = quiet_flow NoneType Any ∷ [] }, tt); out = None; rest = tt };
+    body = record {
+      first = record {
+        branches = record {
+          condition = record { here = clean Bool; operand = clean (Union Int NoneType) };
+          body = record { first = record { value = tt; flows = quiet_flow NoneType Any ∷ [] }; behind = tt };
+          out = None;
+          rest = tt;
+        };
         last = Some Int ∷ [];
         otherwise = tt;
         out = Some (Some Int ∷ []);
-      },
-      (
-        Some Int ∷ [],
-        (
-          record {
+      };
+      behind = record {
+        env = Some Int ∷ [];
+        rest = record {
+          first = record {
             head = wide;
             condition = clean Bool;
-            body = (record { here = in_error E13; left = clean (Union Int NoneType); right = clean Int }, (wide, (record { value = clean NoneType; target = tt; flows = quiet_flow NoneType (Union Int NoneType) ∷ [] }, (Some NoneType ∷ [], tt))));
+            body = record {
+              first = record { here = in_error E13; left = clean (Union Int NoneType); right = clean Int };
+              behind = record {
+                env = wide;
+                rest = record {
+                  first = record { value = clean NoneType; target = tt; flows = quiet_flow NoneType (Union Int NoneType) ∷ [] };
+                  behind = record { env = Some NoneType ∷ []; rest = tt };
+                };
+              };
+            };
             out = Some (Some NoneType ∷ []);
-          },
-          (wide, tt),
-        ),
-      ),
-    );
+          };
+          behind = record { env = wide; rest = tt };
+        };
+      };
+    };
     out = Some wide;
     completing = None;
-  },
-  (
-    record {
+  };
+  rest = record {
+    first = record {
       params = tt;
       declared = [];
-      body = (record { here = clean Any; callee = clean Any; second = None; arguments = record { first = clean Int; flows = quiet_flow Int (Union Int NoneType) ∷ []; rest = tt }; keywords = tt }, ([], tt));
+      body = record {
+        first = record {
+          here = clean Any;
+          callee = clean Any;
+          second = None;
+          arguments = record { first = clean Int; flows = quiet_flow Int (Union Int NoneType) ∷ []; rest = tt };
+          keywords = tt;
+        };
+        behind = record { env = []; rest = tt };
+      };
       out = Some [];
       completing = None;
-    },
-    tt,
-  ),
-)
+    };
+    rest = tt;
+  };
+}
 
 lawful : IsLawful program marks
 unfolding marks builtin_of bases_of classes_of signatures_of

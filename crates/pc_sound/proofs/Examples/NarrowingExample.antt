@@ -30,67 +30,79 @@ abbrev test_of_any : Mark
 test_of_any = record { type = Bool; codes = A7 ∷ [] }
 
 marks : Labelling program
-marks = (
-  record {
+marks = record {
+  first = record {
     params = record { default = []; rest = record { default = []; rest = tt } };
     declared = Any ∷ list_or_none ∷ [];
-    body = (
-      record {
+    body = record {
+      first = record {
         branches = record {
-          condition = record { here = test_of_any; callee = clean Any; second = None; arguments = record { first = clean Any; flows = []; rest = record { first = in_error E20; flows = []; rest = tt } }; keywords = tt };
-          body = (
-            record {
+          condition = record {
+            here = test_of_any;
+            callee = clean Any;
+            second = None;
+            arguments = record { first = clean Any; flows = []; rest = record { first = in_error E20; flows = []; rest = tt } };
+            keywords = tt;
+          };
+          body = record {
+            first = record {
               here = clean NoneType;
               callee = record { here = clean Any; object = clean (ListOf Any) };
               second = None;
               arguments = record { first = clean Str; flows = quiet_flow Str Any ∷ []; rest = tt };
               keywords = tt;
-            },
-            (where_are (ListOf Any) list_or_none, tt),
-          );
+            };
+            behind = record { env = where_are (ListOf Any) list_or_none; rest = tt };
+          };
           out = Some (where_are (ListOf Any) list_or_none);
           rest = tt;
         };
         last = where_are Any list_or_none;
         otherwise = tt;
         out = Some (where_are Any list_or_none);
-      },
-      (
-        where_are Any list_or_none,
-        (
-          record {
+      };
+      behind = record {
+        env = where_are Any list_or_none;
+        rest = record {
+          first = record {
             branches = record {
-              condition = record { here = clean Bool; callee = clean Any; second = None; arguments = record { first = clean list_or_none; flows = []; rest = record { first = in_error E20; flows = []; rest = tt } }; keywords = tt };
-              body = (
-                record {
+              condition = record {
+                here = clean Bool;
+                callee = clean Any;
+                second = None;
+                arguments = record { first = clean list_or_none; flows = []; rest = record { first = in_error E20; flows = []; rest = tt } };
+                keywords = tt;
+              };
+              body = record {
+                first = record {
                   here = clean NoneType;
                   callee = record { here = clean Any; object = clean (ListOf Int) };
                   second = None;
                   arguments = record { first = clean Int; flows = quiet_flow Int Int ∷ []; rest = tt };
                   keywords = tt;
-                },
-                (where_are Any (ListOf Int), tt),
-              );
+                };
+                behind = record { env = where_are Any (ListOf Int); rest = tt };
+              };
               out = Some (where_are Any (ListOf Int));
               rest = tt;
             };
             last = where_are Any NoneType;
             otherwise = tt;
             out = Some (where_are Any NoneType);
-          },
-          (where_are Any list_or_none, tt),
-        ),
-      ),
-    );
+          };
+          behind = record { env = where_are Any list_or_none; rest = tt };
+        };
+      };
+    };
     out = Some (where_are Any list_or_none);
     completing = None;
-  },
-  (
-    record {
+  };
+  rest = record {
+    first = record {
       params = tt;
       declared = [];
-      body = (
-        record {
+      body = record {
+        first = record {
           here = clean Any;
           callee = clean Any;
           second = None;
@@ -100,15 +112,15 @@ marks = (
             rest = record { first = clean NoneType; flows = quiet_flow NoneType list_or_none ∷ []; rest = tt };
           };
           keywords = tt;
-        },
-        ([], tt),
-      );
+        };
+        behind = record { env = []; rest = tt };
+      };
       out = Some [];
       completing = None;
-    },
-    tt,
-  ),
-)
+    };
+    rest = tt;
+  };
+}
 
 lawful : IsLawful program marks
 unfolding marks builtin_of bases_of classes_of signatures_of

@@ -20,22 +20,31 @@ use Rattle.pc_sound.proofs.Examples.ExampleFindings.{quiet_flow, with_types, no_
 use Rattle.pc_sound.proofs.Examples.ExampleRuns.{runs_plainly}
 
 marks : Labelling program
-marks = (
-  record { value = in_error E03; flows = quiet_flow Any Int ∷ [] },
-  (
-    record { value = clean Int; flows = quiet_flow Int Int ∷ [] },
-    (
-      record {
+marks = record {
+  first = record { value = in_error E03; flows = quiet_flow Any Int ∷ [] };
+  rest = record {
+    first = record { value = clean Int; flows = quiet_flow Int Int ∷ [] };
+    rest = record {
+      first = record {
         params = tt;
         declared = [];
-        body = (record { here = clean NoneType; callee = clean Any; second = None; arguments = record { first = clean Int; flows = []; rest = tt }; keywords = tt }, ([], tt));
+        body = record {
+          first = record {
+            here = clean NoneType;
+            callee = clean Any;
+            second = None;
+            arguments = record { first = clean Int; flows = []; rest = tt };
+            keywords = tt;
+          };
+          behind = record { env = []; rest = tt };
+        };
         out = Some [];
         completing = None;
-      },
-      tt,
-    ),
-  ),
-)
+      };
+      rest = tt;
+    };
+  };
+}
 
 lawful : IsLawful program marks
 unfolding marks builtin_of bases_of classes_of signatures_of

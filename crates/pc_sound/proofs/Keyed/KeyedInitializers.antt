@@ -26,9 +26,9 @@ module _ (m : Module) where
   -- no test of an instance in an initializer has the error of order at its second argument
   abbrev pub InitializersTimely : BeforeItem → (items : List Item) → ItemsMarks items → Type 0
   InitializersTimely b [] marks = Unit {0}
-  InitializersTimely b (constant_item p c ∷ rest) marks = Timely (initializer_context m b.constants b.classes) [] c.value × InitializersTimely (before_next m b (constant_item p c) marks.0) rest marks.1
-  InitializersTimely b (class_item p c ∷ rest) marks = InitializersTimely (before_next m b (class_item p c) marks.0) rest marks.1
-  InitializersTimely b (def_item p f ∷ rest) marks = InitializersTimely (before_next m b (def_item p f) marks.0) rest marks.1
+  InitializersTimely b (constant_item p c ∷ rest) marks = Timely (initializer_context m b.constants b.classes) [] c.value × InitializersTimely (before_next m b (constant_item p c) marks.first) rest marks.rest
+  InitializersTimely b (class_item p c ∷ rest) marks = InitializersTimely (before_next m b (class_item p c) marks.first) rest marks.rest
+  InitializersTimely b (def_item p f ∷ rest) marks = InitializersTimely (before_next m b (def_item p f) marks.first) rest marks.rest
 
   want_keyed : (b : Test) (a : Option Ann) → OptionKeyed (first_of_types (annotated_types m b a))
   want_keyed true (Some a) = ann_keyed m (bases_of m) a
@@ -46,12 +46,12 @@ module _ (m : Module) where
   both_keyed : (all : List Tree) (b : BeforeItem) (items : List Item) (marks : ItemsMarks items) → LawfulModuleItems m all b items marks → InitializersTimely b items marks → AllTypesKeyed b.constants → BothKeyed b items marks
   both_keyed all b [] marks law timely keyed = record { labels = tt; types = subst AllTypesKeyed (sym (append-nil b.constants)) keyed }
   both_keyed all b (constant_item p c ∷ rest) marks law timely keyed =
-      let here = labels_keyed (initializer_context m b.constants b.classes) [] (initializer_keyed m b.constants b.classes keyed) [] (λ x t e. absurd (none-some _ e)) (first_of_types (annotated_types m (binds_name b.names c.name) c.annotation)) (want_keyed (binds_name b.names c.name) c.annotation) c.value timely.0 marks.0.value law.0.value in
-      let t = constant_type m c.annotation (type_of c.value marks.0.value) in
-      let r = both_keyed all (before_next m b (constant_item p c) marks.0) rest marks.1 law.1 timely.1 (one_more_keyed b.constants t keyed (type_keyed c.annotation (type_of c.value marks.0.value) (keyed_type c.value marks.0.value here))) in
-      record { labels = (here, r.labels); types = subst AllTypesKeyed (append_assoc b.constants (t ∷ []) (constant_types m rest marks.1)) r.types }
-  both_keyed all b (class_item p c ∷ rest) marks law timely keyed = let r = both_keyed all (before_next m b (class_item p c) marks.0) rest marks.1 law.1 timely keyed in record { labels = r.labels; types = r.types }
-  both_keyed all b (def_item p f ∷ rest) marks law timely keyed = let r = both_keyed all (before_next m b (def_item p f) marks.0) rest marks.1 law.1 timely keyed in record { labels = r.labels; types = r.types }
+      let here = labels_keyed (initializer_context m b.constants b.classes) [] (initializer_keyed m b.constants b.classes keyed) [] (λ x t e. absurd (none-some _ e)) (first_of_types (annotated_types m (binds_name b.names c.name) c.annotation)) (want_keyed (binds_name b.names c.name) c.annotation) c.value timely.0 marks.first.value law.0.value in
+      let t = constant_type m c.annotation (type_of c.value marks.first.value) in
+      let r = both_keyed all (before_next m b (constant_item p c) marks.first) rest marks.rest law.1 timely.1 (one_more_keyed b.constants t keyed (type_keyed c.annotation (type_of c.value marks.first.value) (keyed_type c.value marks.first.value here))) in
+      record { labels = (here, r.labels); types = subst AllTypesKeyed (append_assoc b.constants (t ∷ []) (constant_types m rest marks.rest)) r.types }
+  both_keyed all b (class_item p c ∷ rest) marks law timely keyed = let r = both_keyed all (before_next m b (class_item p c) marks.first) rest marks.rest law.1 timely keyed in record { labels = r.labels; types = r.types }
+  both_keyed all b (def_item p f ∷ rest) marks law timely keyed = let r = both_keyed all (before_next m b (def_item p f) marks.first) rest marks.rest law.1 timely keyed in record { labels = r.labels; types = r.types }
 
   module _ (marks : Labelling m) (lawful : IsLawful m marks) (timely : InitializersTimely nothing_before m.items marks) where
     all_keyed : BothKeyed nothing_before m.items marks

@@ -30,7 +30,7 @@ abbrev mutual
 
   pub SuiteKeyed : (b : Stmts) → SuiteMarks b → Type 0
   SuiteKeyed no_stmts m = Unit {0}
-  SuiteKeyed (more_stmts s rest) m = StmtKeyed s m.0 × BehindRule (completes s) m.1 (λ r. SuiteKeyed rest r.1) (Unit {0})
+  SuiteKeyed (more_stmts s rest) m = StmtKeyed s m.first × BehindRule (completes s) m.behind (λ r. SuiteKeyed rest r.rest) (Unit {0})
 
   pub BranchesKeyed : (bs : Branches) → BranchesMarks bs → Type 0
   BranchesKeyed no_branches m = Unit {0}

@@ -27,7 +27,7 @@ use Rattle.pc_rules.specs.Operations.{Mark, clean, StoreOffer, has_error, store_
 use Rattle.pc_rules.specs.Calls.{arguments_given, is_suited, builtin_signature, positional_seat, named_seat, is_range, range_offers, range_item}
 use Rattle.pc_rules.specs.Labels.{FlowMarks, Marks, type_of}
 use Rattle.pc_rules.specs.Lawful.{Lawful}
-use Rattle.pc_labels.specs.StatementLabels.{OptionMarks, TargetMarks, StmtMarks, SuiteMarks, BranchesMarks, Behind, BehindRule, breaks_in, breaks_in_suite, breaks_in_branches, behind_list, ways_in}
+use Rattle.pc_labels.specs.StatementLabels.{OptionMarks, TargetMarks, StmtMarks, SuiteMarks, BranchesMarks, Behind, Following, BehindRule, breaks_in, breaks_in_suite, breaks_in_branches, behind_list, ways_in}
 use Rattle.pc_labels.specs.Statements.{NamesBound, is_first, only_code, LawfulRange, LawfulValues, RangeOrValues, LawfulIterable, LawfulTarget, LawfulDeclaration, annotation_at, LawfulAnnotated, LawfulAssignment, LawfulReturn, LawfulOption, LawfulStmt, LawfulSuite, LawfulBranches, binds_number, DeclaredAt, known_type, bound_env, LawfulBinding, LawfulStore, UndeclaredName, AreUndeclared}
 use Rattle.pc_sound.proofs.TruthValues.{not_both}
 use Rattle.pc_sound.proofs.Keyed.KeyedDicts.{IsKeyed, Keyed, keyed_type}
@@ -396,21 +396,21 @@ module _ (m : Module) (ctx : Context) (declared : List Tree) (keyed : ContextKey
 
   module _ (returned : Tree) (rk : IsKeyed returned) where
     -- what stands behind a statement
-    record BehindResult (s : Stmt) (rest : Stmts) (first : StmtMarks s) (b : Test) (behind : Behind b (Env × SuiteMarks rest)) (out : Option Env) : Type 0 where
-      labels : StmtKeyed s first × BehindRule b behind (λ r. SuiteKeyed rest r.1) (Unit {0})
+    record BehindResult (s : Stmt) (rest : Stmts) (first : StmtMarks s) (b : Test) (behind : Behind b (Following (SuiteMarks rest))) (out : Option Env) : Type 0 where
+      labels : StmtKeyed s first × BehindRule b behind (λ r. SuiteKeyed rest r.rest) (Unit {0})
       names : NamesKeyed (bound_by_stmt s ++ bound_by rest)
       after : OutKeyed out
-      breaks : Envs (breaks_in s first ++ behind_list b behind (λ r. breaks_in_suite rest r.1))
+      breaks : Envs (breaks_in s first ++ behind_list b behind (λ r. breaks_in_suite rest r.rest))
 
     behind_keyed :
         (seen : NamesBound) (env : Env) (s : Stmt) (rest : Stmts) (first : StmtMarks s) → SeenKeyed seen → ((out : Option Env) → LawfulStmt m ctx declared returned seen env s first out → StmtResult s first out)
-        → ((seen : NamesBound) (env : Env) (marks : SuiteMarks rest) (out : Option Env) → SeenKeyed seen → EnvKeyed declared env → LawfulSuite m ctx declared returned seen env rest marks out → SuiteResult rest marks out) → (b : Test) (behind : Behind b (Env × SuiteMarks rest)) (out : Option Env)
-        → BehindRule b behind (λ r. LawfulStmt m ctx declared returned seen env s first (Some r.0) × LawfulSuite m ctx declared returned (texts (bound_by_stmt s) ++ seen) r.0 rest r.1 out) (LawfulStmt m ctx declared returned seen env s first None × AreUndeclared m ctx declared (texts (bound_by_stmt s) ++ seen) (bound_by rest) × (out ≡ None))
+        → ((seen : NamesBound) (env : Env) (marks : SuiteMarks rest) (out : Option Env) → SeenKeyed seen → EnvKeyed declared env → LawfulSuite m ctx declared returned seen env rest marks out → SuiteResult rest marks out) → (b : Test) (behind : Behind b (Following (SuiteMarks rest))) (out : Option Env)
+        → BehindRule b behind (λ r. LawfulStmt m ctx declared returned seen env s first (Some r.env) × LawfulSuite m ctx declared returned (texts (bound_by_stmt s) ++ seen) r.env rest r.rest out) (LawfulStmt m ctx declared returned seen env s first None × AreUndeclared m ctx declared (texts (bound_by_stmt s) ++ seen) (bound_by rest) × (out ≡ None))
         → BehindResult s rest first b behind out
     behind_keyed seen env s rest first sk one others true behind out law =
-        let a = one (Some behind.0) law.0 in
-        let r = others (texts (bound_by_stmt s) ++ seen) behind.0 behind.1 out (seen_names (bound_by_stmt s) seen a.names sk) (a.after behind.0 refl) law.1 in
-        record { labels = (a.labels, r.labels); names = names_append (bound_by_stmt s) (bound_by rest) a.names r.names; after = r.after; breaks = envs_append ctx.bases declared (breaks_in s first) (breaks_in_suite rest behind.1) a.breaks r.breaks }
+        let a = one (Some behind.env) law.0 in
+        let r = others (texts (bound_by_stmt s) ++ seen) behind.env behind.rest out (seen_names (bound_by_stmt s) seen a.names sk) (a.after behind.env refl) law.1 in
+        record { labels = (a.labels, r.labels); names = names_append (bound_by_stmt s) (bound_by rest) a.names r.names; after = r.after; breaks = envs_append ctx.bases declared (breaks_in s first) (breaks_in_suite rest behind.rest) a.breaks r.breaks }
     behind_keyed seen env s rest first sk one others false behind out law =
         let a = one None law.0 in
         record { labels = (a.labels, tt); names = names_append (bound_by_stmt s) (bound_by rest) a.names (undeclared_keyed (texts (bound_by_stmt s) ++ seen) (bound_by rest) (seen_names (bound_by_stmt s) seen a.names sk) law.1); after = out_none out law.2; breaks = envs_append ctx.bases declared (breaks_in s first) [] a.breaks tt }
@@ -465,7 +465,7 @@ module _ (m : Module) (ctx : Context) (declared : List Tree) (keyed : ContextKey
       pub suite_keyed : (seen : NamesBound) (env : Env) (b : Stmts) (marks : SuiteMarks b) (out : Option Env) → SeenKeyed seen → EnvKeyed declared env → LawfulSuite m ctx declared returned seen env b marks out → SuiteResult b marks out
       suite_keyed seen env no_stmts marks out sk ek law = record { labels = tt; names = tt; after = out_is out env law ek; breaks = tt }
       suite_keyed seen env (more_stmts s rest) marks out sk ek law =
-          let r = behind_keyed seen env s rest marks.0 sk (λ o l. stmt_keyed seen env s marks.0 o sk ek l) (λ seen' env' marks' o sk' ek' l. suite_keyed seen' env' rest marks' o sk' ek' l) (completes s) marks.1 out law in
+          let r = behind_keyed seen env s rest marks.first sk (λ o l. stmt_keyed seen env s marks.first o sk ek l) (λ seen' env' marks' o sk' ek' l. suite_keyed seen' env' rest marks' o sk' ek' l) (completes s) marks.behind out law in
           record { labels = r.labels; names = r.names; after = r.after; breaks = r.breaks }
 
       branches_keyed : (seen : NamesBound) (env : Env) (bs : Branches) (marks : BranchesMarks bs) (last : Env) → SeenKeyed seen → EnvKeyed declared env → LawfulBranches m ctx declared returned seen env bs marks last → BranchesResult bs marks last

@@ -155,16 +155,16 @@ module _ (m : Module) (marks : Labelling m) (lawful : IsLawful m marks) (clean :
     timely_of (initializer_context m b.constants b.classes) [] c.value
         (λ n named. in_time m b.constants b.classes (resolve_in_module m n.text) (λ early. none_early done p c rest whole n named
         (subst (λ k. IsEarlyMeaning k (length (classes_in done)) (resolve_in_module m n.text)) constants (subst (λ k. IsEarlyMeaning (length b.constants) k (resolve_in_module m n.text)) classes early)))),
-    timely_items (done ++ constant_item p c ∷ []) (before_next m b (constant_item p c) marks.0) rest marks.1 (append_assoc done (constant_item p c ∷ []) rest ∙ whole)
+    timely_items (done ++ constant_item p c ∷ []) (before_next m b (constant_item p c) marks.first) rest marks.rest (append_assoc done (constant_item p c ∷ []) rest ∙ whole)
         (one_longer b.constants _ ∙ (ap suc constants ∙ (sym (one_longer (constants_in done) c) ∙ ap length (sym (constants_append done (constant_item p c ∷ []))))))
         (classes ∙ ap length (sym (classes_append done (constant_item p c ∷ []) ∙ append-nil (classes_in done)))),
   )
   timely_items done b (class_item p c ∷ rest) marks whole constants classes =
-      timely_items (done ++ class_item p c ∷ []) (before_next m b (class_item p c) marks.0) rest marks.1 (append_assoc done (class_item p c ∷ []) rest ∙ whole)
+      timely_items (done ++ class_item p c ∷ []) (before_next m b (class_item p c) marks.first) rest marks.rest (append_assoc done (class_item p c ∷ []) rest ∙ whole)
       (constants ∙ ap length (sym (constants_append done (class_item p c ∷ []) ∙ append-nil (constants_in done))))
       (ap suc classes ∙ (sym (one_longer (classes_in done) c) ∙ ap length (sym (classes_append done (class_item p c ∷ [])))))
   timely_items done b (def_item p f ∷ rest) marks whole constants classes =
-      timely_items (done ++ def_item p f ∷ []) (before_next m b (def_item p f) marks.0) rest marks.1 (append_assoc done (def_item p f ∷ []) rest ∙ whole)
+      timely_items (done ++ def_item p f ∷ []) (before_next m b (def_item p f) marks.first) rest marks.rest (append_assoc done (def_item p f ∷ []) rest ∙ whole)
       (constants ∙ ap length (sym (constants_append done (def_item p f ∷ []) ∙ append-nil (constants_in done))))
       (classes ∙ ap length (sym (classes_append done (def_item p f ∷ []) ∙ append-nil (classes_in done))))
 

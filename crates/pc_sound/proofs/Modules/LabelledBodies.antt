@@ -39,15 +39,15 @@ use Rattle.pc_sound.proofs.Lists.{same_text_back}
 module _ (m : Module) (constants : List Tree) (listed : Place → Type 0) where
   pub last_types_are : (b : BeforeItem) (items : List Item) (marks : ItemsMarks items) → (last_of m constants listed b items marks).constants ≡ b.constants ++ constant_types m items marks
   last_types_are b [] marks = sym (append-nil b.constants)
-  last_types_are b (constant_item p c ∷ rest) marks = last_types_are (before_next m b (constant_item p c) marks.0) rest marks.1 ∙ append_assoc b.constants (item_constants m (constant_item p c) marks.0) (constant_types m rest marks.1)
-  last_types_are b (class_item p c ∷ rest) marks = last_types_are (before_next m b (class_item p c) marks.0) rest marks.1
-  last_types_are b (def_item p f ∷ rest) marks = last_types_are (before_next m b (def_item p f) marks.0) rest marks.1
+  last_types_are b (constant_item p c ∷ rest) marks = last_types_are (before_next m b (constant_item p c) marks.first) rest marks.rest ∙ append_assoc b.constants (item_constants m (constant_item p c) marks.first) (constant_types m rest marks.rest)
+  last_types_are b (class_item p c ∷ rest) marks = last_types_are (before_next m b (class_item p c) marks.first) rest marks.rest
+  last_types_are b (def_item p f ∷ rest) marks = last_types_are (before_next m b (def_item p f) marks.first) rest marks.rest
 
   pub last_classes_are : (b : BeforeItem) (items : List Item) (marks : ItemsMarks items) → (last_of m constants listed b items marks).classes ≡ b.classes + length (classes_in items)
   last_classes_are b [] marks = omega arith
-  last_classes_are b (constant_item p c ∷ rest) marks = last_classes_are (before_next m b (constant_item p c) marks.0) rest marks.1
-  last_classes_are b (class_item p c ∷ rest) marks = let h = last_classes_are (before_next m b (class_item p c) marks.0) rest marks.1 in h ∙ omega arith
-  last_classes_are b (def_item p f ∷ rest) marks = last_classes_are (before_next m b (def_item p f) marks.0) rest marks.1
+  last_classes_are b (constant_item p c ∷ rest) marks = last_classes_are (before_next m b (constant_item p c) marks.first) rest marks.rest
+  last_classes_are b (class_item p c ∷ rest) marks = let h = last_classes_are (before_next m b (class_item p c) marks.first) rest marks.rest in h ∙ omega arith
+  last_classes_are b (def_item p f ∷ rest) marks = last_classes_are (before_next m b (def_item p f) marks.first) rest marks.rest
 
 -- ---- places of all functions and methods
 

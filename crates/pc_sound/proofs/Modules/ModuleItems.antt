@@ -59,12 +59,12 @@ module _ (m : Module) (constants : List Tree) (listed : Place → Type 0) where
 
   abbrev pub ItemsReady : BeforeItem → (items : List Item) → ItemsMarks items → Type 0
   ItemsReady b [] marks = Unit {0}
-  ItemsReady b (i ∷ rest) marks = ItemReady b i marks.0 × ItemsReady (before_next m b i marks.0) rest marks.1
+  ItemsReady b (i ∷ rest) marks = ItemReady b i marks.first × ItemsReady (before_next m b i marks.first) rest marks.rest
 
   -- what stands before the end
   abbrev pub last_of : BeforeItem → (items : List Item) → ItemsMarks items → BeforeItem
   last_of b [] marks = b
-  last_of b (i ∷ rest) marks = last_of (before_next m b i marks.0) rest marks.1
+  last_of b (i ∷ rest) marks = last_of (before_next m b i marks.first) rest marks.rest
 
   -- classes bind their names to what their facts say
   pub record GoodClasses (parts : Parts Step) : Type 0 where
@@ -80,12 +80,12 @@ module _ (m : Module) (constants : List Tree) (listed : Place → Type 0) where
         proceeds_comes listed _ (Gives tt) _ λ k s h. subst (λ d. Between m listed b.constants d b.classes b.names k s) (fs ∙ ap functions_in (sym (append-nil done)) ∙ ap functions_in (sym all)) h
     items_proceed done (constant_item p c ∷ rest) b defs marks all cs ns fs law clean ready =
         let parts_of = binds_parts b.names c.name ready.0.0 in
-        proceeds_bind listed _ _ _ (λ k u s. Between m listed (before_next m b (constant_item p c) marks.0).constants defs b.classes (c.name.text ∷ b.names) k s) _
-        (constant_proceeds m listed parts m.imports_dataclass b.constants defs b.classes b.names p c marks.0.value marks.0.flows (inits b.constants defs b.classes b.names) evaluates
-        (subst (λ t. Lawful (initializer_context m b.constants b.classes) [] [] (first_of_types (annotated_types m t c.annotation)) c.value marks.0.value) ready.0.0 law.0.value)
-        (subst (λ t. FlowsInto (bases_of m) (mark_of c.value marks.0.value) (annotated_types m t c.annotation) marks.0.flows) ready.0.0 law.0.flow)
+        proceeds_bind listed _ _ _ (λ k u s. Between m listed (before_next m b (constant_item p c) marks.first).constants defs b.classes (c.name.text ∷ b.names) k s) _
+        (constant_proceeds m listed parts m.imports_dataclass b.constants defs b.classes b.names p c marks.first.value marks.first.flows (inits b.constants defs b.classes b.names) evaluates
+        (subst (λ t. Lawful (initializer_context m b.constants b.classes) [] [] (first_of_types (annotated_types m t c.annotation)) c.value marks.first.value) ready.0.0 law.0.value)
+        (subst (λ t. FlowsInto (bases_of m) (mark_of c.value marks.first.value) (annotated_types m t c.annotation) marks.first.flows) ready.0.0 law.0.flow)
         (λ f h. clean f (inl (inr h))) ready.0.1 means parts_of.0 parts_of.1)
-        λ u. items_proceed (done ++ constant_item p c ∷ []) rest (before_next m b (constant_item p c) marks.0) defs marks.1 (all ∙ sym (append_assoc done (constant_item p c ∷ []) rest))
+        λ u. items_proceed (done ++ constant_item p c ∷ []) rest (before_next m b (constant_item p c) marks.first) defs marks.rest (all ∙ sym (append_assoc done (constant_item p c ∷ []) rest))
         (one_longer b.constants _ ∙ ap suc cs ∙ sym (one_longer (constants_in done) c) ∙ ap length (sym (constants_append done (constant_item p c ∷ []))))
         (ns ∙ ap length (sym (classes_append done (constant_item p c ∷ []) ∙ append-nil (classes_in done)))) (fs ∙ sym (functions_append done (constant_item p c ∷ []) ∙ append-nil (functions_in done))) law.1 (λ f h. clean f (inr h)) ready.1
       where
@@ -99,15 +99,15 @@ module _ (m : Module) (constants : List Tree) (listed : Place → Type 0) where
             ap (λ x. x.name.text) (sym same) ∙ n.named
     items_proceed done (class_item p c ∷ rest) b defs marks all cs ns fs law clean ready =
         proceeds_bind listed _ _ _ (λ k u s. Between m listed b.constants defs (suc b.classes) (c.name.text ∷ b.names) k s) _
-        (classes.proceeds p c b defs marks.0 (ap (λ l. slice_get l b.classes) (ap classes_in all ∙ classes_append done (class_item p c ∷ rest)) ∙ ap (slice_get (classes_in done ++ classes_in (class_item p c ∷ rest))) ns ∙ get_at_end (classes_in done) c (classes_in rest)) law.0 (λ f h. clean f (inl h)) ready.0)
-        λ u. items_proceed (done ++ class_item p c ∷ []) rest (before_next m b (class_item p c) marks.0) defs marks.1 (all ∙ sym (append_assoc done (class_item p c ∷ []) rest))
+        (classes.proceeds p c b defs marks.first (ap (λ l. slice_get l b.classes) (ap classes_in all ∙ classes_append done (class_item p c ∷ rest)) ∙ ap (slice_get (classes_in done ++ classes_in (class_item p c ∷ rest))) ns ∙ get_at_end (classes_in done) c (classes_in rest)) law.0 (λ f h. clean f (inl h)) ready.0)
+        λ u. items_proceed (done ++ class_item p c ∷ []) rest (before_next m b (class_item p c) marks.first) defs marks.rest (all ∙ sym (append_assoc done (class_item p c ∷ []) rest))
         (cs ∙ ap length (sym (constants_append done (class_item p c ∷ []) ∙ append-nil (constants_in done))))
         (ap suc ns ∙ sym (one_longer (classes_in done) c) ∙ ap length (sym (classes_append done (class_item p c ∷ [])))) (fs ∙ sym (functions_append done (class_item p c ∷ []) ∙ append-nil (functions_in done))) law.1 (λ f h. clean f (inr h)) ready.1
     items_proceed done (def_item p d ∷ rest) b defs marks all cs ns fs law clean ready =
         let parts_of = binds_parts b.names d.name ready.0.0 in
         proceeds_bind listed _ _ _ (λ k u s. Between m listed b.constants (defs ++ d ∷ []) b.classes (d.name.text ∷ b.names) k s) _
-        (def_proceeds m listed parts m.imports_dataclass b.constants defs b.classes b.names p d marks.0.params law.0.params ready.0.1 (λ f h. clean f (inl (inl h))) means parts_of.0 parts_of.1)
-        λ u. items_proceed (done ++ def_item p d ∷ []) rest (before_next m b (def_item p d) marks.0) (defs ++ d ∷ []) marks.1 (all ∙ sym (append_assoc done (def_item p d ∷ []) rest))
+        (def_proceeds m listed parts m.imports_dataclass b.constants defs b.classes b.names p d marks.first.params law.0.params ready.0.1 (λ f h. clean f (inl (inl h))) means parts_of.0 parts_of.1)
+        λ u. items_proceed (done ++ def_item p d ∷ []) rest (before_next m b (def_item p d) marks.first) (defs ++ d ∷ []) marks.rest (all ∙ sym (append_assoc done (def_item p d ∷ []) rest))
         (cs ∙ ap length (sym (constants_append done (def_item p d ∷ []) ∙ append-nil (constants_in done))))
         (ns ∙ ap length (sym (classes_append done (def_item p d ∷ []) ∙ append-nil (classes_in done)))) (ap (λ l. l ++ d ∷ []) fs ∙ sym (functions_append done (def_item p d ∷ []))) law.1 (λ f h. clean f (inr h)) ready.1
       where

@@ -71,16 +71,16 @@ count_last done (method_member d) = ap length (filter_map-append as_method done 
 constant_at : (m : Module) (items : List Item) (marks : ItemsMarks items) (i : ℕ) (c : Constant) → slice_get (constants_in items) i ≡ Some c → (t : Tree) × (slice_get (constant_types m items marks) i ≡ Some t)
 constant_at m [] marks i c e = absurd (none-some _ e)
 constant_at m (constant_item p x ∷ rest) marks zero c e = (_, refl)
-constant_at m (constant_item p x ∷ rest) marks (suc i) c e = constant_at m rest marks.1 i c e
-constant_at m (class_item p x ∷ rest) marks i c e = constant_at m rest marks.1 i c e
-constant_at m (def_item p x ∷ rest) marks i c e = constant_at m rest marks.1 i c e
+constant_at m (constant_item p x ∷ rest) marks (suc i) c e = constant_at m rest marks.rest i c e
+constant_at m (class_item p x ∷ rest) marks i c e = constant_at m rest marks.rest i c e
+constant_at m (def_item p x ∷ rest) marks i c e = constant_at m rest marks.rest i c e
 
 -- the labels of initializers have types whose dicts have int or str as key
 abbrev pub InitializersKeyed : (items : List Item) → ItemsMarks items → Type 0
 InitializersKeyed [] marks = Unit {0}
-InitializersKeyed (constant_item p c ∷ rest) marks = Keyed c.value marks.0.value × InitializersKeyed rest marks.1
-InitializersKeyed (class_item p c ∷ rest) marks = InitializersKeyed rest marks.1
-InitializersKeyed (def_item p f ∷ rest) marks = InitializersKeyed rest marks.1
+InitializersKeyed (constant_item p c ∷ rest) marks = Keyed c.value marks.first.value × InitializersKeyed rest marks.rest
+InitializersKeyed (class_item p c ∷ rest) marks = InitializersKeyed rest marks.rest
+InitializersKeyed (def_item p f ∷ rest) marks = InitializersKeyed rest marks.rest
 
 module _ (m : Module) (marks : Labelling m) (lawful : IsLawful m marks) (clean : HasNoError m) where
   abbrev Constants : List Tree
@@ -181,11 +181,11 @@ module _ (m : Module) (marks : Labelling m) (lawful : IsLawful m marks) (clean :
     -- each item can run
     all_ready : (done items : List Item) (b : BeforeItem) (im : ItemsMarks items) → m.items ≡ done ++ items → AllBind b.names (map name_of_item items) → InitializersKeyed items im → ItemsReady m (constant_types m m.items marks) (IsListedPlace m) b items im
     all_ready done [] b im all binds keyed = tt
-    all_ready done (constant_item p c ∷ rest) b im all binds keyed = ((binds.0, keyed.0), all_ready (done ++ constant_item p c ∷ []) rest (before_next m b (constant_item p c) im.0) im.1 (all ∙ sym (append_assoc done (constant_item p c ∷ []) rest)) binds.1 keyed.1)
-    all_ready done (class_item p c ∷ rest) b im all binds keyed = (binds.0, all_ready (done ++ class_item p c ∷ []) rest (before_next m b (class_item p c) im.0) im.1 (all ∙ sym (append_assoc done (class_item p c ∷ []) rest)) binds.1 keyed)
+    all_ready done (constant_item p c ∷ rest) b im all binds keyed = ((binds.0, keyed.0), all_ready (done ++ constant_item p c ∷ []) rest (before_next m b (constant_item p c) im.first) im.rest (all ∙ sym (append_assoc done (constant_item p c ∷ []) rest)) binds.1 keyed.1)
+    all_ready done (class_item p c ∷ rest) b im all binds keyed = (binds.0, all_ready (done ++ class_item p c ∷ []) rest (before_next m b (class_item p c) im.first) im.rest (all ∙ sym (append_assoc done (class_item p c ∷ []) rest)) binds.1 keyed)
     all_ready done (def_item p f ∷ rest) b im all binds keyed = (
       (binds.0, parameters_bind m (IsListedPlace m) [] f.params (function_binds m marks lawful clean (owners.Func (length (functions_in done))) f here)),
-      all_ready (done ++ def_item p f ∷ []) rest (before_next m b (def_item p f) im.0) im.1 (all ∙ sym (append_assoc done (def_item p f ∷ []) rest)) binds.1 keyed,
+      all_ready (done ++ def_item p f ∷ []) rest (before_next m b (def_item p f) im.first) im.rest (all ∙ sym (append_assoc done (def_item p f ∷ []) rest)) binds.1 keyed,
     )
       where
         here : slice_get (functions_in m.items) (length (functions_in done)) ≡ Some f
