@@ -1,5 +1,5 @@
 -- What is given of the parts of a condition is given of the whole.
-use Rattle.std.proofs.Common.{◌≡◌, ℕ, Bool as Test, true, false, not, List, Option, Result, sym, subst}
+use Rattle.std.proofs.Common.{◌≡◌, ℕ, Bool as Test, true, false, not, List, length, Option, Result, sym, subst}
 use Rattle.std.specs.Prelude.{IfOk, if◌then◌else◌}
 use Rattle.std.proofs.lemmas.Result.{IfOk-weaker}
 use Rattle.pc_source.specs.declared.place.Place.{Place}
@@ -8,14 +8,16 @@ use Rattle.pc_scope.specs.declared.resolution.Res.{Res}
 use Rattle.pc_types.specs.Tree.{Tree}
 use Rattle.pc_types.specs.Below.{Bases, AreSmaller}
 use Rattle.pc_types.specs.Store.{KeepsTypes}
+use Rattle.pc_flow.specs.Agreement.{AgreeBelow}
 use Rattle.pc_flow.specs.Environment.{Env, join_env}
-use Rattle.pc_flow.specs.Narrowing.{narrow}
+use Rattle.pc_flow.specs.Narrowing.{narrow, tested_locals}
 use Rattle.pc_flow.specs.WellFormed.{IsWellFormedEnv, AreWellFormed}
 use Rattle.pc_flow.specs.Stored.{env_of, GivesEnv}
 use Rattle.pc_flow.specs.Ways.{GivesBoth, GivesWellFormed}
 use Rattle.pc_flow.specs.declared.narrowing.BothWays.{BothWays}
 use Rattle.pc_flow.proofs.Given.{env_kept}
 use Rattle.pc_flow.proofs.Conditions.{conditions_well_formed}
+use Rattle.pc_flow.proofs.Untested.{both_agree, either_agrees}
 
 module _ {Store Ty : Type 0} (has : Store → Ty → Type 0) (tree : Ty → Tree) (bases : Bases) (ds : List Tree) (resolve : List ℕ → Res) where
   -- what a negation gives is given the other way round
@@ -60,6 +62,14 @@ module _ {Store Ty : Type 0} (has : Store → Ty → Type 0) (tree : Ty → Tree
           where_true = rw (f.where_true.is, f.where_false.is) at g.where_true;
           where_false = rw f.where_false.is at g.where_false;
         })
+
+  -- the ways that meet agree at the locals that the condition does not test
+  module _ (o : AreSmaller bases) (w : AreWellFormed bases ds) (one : Store) (p : Place) (a b : Expr) (env : Env) (k : IsWellFormedEnv bases env) (first : BothWays Ty) (f : GivesBoth has tree one first (λ holds. narrow bases ds resolve holds a env)) (n : ℕ) (l : n ≡ length ds) (tested : List ℕ) where
+    pub both_ready : tested ≡ tested_locals resolve (conjunction p a b) → AgreeBelow n tested (env_of tree first.where_false) (narrow bases ds resolve false b (env_of tree first.where_true))
+    both_ready e = rw (f.where_true.is, f.where_false.is, e, l) (both_agree bases ds resolve o w p a b env k)
+
+    pub either_ready : tested ≡ tested_locals resolve (disjunction p a b) → AgreeBelow n tested (env_of tree first.where_true) (narrow bases ds resolve true b (env_of tree first.where_false))
+    either_ready e = rw (f.where_true.is, f.where_false.is, e, l) (either_agrees bases ds resolve o w p a b env k)
 
   -- and it is well-formed, where the environment before was
   module _ (o : AreSmaller bases) (w : AreWellFormed bases ds) (store : Store) (e : Expr) (env : Env) (k : IsWellFormedEnv bases env) where

@@ -4,9 +4,14 @@ pub mod Calls
 pub mod Conditions
 pub mod Given
 pub mod Heads
+pub mod Itself
 pub mod Lengths
+pub mod Loops
 pub mod Members
+pub mod Meeting
 pub mod Narrowed
 pub mod Parted
 pub mod Premises
 pub mod Rest
+pub mod Rows
+pub mod Untested

@@ -1,8 +1,15 @@
--- Tables of declared types that agree wherever an environment assigns a local.
+-- Tables of declared types that agree wherever an environment assigns a local, environments that agree but for some
+-- locals, and the laws that conditions and joins leave the others alone.
 -- Own rule of the profile.
-use Rattle.std.specs.Prelude.{◌≡◌, List, [], ◌∷◌, Option, Some, None}
+use Rattle.std.specs.Prelude.{◌≡◌, ◌<◌, ℕ, nat_eq, length, List, [], ◌∷◌, Bool as Test, false, Option, Some, None}
+use Rattle.std.specs.List.{list_any}
+use Rattle.pc_tree.specs.Tree.{Expr}
+use Rattle.pc_scope.specs.declared.resolution.Res.{Res}
 use Rattle.pc_types.specs.Tree.{Tree}
-use Rattle.pc_flow.specs.Environment.{Env}
+use Rattle.pc_types.specs.Below.{Bases, AreSmaller}
+use Rattle.pc_flow.specs.Environment.{Env, current, join_env}
+use Rattle.pc_flow.specs.Narrowing.{narrow, tested_locals}
+use Rattle.pc_flow.specs.WellFormed.{IsWellFormedEnv, AreWellFormed}
 
 -- two declared types of a local are the same, if it is assigned
 abbrev pub SameAt : Tree → Tree → Option Tree → Type 0
@@ -14,3 +21,34 @@ abbrev pub SameWhere : List Tree → List Tree → Env → Type 0
 SameWhere [] [] [] = Unit {0}
 SameWhere (d ∷ ds) (d' ∷ ds') (s ∷ env) = SameAt d d' s × SameWhere ds ds' env
 SameWhere _ _ _ = ⊥
+
+-- whether a local is among some
+abbrev pub is_among : List ℕ → ℕ → Test
+is_among locals x = list_any (nat_eq x) locals
+
+-- two environments agree at each local that is not among some
+abbrev pub AgreeOutside : (locals : List ℕ) → (a b : Env) → Type 0
+AgreeOutside locals a b = (x : ℕ) → is_among locals x ≡ false → current a x ≡ current b x
+
+-- so for the locals below a number
+abbrev pub AgreeBelow : (n : ℕ) → (locals : List ℕ) → (a b : Env) → Type 0
+AgreeBelow n locals a b = (x : ℕ) → x < n → is_among locals x ≡ false → current a x ≡ current b x
+
+-- a condition leaves each local that it does not test as it is, where it is true and where it is false
+abbrev pub ConditionsKeepUntested : Type 0
+ConditionsKeepUntested =
+    (bases : Bases) (declared : List Tree) (resolve : List ℕ → Res) (holds : Test) (e : Expr) (env : Env)
+    → AreSmaller bases → AreWellFormed bases declared → IsWellFormedEnv bases env → length env ≡ length declared
+    → AgreeOutside (tested_locals resolve e) (narrow bases declared resolve holds e env) env
+
+-- and it keeps the number of locals
+abbrev pub ConditionsKeepLocals : Type 0
+ConditionsKeepLocals =
+    (bases : Bases) (declared : List Tree) (resolve : List ℕ → Res) (holds : Test) (e : Expr) (env : Env)
+    → length env ≡ length declared → length (narrow bases declared resolve holds e env) ≡ length declared
+
+-- where two ways meet, a local that has the same current type on both keeps it
+abbrev pub JoinsKeepAgreed : Type 0
+JoinsKeepAgreed = (bases : Bases) (declared : List Tree) (a b : Env) (x : ℕ) → IsWellFormedEnv bases a
+    → length a ≡ length declared → length b ≡ length declared → current a x ≡ current b x
+    → current (join_env bases declared a b) x ≡ current a x

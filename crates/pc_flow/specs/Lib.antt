@@ -1,4 +1,5 @@
 pub mod Agreement
+pub mod Chunks
 pub mod Environment
 pub mod Narrowing
 pub mod Stored

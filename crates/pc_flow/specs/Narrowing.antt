@@ -1,7 +1,7 @@
 -- What a condition tells of a local where it is true, and where it is false.
 -- Typing specification, "Type narrowing"; own rules of the profile.
 use Rattle.std.specs.Prelude.{ℕ, List, Bool as Test, true, false, ◌||◌, not, if◌then◌else◌, Option, Some, None}
-use Rattle.std.specs.Prelude.{filter_map}
+use Rattle.std.specs.Prelude.{[], ◌++◌, filter_map, option_to_list}
 use Rattle.pc_tree.specs.Tree.{Expr, Exprs, name, negation, is_none, is_not_none, conjunction, disjunction, call}
 use Rattle.pc_tree.specs.Tree.{no_exprs, more_exprs}
 use Rattle.pc_scope.specs.declared.resolution.Builtin.TheVariants as builtin
@@ -119,6 +119,22 @@ local_of_argument resolve (Some e) = local_named resolve e
 abbrev pub test_of_argument : (List ℕ → Res) → Option Expr → Option Tested
 test_of_argument resolve None = None
 test_of_argument resolve (Some e) = test_of resolve e
+
+-- the local that a call tests, if it is a test of an instance
+abbrev pub tested_by_call : (is_test : Test) → Option ℕ → List ℕ
+tested_by_call false x = []
+tested_by_call true x = option_to_list x
+
+-- the locals that a condition tests, in text order
+abbrev pub tested_locals : (List ℕ → Res) → Expr → List ℕ
+tested_locals resolve (is_none p e) = option_to_list (local_named resolve e)
+tested_locals resolve (is_not_none p e) = option_to_list (local_named resolve e)
+tested_locals resolve (negation p e) = tested_locals resolve e
+tested_locals resolve (conjunction p a b) = tested_locals resolve a ++ tested_locals resolve b
+tested_locals resolve (disjunction p a b) = tested_locals resolve a ++ tested_locals resolve b
+tested_locals resolve (call p callee arguments keywords) =
+    tested_by_call (is_instance_test callee arguments keywords) (local_of_argument resolve (first_argument arguments))
+tested_locals resolve _ = []
 
 module _ (bases : Bases) (declared : List Tree) (resolve : List ℕ → Res) where
   -- an environment as a test of an instance leaves it; a call that is no such test, or tests for nothing, changes

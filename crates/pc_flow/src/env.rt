@@ -1,26 +1,34 @@
 //! Environments: the current types of a function's locals.
 
-ghost use Rattle.std.specs.Prelude.{◌≡◌, List, Option, Some, None, IfOk, replicate, slice_set, slice_index_or};
+ghost use Rattle.std.specs.Prelude.{◌≡◌, List, Option, Some, None, IfOk, OnOk, OnErr, length, replicate, take, slice_set, slice_index_or};
 ghost use Rattle.std.specs.Option.{option_copied};
 
-use crate::locals::{no_types, set_type, type_of};
+use crate::chunk::{CHUNK_LOCALS, Chunk, empty_chunks, set_in};
 use pc_source::OutOfMemory;
 use std::alloc::Global;
 use std::marker::Model;
+use std::rc::Rc;
 
 /// For each local of a function, by its number, its current type, or none where it is not assigned. Contracts see it as
-/// that list.
+/// that list. Environments share what they have in common by chunks of locals, so that a copy costs one pointer a chunk.
 ///
 /// Typing specification, "Type narrowing"; own rules of the profile.
 #[derive(Drop)]
 pub struct Env<Ty: Drop> {
-    types: Vec<Option<Ty>>,
+    chunks: Vec<Rc<Chunk<Ty>>>,
+    locals: usize,
 }
 
 impl<Ty: Drop> Model for Env<Ty> {
+    ghost use Rattle.std.specs.Prelude.{List, Option};
+    ghost use Rattle.std.specs.Rc.{rc_value};
+    ghost use Rattle.pc_flow.specs.Chunks.{row_types, IsRow};
+
     ghost Value = { List (Option Ty) };
 
-    ghost view = { λ e. e.types.items };
+    ghost view = { λ e. row_types rc_value e.locals e.chunks.items };
+
+    ghost invariant = { λ e. IsRow rc_value 128 e.locals e.chunks.items };
 }
 
 impl<Ty: Drop> Env<Ty> {
@@ -28,36 +36,71 @@ impl<Ty: Drop> Env<Ty> {
     pub fn new(alloc: Global, locals: usize) -> Result<Env<Ty>, OutOfMemory>
         ensures { IfOk result (λ e. e ≡ replicate locals None) }
     {
+        let chunks = empty_chunks(alloc, locals)?;
+        Ok(Env { chunks, locals })
+    }
+
+    /// The same current types again.
+    pub(crate) fn copied(&self, alloc: Global) -> Result<Env<Ty>, OutOfMemory>
+        ensures { IfOk result (λ e. e ≡ self.now) }
+    {
         Ok(Env {
-            types: no_types(alloc, locals)?,
+            chunks: Vec::from_clones(alloc, &self.chunks)?,
+            locals: self.locals,
         })
     }
 
-    /// The locals of these current types.
-    pub(crate) fn of(types: Vec<Option<Ty>>) -> Env<Ty>
-        ensures { result ≡ types.items }
+    /// The first locals, of this number, or all where there are fewer.
+    pub(crate) fn first(self, locals: usize) -> Env<Ty>
+        ensures { result ≡ take locals self }
     {
-        Env { types }
+        Env {
+            locals: self.locals.min(locals),
+            chunks: self.chunks,
+        }
     }
 
-    /// The current types, by the locals' numbers.
-    pub(crate) fn types(&self) -> &[Option<Ty>]
-        ensures { result.now ≡ self.now }
+    /// The number of locals.
+    pub(crate) fn len(&self) -> usize
+        ensures { result ≡ length self.now }
     {
-        &self.types
+        self.locals
     }
 
     /// The current type of a local, or none where it is not assigned or there is no local of this number.
     pub fn current(&self, local: usize) -> Option<&Ty>
         ensures { option_copied result ≡ slice_index_or self.now local None }
     {
-        type_of(&self.types, local)
+        if local < self.locals {
+            self.chunks[local / CHUNK_LOCALS].get(local % CHUNK_LOCALS)
+        } else {
+            None
+        }
     }
 
-    /// Assigns a local: it has this current type from now on. Where there is no local of this number nothing changes.
-    pub fn assign(&mut self, local: usize, ty: Ty)
-        ensures { self.new ≡ slice_set self.old local (Some ty) }
+    /// Gives a local this current type from now on, or none. Where there is no local of this number nothing changes.
+    pub(crate) fn set(
+        &mut self,
+        alloc: Global,
+        local: usize,
+        ty: Option<Ty>,
+    ) -> Result<(), OutOfMemory>
+        ensures set { OnOk result (self.new ≡ slice_set self.old local ty) }
+        ensures unchanged { OnErr result (self.new ≡ self.old) }
     {
-        set_type(&mut self.types, local, ty);
+        if local >= self.locals {
+            return Ok(());
+        }
+        let chunk = &mut self.chunks[local / CHUNK_LOCALS];
+        set_in(chunk, alloc, local % CHUNK_LOCALS, ty)
+    }
+
+    /// Assigns a local: it has this current type from now on. Where there is no local of this number nothing changes, nor
+    /// where there is no memory for the change.
+    pub fn assign(&mut self, alloc: Global, local: usize, ty: Ty) -> Result<(), OutOfMemory>
+        ensures assigned { OnOk result (self.new ≡ slice_set self.old local (Some ty)) }
+        ensures unchanged { OnErr result (self.new ≡ self.old) }
+    {
+        self.set(alloc, local, Some(ty))
     }
 }

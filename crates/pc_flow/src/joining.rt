@@ -1,9 +1,11 @@
 //! Where two ways meet.
 
-ghost use Rattle.std.specs.Prelude.{IfOk};
-ghost use Rattle.std.specs.Option.{option_map};
+ghost use Rattle.std.specs.Prelude.{Some, IfOk, OnOk, length, slice_set};
+ghost use Rattle.std.specs.Option.{option_copied, option_map};
 ghost use Rattle.pc_types.specs.Store.{Means, KeepsTypes};
-ghost use Rattle.pc_flow.specs.Environment.{join_or_object, join_local, join_env};
+ghost use Rattle.pc_flow.specs.Agreement.{AgreeOutside, AgreeBelow};
+ghost use Rattle.pc_flow.specs.Environment.{current, declared_type, join_or_object, join_local, join_env};
+ghost use Rattle.pc_flow.specs.WellFormed.{IsWellFormedEnv};
 ghost use Rattle.pc_flow.specs.Stored.{env_of, declared_one, declared_of, HasOne, HasEach, GivesOne, GivesEnv};
 
 use crate::{DeclaredTypes, Env};
@@ -35,10 +37,10 @@ pub fn join_or_object<S: TypeStore>(
 pub(crate) fn declared_type<S: TypeStore>(
     store: &mut S,
     alloc: Global,
-    declared: &Option<S::Ty>,
+    declared: Option<&S::Ty>,
 ) -> Result<S::Ty, OutOfMemory>
-    requires { HasOne (S.has store.old) declared.now }
-    ensures value { IfOk result (λ t. Means S.has S.tree store.new t (declared_one S.tree declared.now)) }
+    requires { HasOne (S.has store.old) (option_copied declared) }
+    ensures value { IfOk result (λ t. Means S.has S.tree store.new t (declared_one S.tree (option_copied declared.entry))) }
     ensures kept { KeepsTypes S.has store.old store.new }
 {
     match declared {
@@ -52,16 +54,17 @@ fn join_assigned<S: TypeStore>(
     store: &mut S,
     alloc: Global,
     parents: &Parents,
-    declared: &Option<S::Ty>,
+    declared: Option<&S::Ty>,
     s: &S::Ty,
     t: &S::Ty,
 ) -> Result<Option<S::Ty>, OutOfMemory>
-    requires declared { HasOne (S.has store.old) declared.now }
+    requires declared { HasOne (S.has store.old) (option_copied declared) }
     requires left { S.has store.old s.now }
     requires right { S.has store.old t.now }
     ensures value { IfOk result
         (λ o. GivesOne S.has S.tree store.new o
-        (join_local parents.now (declared_one S.tree declared.now) (Some (S.tree s.now)) (Some (S.tree t.now)))) }
+        (join_local parents.now (declared_one S.tree (option_copied declared.entry)) (Some (S.tree s.now))
+        (Some (S.tree t.now)))) }
     ensures kept { KeepsTypes S.has store.old store.new }
 {
     match store.join(alloc, parents, s, t)? {
@@ -75,16 +78,17 @@ fn join_local<S: TypeStore>(
     store: &mut S,
     alloc: Global,
     parents: &Parents,
-    declared: &Option<S::Ty>,
-    s: &Option<S::Ty>,
-    t: &Option<S::Ty>,
+    declared: Option<&S::Ty>,
+    s: Option<&S::Ty>,
+    t: Option<&S::Ty>,
 ) -> Result<Option<S::Ty>, OutOfMemory>
-    requires declared { HasOne (S.has store.old) declared.now }
-    requires left { HasOne (S.has store.old) s.now }
-    requires right { HasOne (S.has store.old) t.now }
+    requires declared { HasOne (S.has store.old) (option_copied declared) }
+    requires left { HasOne (S.has store.old) (option_copied s) }
+    requires right { HasOne (S.has store.old) (option_copied t) }
     ensures value { IfOk result
         (λ o. GivesOne S.has S.tree store.new o
-        (join_local parents.now (declared_one S.tree declared.now) (option_map S.tree s.now) (option_map S.tree t.now))) }
+        (join_local parents.now (declared_one S.tree (option_copied declared.entry))
+        (option_map S.tree (option_copied s.entry)) (option_map S.tree (option_copied t.entry)))) }
     ensures kept { KeepsTypes S.has store.old store.new }
 {
     match s {
@@ -96,31 +100,38 @@ fn join_local<S: TypeStore>(
     }
 }
 
-/// The locals where two ways meet.
-fn join_types<S: TypeStore>(
+/// Gives a local of an environment what it has where two others meet.
+fn set_joined<S: TypeStore>(
     store: &mut S,
     alloc: Global,
     parents: &Parents,
-    declared: &[Option<S::Ty>],
-    a: &[Option<S::Ty>],
-    b: &[Option<S::Ty>],
-) -> Result<Vec<Option<S::Ty>>, OutOfMemory>
+    declared: &DeclaredTypes<S::Ty>,
+    local: usize,
+    a: &Env<S::Ty>,
+    b: &Env<S::Ty>,
+    met: &mut Env<S::Ty>,
+) -> Result<(), OutOfMemory>
     requires declared { HasEach (S.has store.old) declared.now }
     requires left { HasEach (S.has store.old) a.now }
     requires right { HasEach (S.has store.old) b.now }
-    ensures value { IfOk result
-        (λ v. GivesEnv S.has S.tree store.new v.items
-        (join_env parents.now (declared_of S.tree declared.now) (env_of S.tree a.now) (env_of S.tree b.now))) }
+    requires met { HasEach (S.has store.old) met.old }
+    ensures value { OnOk result
+        (GivesEnv S.has S.tree store.new met.new
+        (slice_set (env_of S.tree met.old) local
+        (join_local parents.now (declared_type (declared_of S.tree declared.now) local)
+        (current (env_of S.tree a.now) local) (current (env_of S.tree b.now) local)))) }
     ensures kept { KeepsTypes S.has store.old store.new }
 {
-    let mut types = Vec::new(alloc);
-    for i in 0..declared.len() {
-        if i >= a.len() || i >= b.len() {
-            break;
-        }
-        types.push(join_local(store, alloc, parents, &declared[i], &a[i], &b[i])?)?;
-    }
-    Ok(types)
+    let declared = declared.declared(local);
+    let joined = join_local(
+        store,
+        alloc,
+        parents,
+        declared,
+        a.current(local),
+        b.current(local),
+    )?;
+    met.set(alloc, local, joined)
 }
 
 /// Two environments where their ways meet: a local is assigned that is in both, of the join of its current types, or of
@@ -142,12 +153,64 @@ pub fn join_env<S: TypeStore>(
         (join_env parents.now (declared_of S.tree declared.now) (env_of S.tree a.now) (env_of S.tree b.now))) }
     ensures kept { KeepsTypes S.has store.old store.new }
 {
-    Ok(Env::of(join_types(
-        store,
-        alloc,
-        parents,
-        declared.types(),
-        a.types(),
-        b.types(),
-    )?))
+    let locals = declared.types().len().min(b.len());
+    let mut met = a.copied(alloc)?.first(locals);
+    for local in 0..locals {
+        set_joined(store, alloc, parents, declared, local, a, b, &mut met)?;
+    }
+    Ok(met)
+}
+
+/// The join of two environments that agree at each declared local but for some, which alone are joined.
+pub(crate) fn join_some<S: TypeStore>(
+    store: &mut S,
+    alloc: Global,
+    parents: &Parents,
+    declared: &DeclaredTypes<S::Ty>,
+    locals: &[usize],
+    a: Env<S::Ty>,
+    b: &Env<S::Ty>,
+) -> Result<Env<S::Ty>, OutOfMemory>
+    requires declared { HasEach (S.has store.old) declared.now }
+    requires left { HasEach (S.has store.old) a }
+    requires right { HasEach (S.has store.old) b.now }
+    requires well_formed { IsWellFormedEnv parents.now (env_of S.tree a) }
+    requires agree { AgreeBelow (length declared.now) locals.now (env_of S.tree a) (env_of S.tree b.now) }
+    ensures value { IfOk result
+        (λ e. GivesEnv S.has S.tree store.new e
+        (join_env parents.now (declared_of S.tree declared.now) (env_of S.tree a) (env_of S.tree b.now))) }
+    ensures kept { KeepsTypes S.has store.old store.new }
+{
+    let before = a.copied(alloc)?;
+    let mut met = a.first(declared.types().len().min(b.len()));
+    for local in locals {
+        set_joined(
+            store, alloc, parents, declared, *local, &before, b, &mut met,
+        )?;
+    }
+    Ok(met)
+}
+
+/// The join of two environments that agree at each local but for some: as `join_env` gives it, at the cost of joining
+/// these alone, since the join of a type with itself is that type. Own rule of the profile.
+pub fn join_env_at<S: TypeStore>(
+    store: &mut S,
+    alloc: Global,
+    parents: &Parents,
+    declared: &DeclaredTypes<S::Ty>,
+    locals: &[usize],
+    a: Env<S::Ty>,
+    b: &Env<S::Ty>,
+) -> Result<Env<S::Ty>, OutOfMemory>
+    requires declared { HasEach (S.has store.old) declared.now }
+    requires left { HasEach (S.has store.old) a }
+    requires right { HasEach (S.has store.old) b.now }
+    requires well_formed { IsWellFormedEnv parents.now (env_of S.tree a) }
+    requires agree { AgreeOutside locals.now (env_of S.tree a) (env_of S.tree b.now) }
+    ensures value { IfOk result
+        (λ e. GivesEnv S.has S.tree store.new e
+        (join_env parents.now (declared_of S.tree declared.now) (env_of S.tree a) (env_of S.tree b.now))) }
+    ensures kept { KeepsTypes S.has store.old store.new }
+{
+    join_some(store, alloc, parents, declared, locals, a, b)
 }

@@ -3,6 +3,7 @@
 ghost use Rattle.std.specs.Prelude.{◌≡◌, ℕ, length, List, Bool, true, false, Some};
 ghost use Rattle.pc_types.specs.Tree.{Tree};
 ghost use Rattle.pc_types.specs.Below.{Bases};
+ghost use Rattle.pc_flow.specs.Agreement.{ConditionsKeepUntested, ConditionsKeepLocals, JoinsKeepAgreed};
 ghost use Rattle.pc_flow.specs.Environment.{Env, current, declared_type, join_env, loop_head};
 ghost use Rattle.pc_flow.specs.WellFormed.{PassingIsWellFormed, FailingIsWellFormed, AssignmentsKeepWellFormed};
 ghost use Rattle.pc_flow.specs.WellFormed.{JoinsKeepWellFormed, ConditionsKeepWellFormed, LoopHeadsKeepWellFormed};
@@ -37,4 +38,16 @@ pub fn loops_begin_with_declared_types()
         → current (loop_head bound declared env) x ≡ Some (declared_type declared x) }
     ensures others { (bound : ℕ → Bool) (declared : List Tree) (env : Env) (x : ℕ) → length env ≡ length declared
         → bound x ≡ false → current (loop_head bound declared env) x ≡ current env x }
+{}
+
+/// The law that a condition leaves each local that it does not test as it is, where it is true and where it is false, and
+/// keeps the number of locals.
+pub fn conditions_keep_untested_locals()
+    ensures untested { ConditionsKeepUntested }
+    ensures locals { ConditionsKeepLocals }
+{}
+
+/// The law that where two ways meet a local that has the same current type on both keeps it.
+pub fn joins_keep_agreed_locals()
+    ensures { JoinsKeepAgreed }
 {}

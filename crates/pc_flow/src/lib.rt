@@ -2,6 +2,7 @@
 #![tactic(auto)]
 
 mod assigning;
+mod chunk;
 mod copying;
 mod declared;
 mod env;
@@ -11,6 +12,8 @@ mod laws;
 mod locals;
 mod naming;
 mod narrowing;
+mod one_way;
+mod tested;
 mod testing;
 
 pub use assigning::assigned_type;
@@ -18,11 +21,13 @@ pub use copying::copy_env;
 pub use declared::DeclaredTypes;
 pub use env::Env;
 pub use heading::loop_head;
-pub use joining::{join_env, join_or_object};
+pub use joining::{join_env, join_env_at, join_or_object};
 pub use laws::{
-    environments_stay_well_formed, joins_keep_locals, loops_begin_with_declared_types,
-    tests_keep_types_well_formed,
+    conditions_keep_untested_locals, environments_stay_well_formed, joins_keep_agreed_locals,
+    joins_keep_locals, loops_begin_with_declared_types, tests_keep_types_well_formed,
 };
 pub use naming::{OwnerNames, Resolver, local_named, test_of};
-pub use narrowing::{BothWays, narrow, narrow_false, narrow_true};
+pub use narrowing::{BothWays, narrow};
+pub use one_way::{narrow_false, narrow_true};
+pub use tested::{add_tested, tested_by};
 pub use testing::Test;

@@ -1,22 +1,24 @@
 //! What a condition tells of locals where it is true, and where it is false.
 
-ghost use Rattle.std.specs.Prelude.{◌≡◌, List, IfOk, true, false, if◌then◌else◌};
+ghost use Rattle.std.specs.Prelude.{◌≡◌, List, IfOk, true, false, if◌then◌else◌, length};
 ghost use Rattle.pc_tree.specs.Tree.{expr_of};
 ghost use Rattle.pc_tree.specs.Lists.{exprs_of_list, keywords_of_list};
 ghost use Rattle.pc_scope.specs.Expressions.{is_instance_test};
 ghost use Rattle.pc_types.specs.Tree.{Tree};
 ghost use Rattle.pc_types.specs.Store.{KeepsTypes};
+ghost use Rattle.pc_flow.specs.Agreement.{AgreeBelow};
 ghost use Rattle.pc_flow.specs.Environment.{assign, join_env};
 ghost use Rattle.pc_flow.specs.Narrowing.{first_argument, second_argument, local_of_argument, test_of_argument};
 ghost use Rattle.pc_flow.specs.Narrowing.{for_none, local_named, narrow_local, narrow_instance, narrow};
 ghost use Rattle.pc_flow.specs.WellFormed.{IsWellFormedEnv, AreWellFormed};
-ghost use Rattle.pc_flow.specs.Stored.{env_of, declared_of, HasEach, GivesEnv};
+ghost use Rattle.pc_flow.specs.Stored.{env_of, declared_of, HasEach};
 ghost use Rattle.pc_flow.specs.Tests.{tested_of};
 ghost use Rattle.pc_flow.specs.Ways.{GivesBoth, GivesWellFormed};
 
 use crate::copying::copy_env;
-use crate::joining::join_env;
+use crate::joining::join_some;
 use crate::naming::{Resolver, local_named, test_of};
+use crate::tested::tested_by;
 use crate::testing::{Split, Test, split_type};
 use crate::{DeclaredTypes, Env};
 use pc_scope::is_instance_test;
@@ -78,8 +80,8 @@ fn assign_split<S: TypeStore>(
 {
     let mut where_false = env;
     let mut where_true = copy_env(store, alloc, &where_false)?;
-    where_true.assign(local, split.passing);
-    where_false.assign(local, split.failing);
+    where_true.assign(alloc, local, split.passing)?;
+    where_false.assign(alloc, local, split.failing)?;
     Ok(BothWays {
         where_true,
         where_false,
@@ -189,8 +191,8 @@ fn narrow_none<S: TypeStore, R: Resolver>(
     narrow_local(store, alloc, parents, Test::None, local, env)
 }
 
-/// What a conjunction leaves, from what its first part leaves: its second part is asked where the first is true.
-/// Language Reference 6.11 "Boolean operations".
+/// What a conjunction leaves, from what its first part leaves: its second part is asked where the first is true. Where the
+/// ways meet only the locals that the conjunction tests are joined. Language Reference 6.11 "Boolean operations".
 #[cycle(narrow)]
 fn narrow_both<S: TypeStore, R: Resolver>(
     store: &mut S,
@@ -199,13 +201,18 @@ fn narrow_both<S: TypeStore, R: Resolver>(
     declared: &DeclaredTypes<S::Ty>,
     names: &R,
     second: &Expr,
+    tested: &[usize],
     first: BothWays<S::Ty>,
 ) -> Result<BothWays<S::Ty>, OutOfMemory>
     requires declared { HasEach (S.has store.old) declared.now }
     requires where_true { HasEach (S.has store.old) first.where_true }
     requires where_false { HasEach (S.has store.old) first.where_false }
     requires declared_well_formed { AreWellFormed parents.now (declared_of S.tree declared.now) }
-    requires env_well_formed { IsWellFormedEnv parents.now (env_of S.tree first.where_true) }
+    requires on_well_formed { IsWellFormedEnv parents.now (env_of S.tree first.where_true) }
+    requires out_well_formed { IsWellFormedEnv parents.now (env_of S.tree first.where_false) }
+    requires agree { AgreeBelow (length declared.now) tested.now (env_of S.tree first.where_false)
+        (narrow parents.now (declared_of S.tree declared.now) (R.meaning names.now) false (expr_of second.now)
+        (env_of S.tree first.where_true)) }
     ensures value { IfOk result
         (λ n. GivesBoth S.has S.tree store.new n
         (λ holds. if holds
@@ -224,15 +231,15 @@ fn narrow_both<S: TypeStore, R: Resolver>(
         where_true: both,
         where_false: late,
     } = narrow(store, alloc, parents, declared, names, second, yes)?;
-    let not_both = join_env(store, alloc, parents, declared, &no, &late)?;
+    let not_both = join_some(store, alloc, parents, declared, tested, no, &late)?;
     Ok(BothWays {
         where_true: both,
         where_false: not_both,
     })
 }
 
-/// What a disjunction leaves, from what its first part leaves: its second part is asked where the first is false.
-/// Language Reference 6.11 "Boolean operations".
+/// What a disjunction leaves, from what its first part leaves: its second part is asked where the first is false. Where the
+/// ways meet only the locals that the disjunction tests are joined. Language Reference 6.11 "Boolean operations".
 #[cycle(narrow)]
 fn narrow_either<S: TypeStore, R: Resolver>(
     store: &mut S,
@@ -241,13 +248,18 @@ fn narrow_either<S: TypeStore, R: Resolver>(
     declared: &DeclaredTypes<S::Ty>,
     names: &R,
     second: &Expr,
+    tested: &[usize],
     first: BothWays<S::Ty>,
 ) -> Result<BothWays<S::Ty>, OutOfMemory>
     requires declared { HasEach (S.has store.old) declared.now }
     requires where_true { HasEach (S.has store.old) first.where_true }
     requires where_false { HasEach (S.has store.old) first.where_false }
     requires declared_well_formed { AreWellFormed parents.now (declared_of S.tree declared.now) }
-    requires env_well_formed { IsWellFormedEnv parents.now (env_of S.tree first.where_false) }
+    requires on_well_formed { IsWellFormedEnv parents.now (env_of S.tree first.where_false) }
+    requires out_well_formed { IsWellFormedEnv parents.now (env_of S.tree first.where_true) }
+    requires agree { AgreeBelow (length declared.now) tested.now (env_of S.tree first.where_true)
+        (narrow parents.now (declared_of S.tree declared.now) (R.meaning names.now) true (expr_of second.now)
+        (env_of S.tree first.where_false)) }
     ensures value { IfOk result
         (λ n. GivesBoth S.has S.tree store.new n
         (λ holds. if holds
@@ -266,7 +278,7 @@ fn narrow_either<S: TypeStore, R: Resolver>(
         where_true: late,
         where_false: neither,
     } = narrow(store, alloc, parents, declared, names, second, no)?;
-    let either = join_env(store, alloc, parents, declared, &yes, &late)?;
+    let either = join_some(store, alloc, parents, declared, tested, yes, &late)?;
     Ok(BothWays {
         where_true: either,
         where_false: neither,
@@ -309,12 +321,14 @@ pub fn narrow<S: TypeStore, R: Resolver>(
             Ok(holds.swapped())
         }
         Expr::And(_, a, b) => {
+            let tested = tested_by(alloc, names, condition)?;
             let first = narrow(store, alloc, parents, declared, names, a, env)?;
-            narrow_both(store, alloc, parents, declared, names, b, first)
+            narrow_both(store, alloc, parents, declared, names, b, &tested, first)
         }
         Expr::Or(_, a, b) => {
+            let tested = tested_by(alloc, names, condition)?;
             let first = narrow(store, alloc, parents, declared, names, a, env)?;
-            narrow_either(store, alloc, parents, declared, names, b, first)
+            narrow_either(store, alloc, parents, declared, names, b, &tested, first)
         }
         Expr::Call(_, callee, arguments, by_name) => {
             narrow_instance(
@@ -336,56 +350,4 @@ pub fn narrow<S: TypeStore, R: Resolver>(
         | Expr::Attribute(_, _, _)
         | Expr::Index(_, _, _) => unchanged(store, alloc, env),
     }
-}
-
-/// The environment where a condition is true. Typing specification, "Type narrowing".
-pub fn narrow_true<S: TypeStore, R: Resolver>(
-    store: &mut S,
-    alloc: Global,
-    parents: &Parents,
-    declared: &DeclaredTypes<S::Ty>,
-    names: &R,
-    condition: &Expr,
-    env: &Env<S::Ty>,
-) -> Result<Env<S::Ty>, OutOfMemory>
-    requires declared { HasEach (S.has store.old) declared.now }
-    requires env { HasEach (S.has store.old) env.now }
-    requires declared_well_formed { AreWellFormed parents.now (declared_of S.tree declared.now) }
-    requires env_well_formed { IsWellFormedEnv parents.now (env_of S.tree env.now) }
-    ensures value { IfOk result
-        (λ e. GivesEnv S.has S.tree store.new e
-        (narrow parents.now (declared_of S.tree declared.now) (R.meaning names.now) true (expr_of condition.now)
-        (env_of S.tree env.now))) }
-    ensures well_formed { IfOk result (λ e. IsWellFormedEnv parents.now (env_of S.tree e)) }
-    ensures kept { KeepsTypes S.has store.old store.new }
-{
-    let env = copy_env(store, alloc, env)?;
-    let narrowed = narrow(store, alloc, parents, declared, names, condition, env)?;
-    Ok(narrowed.where_true)
-}
-
-/// The environment where a condition is false. Typing specification, "Type narrowing".
-pub fn narrow_false<S: TypeStore, R: Resolver>(
-    store: &mut S,
-    alloc: Global,
-    parents: &Parents,
-    declared: &DeclaredTypes<S::Ty>,
-    names: &R,
-    condition: &Expr,
-    env: &Env<S::Ty>,
-) -> Result<Env<S::Ty>, OutOfMemory>
-    requires declared { HasEach (S.has store.old) declared.now }
-    requires env { HasEach (S.has store.old) env.now }
-    requires declared_well_formed { AreWellFormed parents.now (declared_of S.tree declared.now) }
-    requires env_well_formed { IsWellFormedEnv parents.now (env_of S.tree env.now) }
-    ensures value { IfOk result
-        (λ e. GivesEnv S.has S.tree store.new e
-        (narrow parents.now (declared_of S.tree declared.now) (R.meaning names.now) false (expr_of condition.now)
-        (env_of S.tree env.now))) }
-    ensures well_formed { IfOk result (λ e. IsWellFormedEnv parents.now (env_of S.tree e)) }
-    ensures kept { KeepsTypes S.has store.old store.new }
-{
-    let env = copy_env(store, alloc, env)?;
-    let narrowed = narrow(store, alloc, parents, declared, names, condition, env)?;
-    Ok(narrowed.where_false)
 }

@@ -1,12 +1,15 @@
-use Rattle.std.proofs.Common.{sym, subst}
+use Rattle.std.proofs.Common.{rules, ◌≡◌, sym, length, subst, ◌∙◌, arith}
+use Rattle.std.proofs.lemmas.List.{length-map}
 use Rattle.std.specs.Prelude.{IfOk}
 use Rattle.pc_tree.specs.Tree.{Expr, expr_of, is_none, is_not_none, conjunction, disjunction}
 use Rattle.pc_tree.specs.declared.tree.Expr.TheVariants as tree
+use Rattle.pc_tree.specs.declared.tree.Expr.TheFolds.{the_lemmas}
 use Rattle.pc_tree.proofs.Trees.{call_tree}
-use Rattle.pc_flow.specs.Narrowing.{narrow}
-use Rattle.pc_flow.specs.Stored.{env_of, declared_of}
+use Rattle.pc_flow.specs.Narrowing.{tested_locals, narrow}
+use Rattle.pc_flow.specs.Stored.{env_of, declared_one, declared_of}
 use Rattle.pc_flow.specs.Ways.{GivesBoth}
-use Rattle.pc_flow.proofs.Both.{swapped_gives, second_holds, second_fails, both_hold, either_holds, well_formed, well_formed_result}
+use Rattle.pc_flow.proofs.Given.{each_kept}
+use Rattle.pc_flow.proofs.Both.{both_ready, either_ready, swapped_gives, second_holds, second_fails, both_hold, either_holds, well_formed, well_formed_result}
 use Rattle.pc_flow.proofs.narrowing.+narrow.Goals as goal
 
 pub narrow-returns-in-IsNone-clause-value : goal.narrow-returns-in-IsNone-clause-value
@@ -31,11 +34,11 @@ narrow-returns-in_ok-first-in-Or-clause-value g t c =
 
 pub narrow_both-returns-clause-value : goal.narrow_both-returns-clause-value
 narrow_both-returns-clause-value g t c =
-    second_holds g.S.TypeStore.has g.S.TypeStore.tree c.args.parents.now (declared_of g.S.TypeStore.tree c.args.declared.now) (g.R.Resolver.meaning c.args.names.now) _ _ (expr_of c.args.second.now) (env_of g.S.TypeStore.tree c.args.first.where_true) (env_of g.S.TypeStore.tree c.args.first.where_false) c.in_ok-both.field-0 _ c.join_env.ensures.kept c.in_ok-both.ensures.value.both c.in_ok-not_both.ensures.value
+    second_holds g.S.TypeStore.has g.S.TypeStore.tree c.args.parents.now (declared_of g.S.TypeStore.tree c.args.declared.now) (g.R.Resolver.meaning c.args.names.now) _ _ (expr_of c.args.second.now) (env_of g.S.TypeStore.tree c.args.first.where_true) (env_of g.S.TypeStore.tree c.args.first.where_false) c.in_ok-both.field-0 _ c.join_some.ensures.kept c.in_ok-both.ensures.value.both c.in_ok-not_both.ensures.value
 
 pub narrow_either-returns-clause-value : goal.narrow_either-returns-clause-value
 narrow_either-returns-clause-value g t c =
-    second_fails g.S.TypeStore.has g.S.TypeStore.tree c.args.parents.now (declared_of g.S.TypeStore.tree c.args.declared.now) (g.R.Resolver.meaning c.args.names.now) _ _ (expr_of c.args.second.now) (env_of g.S.TypeStore.tree c.args.first.where_false) (env_of g.S.TypeStore.tree c.args.first.where_true) c.in_ok-late.field-0 _ c.join_env.ensures.kept c.in_ok-late.ensures.value.both c.in_ok-either.ensures.value
+    second_fails g.S.TypeStore.has g.S.TypeStore.tree c.args.parents.now (declared_of g.S.TypeStore.tree c.args.declared.now) (g.R.Resolver.meaning c.args.names.now) _ _ (expr_of c.args.second.now) (env_of g.S.TypeStore.tree c.args.first.where_false) (env_of g.S.TypeStore.tree c.args.first.where_true) c.in_ok-late.field-0 _ c.join_some.ensures.kept c.in_ok-late.ensures.value.both c.in_ok-either.ensures.value
 
 pub narrow-returns-in-Call-clause-value : goal.narrow-returns-in-Call-clause-value
 narrow-returns-in-Call-clause-value g t c =
@@ -44,3 +47,27 @@ narrow-returns-in-Call-clause-value g t c =
     rw c.in-Call.is (well_formed_result g.S.TypeStore.has g.S.TypeStore.tree c.args.parents.now (declared_of g.S.TypeStore.tree c.args.declared.now) (g.R.Resolver.meaning c.args.names.now) c.ordered.ensures c.requires.declared_well_formed _ (expr_of (tree.Call c.in-Call.field-0 c.in-Call.callee c.in-Call.arguments c.in-Call.by_name)) (env_of g.S.TypeStore.tree c.args.env) c.requires.env_well_formed c.narrow_instance.result
     (subst (λ (x : Expr). IfOk c.narrow_instance.result (λ n. GivesBoth g.S.TypeStore.has g.S.TypeStore.tree c.narrow_instance.new.store n (λ holds. narrow c.args.parents.now ds (g.R.Resolver.meaning c.args.names.now) holds x env))) (sym (call_tree c.in-Call.field-0 c.in-Call.callee c.in-Call.arguments c.in-Call.by_name))
     (rw (c.deref-in-Call.ensures, c.deref-in-Call-2.ensures.value, c.deref-in-Call-3.ensures.value) at (c.narrow_instance.ensures.value ds))))
+
+pub narrow-narrow_both-requires : goal.narrow-narrow_both-requires
+narrow-narrow_both-requires g t c κs within =
+    let resolve = g.R.Resolver.meaning c.args.names.now in
+    let a = expr_of c.in-And.a.value in
+    let b = expr_of c.deref-in-And-2.result.now in
+    let v = c.in_ok-first-in-And.ensures.value in
+    let e : c.deref-in-And-3.result.now ≡ tested_locals resolve (conjunction c.in-And.field-0 a b) = rw c.deref-in-And-2.ensures (c.deref-in-And-3.ensures.value ∙ (rw c.in-And.is at c.in_ok-tested-in-And.ensures)) in
+    let agree = both_ready g.S.TypeStore.has g.S.TypeStore.tree c.args.parents.now (declared_of g.S.TypeStore.tree c.args.declared.now) resolve c.ordered.ensures c.requires.declared_well_formed _ c.in-And.field-0 a b (env_of g.S.TypeStore.tree c.args.env) c.requires.env_well_formed c.in_ok-first-in-And.first (rw c.deref-in-And.ensures at v.both) (length c.args.declared.now) (sym (length-map c.args.declared.now (declared_one g.S.TypeStore.tree))) c.deref-in-And-3.result.now e in (
+      first_of (search (rules, the_lemmas), grind (the_lemmas, arith)),
+      (within.0, (within.1.0, (within.1.1, (each_kept g.S.TypeStore.has _ _ c.narrow-in-And.ensures.kept c.args.declared.now c.requires.declared, (v.both.where_true.given, (v.both.where_false.given, (c.requires.declared_well_formed, (v.where_true, (v.where_false, agree))))))))),
+    )
+
+pub narrow-narrow_either-requires : goal.narrow-narrow_either-requires
+narrow-narrow_either-requires g t c κs within =
+    let resolve = g.R.Resolver.meaning c.args.names.now in
+    let a = expr_of c.in-Or.a.value in
+    let b = expr_of c.deref-in-Or-2.result.now in
+    let v = c.in_ok-first-in-Or.ensures.value in
+    let e : c.deref-in-Or-3.result.now ≡ tested_locals resolve (disjunction c.in-Or.field-0 a b) = rw c.deref-in-Or-2.ensures (c.deref-in-Or-3.ensures.value ∙ (rw c.in-Or.is at c.in_ok-tested-in-Or.ensures)) in
+    let agree = either_ready g.S.TypeStore.has g.S.TypeStore.tree c.args.parents.now (declared_of g.S.TypeStore.tree c.args.declared.now) resolve c.ordered.ensures c.requires.declared_well_formed _ c.in-Or.field-0 a b (env_of g.S.TypeStore.tree c.args.env) c.requires.env_well_formed c.in_ok-first-in-Or.first (rw c.deref-in-Or.ensures at v.both) (length c.args.declared.now) (sym (length-map c.args.declared.now (declared_one g.S.TypeStore.tree))) c.deref-in-Or-3.result.now e in (
+      first_of (search (rules, the_lemmas), grind (the_lemmas, arith)),
+      (within.0, (within.1.0, (within.1.1, (each_kept g.S.TypeStore.has _ _ c.narrow-in-Or.ensures.kept c.args.declared.now c.requires.declared, (v.both.where_true.given, (v.both.where_false.given, (c.requires.declared_well_formed, (v.where_false, (v.where_true, agree))))))))),
+    )

@@ -1,0 +1,106 @@
+//! The locals that a condition tests.
+
+ghost use Rattle.std.specs.Prelude.{◌≡◌, ◌++◌, IfOk, OnOk};
+ghost use Rattle.std.specs.Option.{option_to_list};
+ghost use Rattle.pc_tree.specs.Tree.{expr_of};
+ghost use Rattle.pc_tree.specs.Lists.{exprs_of_list, keywords_of_list};
+ghost use Rattle.pc_scope.specs.Expressions.{is_instance_test};
+ghost use Rattle.pc_flow.specs.Narrowing.{first_argument, local_named, local_of_argument};
+ghost use Rattle.pc_flow.specs.Narrowing.{tested_by_call, tested_locals};
+
+use crate::naming::{Resolver, local_named};
+use pc_scope::is_instance_test;
+use pc_source::OutOfMemory;
+use pc_tree::{Expr, KeywordArgument};
+use std::alloc::Global;
+
+/// Adds the local that an expression names, if it is a name of one.
+fn add_named<R: Resolver>(names: &R, e: &Expr, tested: &mut Vec<usize>) -> Result<(), OutOfMemory>
+    ensures { OnOk result
+        (tested.new.items ≡ tested.old.items ++ option_to_list (local_named (R.meaning names.now) (expr_of e.now))) }
+{
+    match local_named(names, e) {
+        None => Ok(()),
+        Some(local) => {
+            tested.push(local)?;
+            Ok(())
+        }
+    }
+}
+
+/// Adds the local that a call tests, if it is a test of an instance.
+fn add_tested_by_call<R: Resolver>(
+    names: &R,
+    callee: &Expr,
+    arguments: &[Expr],
+    by_name: &[KeywordArgument],
+    tested: &mut Vec<usize>,
+) -> Result<(), OutOfMemory>
+    ensures { OnOk result
+        (tested.new.items ≡ tested.old.items
+        ++ tested_by_call (is_instance_test (expr_of callee.now) (exprs_of_list arguments.now) (keywords_of_list by_name.now))
+        (local_of_argument (R.meaning names.now) (first_argument (exprs_of_list arguments.now)))) }
+{
+    if !is_instance_test(callee, arguments, by_name) {
+        return Ok(());
+    }
+    match arguments {
+        [first, ..] => add_named(names, first, tested),
+        [] => Ok(()),
+    }
+}
+
+/// Adds the locals that a condition tests, against `None` or by `isinstance`, in text order; one that it tests more than
+/// once comes as often. Typing specification, "Type narrowing".
+pub fn add_tested<R: Resolver>(
+    names: &R,
+    condition: &Expr,
+    tested: &mut Vec<usize>,
+) -> Result<(), OutOfMemory>
+    ensures { OnOk result
+        (tested.new.items ≡ tested.old.items ++ tested_locals (R.meaning names.now) (expr_of condition.now)) }
+{
+    match condition {
+        Expr::IsNone(_, e) => add_named(names, e, tested),
+        Expr::IsNotNone(_, e) => add_named(names, e, tested),
+        Expr::Not(_, e) => add_tested(names, e, tested),
+        Expr::And(_, a, b) => {
+            add_tested(names, a, tested)?;
+            add_tested(names, b, tested)
+        }
+        Expr::Or(_, a, b) => {
+            add_tested(names, a, tested)?;
+            add_tested(names, b, tested)
+        }
+        Expr::Call(_, callee, arguments, by_name) => {
+            add_tested_by_call(names, callee, arguments, by_name, tested)
+        }
+        Expr::Name(_)
+        | Expr::Int(_, _)
+        | Expr::Str(_, _)
+        | Expr::True(_)
+        | Expr::False(_)
+        | Expr::NoneValue(_)
+        | Expr::Tuple(_, _)
+        | Expr::List(_, _)
+        | Expr::Dict(_, _)
+        | Expr::Negative(_, _)
+        | Expr::Binary(_, _, _, _)
+        | Expr::Compare(_, _, _, _)
+        | Expr::Attribute(_, _, _)
+        | Expr::Index(_, _, _) => Ok(()),
+    }
+}
+
+/// The locals that a condition tests.
+pub fn tested_by<R: Resolver>(
+    alloc: Global,
+    names: &R,
+    condition: &Expr,
+) -> Result<Vec<usize>, OutOfMemory>
+    ensures { IfOk result (λ tested. tested.items ≡ tested_locals (R.meaning names.now) (expr_of condition.now)) }
+{
+    let mut tested = Vec::new(alloc);
+    add_tested(names, condition, &mut tested)?;
+    Ok(tested)
+}
