@@ -1,3 +1,4 @@
+pub mod Agreed
 pub mod CheckedModules
 pub mod Entered
 pub mod ModuleSettings

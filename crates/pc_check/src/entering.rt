@@ -54,7 +54,7 @@ fn enter_name<S: TypeStore, R: Resolver>(
     let first = store.copy(alloc, ty)?;
     let current = store.copy(alloc, ty)?;
     declared.declare(local, first);
-    env.assign(local, current);
+    env.assign(alloc, local, current)?;
     Ok(())
 }
 

@@ -11,11 +11,15 @@ ghost use Rattle.pc_flow.specs.Stored.{env_of};
 ghost use Rattle.pc_notes.specs.Notes.{notes_of};
 ghost use Rattle.pc_labels.specs.ComputedStatements.{step, walk_suite, walk_branches, behind_branches};
 ghost use Rattle.pc_frames.specs.StatementsHeld.{frame_with, HoldsFrame, HoldsTypes, HoldsTypesIfAny};
-ghost use Rattle.pc_check.specs.Internal.StatementWalk.{walk_with, forked_with, GivesWalk, GivesForked};
+ghost use Rattle.pc_frames.specs.Touched.{touched_by, touched_by_branches};
+ghost use Rattle.pc_frames.specs.Untouched.{AreAmong};
+ghost use Rattle.pc_check.specs.Internal.StatementWalk.{walk_with, forked_with, GivesWalk, GivesForked, IsLong};
+ghost use Rattle.pc_check.specs.Internal.StatementWalk.{IsAsLong, ForkAgrees};
 
 use pc_flow::{BothWays, DeclaredTypes, Env, Resolver, copy_env};
 use pc_frames::{
-    Frame, bind_item, break_out, declare_unreached, for_start, meet, narrow_in, while_start,
+    Frame, bind_item, break_out, declare_unreached, for_start, meet, narrow_in, touched_by,
+    while_start,
 };
 use pc_notes::Notes;
 use pc_source::{OutOfMemory, Place};
@@ -48,6 +52,7 @@ pub(crate) fn check_suite<S: TypeStore, R: Resolver>(
     requires declared { HoldsTypes (S.has store.old) S.tree frame.now.parents.now declared.old }
     requires env { HoldsTypesIfAny (S.has store.old) S.tree frame.now.parents.now env }
     requires broken { HoldsTypesIfAny (S.has store.old) S.tree frame.now.parents.now broken.old }
+    requires long { IsLong (walk_with S.tree declared.old env broken.old (notes_of found.old)) }
     ensures walked { IfOk result
         (λ out. GivesWalk S.has S.tree frame.now.parents.now store.new declared.new out broken.new (notes_of found.new)
         (walk_suite (frame_with S.tree R.meaning frame.now)
@@ -77,6 +82,7 @@ fn check_next<S: TypeStore, R: Resolver>(
     requires declared { HoldsTypes (S.has store.old) S.tree frame.now.parents.now declared.old }
     requires env { HoldsTypesIfAny (S.has store.old) S.tree frame.now.parents.now env }
     requires broken { HoldsTypesIfAny (S.has store.old) S.tree frame.now.parents.now broken.old }
+    requires long { IsLong (walk_with S.tree declared.old env broken.old (notes_of found.old)) }
     ensures walked { IfOk result
         (λ out. GivesWalk S.has S.tree frame.now.parents.now store.new declared.new out broken.new (notes_of found.new)
         (step (frame_with S.tree R.meaning frame.now) (env_of S.tree declared.old) (option_map (env_of S.tree) env)
@@ -119,6 +125,7 @@ fn check_stmt<S: TypeStore, R: Resolver>(
     requires declared { HoldsTypes (S.has store.old) S.tree frame.now.parents.now declared.old }
     requires env { HoldsTypes (S.has store.old) S.tree frame.now.parents.now env }
     requires broken { HoldsTypesIfAny (S.has store.old) S.tree frame.now.parents.now broken.old }
+    requires long { IsLong (walk_with S.tree declared.old (Some env) broken.old (notes_of found.old)) }
     ensures walked { IfOk result
         (λ out. GivesWalk S.has S.tree frame.now.parents.now store.new declared.new out broken.new (notes_of found.new)
         (step (frame_with S.tree R.meaning frame.now) (env_of S.tree declared.old) (Some (env_of S.tree env))
@@ -161,8 +168,13 @@ fn check_stmt<S: TypeStore, R: Resolver>(
             )
         }
         StmtKind::If(branches, suite) => {
-            let fork = check_branches(store, alloc, frame, declared, env, broken, branches, found)?;
-            check_otherwise(store, alloc, frame, declared, fork, broken, suite, found)
+            let locals = touched_by(alloc, frame.names, branches, suite)?;
+            let fork = check_branches(
+                store, alloc, frame, declared, &locals, env, broken, branches, found,
+            )?;
+            check_otherwise(
+                store, alloc, frame, declared, &locals, fork, broken, suite, found,
+            )
         }
     }
 }
@@ -183,6 +195,7 @@ fn check_while<S: TypeStore, R: Resolver>(
     requires frame { HoldsFrame (S.has store.old) S.tree R.meaning frame.now }
     requires declared { HoldsTypes (S.has store.old) S.tree frame.now.parents.now declared.old }
     requires env { HoldsTypes (S.has store.old) S.tree frame.now.parents.now env.now }
+    requires long { IsAsLong (env_of S.tree declared.old) (env_of S.tree env.now) }
     ensures walked { (p : PlaceOf) (broken : Option (List (Option S.Ty)))
         → HoldsTypesIfAny (S.has store.new) S.tree frame.now.parents.now broken
         → IfOk result (λ out. GivesWalk S.has S.tree frame.now.parents.now store.new declared.new out broken
@@ -230,6 +243,7 @@ fn check_for<S: TypeStore, R: Resolver>(
     requires frame { HoldsFrame (S.has store.old) S.tree R.meaning frame.now }
     requires declared { HoldsTypes (S.has store.old) S.tree frame.now.parents.now declared.old }
     requires env { HoldsTypes (S.has store.old) S.tree frame.now.parents.now env.now }
+    requires long { IsAsLong (env_of S.tree declared.old) (env_of S.tree env.now) }
     ensures walked { (p : PlaceOf) (broken : Option (List (Option S.Ty)))
         → HoldsTypesIfAny (S.has store.new) S.tree frame.now.parents.now broken
         → IfOk result (λ out. GivesWalk S.has S.tree frame.now.parents.now store.new declared.new out broken
@@ -265,14 +279,15 @@ fn check_for<S: TypeStore, R: Resolver>(
     Ok(way)
 }
 
-/// Walks over the suite of `else`, where all conditions are false, and answers where the ways out of the `if` meet.
-/// Language Reference 8.1 "The if statement".
+/// Walks over the suite of `else`, where all conditions are false, and answers where the ways out of the `if` meet:
+/// only these locals are joined, since they agree on every other one. Language Reference 8.1 "The if statement".
 #[cycle(statements)]
 fn check_otherwise<S: TypeStore, R: Resolver>(
     store: &mut S,
     alloc: Global,
     frame: &Frame<'_, S::Ty, R>,
     declared: &mut DeclaredTypes<S::Ty>,
+    locals: &[usize],
     fork: Fork<S::Ty>,
     broken: &mut Option<Env<S::Ty>>,
     otherwise: &[Stmt],
@@ -283,6 +298,9 @@ fn check_otherwise<S: TypeStore, R: Resolver>(
     requires last { HoldsTypes (S.has store.old) S.tree frame.now.parents.now fork.last }
     requires ways { HoldsTypesIfAny (S.has store.old) S.tree frame.now.parents.now fork.ways }
     requires broken { HoldsTypesIfAny (S.has store.old) S.tree frame.now.parents.now broken.old }
+    requires agree { ForkAgrees locals.now
+        (forked_with S.tree declared.old fork.last fork.ways broken.old (notes_of found.old)) }
+    requires touched { AreAmong locals.now (touched_by (R.meaning frame.now.names.now) (stmts_of_list otherwise.now)) }
     ensures walked { IfOk result
         (λ out. GivesWalk S.has S.tree frame.now.parents.now store.new declared.new out broken.new (notes_of found.new)
         (behind_branches (frame_with S.tree R.meaning frame.now) (option_map (env_of S.tree) fork.ways)
@@ -302,16 +320,18 @@ fn check_otherwise<S: TypeStore, R: Resolver>(
         otherwise,
         found,
     )?;
-    meet(store, alloc, frame, declared, ways, out)
+    meet(store, alloc, frame, declared, locals, ways, out)
 }
 
-/// Walks over the branches of an `if`, from the environment where no condition was checked yet.
+/// Walks over the branches of an `if`, which touch these locals alone, from the environment where no condition was
+/// checked yet.
 #[cycle(statements)]
 fn check_branches<S: TypeStore, R: Resolver>(
     store: &mut S,
     alloc: Global,
     frame: &Frame<'_, S::Ty, R>,
     declared: &mut DeclaredTypes<S::Ty>,
+    locals: &[usize],
     env: Env<S::Ty>,
     broken: &mut Option<Env<S::Ty>>,
     branches: &[Branch],
@@ -321,6 +341,9 @@ fn check_branches<S: TypeStore, R: Resolver>(
     requires declared { HoldsTypes (S.has store.old) S.tree frame.now.parents.now declared.old }
     requires env { HoldsTypes (S.has store.old) S.tree frame.now.parents.now env }
     requires broken { HoldsTypesIfAny (S.has store.old) S.tree frame.now.parents.now broken.old }
+    requires long { IsLong (walk_with S.tree declared.old (Some env) broken.old (notes_of found.old)) }
+    requires touched { AreAmong locals.now (touched_by_branches (R.meaning frame.now.names.now)
+        (branches_of_list branches.now)) }
     ensures walked { IfOk result
         (λ f. GivesForked S.has S.tree frame.now.parents.now store.new declared.new f.last f.ways broken.new
         (notes_of found.new) (walk_branches (frame_with S.tree R.meaning frame.now)
@@ -332,7 +355,9 @@ fn check_branches<S: TypeStore, R: Resolver>(
         ways: None,
     };
     for branch in branches {
-        fork = check_branch(store, alloc, frame, declared, fork, broken, branch, found)?;
+        fork = check_branch(
+            store, alloc, frame, declared, locals, fork, broken, branch, found,
+        )?;
     }
     Ok(fork)
 }
@@ -344,6 +369,7 @@ fn check_branch<S: TypeStore, R: Resolver>(
     alloc: Global,
     frame: &Frame<'_, S::Ty, R>,
     declared: &mut DeclaredTypes<S::Ty>,
+    locals: &[usize],
     fork: Fork<S::Ty>,
     broken: &mut Option<Env<S::Ty>>,
     branch: &Branch,
@@ -354,6 +380,10 @@ fn check_branch<S: TypeStore, R: Resolver>(
     requires last { HoldsTypes (S.has store.old) S.tree frame.now.parents.now fork.last }
     requires ways { HoldsTypesIfAny (S.has store.old) S.tree frame.now.parents.now fork.ways }
     requires broken { HoldsTypesIfAny (S.has store.old) S.tree frame.now.parents.now broken.old }
+    requires agree { ForkAgrees locals.now
+        (forked_with S.tree declared.old fork.last fork.ways broken.old (notes_of found.old)) }
+    requires touched { AreAmong locals.now (touched_by_branches (R.meaning frame.now.names.now)
+        (with_branch branch.now no_branches)) }
     ensures walked { IfOk result
         (λ f. GivesForked S.has S.tree frame.now.parents.now store.new declared.new f.last f.ways broken.new
         (notes_of found.new) (walk_branches (frame_with S.tree R.meaning frame.now)
@@ -386,7 +416,7 @@ fn check_branch<S: TypeStore, R: Resolver>(
         &branch.body,
         found,
     )?;
-    let ways = meet(store, alloc, frame, declared, ways, out)?;
+    let ways = meet(store, alloc, frame, declared, locals, ways, out)?;
     Ok(Fork {
         last: where_false,
         ways,

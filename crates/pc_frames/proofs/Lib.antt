@@ -1,3 +1,6 @@
+pub mod Among
 pub mod Bound
 pub mod Held
+pub mod KeptLocals
 pub mod Numbers
+pub mod Untouched

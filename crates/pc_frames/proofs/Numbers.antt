@@ -8,7 +8,8 @@ use Rattle.pc_scope.specs.declared.resolution.Res.TheVariants as res
 use Rattle.pc_flow.specs.Narrowing.{as_local}
 use Rattle.pc_labels.specs.Statements.{binds_number, is_local_number}
 use Rattle.pc_labels.specs.ComputedStatements.{BodyFrame, Table, unreached_name, unreached_names}
-use Rattle.pc_frames.specs.Internal.BoundNames.{numbers_of, unreached_numbers}
+use Rattle.pc_frames.specs.Touched.{numbers_of}
+use Rattle.pc_frames.specs.Internal.BoundNames.{unreached_numbers}
 
 -- a number is among those of names where one of the names binds it
 pub numbers_bind : (resolve : List ℕ → Res) (names : List Name) (x : ℕ) → list_any (nat_eq x) (numbers_of resolve names) ≡ binds_number resolve names x

@@ -1,3 +1,5 @@
 pub mod AnnotatedNames
 pub mod Internal
 pub mod StatementsHeld
+pub mod Touched
+pub mod Untouched

@@ -105,7 +105,7 @@ pub fn bind_label<S: TypeStore, R: Resolver>(
     let current = assigned_type(store, alloc, &ty, &label.ty, code)?;
     settle(declared, local, ty);
     let mut env = env;
-    env.assign(local, current);
+    env.assign(alloc, local, current)?;
     Ok(env)
 }
 

@@ -3,15 +3,19 @@
 
 mod binding;
 mod frame;
+mod laws;
 mod locals;
 mod loops;
 mod standing;
+mod touched;
 mod unreached;
 mod ways;
 
 pub use binding::{annotated_type, bind_label, declare_alone, known_type};
 pub use frame::Frame;
+pub use laws::suites_keep_untouched_locals;
 pub use loops::{bind_item, for_start, while_start};
 pub use standing::{flow_in, narrow_in};
+pub use touched::touched_by;
 pub use unreached::declare_unreached;
 pub use ways::{break_out, meet};

@@ -1,13 +1,12 @@
 //! The locals that statements bind.
 
-ghost use Rattle.std.specs.Prelude.{◌≡◌, ◌++◌, ◌∷◌, ◌||◌, [], ℕ, map, nat_eq, IfOk, OnOk, false, slice_index_or};
-ghost use Rattle.std.specs.List.{list_any};
+ghost use Rattle.std.specs.Prelude.{◌≡◌, ◌++◌, ◌∷◌, [], map, IfOk, OnOk};
 ghost use Rattle.pc_source.specs.declared.place.Place.{Place as PlaceOf};
 ghost use Rattle.pc_tree.specs.Tree.{stmts_of_list, stmt_of_kind, target_of, name_of};
 ghost use Rattle.pc_tree.specs.Lists.{branches_of_list};
 ghost use Rattle.pc_tree.specs.Stopping.{bound_by, bound_by_stmt, bound_by_branches, name_of_target};
 ghost use Rattle.pc_scope.specs.Internal.WalkViews.{name_seen};
-ghost use Rattle.pc_frames.specs.Internal.BoundNames.{numbers_of};
+ghost use Rattle.pc_frames.specs.Touched.{numbers_of};
 
 use pc_flow::Resolver;
 use pc_scope::Res;
@@ -59,7 +58,10 @@ pub(crate) fn add_bound_by<'m>(
 
 /// Adds those that the suites of conditions bind.
 #[cycle(bound)]
-fn add_bound_in<'m>(names: &mut Vec<&'m Name>, branches: &'m [Branch]) -> Result<(), OutOfMemory>
+pub(crate) fn add_bound_in<'m>(
+    names: &mut Vec<&'m Name>,
+    branches: &'m [Branch],
+) -> Result<(), OutOfMemory>
     ensures { OnOk result (map name_seen names.new.items
         ≡ map name_seen names.old.items ++ bound_by_branches (branches_of_list branches.now)) }
 {
@@ -120,27 +122,4 @@ pub(crate) fn locals_of<R: Resolver>(
         add_local(&mut locals, names, name)?;
     }
     Ok(locals)
-}
-
-/// Marks a local, and those with no mark before it as not marked.
-fn mark(marks: &mut Vec<bool>, local: usize) -> Result<(), OutOfMemory>
-    ensures { OnOk result ((x : ℕ)
-        → slice_index_or marks.new.items x false ≡ (nat_eq x local || slice_index_or marks.old.items x false)) }
-{
-    while marks.len() <= local {
-        marks.push(false)?;
-    }
-    marks[local] = true;
-    Ok(())
-}
-
-/// A mark for each of these locals, by its number.
-pub(crate) fn marks_of(alloc: Global, locals: &[usize]) -> Result<Vec<bool>, OutOfMemory>
-    ensures { IfOk result (λ marks. (x : ℕ) → slice_index_or marks.items x false ≡ list_any (nat_eq x) locals.now) }
-{
-    let mut marks = Vec::new(alloc);
-    for local in locals {
-        mark(&mut marks, *local)?;
-    }
-    Ok(marks)
 }

@@ -8,11 +8,11 @@ ghost use Rattle.pc_flow.specs.Stored.{env_of};
 ghost use Rattle.pc_notes.specs.Notes.{notes_of};
 ghost use Rattle.pc_labels.specs.ComputedStatements.{head_at, bind_item};
 ghost use Rattle.pc_frames.specs.StatementsHeld.{frame_with, HoldsType, HoldsTypes, GivesTypes, GivesBound};
-ghost use Rattle.pc_frames.specs.Internal.BoundNames.{numbers_of};
+ghost use Rattle.pc_frames.specs.Touched.{numbers_of};
 
 use crate::binding::{bind_label, known_type};
 use crate::frame::Frame;
-use crate::locals::{add_bound, add_name, locals_of, marks_of};
+use crate::locals::{add_bound, add_name, locals_of};
 use crate::standing::head_in;
 use pc_flow::{DeclaredTypes, Env, Resolver};
 use pc_notes::Notes;
@@ -40,8 +40,7 @@ fn loop_start<S: TypeStore, R: Resolver>(
         (head_at (frame_with S.tree R.meaning frame.now) (env_of S.tree declared.now) names (env_of S.tree env.now))) }
     ensures kept { KeepsTypes S.has store.old store.new }
 {
-    let marks = marks_of(alloc, locals)?;
-    head_in(store, alloc, frame, &marks, declared, env)
+    head_in(store, alloc, frame, locals, declared, env)
 }
 
 /// The environment at the head of a `while`.

@@ -1,6 +1,6 @@
 //! Flows, conditions and environments where a walk over statements stands.
 
-ghost use Rattle.std.specs.Prelude.{◌≡◌, ◌++◌, ◌∷◌, [], IfOk, OnOk, true, false, slice_index_or};
+ghost use Rattle.std.specs.Prelude.{◌≡◌, ◌++◌, ◌∷◌, [], IfOk, OnOk, true, false};
 ghost use Rattle.pc_tree.specs.Tree.{expr_of};
 ghost use Rattle.pc_types.specs.Computed.{static_test, assignable_test};
 ghost use Rattle.pc_types.specs.Store.{KeepsTypes};
@@ -14,9 +14,11 @@ ghost use Rattle.pc_rules.specs.Found.{brief, flows_at};
 ghost use Rattle.pc_rules.specs.Standing.{mark_with};
 ghost use Rattle.pc_labels.specs.ComputedStatements.{type_table, narrowed_at};
 ghost use Rattle.pc_frames.specs.StatementsHeld.{frame_with, HoldsTypes, GivesTypes};
+ghost use Rattle.pc_flow.specs.Agreement.{is_among};
+ghost use Rattle.pc_frames.specs.Untouched.{BothAgree};
 
 use crate::frame::Frame;
-use pc_flow::{BothWays, DeclaredTypes, Env, Resolver, join_env, loop_head, narrow};
+use pc_flow::{BothWays, DeclaredTypes, Env, Resolver, join_env, join_env_at, loop_head, narrow};
 use pc_notes::Notes;
 use pc_rules::{Label, find_flow};
 use pc_source::{OutOfMemory, Place};
@@ -102,12 +104,36 @@ pub(crate) fn join_in<S: TypeStore, R: Resolver>(
     join_env(store, alloc, frame.parents, declared, a, b)
 }
 
-/// The environment at the head of a loop, from the one before it and a mark for each local that the loop binds.
+/// Two environments where their ways meet, which agree at each local that is not among these.
+pub(crate) fn join_at<S: TypeStore, R: Resolver>(
+    store: &mut S,
+    alloc: Global,
+    frame: &Frame<'_, S::Ty, R>,
+    declared: &DeclaredTypes<S::Ty>,
+    locals: &[usize],
+    a: Env<S::Ty>,
+    b: &Env<S::Ty>,
+) -> Result<Env<S::Ty>, OutOfMemory>
+    requires declared { HoldsTypes (S.has store.old) S.tree frame.now.parents.now declared.now }
+    requires left { HoldsTypes (S.has store.old) S.tree frame.now.parents.now a }
+    requires right { HoldsTypes (S.has store.old) S.tree frame.now.parents.now b.now }
+    requires agree { BothAgree locals.now (env_of S.tree declared.now) (env_of S.tree a) (env_of S.tree b.now) }
+    ensures value { IfOk result
+        (λ e. GivesTypes S.has S.tree frame.now.parents.now store.new e
+        (join_env frame.now.parents.now (type_table (env_of S.tree declared.now)) (env_of S.tree a)
+        (env_of S.tree b.now))) }
+    ensures kept { KeepsTypes S.has store.old store.new }
+{
+    frame.parents.ordered();
+    join_env_at(store, alloc, frame.parents, declared, locals, a, b)
+}
+
+/// The environment at the head of a loop, from the one before it and the locals that the loop binds.
 pub(crate) fn head_in<S: TypeStore, R: Resolver>(
     store: &mut S,
     alloc: Global,
     frame: &Frame<'_, S::Ty, R>,
-    bound: &[bool],
+    bound: &[usize],
     declared: &DeclaredTypes<S::Ty>,
     env: &Env<S::Ty>,
 ) -> Result<Env<S::Ty>, OutOfMemory>
@@ -115,7 +141,7 @@ pub(crate) fn head_in<S: TypeStore, R: Resolver>(
     requires env { HoldsTypes (S.has store.old) S.tree frame.now.parents.now env.now }
     ensures value { IfOk result
         (λ e. GivesTypes S.has S.tree frame.now.parents.now store.new e
-        (loop_head (λ x. slice_index_or bound.now x false) (type_table (env_of S.tree declared.now))
+        (loop_head (λ x. is_among bound.now x) (type_table (env_of S.tree declared.now))
         (env_of S.tree env.now))) }
     ensures kept { KeepsTypes S.has store.old store.new }
 {

@@ -6,9 +6,10 @@ ghost use Rattle.pc_types.specs.Store.{KeepsTypes};
 ghost use Rattle.pc_flow.specs.Stored.{env_of};
 ghost use Rattle.pc_labels.specs.ComputedStatements.{join_onto_way, with_way};
 ghost use Rattle.pc_frames.specs.StatementsHeld.{HoldsTypes, HoldsTypesIfAny, GivesTypesIfAny};
+ghost use Rattle.pc_frames.specs.Untouched.{WaysAgree};
 
 use crate::frame::Frame;
-use crate::standing::join_in;
+use crate::standing::{join_at, join_in};
 use pc_flow::{DeclaredTypes, Env, Resolver};
 use pc_source::OutOfMemory;
 use pc_types::TypeStore;
@@ -41,18 +42,22 @@ pub fn break_out<S: TypeStore, R: Resolver>(
     Ok(())
 }
 
-/// Joins the way out of a suite onto the ways out of those before it, if a run comes out of it.
+/// Joins the way out of a suite onto the ways out of those before it, if a run comes out of it. They agree at each local
+/// that is not among these: so only these are joined.
 pub fn meet<S: TypeStore, R: Resolver>(
     store: &mut S,
     alloc: Global,
     frame: &Frame<'_, S::Ty, R>,
     declared: &DeclaredTypes<S::Ty>,
+    locals: &[usize],
     ways: Option<Env<S::Ty>>,
     out: Option<Env<S::Ty>>,
 ) -> Result<Option<Env<S::Ty>>, OutOfMemory>
     requires declared { HoldsTypes (S.has store.old) S.tree frame.now.parents.now declared.now }
     requires ways { HoldsTypesIfAny (S.has store.old) S.tree frame.now.parents.now ways }
     requires out { HoldsTypesIfAny (S.has store.old) S.tree frame.now.parents.now out }
+    requires agree { WaysAgree locals.now (env_of S.tree declared.now) (option_map (env_of S.tree) ways)
+        (option_map (env_of S.tree) out) }
     ensures joined { IfOk result
         (λ w. GivesTypesIfAny S.has S.tree frame.now.parents.now store.new w
         (with_way frame.now.parents.now (env_of S.tree declared.now) (option_map (env_of S.tree) ways)
@@ -63,7 +68,7 @@ pub fn meet<S: TypeStore, R: Resolver>(
         None => Ok(ways),
         Some(out) => match ways {
             None => Ok(Some(out)),
-            Some(way) => Ok(Some(join_in(store, alloc, frame, declared, &way, &out)?)),
+            Some(way) => Ok(Some(join_at(store, alloc, frame, declared, locals, way, &out)?)),
         },
     }
 }

@@ -192,7 +192,7 @@ fn assign(
 {
     let ty = type_of(setting, alloc, &param.annotation)?;
     if let Some(local) = local_of(setting, param) {
-        env.assign(local, ty);
+        env.assign(alloc, local, ty)?;
     }
     Ok(())
 }
@@ -363,21 +363,24 @@ fn joined(setting: &Setting, alloc: Global) -> Result<String, Fault>
     env_text(setting, alloc, &met)
 }
 
-/// For each local whether it is among words.
-fn marks(setting: &Setting, alloc: Global, words: &str) -> Result<Vec<bool>, AllocError> {
-    let mut marks = Vec::new(alloc);
-    for param in &setting.declared.params {
-        let name = param.name.text.as_str();
-        marks.push(words.split(' ').any(|word| word == name))?;
+/// The numbers of the locals that are among words.
+fn numbers(setting: &Setting, alloc: Global, words: &str) -> Result<Vec<usize>, AllocError> {
+    let mut numbers = Vec::new(alloc);
+    let params = &setting.declared.params;
+    for local in 0..params.len() {
+        let name = params[local].name.text.as_str();
+        if words.split(' ').any(|word| word == name) {
+            numbers.push(local)?;
+        }
     }
-    Ok(marks)
+    Ok(numbers)
 }
 
 /// What is known at the head of a loop that binds these locals.
 fn at_head(setting: &Setting, alloc: Global, bound: &str) -> Result<String, Fault>
     requires { AreScopes (module_of setting.now.tree.now) setting.now.scopes.now }
 {
-    let bound = marks(setting, alloc, bound)?;
+    let bound = numbers(setting, alloc, bound)?;
     let declared = declared_types(setting, alloc)?;
     let before = assigned(setting, alloc, setting.one)?;
     let head = loop_head(&mut BoxStore::new(), alloc, &bound, &declared, &before)?;

@@ -1,13 +1,15 @@
 -- What the program that walks over statements has come to, in terms of the definitions.
 -- Own rule of the profile.
-use Rattle.std.specs.Prelude.{◌≡◌, List, Option}
+use Rattle.std.specs.Prelude.{◌≡◌, ℕ, List, length, Option, Some, None}
 use Rattle.std.specs.Option.{option_map}
 use Rattle.pc_types.specs.Tree.{Tree}
 use Rattle.pc_types.specs.Below.{Bases}
+use Rattle.pc_flow.specs.Environment.{Env}
 use Rattle.pc_flow.specs.Stored.{env_of}
 use Rattle.pc_notes.specs.Notes.{Note}
-use Rattle.pc_labels.specs.ComputedStatements.{Walk, BranchesResult}
+use Rattle.pc_labels.specs.ComputedStatements.{Table, Walk, BranchesResult}
 use Rattle.pc_frames.specs.StatementsHeld.{HoldsTypes, HoldsTypesIfAny}
+use Rattle.pc_frames.specs.Untouched.{IsAsOutsideIfAny}
 
 module _ {Ty : Type 0} (tree : Ty → Tree) where
   -- what a walk has come to: the declared types, an environment if a run comes here, the way out of a loop, and what
@@ -48,3 +50,26 @@ module _ {Store Ty : Type 0} (has : Store → Ty → Type 0) (tree : Ty → Tree
     pub ways_holds : HoldsTypesIfAny (has store) tree bases ways
     pub broken_holds : HoldsTypesIfAny (has store) tree bases broken
     pub is : forked_with tree declared last ways broken found ≡ w
+
+-- ---- environments of as many locals
+
+-- an environment has as many locals as a table
+abbrev pub IsAsLong : Table → Env → Type 0
+IsAsLong table env = length env ≡ length table
+
+-- so it has, if there is one
+abbrev pub IsAsLongIfAny : Table → Option Env → Type 0
+IsAsLongIfAny table None = Unit {0}
+IsAsLongIfAny table (Some env) = IsAsLong table env
+
+-- a walk has come to environments of as many locals as its table
+pub record IsLong (w : Walk) : Type 0 where
+  pub env_long : IsAsLongIfAny w.table w.env
+  pub broken_long : IsAsLongIfAny w.table w.broken
+
+-- A walk over branches has come to environments of as many locals as its table, and the ways out of suites agree with the
+-- environment where all conditions so far are false at each local that is not among some.
+pub record ForkAgrees (locals : List ℕ) (f : BranchesResult) : Type 0 where
+  pub last_long : IsAsLong f.table f.last
+  pub broken_long : IsAsLongIfAny f.table f.broken
+  pub ways_agree : IsAsOutsideIfAny locals f.last f.ways

@@ -1,4 +1,4 @@
-use Rattle.std.proofs.Common.{◌≡◌, ◌∙◌, sym, ap, subst}
+use Rattle.std.proofs.Common.{◌≡◌, ◌∙◌, length, refl, sym, ap, subst}
 use Rattle.std.specs.Prelude.{OnOk, map, Some, None}
 use Rattle.std.proofs.lemmas.List.Elements.{All-weaker}
 use Rattle.pc_tree.specs.Tree.{module_of, func_of, stmts_of_list}
@@ -6,7 +6,7 @@ use Rattle.pc_class.specs.Bases.{bases_of}
 use Rattle.pc_class.specs.Tables.{HasParameter, parameters_with}
 use Rattle.pc_class.specs.WellFormed.{ParametersWellFormed}
 use Rattle.pc_class.proofs.WellFormed.{params_well_formed}
-use Rattle.pc_flow.specs.Environment.{Env}
+use Rattle.pc_flow.specs.Environment.{Env, none_assigned}
 use Rattle.pc_flow.specs.Stored.{env_of}
 use Rattle.pc_notes.specs.Notes.{notes_of}
 use Rattle.pc_labels.specs.ComputedStatements.{BodyFrame, Table, Walk, enter_parameters, walk_suite}
@@ -14,6 +14,7 @@ use Rattle.pc_labels.specs.Modules.{receiver_parameter}
 use Rattle.pc_frames.specs.StatementsHeld.{frame_with}
 use Rattle.pc_check.specs.Internal.StatementWalk.{walk_with}
 use Rattle.pc_frames.proofs.Held.{frame_kept}
+use Rattle.pc_check.proofs.Agreed.{entered_long}
 use Rattle.pc_check.proofs.Entered.{none_holds, none_is, parameters_hold, function_found}
 use Rattle.pc_check.proofs.entering.check_function.Goals as goal
 
@@ -36,6 +37,19 @@ enter-requires-clause-params g c =
 
 pub check_suite-requires-clause-frame : goal.check_suite-requires-clause-frame
 check_suite-requires-clause-frame g c = frame_kept g.S.TypeStore.has _ _ c.enter_receiver.ensures.kept g.S.TypeStore.tree g.R.Resolver.meaning c.args.frame.now c.requires.frame
+
+pub check_suite-requires-clause-long : goal.check_suite-requires-clause-long
+check_suite-requires-clause-long g c =
+    let tree = g.S.TypeStore.tree in
+    let resolve = g.R.Resolver.meaning c.args.frame.now.names.now in
+    let declared = ap (env_of tree) c.in_ok-declared.ensures ∙ none_is tree c.args.count in
+    let env = ap (env_of tree) c.in_ok-env.ensures ∙ none_is tree c.args.count in
+    let none : Table = none_assigned c.args.count in
+    let middle = entered_long resolve none none (receiver_parameter c.args.owner) refl in
+    let received : (env_of tree c.enter_receiver.new.declared, env_of tree c.enter_receiver.new.env) ≡ enter_parameters resolve none none (receiver_parameter c.args.owner) = c.in_ok-enter_receiver.ensures.entered.is ∙ (λ i. enter_parameters resolve (declared i) (env i) (receiver_parameter c.args.owner)) in
+    let between = subst (λ (r : Table × Env). length r.1 ≡ length r.0) (sym received) middle in
+    let behind = entered_long resolve (env_of tree c.enter_receiver.new.declared) (env_of tree c.enter_receiver.new.env) (parameters_with tree c.args.params.now) between in
+    record { env_long = subst (λ (r : Table × Env). length r.1 ≡ length r.0) (sym c.in_ok-enter.ensures.is) behind; broken_long = tt }
 
 pub returns-clause-pushed : goal.returns-clause-pushed
 returns-clause-pushed g c =

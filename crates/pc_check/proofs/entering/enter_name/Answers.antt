@@ -10,6 +10,6 @@ pub returns : goal.returns
 returns g c =
     let tree = g.S.TypeStore.tree in
     let x = c.in-Local.local in
-    rw c.declare.ensures (rw c.assign.ensures (subst (λ r. GivesEntry (g.S.TypeStore.has c.args.store.now) tree c.args.parents.now (slice_set c.args.declared.now x (Some c.in_ok-first.first)) (slice_set c.args.env.now x (Some c.in_ok-current.current)) (enter_name (env_of tree c.args.declared.now) (env_of tree c.args.env.now) r (tree c.args.ty.now))) (sym c.in-Local.is ∙ c.resolve.ensures)
+    rw c.declare.ensures (rw c.in_ok-assign.ensures.assigned (subst (λ r. GivesEntry (g.S.TypeStore.has c.args.store.now) tree c.args.parents.now (slice_set c.args.declared.now x (Some c.in_ok-first.first)) (slice_set c.args.env.now x (Some c.in_ok-current.current)) (enter_name (env_of tree c.args.declared.now) (env_of tree c.args.env.now) r (tree c.args.ty.now))) (sym c.in-Local.is ∙ c.resolve.ensures)
     (local_entered g.S.TypeStore.has tree c.args.parents.now c.args.store.now c.args.declared.now c.args.env.now x c.args.ty.now c.in_ok-first.first c.in_ok-current.current c.requires.declared c.requires.env c.requires.ty c.in_ok-first.ensures c.in_ok-current.ensures
     (sym c.declared.ensures ∙ none_copied c.declared.result (sym c.is_some.ensures ∙ c.if-is_some.false)))))

@@ -1,17 +1,23 @@
-use Rattle.std.proofs.Common.{◌∙◌, ◌+◌, Some, None, sym, ap, subst, arith, rules, drop}
-use Rattle.std.specs.Prelude.{IfOk}
+use Rattle.std.proofs.Common.{◌≡◌, ◌∙◌, ◌+◌, ◌∷◌, ℕ, Some, None, length, refl, sym, ap, subst, arith, rules, drop}
+use Rattle.std.specs.Prelude.{IfOk, true, false}
 use Rattle.std.specs.Option.{option_map}
 use Rattle.std.proofs.lemmas.Result.{IfOk-weaker}
-use Rattle.pc_tree.specs.Tree.{Stmt, expr_of, stmt_of_kind, stmts_of_list, no_branches, conditional, for_loop, while_loop, name_of}
-use Rattle.pc_tree.specs.Lists.{branches_of_list}
+use Rattle.pc_tree.specs.Tree.{Stmt, Branches, stmt_of, expr_of, stmt_of_kind, stmts_of_list, no_branches, conditional, for_loop, while_loop, name_of}
+use Rattle.pc_tree.specs.Lists.{branches_of_list, with_branch}
 use Rattle.pc_tree.specs.declared.tree.Branch.{out-Branch}
+use Rattle.pc_tree.specs.Stopping.{bound_by}
 use Rattle.pc_tree.proofs.Trees.{while_tree, for_tree, if_tree, branch_tree, branches_next, stmts_next}
+use Rattle.pc_flow.specs.Environment.{Env}
 use Rattle.pc_flow.specs.Stored.{env_of}
 use Rattle.pc_flow.proofs.Given.{keeps_both}
 use Rattle.pc_notes.specs.Notes.{notes_of}
-use Rattle.pc_labels.specs.ComputedStatements.{Walk, step, walk_suite, walk_branches, with_way, behind_branches}
+use Rattle.pc_labels.specs.ComputedStatements.{Walk, BranchesResult, BindingResult, narrowed_at, step, walk_suite, walk_branches, with_way, behind_branches}
 use Rattle.pc_frames.specs.StatementsHeld.{frame_with, GivesTypesIfAny}
-use Rattle.pc_check.specs.Internal.StatementWalk.{walk_with, forked_with, GivesWalk}
+use Rattle.pc_frames.specs.Touched.{touched_by, touched_by_branches, touched_by_if}
+use Rattle.pc_frames.specs.Untouched.{AreAmong, WaysAgree}
+use Rattle.pc_frames.proofs.Untouched.{narrowed_long, head_at_long, item_long}
+use Rattle.pc_check.specs.Internal.StatementWalk.{walk_with, forked_with, GivesWalk, IsLong, ForkAgrees}
+use Rattle.pc_check.proofs.Agreed.{step_long, otherwise_agrees, branch_agrees, branches_agree, among_same, among_left, among_right, first_touched, later_touched}
 use Rattle.pc_frames.proofs.Held.{gives_types, types_kept, types_kept_if_any, frame_kept}
 use Rattle.pc_check.proofs.Walked.{no_statement_left, no_branch_left, found_by, branch_walked, branches_from, otherwise_walked, binding_walked}
 use Rattle.pc_tree.proofs.tree.Stmt.TheLaws.{the_size}
@@ -23,8 +29,49 @@ use Rattle.pc_check.proofs.statements.+statements.Goals as goal
 pub check_branch-check_suite-requires : goal.check_branch-check_suite-requires
 check_branch-check_suite-requires g t c κs within = (
   first_of (search (rules, the_lemmas), grind (the_lemmas, arith)),
-  (within.0, (within.1.0, (within.1.1, (frame_kept g.S.TypeStore.has _ _ (keeps_both g.S.TypeStore.has _ _ _ c.type_in.ensures.kept c.narrow_in.ensures.kept) g.S.TypeStore.tree g.R.Resolver.meaning c.args.frame.now c.requires.frame, (types_kept g.S.TypeStore.has g.S.TypeStore.tree c.args.frame.now.parents.now _ _ (keeps_both g.S.TypeStore.has _ _ _ c.type_in.ensures.kept c.narrow_in.ensures.kept) c.args.declared.now c.requires.declared, (c.in_ok-where_true.ensures.where_true.holds, types_kept_if_any g.S.TypeStore.has g.S.TypeStore.tree c.args.frame.now.parents.now _ _ (keeps_both g.S.TypeStore.has _ _ _ c.type_in.ensures.kept c.narrow_in.ensures.kept) c.args.broken.now c.requires.broken)))))),
+  (
+    within.0,
+    (
+      within.1.0,
+      (
+        within.1.1,
+        (
+          frame_kept g.S.TypeStore.has _ _ (keeps_both g.S.TypeStore.has _ _ _ c.type_in.ensures.kept c.narrow_in.ensures.kept) g.S.TypeStore.tree g.R.Resolver.meaning c.args.frame.now c.requires.frame,
+          (
+            types_kept g.S.TypeStore.has g.S.TypeStore.tree c.args.frame.now.parents.now _ _ (keeps_both g.S.TypeStore.has _ _ _ c.type_in.ensures.kept c.narrow_in.ensures.kept) c.args.declared.now c.requires.declared,
+            (
+              c.in_ok-where_true.ensures.where_true.holds,
+              (
+                types_kept_if_any g.S.TypeStore.has g.S.TypeStore.tree c.args.frame.now.parents.now _ _ (keeps_both g.S.TypeStore.has _ _ _ c.type_in.ensures.kept c.narrow_in.ensures.kept) c.args.broken.now c.requires.broken,
+                record {
+                  env_long = ap (λ (e : Env). length e) c.in_ok-where_true.ensures.where_true.is ∙ narrowed_long (frame_with g.S.TypeStore.tree g.R.Resolver.meaning c.args.frame.now) (env_of g.S.TypeStore.tree c.args.declared.now) true (expr_of (out-Branch c.args.branch.now).condition) (env_of g.S.TypeStore.tree c.args.fork.last) c.requires.agree.last_long;
+                  broken_long = c.requires.agree.broken_long;
+                },
+              ),
+            ),
+          ),
+        ),
+      ),
+    ),
+  ),
 )
+
+pub check_branch-meet-requires-clause-agree : goal.check_branch-meet-requires-clause-agree
+check_branch-meet-requires-clause-agree g t c =
+    let tree = g.S.TypeStore.tree in
+    let frame = frame_with tree g.R.Resolver.meaning c.args.frame.now in
+    let table = env_of tree c.args.declared.now in
+    let ways = option_map (env_of tree) c.args.fork.ways in
+    let broken = option_map (env_of tree) c.args.broken.now in
+    let found = notes_of c.type_in.new.found in
+    let condition = expr_of (out-Branch c.args.branch.now).condition in
+    let body = stmts_of_list (out-Branch c.args.branch.now).body.items in
+    let fork : BranchesResult = forked_with tree c.args.declared.now c.args.fork.last c.args.fork.ways c.args.broken.now (notes_of c.args.found.now) in
+    let touched = subst (λ bs. AreAmong c.args.locals.now (touched_by_branches frame.context.resolve bs)) (branch_tree c.args.branch.now no_branches) c.requires.touched in
+    let start : walk_with tree c.args.declared.now (Some c.in_ok-where_true.field-0.where_true) c.args.broken.now found ≡ record { table = table; env = Some (narrowed_at frame table true condition (env_of tree c.args.fork.last)); broken = broken; found = found } = λ i. record { table = table; env = Some (c.in_ok-where_true.ensures.where_true.is i); broken = broken; found = found } in
+    let walked : walk_with tree c.check_suite.new.declared c.in_ok-out.out c.check_suite.new.broken (notes_of c.check_suite.new.found) ≡ walk_suite frame (walk_with tree c.args.declared.now (Some c.in_ok-where_true.field-0.where_true) c.args.broken.now found) body = rw c.deref.ensures.value at c.in_ok-out.ensures.walked.is in
+    subst (λ (w : Walk). WaysAgree c.args.locals.now w.table ways w.env) (sym (walked ∙ ap (λ w. walk_suite frame w body) start))
+    (branch_agrees frame c.args.locals.now fork condition body found c.requires.last.well_formed c.requires.agree touched)
 
 pub check_branch-meet-requires-clause-ways : goal.check_branch-meet-requires-clause-ways
 check_branch-meet-requires-clause-ways g t c = types_kept_if_any g.S.TypeStore.has g.S.TypeStore.tree c.args.frame.now.parents.now _ _ (keeps_both g.S.TypeStore.has _ _ _ c.type_in.ensures.kept (keeps_both g.S.TypeStore.has _ _ _ c.narrow_in.ensures.kept (c.check_suite.ensures.kept))) c.args.fork.ways c.requires.ways
@@ -62,20 +109,71 @@ check_branch-returns-clause-walked g t c =
 pub check_branches-check_branch-requires : goal.check_branches-check_branch-requires
 check_branches-check_branch-requires g t c κs within = (
   let least = at_most branch_size c.args.branches.now c.loop-branch.branch-index c.branch-item.result c.loop-branch-test.true in omega (arith, c.decreases, ap branch_size c.branch-item.is, least),
-  (within.0, (within.1.0, (within.1.1, (frame_kept g.S.TypeStore.has _ _ c.loop-branch.invariant.0 g.S.TypeStore.tree g.R.Resolver.meaning c.args.frame.now c.requires.frame, (c.loop-branch.invariant.1, (c.loop-branch.invariant.2, (c.loop-branch.invariant.3, c.loop-branch.invariant.4))))))),
+  (
+    within.0,
+    (
+      within.1.0,
+      (
+        within.1.1,
+        (
+          frame_kept g.S.TypeStore.has _ _ c.loop-branch.invariant.0 g.S.TypeStore.tree g.R.Resolver.meaning c.args.frame.now c.requires.frame,
+          (
+            c.loop-branch.invariant.1,
+            (
+              c.loop-branch.invariant.2,
+              (
+                c.loop-branch.invariant.3,
+                (
+                  c.loop-branch.invariant.4,
+                  (
+                    c.loop-branch.invariant.5,
+                    let resolve = g.R.Resolver.meaning c.args.frame.now.names.now in
+                        let item = out-Branch c.branch-item.result in
+                        let rest = branches_of_list (drop (c.loop-branch.branch-index + 1) c.args.branches.now) in
+                        let all = subst (λ bs. AreAmong c.args.locals.now (touched_by_branches resolve bs)) (branches_next c.args.branches.now c.loop-branch.branch-index c.branch-item.result c.loop-branch-test.true c.branch-item.is) c.loop-branch.invariant.6 in
+                        subst (λ bs. AreAmong c.args.locals.now (touched_by_branches resolve bs)) (sym (branch_tree c.branch-item.result no_branches)) (first_touched resolve c.args.locals.now (expr_of item.condition) (stmts_of_list item.body.items) rest all),
+                  ),
+                ),
+              ),
+            ),
+          ),
+        ),
+      ),
+    ),
+  ),
+)
+
+pub check_branches-loop-branch-init : goal.check_branches-loop-branch-init
+check_branches-loop-branch-init g t c = (
+  λ ty h. h,
+  c.requires.declared,
+  c.requires.env,
+  tt,
+  c.requires.broken,
+  record { last_long = c.requires.long.env_long; broken_long = c.requires.long.broken_long; ways_agree = tt },
+  c.requires.touched,
+  refl,
 )
 
 pub check_branches-loop-branch-preserved : goal.check_branches-loop-branch-preserved
 check_branches-loop-branch-preserved g t c =
     let w = c.in_ok-fork.ensures.walked in
     let rest = branches_of_list (drop (c.loop-branch.branch-index + 1) c.args.branches.now) in
-    let before = forked_with g.S.TypeStore.tree c.loop-branch.declared c.loop-branch.fork.last c.loop-branch.fork.ways c.loop-branch.broken (notes_of c.loop-branch.found) in (
+    let before = forked_with g.S.TypeStore.tree c.loop-branch.declared c.loop-branch.fork.last c.loop-branch.fork.ways c.loop-branch.broken (notes_of c.loop-branch.found) in
+    let frame = frame_with g.S.TypeStore.tree g.R.Resolver.meaning c.args.frame.now in
+    let resolve = g.R.Resolver.meaning c.args.frame.now.names.now in
+    let locals = c.args.locals.now in
+    let item = out-Branch c.branch-item.result in
+    let all = subst (λ bs. AreAmong locals (touched_by_branches resolve bs)) (branches_next c.args.branches.now c.loop-branch.branch-index c.branch-item.result c.loop-branch-test.true c.branch-item.is) c.loop-branch.invariant.6 in (
       keeps_both g.S.TypeStore.has _ _ _ c.loop-branch.invariant.0 c.check_branch.ensures.kept,
       w.declared_holds,
       w.last_holds,
       w.ways_holds,
       w.broken_holds,
-      ap (λ f. walk_branches (frame_with g.S.TypeStore.tree g.R.Resolver.meaning c.args.frame.now) f rest) (w.is ∙ ap (walk_branches (frame_with g.S.TypeStore.tree g.R.Resolver.meaning c.args.frame.now) before) (branch_tree c.branch-item.result no_branches)) ∙ sym (ap (walk_branches (frame_with g.S.TypeStore.tree g.R.Resolver.meaning c.args.frame.now) before) (branches_next c.args.branches.now c.loop-branch.branch-index c.branch-item.result c.loop-branch-test.true c.branch-item.is)) ∙ c.loop-branch.invariant.5,
+      subst (ForkAgrees locals) (sym w.is) (branches_agree frame locals before (with_branch c.branch-item.result no_branches) c.loop-branch.invariant.2.well_formed c.loop-branch.invariant.5
+          (subst (λ bs. AreAmong locals (touched_by_branches resolve bs)) (sym (branch_tree c.branch-item.result no_branches)) (first_touched resolve locals (expr_of item.condition) (stmts_of_list item.body.items) rest all))),
+      later_touched resolve locals (expr_of item.condition) (stmts_of_list item.body.items) rest all,
+      ap (λ f. walk_branches (frame_with g.S.TypeStore.tree g.R.Resolver.meaning c.args.frame.now) f rest) (w.is ∙ ap (walk_branches (frame_with g.S.TypeStore.tree g.R.Resolver.meaning c.args.frame.now) before) (branch_tree c.branch-item.result no_branches)) ∙ sym (ap (walk_branches (frame_with g.S.TypeStore.tree g.R.Resolver.meaning c.args.frame.now) before) (branches_next c.args.branches.now c.loop-branch.branch-index c.branch-item.result c.loop-branch-test.true c.branch-item.is)) ∙ c.loop-branch.invariant.7,
     )
 
 pub check_branches-returns-clause-walked : goal.check_branches-returns-clause-walked
@@ -84,13 +182,46 @@ check_branches-returns-clause-walked g t c = record {
   last_holds = c.loop-branch.invariant.2;
   ways_holds = c.loop-branch.invariant.3;
   broken_holds = c.loop-branch.invariant.4;
-  is = sym (ap (walk_branches (frame_with g.S.TypeStore.tree g.R.Resolver.meaning c.args.frame.now) (forked_with g.S.TypeStore.tree c.loop-branch.declared c.loop-branch.fork.last c.loop-branch.fork.ways c.loop-branch.broken (notes_of c.loop-branch.found))) (no_branch_left c.args.branches.now c.loop-branch.branch-index (omega arith))) ∙ c.loop-branch.invariant.5;
+  is = sym (ap (walk_branches (frame_with g.S.TypeStore.tree g.R.Resolver.meaning c.args.frame.now) (forked_with g.S.TypeStore.tree c.loop-branch.declared c.loop-branch.fork.last c.loop-branch.fork.ways c.loop-branch.broken (notes_of c.loop-branch.found))) (no_branch_left c.args.branches.now c.loop-branch.branch-index (omega arith))) ∙ c.loop-branch.invariant.7;
 }
 
 pub check_for-check_suite-requires : goal.check_for-check_suite-requires
 check_for-check_suite-requires g t c κs within = (
   first_of (omega (arith, c.decreases), search rules, grind (arith, c.decreases)),
-  (within.0, (within.1.0, (within.1.1, (frame_kept g.S.TypeStore.has _ _ (keeps_both g.S.TypeStore.has _ _ _ c.item_type.ensures.kept (keeps_both g.S.TypeStore.has _ _ _ c.for_start.ensures.kept c.bind_item.ensures.kept)) g.S.TypeStore.tree g.R.Resolver.meaning c.args.frame.now c.requires.frame, (c.in_ok-inside.ensures.bound.declared_holds, (c.in_ok-inside.ensures.bound.env_holds, types_kept g.S.TypeStore.has g.S.TypeStore.tree c.args.frame.now.parents.now _ _ c.bind_item.ensures.kept c.in_ok-copy_env.field-0 (gives_types g.S.TypeStore.has g.S.TypeStore.tree c.args.frame.now.parents.now c.for_start.new.store c.in_ok-copy_env.field-0 (env_of g.S.TypeStore.tree c.in_ok-head.head) c.in_ok-copy_env.ensures c.in_ok-head.ensures.value.holds.well_formed).holds)))))),
+  (
+    within.0,
+    (
+      within.1.0,
+      (
+        within.1.1,
+        (
+          frame_kept g.S.TypeStore.has _ _ (keeps_both g.S.TypeStore.has _ _ _ c.item_type.ensures.kept (keeps_both g.S.TypeStore.has _ _ _ c.for_start.ensures.kept c.bind_item.ensures.kept)) g.S.TypeStore.tree g.R.Resolver.meaning c.args.frame.now c.requires.frame,
+          (
+            c.in_ok-inside.ensures.bound.declared_holds,
+            (
+              c.in_ok-inside.ensures.bound.env_holds,
+              (
+                types_kept g.S.TypeStore.has g.S.TypeStore.tree c.args.frame.now.parents.now _ _ c.bind_item.ensures.kept c.in_ok-copy_env.field-0 (gives_types g.S.TypeStore.has g.S.TypeStore.tree c.args.frame.now.parents.now c.for_start.new.store c.in_ok-copy_env.field-0 (env_of g.S.TypeStore.tree c.in_ok-head.head) c.in_ok-copy_env.ensures c.in_ok-head.ensures.value.holds.well_formed).holds,
+                let tree = g.S.TypeStore.tree in
+                    let frame = frame_with tree g.R.Resolver.meaning c.args.frame.now in
+                    let table = env_of tree c.args.declared.now in
+                    let head = env_of tree c.in_ok-head.head in
+                    let name = name_of c.args.name.now in
+                    let head_long : length head ≡ length table = ap (λ (e : Env). length e) c.in_ok-head.ensures.value.is ∙ head_at_long frame table (name ∷ bound_by (stmts_of_list c.args.body.now)) (env_of tree c.args.env.now) c.requires.long in
+                    let sizes = item_long frame table head (g.R.Resolver.meaning c.args.frame.now.names.now name.text) c.place.result (tree c.in_ok-item.item) (notes_of c.item_type.new.found) head_long in
+                    let bound = c.in_ok-inside.ensures.bound.is in
+                    let table_long = ap (λ (b : BindingResult). length b.table) bound ∙ sizes.0 in
+                    record {
+                      env_long = ap (λ (b : BindingResult). length b.env) bound ∙ sizes.1 ∙ sym table_long;
+                      broken_long = ap (λ (e : Env). length e) c.in_ok-copy_env.ensures.is ∙ head_long ∙ sym table_long;
+                    },
+              ),
+            ),
+          ),
+        ),
+      ),
+    ),
+  ),
 )
 
 pub check_for-returns-clause-kept : goal.check_for-returns-clause-kept
@@ -108,18 +239,18 @@ check_next-returns-in_ok-declare_unreached-in-None-clause-walked g t c =
     })
 
 pub check_stmt-returns-in_ok-env-in-Annotated-clause-walked : goal.check_stmt-returns-in_ok-env-in-Annotated-clause-walked
-check_stmt-returns-in_ok-env-in-Annotated-clause-walked g t c = rw c.in-Annotated.is (binding_walked g.S.TypeStore.has g.S.TypeStore.tree c.args.frame.now.parents.now _ (frame_with g.S.TypeStore.tree g.R.Resolver.meaning c.args.frame.now) _ _ c.args.broken.now _ _ c.in_ok-env-in-Annotated.ensures.bound (types_kept_if_any g.S.TypeStore.has g.S.TypeStore.tree c.args.frame.now.parents.now _ _ c.bind_annotated.ensures.kept c.args.broken.now c.requires.broken))
+check_stmt-returns-in_ok-env-in-Annotated-clause-walked g t c = rw c.in-Annotated.is (binding_walked g.S.TypeStore.has g.S.TypeStore.tree c.args.frame.now.parents.now _ (frame_with g.S.TypeStore.tree g.R.Resolver.meaning c.args.frame.now) _ _ c.args.broken.now _ _ (rw c.deref-in-Annotated.ensures at c.in_ok-env-in-Annotated.ensures.bound) (types_kept_if_any g.S.TypeStore.has g.S.TypeStore.tree c.args.frame.now.parents.now _ _ c.bind_annotated.ensures.kept c.args.broken.now c.requires.broken))
 
 pub check_stmt-returns-in_ok-env-in-Assert-clause-walked : goal.check_stmt-returns-in_ok-env-in-Assert-clause-walked
 check_stmt-returns-in_ok-env-in-Assert-clause-walked g t c = rw c.in-Assert.is (record {
   declared_holds = types_kept g.S.TypeStore.has g.S.TypeStore.tree c.args.frame.now.parents.now _ _ c.check_assert.ensures.kept c.args.declared.now c.requires.declared;
   env_holds = c.in_ok-env-in-Assert.ensures.behind.holds;
   broken_holds = types_kept_if_any g.S.TypeStore.has g.S.TypeStore.tree c.args.frame.now.parents.now _ _ c.check_assert.ensures.kept c.args.broken.now c.requires.broken;
-  is = λ i. record { table = (env_of g.S.TypeStore.tree c.args.declared.now); env = Some (c.in_ok-env-in-Assert.ensures.behind.is i); broken = (option_map (env_of g.S.TypeStore.tree) c.args.broken.now); found = c.in_ok-env-in-Assert.ensures.pushed i };
+  is = λ i. record { table = (env_of g.S.TypeStore.tree c.args.declared.now); env = Some ((rw c.deref.ensures at c.in_ok-env-in-Assert.ensures.behind.is) i); broken = (option_map (env_of g.S.TypeStore.tree) c.args.broken.now); found = (rw c.deref.ensures at c.in_ok-env-in-Assert.ensures.pushed) i };
 })
 
 pub check_stmt-returns-in_ok-env-in-Assign-clause-walked : goal.check_stmt-returns-in_ok-env-in-Assign-clause-walked
-check_stmt-returns-in_ok-env-in-Assign-clause-walked g t c = rw c.in-Assign.is (binding_walked g.S.TypeStore.has g.S.TypeStore.tree c.args.frame.now.parents.now _ (frame_with g.S.TypeStore.tree g.R.Resolver.meaning c.args.frame.now) _ _ c.args.broken.now _ _ c.in_ok-env-in-Assign.ensures.bound (types_kept_if_any g.S.TypeStore.has g.S.TypeStore.tree c.args.frame.now.parents.now _ _ c.assign_target.ensures.kept c.args.broken.now c.requires.broken))
+check_stmt-returns-in_ok-env-in-Assign-clause-walked g t c = rw c.in-Assign.is (binding_walked g.S.TypeStore.has g.S.TypeStore.tree c.args.frame.now.parents.now _ (frame_with g.S.TypeStore.tree g.R.Resolver.meaning c.args.frame.now) _ _ c.args.broken.now _ _ (rw c.deref-in-Assign.ensures at c.in_ok-env-in-Assign.ensures.bound) (types_kept_if_any g.S.TypeStore.has g.S.TypeStore.tree c.args.frame.now.parents.now _ _ c.assign_target.ensures.kept c.args.broken.now c.requires.broken))
 
 pub check_stmt-returns-in_ok-find_return-in-Return-clause-walked : goal.check_stmt-returns-in_ok-find_return-in-Return-clause-walked
 check_stmt-returns-in_ok-find_return-in-Return-clause-walked g t c = rw c.in-Return.is (record {
@@ -140,19 +271,22 @@ check_stmt-returns-in_ok-type_in-in-Expr-clause-walked g t c = rw c.in-Expr.is (
 pub check_suite-check_next-requires : goal.check_suite-check_next-requires
 check_suite-check_next-requires g t c κs within = (
   let least = at_most the_size c.args.body.now c.loop-statement.statement-index c.statement-item.result c.loop-statement-test.true in omega (arith, c.decreases, ap the_size c.statement-item.is, least),
-  (within.0, (within.1.0, (within.1.1, (frame_kept g.S.TypeStore.has _ _ c.loop-statement.invariant.0 g.S.TypeStore.tree g.R.Resolver.meaning c.args.frame.now c.requires.frame, (c.loop-statement.invariant.1, (c.loop-statement.invariant.2, c.loop-statement.invariant.3)))))),
+  (within.0, (within.1.0, (within.1.1, (frame_kept g.S.TypeStore.has _ _ c.loop-statement.invariant.0 g.S.TypeStore.tree g.R.Resolver.meaning c.args.frame.now c.requires.frame, (c.loop-statement.invariant.1, (c.loop-statement.invariant.2, (c.loop-statement.invariant.3, c.loop-statement.invariant.4))))))),
 )
 
 pub check_suite-loop-statement-preserved : goal.check_suite-loop-statement-preserved
 check_suite-loop-statement-preserved g t c =
     let w = c.in_ok-env.ensures.walked in
     let rest = stmts_of_list (drop (c.loop-statement.statement-index + 1) c.args.body.now) in
+    let tree = g.S.TypeStore.tree in
+    let frame = frame_with tree g.R.Resolver.meaning c.args.frame.now in
     let before = walk_with g.S.TypeStore.tree c.loop-statement.declared c.loop-statement.env c.loop-statement.broken (notes_of c.loop-statement.found) in (
       keeps_both g.S.TypeStore.has _ _ _ c.loop-statement.invariant.0 c.check_next.ensures.kept,
       w.declared_holds,
       w.env_holds,
       w.broken_holds,
-      ap (λ x. walk_suite (frame_with g.S.TypeStore.tree g.R.Resolver.meaning c.args.frame.now) x rest) w.is ∙ sym (ap (walk_suite (frame_with g.S.TypeStore.tree g.R.Resolver.meaning c.args.frame.now) before) (stmts_next c.args.body.now c.loop-statement.statement-index c.statement-item.result c.loop-statement-test.true c.statement-item.is)) ∙ c.loop-statement.invariant.4,
+      subst IsLong (sym w.is) (step_long frame (env_of tree c.loop-statement.declared) (option_map (env_of tree) c.loop-statement.env) (option_map (env_of tree) c.loop-statement.broken) (notes_of c.loop-statement.found) (stmt_of c.statement-item.result) c.loop-statement.invariant.4),
+      ap (λ x. walk_suite (frame_with g.S.TypeStore.tree g.R.Resolver.meaning c.args.frame.now) x rest) w.is ∙ sym (ap (walk_suite (frame_with g.S.TypeStore.tree g.R.Resolver.meaning c.args.frame.now) before) (stmts_next c.args.body.now c.loop-statement.statement-index c.statement-item.result c.loop-statement-test.true c.statement-item.is)) ∙ c.loop-statement.invariant.5,
     )
 
 pub check_suite-returns-clause-walked : goal.check_suite-returns-clause-walked
@@ -160,13 +294,43 @@ check_suite-returns-clause-walked g t c = record {
   declared_holds = c.loop-statement.invariant.1;
   env_holds = c.loop-statement.invariant.2;
   broken_holds = c.loop-statement.invariant.3;
-  is = sym (ap (walk_suite (frame_with g.S.TypeStore.tree g.R.Resolver.meaning c.args.frame.now) (walk_with g.S.TypeStore.tree c.loop-statement.declared c.loop-statement.env c.loop-statement.broken (notes_of c.loop-statement.found))) (no_statement_left c.args.body.now c.loop-statement.statement-index (omega arith))) ∙ c.loop-statement.invariant.4;
+  is = sym (ap (walk_suite (frame_with g.S.TypeStore.tree g.R.Resolver.meaning c.args.frame.now) (walk_with g.S.TypeStore.tree c.loop-statement.declared c.loop-statement.env c.loop-statement.broken (notes_of c.loop-statement.found))) (no_statement_left c.args.body.now c.loop-statement.statement-index (omega arith))) ∙ c.loop-statement.invariant.5;
 }
 
 pub check_while-check_suite-requires : goal.check_while-check_suite-requires
 check_while-check_suite-requires g t c κs within = (
   first_of (omega (arith, c.decreases), search rules, grind (arith, c.decreases)),
-  (within.0, (within.1.0, (within.1.1, (frame_kept g.S.TypeStore.has _ _ (keeps_both g.S.TypeStore.has _ _ _ c.while_start.ensures.kept (keeps_both g.S.TypeStore.has _ _ _ c.type_in.ensures.kept c.narrow_in.ensures.kept)) g.S.TypeStore.tree g.R.Resolver.meaning c.args.frame.now c.requires.frame, (types_kept g.S.TypeStore.has g.S.TypeStore.tree c.args.frame.now.parents.now _ _ (keeps_both g.S.TypeStore.has _ _ _ c.while_start.ensures.kept (keeps_both g.S.TypeStore.has _ _ _ c.type_in.ensures.kept c.narrow_in.ensures.kept)) c.args.declared.now c.requires.declared, (c.in_ok-where_true.ensures.where_true.holds, c.in_ok-where_true.ensures.where_false.holds)))))),
+  (
+    within.0,
+    (
+      within.1.0,
+      (
+        within.1.1,
+        (
+          frame_kept g.S.TypeStore.has _ _ (keeps_both g.S.TypeStore.has _ _ _ c.while_start.ensures.kept (keeps_both g.S.TypeStore.has _ _ _ c.type_in.ensures.kept c.narrow_in.ensures.kept)) g.S.TypeStore.tree g.R.Resolver.meaning c.args.frame.now c.requires.frame,
+          (
+            types_kept g.S.TypeStore.has g.S.TypeStore.tree c.args.frame.now.parents.now _ _ (keeps_both g.S.TypeStore.has _ _ _ c.while_start.ensures.kept (keeps_both g.S.TypeStore.has _ _ _ c.type_in.ensures.kept c.narrow_in.ensures.kept)) c.args.declared.now c.requires.declared,
+            (
+              c.in_ok-where_true.ensures.where_true.holds,
+              (
+                c.in_ok-where_true.ensures.where_false.holds,
+                let tree = g.S.TypeStore.tree in
+                    let frame = frame_with tree g.R.Resolver.meaning c.args.frame.now in
+                    let table = env_of tree c.args.declared.now in
+                    let head = env_of tree c.in_ok-head.head in
+                    let condition = expr_of c.args.condition.now in
+                    let head_long : length head ≡ length table = ap (λ (e : Env). length e) c.in_ok-head.ensures.value.is ∙ head_at_long frame table (bound_by (stmts_of_list c.args.body.now)) (env_of tree c.args.env.now) c.requires.long in
+                    record {
+                      env_long = ap (λ (e : Env). length e) c.in_ok-where_true.ensures.where_true.is ∙ narrowed_long frame table true condition head head_long;
+                      broken_long = ap (λ (e : Env). length e) c.in_ok-where_true.ensures.where_false.is ∙ narrowed_long frame table false condition head head_long;
+                    },
+              ),
+            ),
+          ),
+        ),
+      ),
+    ),
+  ),
 )
 
 pub check_while-narrow_in-requires-clause-declared : goal.check_while-narrow_in-requires-clause-declared
@@ -188,7 +352,7 @@ check_stmt-returns-in-While-clause-walked g t c =
     let bases = c.args.frame.now.parents.now in
     let frame = frame_with tree g.R.Resolver.meaning c.args.frame.now in
     subst (λ (s : Stmt). IfOk c.check_while.result (λ out. GivesWalk has tree bases c.check_while.new.store c.check_while.new.declared out c.args.broken.now (notes_of c.check_while.new.found) (step frame (env_of tree c.args.declared.now) (Some (env_of tree c.args.env)) (option_map (env_of tree) c.args.broken.now) (notes_of c.args.found.now) s)))
-    (ap (λ ss. while_loop c.args.first (expr_of c.in-While.condition) (stmts_of_list ss)) c.deref.ensures.value ∙ sym (while_tree c.args.first c.in-While.condition c.in-While.body) ∙ sym (ap (stmt_of_kind c.args.first) c.in-While.is))
+    (ap (λ ss. while_loop c.args.first (expr_of c.deref-in-While-2.result.now) (stmts_of_list ss)) c.deref-in-While.ensures.value ∙ ap (λ e. while_loop c.args.first (expr_of e) (stmts_of_list c.in-While.body.items)) c.deref-in-While-2.ensures ∙ sym (while_tree c.args.first c.in-While.condition c.in-While.body) ∙ sym (ap (stmt_of_kind c.args.first) c.in-While.is))
     (c.check_while.ensures.walked c.args.first c.args.broken.now (types_kept_if_any has tree bases _ _ c.check_while.ensures.kept c.args.broken.now c.requires.broken))
 
 pub check_stmt-returns-in-For-clause-walked : goal.check_stmt-returns-in-For-clause-walked
@@ -198,14 +362,56 @@ check_stmt-returns-in-For-clause-walked g t c =
     let bases = c.args.frame.now.parents.now in
     let frame = frame_with tree g.R.Resolver.meaning c.args.frame.now in
     subst (λ (s : Stmt). IfOk c.check_for.result (λ out. GivesWalk has tree bases c.check_for.new.store c.check_for.new.declared out c.args.broken.now (notes_of c.check_for.new.found) (step frame (env_of tree c.args.declared.now) (Some (env_of tree c.args.env)) (option_map (env_of tree) c.args.broken.now) (notes_of c.args.found.now) s)))
-    (ap (λ ss. for_loop c.args.first (name_of c.in-For.name) (expr_of c.in-For.iterable) (stmts_of_list ss)) c.deref-in-For.ensures.value ∙ sym (for_tree c.args.first c.in-For.name c.in-For.iterable c.in-For.body) ∙ sym (ap (stmt_of_kind c.args.first) c.in-For.is))
+    (ap (λ ss. for_loop c.args.first (name_of c.in-For.name) (expr_of c.deref-in-For-2.result.now) (stmts_of_list ss)) c.deref-in-For.ensures.value ∙ ap (λ e. for_loop c.args.first (name_of c.in-For.name) (expr_of e) (stmts_of_list c.in-For.body.items)) c.deref-in-For-2.ensures ∙ sym (for_tree c.args.first c.in-For.name c.in-For.iterable c.in-For.body) ∙ sym (ap (stmt_of_kind c.args.first) c.in-For.is))
     (c.check_for.ensures.walked c.args.first c.args.broken.now (types_kept_if_any has tree bases _ _ c.check_for.ensures.kept c.args.broken.now c.requires.broken))
 
 pub check_stmt-check_otherwise-requires : goal.check_stmt-check_otherwise-requires
 check_stmt-check_otherwise-requires g t c κs within =
-    let f = c.in_ok-fork-in-If.ensures.walked in (
+    let f = c.in_ok-fork-in-If.ensures.walked in
+    let tree = g.S.TypeStore.tree in
+    let frame = frame_with tree g.R.Resolver.meaning c.args.frame.now in
+    let resolve = frame.context.resolve in
+    let bs = branches_of_list c.deref-in-If.result.now in
+    let o = stmts_of_list c.deref-in-If-2.result.now in
+    let locals = c.in_ok-locals-in-If.locals.items in
+    let all = among_same locals (touched_by_if resolve bs o) (λ x. c.in_ok-locals-in-If.ensures x) in
+    let branches = among_left locals (touched_by_branches resolve bs) (touched_by resolve o) all in
+    let otherwise = among_right locals (touched_by_branches resolve bs) (touched_by resolve o) all in
+    let same_locals = sym c.deref-in-If-5.ensures.value in
+    let before : BranchesResult = forked_with tree c.args.declared.now c.args.env None c.args.broken.now (notes_of c.args.found.now) in
+    let agrees : ForkAgrees locals before = record { last_long = c.requires.long.env_long; broken_long = c.requires.long.broken_long; ways_agree = tt } in
+    let same_branches : c.deref-in-If.result.now ≡ c.deref-in-If-4.result.now = c.deref-in-If.ensures.value ∙ sym c.deref-in-If-4.ensures.value in
+    let same_suite : c.deref-in-If-2.result.now ≡ c.deref-in-If-6.result.now = c.deref-in-If-2.ensures.value ∙ sym c.deref-in-If-6.ensures.value in
+    let behind = branches_agree frame locals before (branches_of_list c.deref-in-If-4.result.now) c.requires.env.well_formed agrees (subst (λ bs. AreAmong locals (touched_by_branches resolve (branches_of_list bs))) same_branches branches) in (
       first_of (search (rules, the_lemmas), grind (the_lemmas, arith)),
-      (within.0, (within.1.0, (within.1.1, (frame_kept g.S.TypeStore.has _ _ c.check_branches.ensures.kept g.S.TypeStore.tree g.R.Resolver.meaning c.args.frame.now c.requires.frame, (f.declared_holds, (f.last_holds, (f.ways_holds, f.broken_holds))))))),
+      (
+        within.0,
+        (
+          within.1.0,
+          (
+            within.1.1,
+            (
+              frame_kept g.S.TypeStore.has _ _ c.check_branches.ensures.kept g.S.TypeStore.tree g.R.Resolver.meaning c.args.frame.now c.requires.frame,
+              (
+                f.declared_holds,
+                (
+                  f.last_holds,
+                  (
+                    f.ways_holds,
+                    (
+                      f.broken_holds,
+                      (
+                        subst (λ ls. ForkAgrees ls (forked_with tree c.check_branches.new.declared c.in_ok-fork-in-If.fork.last c.in_ok-fork-in-If.fork.ways c.check_branches.new.broken (notes_of c.check_branches.new.found))) same_locals (subst (ForkAgrees locals) (sym f.is) behind),
+                        subst (λ ls. AreAmong ls (touched_by resolve (stmts_of_list c.deref-in-If-6.result.now))) same_locals (subst (λ ss. AreAmong locals (touched_by resolve (stmts_of_list ss))) same_suite otherwise),
+                      ),
+                    ),
+                  ),
+                ),
+              ),
+            ),
+          ),
+        ),
+      ),
     )
 
 pub check_stmt-returns-in_ok-fork-in-If-clause-walked : goal.check_stmt-returns-in_ok-fork-in-If-clause-walked
@@ -217,8 +423,8 @@ check_stmt-returns-in_ok-fork-in-If-clause-walked g t c =
     let f = c.in_ok-fork-in-If.ensures.walked in
     let stepped : Stmt → Walk = step frame (env_of tree c.args.declared.now) (Some (env_of tree c.args.env)) (option_map (env_of tree) c.args.broken.now) (notes_of c.args.found.now) in
     subst (λ (w : Walk). IfOk c.check_otherwise.result (λ out. GivesWalk has tree bases c.check_otherwise.new.store c.check_otherwise.new.declared out c.check_otherwise.new.broken (notes_of c.check_otherwise.new.found) w))
-    (branches_from frame (forked_with tree c.check_branches.new.declared c.in_ok-fork-in-If.fork.last c.in_ok-fork-in-If.fork.ways c.check_branches.new.broken (notes_of c.check_branches.new.found)) _ (stmts_of_list c.deref-in-If-2.result.now) f.is
-    ∙ ap stepped (ap (λ bs. conditional c.args.first (branches_of_list bs) (stmts_of_list c.deref-in-If-2.result.now)) c.deref-in-If.ensures.value ∙ ap (λ ss. conditional c.args.first (branches_of_list c.in-If.branches.items) (stmts_of_list ss)) c.deref-in-If-2.ensures.value ∙ sym (if_tree c.args.first c.in-If.branches c.in-If.suite) ∙ sym (ap (stmt_of_kind c.args.first) c.in-If.is)))
+    (branches_from frame (forked_with tree c.check_branches.new.declared c.in_ok-fork-in-If.fork.last c.in_ok-fork-in-If.fork.ways c.check_branches.new.broken (notes_of c.check_branches.new.found)) _ (stmts_of_list c.deref-in-If-6.result.now) f.is
+    ∙ ap stepped (ap (λ bs. conditional c.args.first (branches_of_list bs) (stmts_of_list c.deref-in-If-6.result.now)) c.deref-in-If-4.ensures.value ∙ ap (λ ss. conditional c.args.first (branches_of_list c.in-If.branches.items) (stmts_of_list ss)) c.deref-in-If-6.ensures.value ∙ sym (if_tree c.args.first c.in-If.branches c.in-If.suite) ∙ sym (ap (stmt_of_kind c.args.first) c.in-If.is)))
     c.check_otherwise.ensures.walked
 
 pub check_stmt-returns-in_ok-fork-in-If-clause-kept : goal.check_stmt-returns-in_ok-fork-in-If-clause-kept
@@ -248,7 +454,73 @@ check_otherwise-returns-clause-walked g t c =
     c.meet.ensures.joined
 
 pub check_stmt-check_branches-requires : goal.check_stmt-check_branches-requires
-check_stmt-check_branches-requires g t c κs within = (
-  first_of (search (rules, the_lemmas), grind (the_lemmas, arith)),
-  (within.0, (within.1.0, (within.1.1, (c.requires.frame, (c.requires.declared, (c.requires.env, c.requires.broken)))))),
+check_stmt-check_branches-requires g t c κs within =
+    let resolve = g.R.Resolver.meaning c.args.frame.now.names.now in
+    let bs = branches_of_list c.deref-in-If.result.now in
+    let o = stmts_of_list c.deref-in-If-2.result.now in
+    let locals = c.in_ok-locals-in-If.locals.items in
+    let all = among_same locals (touched_by_if resolve bs o) (λ x. c.in_ok-locals-in-If.ensures x) in
+    let branches = among_left locals (touched_by_branches resolve bs) (touched_by resolve o) all in
+    let same_branches : c.deref-in-If.result.now ≡ c.deref-in-If-4.result.now = c.deref-in-If.ensures.value ∙ sym c.deref-in-If-4.ensures.value in (
+      first_of (search (rules, the_lemmas), grind (the_lemmas, arith)),
+      (
+        within.0,
+        (
+          within.1.0,
+          (
+            within.1.1,
+            (
+              c.requires.frame,
+              (
+                c.requires.declared,
+                (
+                  c.requires.env,
+                  (
+                    c.requires.broken,
+                    (
+                      c.requires.long,
+                      subst (λ ls. AreAmong ls (touched_by_branches resolve (branches_of_list c.deref-in-If-4.result.now))) (sym c.deref-in-If-3.ensures.value) (subst (λ bs. AreAmong locals (touched_by_branches resolve (branches_of_list bs))) same_branches branches),
+                    ),
+                  ),
+                ),
+              ),
+            ),
+          ),
+        ),
+      ),
+    )
+
+pub check_otherwise-check_suite-requires : goal.check_otherwise-check_suite-requires
+check_otherwise-check_suite-requires g t c κs within = (
+  first_of (omega (arith, c.decreases), search rules, grind (arith, c.decreases)),
+  (
+    within.0,
+    (
+      within.1.0,
+      (
+        within.1.1,
+        (
+          c.requires.frame,
+          (
+            c.requires.declared,
+            (
+              c.requires.last,
+              (
+                c.requires.broken,
+                record { env_long = c.requires.agree.last_long; broken_long = c.requires.agree.broken_long },
+              ),
+            ),
+          ),
+        ),
+      ),
+    ),
+  ),
 )
+
+pub check_otherwise-meet-requires-clause-agree : goal.check_otherwise-meet-requires-clause-agree
+check_otherwise-meet-requires-clause-agree g t c =
+    let tree = g.S.TypeStore.tree in
+    let frame = frame_with tree g.R.Resolver.meaning c.args.frame.now in
+    let fork : BranchesResult = forked_with tree c.args.declared.now c.args.fork.last c.args.fork.ways c.args.broken.now (notes_of c.args.found.now) in
+    subst (λ (w : Walk). WaysAgree c.args.locals.now w.table (option_map (env_of tree) c.args.fork.ways) w.env) (sym c.in_ok-out.ensures.walked.is)
+    (otherwise_agrees frame c.args.locals.now fork (stmts_of_list c.args.otherwise.now) c.requires.last.well_formed c.requires.agree c.requires.touched)

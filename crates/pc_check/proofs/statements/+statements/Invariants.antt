@@ -6,7 +6,9 @@ use Rattle.pc_notes.specs.Notes.{notes_of}
 use Rattle.pc_labels.specs.ComputedStatements.{walk_suite, walk_branches}
 use Rattle.std.specs.Prelude.{None}
 use Rattle.pc_frames.specs.StatementsHeld.{frame_with, HoldsTypes, HoldsTypesIfAny}
-use Rattle.pc_check.specs.Internal.StatementWalk.{walk_with, forked_with}
+use Rattle.pc_frames.specs.Touched.{touched_by_branches}
+use Rattle.pc_frames.specs.Untouched.{AreAmong}
+use Rattle.pc_check.specs.Internal.StatementWalk.{walk_with, forked_with, IsLong, ForkAgrees}
 use Rattle.pc_check.proofs.statements.+statements.Given as goal
 
 abbrev pub invariant-check_suite-loop-statement : goal.invariant-check_suite-loop-statement
@@ -15,6 +17,7 @@ invariant-check_suite-loop-statement g l =
     × HoldsTypes (g.S.TypeStore.has l.store) g.S.TypeStore.tree l.frame.parents.now l.declared
     × HoldsTypesIfAny (g.S.TypeStore.has l.store) g.S.TypeStore.tree l.frame.parents.now l.env
     × HoldsTypesIfAny (g.S.TypeStore.has l.store) g.S.TypeStore.tree l.frame.parents.now l.broken
+    × IsLong (walk_with g.S.TypeStore.tree l.declared l.env l.broken (notes_of l.found))
     × (walk_suite (frame_with g.S.TypeStore.tree g.R.Resolver.meaning l.frame) (walk_with g.S.TypeStore.tree l.declared l.env l.broken (notes_of l.found)) (stmts_of_list (drop l.statement-index l.body)) ≡ walk_suite (frame_with g.S.TypeStore.tree g.R.Resolver.meaning l.frame) (walk_with g.S.TypeStore.tree l.fn.declared l.fn.env l.fn.broken (notes_of l.fn.found)) (stmts_of_list l.body))
 
 abbrev pub invariant-check_branches-loop-branch : goal.invariant-check_branches-loop-branch
@@ -24,4 +27,6 @@ invariant-check_branches-loop-branch g l =
     × HoldsTypes (g.S.TypeStore.has l.store) g.S.TypeStore.tree l.frame.parents.now l.fork.last
     × HoldsTypesIfAny (g.S.TypeStore.has l.store) g.S.TypeStore.tree l.frame.parents.now l.fork.ways
     × HoldsTypesIfAny (g.S.TypeStore.has l.store) g.S.TypeStore.tree l.frame.parents.now l.broken
+    × ForkAgrees l.locals (forked_with g.S.TypeStore.tree l.declared l.fork.last l.fork.ways l.broken (notes_of l.found))
+    × AreAmong l.locals (touched_by_branches (g.R.Resolver.meaning l.frame.names.now) (branches_of_list (drop l.branch-index l.branches)))
     × (walk_branches (frame_with g.S.TypeStore.tree g.R.Resolver.meaning l.frame) (forked_with g.S.TypeStore.tree l.declared l.fork.last l.fork.ways l.broken (notes_of l.found)) (branches_of_list (drop l.branch-index l.branches)) ≡ walk_branches (frame_with g.S.TypeStore.tree g.R.Resolver.meaning l.frame) (forked_with g.S.TypeStore.tree l.fn.declared l.fn.env None l.fn.broken (notes_of l.fn.found)) (branches_of_list l.branches))

@@ -15,7 +15,7 @@ returns-clause-bound g c = λ m e.
     let k = c.flow_in.ensures.kept in
     let want = option_map tree c.args.want in
     let d = c.in_ok-ty.ensures in
-    rw (c.settle.ensures, c.assign.ensures)
+    rw (c.settle.ensures, c.in_ok-assign.ensures.assigned)
     (label_bound has tree bases c.flow_in.new.store (frame_with tree g.R.Resolver.meaning c.args.frame.now) refl c.args.declared.now c.args.env c.args.local want c.args.place c.args.label.now m (notes_of c.args.found.now) (notes_of c.flow_in.new.found) c.in_ok-ty.ty c.in_ok-current.current c.in_ok-code.code
     e
     (record { given = k _ d.0; well_formed = subst (IsWellFormed bases) (sym d.1) (or_well_formed bases want (tree c.args.label.now.ty) (want_well_formed has tree bases c.args.store.now c.args.want c.requires.want) c.requires.label.well_formed) })

@@ -1,7 +1,7 @@
 use Rattle.std.proofs.Common.{◌≡◌, drop, ◌++◌}
 use Rattle.std.specs.Prelude.{map}
 use Rattle.pc_scope.specs.Internal.WalkViews.{name_seen}
-use Rattle.pc_frames.specs.Internal.BoundNames.{numbers_of}
+use Rattle.pc_frames.specs.Touched.{numbers_of}
 use Rattle.pc_frames.proofs.locals.locals_of.Given as goal
 
 abbrev pub invariant-loop-name : goal.invariant-loop-name

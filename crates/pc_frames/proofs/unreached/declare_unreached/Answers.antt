@@ -6,7 +6,8 @@ use Rattle.pc_scope.specs.Internal.WalkViews.{name_seen}
 use Rattle.pc_flow.specs.Stored.{env_of}
 use Rattle.pc_labels.specs.ComputedStatements.{Table}
 use Rattle.pc_frames.specs.StatementsHeld.{frame_with, GivesTypes}
-use Rattle.pc_frames.specs.Internal.BoundNames.{numbers_of, unreached_numbers}
+use Rattle.pc_frames.specs.Touched.{numbers_of}
+use Rattle.pc_frames.specs.Internal.BoundNames.{unreached_numbers}
 use Rattle.pc_frames.proofs.Numbers.{unreached_by}
 use Rattle.pc_frames.proofs.unreached.declare_unreached.Goals as goal
 

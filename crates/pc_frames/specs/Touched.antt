@@ -1,0 +1,46 @@
+-- The locals that statements touch: those that they bind, and those that conditions in them test.
+-- Own rule of the profile.
+use Rattle.std.specs.Prelude.{ℕ, List, [], ◌++◌, filter_map}
+use Rattle.pc_tree.specs.Tree.{Name, Stmt, Stmts, Branches, asserts, while_loop, for_loop, conditional, no_stmts}
+use Rattle.pc_tree.specs.Tree.{more_stmts, no_branches, more_branches}
+use Rattle.pc_tree.specs.Stopping.{bound_by, bound_by_branches}
+use Rattle.pc_scope.specs.declared.resolution.Res.{Res}
+use Rattle.pc_flow.specs.Narrowing.{as_local}
+use Rattle.pc_flow.specs.Narrowing.{tested_locals}
+
+-- the numbers of the locals that names mean
+abbrev pub numbers_of : (List ℕ → Res) → List Name → List ℕ
+numbers_of resolve names = filter_map (λ n. as_local (resolve n.text)) names
+
+module _ (resolve : List ℕ → Res) where
+  abbrev mutual
+    -- the locals that conditions in a statement test, its own and those at any depth, in text order
+    pub tested_in_stmt : Stmt → List ℕ
+    tested_in_stmt (asserts p condition message) = tested_locals resolve condition
+    tested_in_stmt (while_loop p condition body) = tested_locals resolve condition ++ tested_in body
+    tested_in_stmt (for_loop p target iterable body) = tested_in body
+    tested_in_stmt (conditional p branches otherwise) = tested_in_branches branches ++ tested_in otherwise
+    tested_in_stmt _ = []
+
+    -- those that conditions in the statements of a suite test
+    pub tested_in : Stmts → List ℕ
+    tested_in no_stmts = []
+    tested_in (more_stmts s rest) = tested_in_stmt s ++ tested_in rest
+
+    -- the conditions of an `if`, and those in their suites
+    pub tested_in_branches : Branches → List ℕ
+    tested_in_branches no_branches = []
+    tested_in_branches (more_branches condition body rest) =
+        tested_locals resolve condition ++ (tested_in body ++ tested_in_branches rest)
+
+  -- the locals that a suite touches: those that it binds, at any depth, and those that conditions in it test
+  abbrev pub touched_by : Stmts → List ℕ
+  touched_by body = numbers_of resolve (bound_by body) ++ tested_in body
+
+  -- those that conditions and their suites touch
+  abbrev pub touched_by_branches : Branches → List ℕ
+  touched_by_branches branches = numbers_of resolve (bound_by_branches branches) ++ tested_in_branches branches
+
+  -- those that an `if` touches, with its suite of `else`
+  abbrev pub touched_by_if : Branches → (otherwise : Stmts) → List ℕ
+  touched_by_if branches otherwise = touched_by_branches branches ++ touched_by otherwise
