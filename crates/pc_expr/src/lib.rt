@@ -3,6 +3,7 @@
 
 mod call_labels;
 mod calls;
+mod conditions;
 mod displays;
 mod entries;
 mod items;

@@ -14,12 +14,13 @@ ghost use Rattle.pc_rules.specs.Standing.{standing_of, mark_in, finds_in, parts_
 ghost use Rattle.pc_expr.specs.Internal.Forms.{IsUnary, IsBinary, IsConnective};
 
 use crate::calls::label_called;
+use crate::conditions::type_condition;
 use crate::displays::label_display;
 use pc_call::Seat;
 use pc_flow::{Env, Resolver};
 use pc_notes::Notes;
 use pc_operate::{
-    binary_label, env_where, label_attribute, label_bool, label_comparison, label_index, label_int,
+    binary_label, label_attribute, label_bool, label_comparison, label_index, label_int,
     label_junction, label_negative, label_none, label_str, still_stands,
 };
 use pc_rules::{Label, Setting, find_codes, find_flows, name_label};
@@ -267,16 +268,16 @@ fn label_connective<S: TypeStore, R: Resolver>(
 {
     match e {
         Expr::And(_, left, right) => {
-            let first = type_expr(store, alloc, setting, env, &None, left, found)?;
-            let after = env_where(store, alloc, setting, env, true, left)?;
-            let second = type_expr(store, alloc, setting, &after, &None, right, found)?;
-            label_junction(store, alloc, setting.parents, &first.ty, &second.ty)
+            let first = type_condition(store, alloc, setting, env, left, found)?;
+            let after = &first.ways.where_true;
+            let second = type_expr(store, alloc, setting, after, &None, right, found)?;
+            label_junction(store, alloc, setting.parents, &first.label.ty, &second.ty)
         }
         Expr::Or(_, left, right) => {
-            let first = type_expr(store, alloc, setting, env, &None, left, found)?;
-            let after = env_where(store, alloc, setting, env, false, left)?;
-            let second = type_expr(store, alloc, setting, &after, &None, right, found)?;
-            label_junction(store, alloc, setting.parents, &first.ty, &second.ty)
+            let first = type_condition(store, alloc, setting, env, left, found)?;
+            let after = &first.ways.where_false;
+            let second = type_expr(store, alloc, setting, after, &None, right, found)?;
+            label_junction(store, alloc, setting.parents, &first.label.ty, &second.ty)
         }
         _ => unreachable!(),
     }

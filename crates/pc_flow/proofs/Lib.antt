@@ -1,3 +1,4 @@
+pub mod Among
 pub mod Assigned
 pub mod Both
 pub mod Calls

@@ -7,7 +7,6 @@ use Rattle.std.proofs.lemmas.Bool.{cases_lt}
 use Rattle.std.proofs.lemmas.Bool.Decides.{nat_tests}
 use Rattle.std.proofs.lemmas.List.Folds.{list_any-append}
 use Rattle.pc_tree.specs.Tree.{Expr, negation, is_none, is_not_none, conjunction, disjunction, call}
-use Rattle.pc_source.specs.declared.place.Place.{Place}
 use Rattle.pc_scope.specs.declared.resolution.Res.{Res}
 use Rattle.pc_scope.specs.Expressions.{is_instance_test}
 use Rattle.pc_types.specs.Tree.{Tree}
@@ -72,14 +71,14 @@ module _ (bases : Bases) where
       untested_stays holds _ env x k l n = refl
 
       -- the two ways that meet in a condition of two parts agree at the locals that it does not test
-      module _ (p : Place) (a b : Expr) (env : Env) (k : IsWellFormedEnv bases env) where
-        pub both_agree : AgreeBelow (length ds) (tested_locals resolve (conjunction p a b)) (narrow bases ds resolve false a env) (narrow bases ds resolve false b (narrow bases ds resolve true a env))
+      module _ (a b : Expr) (env : Env) (k : IsWellFormedEnv bases env) where
+        pub both_agree : AgreeBelow (length ds) (tested_locals resolve a ++ tested_locals resolve b) (narrow bases ds resolve false a env) (narrow bases ds resolve false b (narrow bases ds resolve true a env))
         both_agree x l n =
             let m = among_neither (tested_locals resolve a) (tested_locals resolve b) x n in
             untested_stays false a env x k l m.0
             ∙ sym (untested_stays false b (narrow bases ds resolve true a env) x (conditions_well_formed bases ds resolve true a env o g k) l m.1 ∙ untested_stays true a env x k l m.0)
 
-        pub either_agrees : AgreeBelow (length ds) (tested_locals resolve (disjunction p a b)) (narrow bases ds resolve true a env) (narrow bases ds resolve true b (narrow bases ds resolve false a env))
+        pub either_agrees : AgreeBelow (length ds) (tested_locals resolve a ++ tested_locals resolve b) (narrow bases ds resolve true a env) (narrow bases ds resolve true b (narrow bases ds resolve false a env))
         either_agrees x l n =
             let m = among_neither (tested_locals resolve a) (tested_locals resolve b) x n in
             untested_stays true a env x k l m.0

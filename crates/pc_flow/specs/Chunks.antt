@@ -10,7 +10,8 @@ chunk_types value types = map (option_map value) types
 abbrev pub row_types : {C X : Type 0} → (types : C → List X) → (locals : ℕ) → List C → List X
 row_types types locals chunks = take locals (flat_map types chunks)
 
--- a row of chunks of so many locals each has room for these
+-- a row of chunks of so many locals each, at least one, has room for these
 pub record IsRow {C X : Type 0} (types : C → List X) (size locals : ℕ) (chunks : List C) : Type 0 where
   pub full : All (λ c. length (types c) ≡ size) chunks
+  pub wide : 1 ≤ size
   pub room : locals ≤ size * length chunks

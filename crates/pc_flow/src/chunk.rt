@@ -1,6 +1,6 @@
 //! Chunks of environments, which environments share.
 
-ghost use Rattle.std.specs.Prelude.{◌≡◌, ◌+◌, ◌/◌, Option, None, All, IfOk, OnOk, OnErr, length, replicate, slice_set, slice_index_or};
+ghost use Rattle.std.specs.Prelude.{◌≡◌, ◌≤◌, ◌+◌, ◌/◌, Option, None, All, IfOk, OnOk, OnErr, length, replicate, slice_set, slice_index_or};
 ghost use Rattle.std.specs.Option.{option_copied, option_map};
 ghost use Rattle.std.specs.Rc.{rc_value};
 
@@ -9,9 +9,6 @@ use pc_source::OutOfMemory;
 use std::alloc::{AllocError, Global};
 use std::marker::Model;
 use std::rc::Rc;
-
-/// So many locals stand in a chunk.
-pub(crate) const CHUNK_LOCALS: usize = 128;
 
 /// The current types of some locals in a row, each shared by the chunks that have it. Contracts see it as their list.
 #[derive(Drop)]
@@ -40,12 +37,12 @@ impl<Ty: Drop> Clone for Chunk<Ty> {
 }
 
 impl<Ty: Drop> Chunk<Ty> {
-    /// A chunk of which no local is assigned.
-    fn empty(alloc: Global) -> Result<Chunk<Ty>, OutOfMemory>
-        ensures { IfOk result (λ c. c ≡ replicate 128 None) }
+    /// A chunk of so many locals, of which none is assigned.
+    fn empty(alloc: Global, width: usize) -> Result<Chunk<Ty>, OutOfMemory>
+        ensures { IfOk result (λ c. c ≡ replicate width None) }
     {
         Ok(Chunk {
-            types: no_types(alloc, CHUNK_LOCALS)?,
+            types: no_types(alloc, width)?,
         })
     }
 
@@ -73,17 +70,31 @@ impl<Ty: Drop> Chunk<Ty> {
     }
 }
 
-/// So many chunks as these locals need, of which none is assigned.
+/// How many of so many locals stand in a chunk: about as many as there are chunks, so that neither a copy of an environment
+/// nor a change of one of its locals takes long.
+pub(crate) fn chunk_width(locals: usize) -> usize
+    ensures { 1 ≤ result }
+{
+    let mut width = 1;
+    while width < locals / width {
+        width *= 2;
+    }
+    width
+}
+
+/// So many chunks of this width as these locals need, of which none is assigned.
 pub(crate) fn empty_chunks<Ty: Drop>(
     alloc: Global,
     locals: usize,
+    width: usize,
 ) -> Result<Vec<Rc<Chunk<Ty>>>, OutOfMemory>
-    ensures empty { IfOk result (λ chunks. All (λ c. rc_value c ≡ replicate 128 None) chunks.items) }
-    ensures enough { IfOk result (λ chunks. length chunks.items ≡ locals / 128 + 1) }
+    requires { 1 ≤ width }
+    ensures empty { IfOk result (λ chunks. All (λ c. rc_value c ≡ replicate width None) chunks.items) }
+    ensures enough { IfOk result (λ chunks. length chunks.items ≡ locals / width + 1) }
 {
-    let empty = Rc::new(alloc, Chunk::empty(alloc)?)?;
+    let empty = Rc::new(alloc, Chunk::empty(alloc, width)?)?;
     let mut chunks = Vec::new(alloc);
-    while chunks.len() <= locals / CHUNK_LOCALS {
+    while chunks.len() <= locals / width {
         chunks.push(empty.clone()?)?;
     }
     Ok(chunks)

@@ -3,20 +3,22 @@
 ghost use Rattle.std.specs.Prelude.{◌≡◌, List, Option, Some, None, IfOk, OnOk, OnErr, length, replicate, take, slice_set, slice_index_or};
 ghost use Rattle.std.specs.Option.{option_copied};
 
-use crate::chunk::{CHUNK_LOCALS, Chunk, empty_chunks, set_in};
+use crate::chunk::{Chunk, chunk_width, empty_chunks, set_in};
 use pc_source::OutOfMemory;
 use std::alloc::Global;
 use std::marker::Model;
 use std::rc::Rc;
 
 /// For each local of a function, by its number, its current type, or none where it is not assigned. Contracts see it as
-/// that list. Environments share what they have in common by chunks of locals, so that a copy costs one pointer a chunk.
+/// that list. Environments share what they have in common by chunks of locals, of one width each, so that a copy costs one
+/// pointer a chunk.
 ///
 /// Typing specification, "Type narrowing"; own rules of the profile.
 #[derive(Drop)]
 pub struct Env<Ty: Drop> {
     chunks: Vec<Rc<Chunk<Ty>>>,
     locals: usize,
+    width: usize,
 }
 
 impl<Ty: Drop> Model for Env<Ty> {
@@ -28,7 +30,7 @@ impl<Ty: Drop> Model for Env<Ty> {
 
     ghost view = { λ e. row_types rc_value e.locals e.chunks.items };
 
-    ghost invariant = { λ e. IsRow rc_value 128 e.locals e.chunks.items };
+    ghost invariant = { λ e. IsRow rc_value e.width e.locals e.chunks.items };
 }
 
 impl<Ty: Drop> Env<Ty> {
@@ -36,8 +38,13 @@ impl<Ty: Drop> Env<Ty> {
     pub fn new(alloc: Global, locals: usize) -> Result<Env<Ty>, OutOfMemory>
         ensures { IfOk result (λ e. e ≡ replicate locals None) }
     {
-        let chunks = empty_chunks(alloc, locals)?;
-        Ok(Env { chunks, locals })
+        let width = chunk_width(locals);
+        let chunks = empty_chunks(alloc, locals, width)?;
+        Ok(Env {
+            chunks,
+            locals,
+            width,
+        })
     }
 
     /// The same current types again.
@@ -47,6 +54,7 @@ impl<Ty: Drop> Env<Ty> {
         Ok(Env {
             chunks: Vec::from_clones(alloc, &self.chunks)?,
             locals: self.locals,
+            width: self.width,
         })
     }
 
@@ -57,6 +65,7 @@ impl<Ty: Drop> Env<Ty> {
         Env {
             locals: self.locals.min(locals),
             chunks: self.chunks,
+            width: self.width,
         }
     }
 
@@ -72,7 +81,7 @@ impl<Ty: Drop> Env<Ty> {
         ensures { option_copied result ≡ slice_index_or self.now local None }
     {
         if local < self.locals {
-            self.chunks[local / CHUNK_LOCALS].get(local % CHUNK_LOCALS)
+            self.chunks[local / self.width].get(local % self.width)
         } else {
             None
         }
@@ -91,8 +100,8 @@ impl<Ty: Drop> Env<Ty> {
         if local >= self.locals {
             return Ok(());
         }
-        let chunk = &mut self.chunks[local / CHUNK_LOCALS];
-        set_in(chunk, alloc, local % CHUNK_LOCALS, ty)
+        let chunk = &mut self.chunks[local / self.width];
+        set_in(chunk, alloc, local % self.width, ty)
     }
 
     /// Assigns a local: it has this current type from now on. Where there is no local of this number nothing changes, nor

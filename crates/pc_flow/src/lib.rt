@@ -8,11 +8,11 @@ mod declared;
 mod env;
 mod heading;
 mod joining;
+mod junctions;
 mod laws;
 mod locals;
 mod naming;
 mod narrowing;
-mod one_way;
 mod tested;
 mod testing;
 
@@ -22,12 +22,12 @@ pub use declared::DeclaredTypes;
 pub use env::Env;
 pub use heading::loop_head;
 pub use joining::{join_env, join_env_at, join_or_object};
+pub use junctions::{narrow_and, narrow_or};
 pub use laws::{
     conditions_keep_untested_locals, environments_stay_well_formed, joins_keep_agreed_locals,
     joins_keep_locals, loops_begin_with_declared_types, tests_keep_types_well_formed,
 };
 pub use naming::{OwnerNames, Resolver, local_named, test_of};
 pub use narrowing::{BothWays, narrow};
-pub use one_way::{narrow_false, narrow_true};
-pub use tested::{add_tested, tested_by};
+pub use tested::add_tested;
 pub use testing::Test;

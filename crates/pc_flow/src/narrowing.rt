@@ -18,7 +18,7 @@ ghost use Rattle.pc_flow.specs.Ways.{GivesBoth, GivesWellFormed};
 use crate::copying::copy_env;
 use crate::joining::join_some;
 use crate::naming::{Resolver, local_named, test_of};
-use crate::tested::tested_by;
+use crate::tested::tested_by_both;
 use crate::testing::{Split, Test, split_type};
 use crate::{DeclaredTypes, Env};
 use pc_scope::is_instance_test;
@@ -321,12 +321,12 @@ pub fn narrow<S: TypeStore, R: Resolver>(
             Ok(holds.swapped())
         }
         Expr::And(_, a, b) => {
-            let tested = tested_by(alloc, names, condition)?;
+            let tested = tested_by_both(alloc, names, a, b)?;
             let first = narrow(store, alloc, parents, declared, names, a, env)?;
             narrow_both(store, alloc, parents, declared, names, b, &tested, first)
         }
         Expr::Or(_, a, b) => {
-            let tested = tested_by(alloc, names, condition)?;
+            let tested = tested_by_both(alloc, names, a, b)?;
             let first = narrow(store, alloc, parents, declared, names, a, env)?;
             narrow_either(store, alloc, parents, declared, names, b, &tested, first)
         }

@@ -1,10 +1,11 @@
 //! The locals that a condition tests.
 
-ghost use Rattle.std.specs.Prelude.{◌≡◌, ◌++◌, IfOk, OnOk};
+ghost use Rattle.std.specs.Prelude.{◌≡◌, ◌++◌, ℕ, IfOk, OnOk};
 ghost use Rattle.std.specs.Option.{option_to_list};
 ghost use Rattle.pc_tree.specs.Tree.{expr_of};
 ghost use Rattle.pc_tree.specs.Lists.{exprs_of_list, keywords_of_list};
 ghost use Rattle.pc_scope.specs.Expressions.{is_instance_test};
+ghost use Rattle.pc_flow.specs.Agreement.{is_among};
 ghost use Rattle.pc_flow.specs.Narrowing.{first_argument, local_named, local_of_argument};
 ghost use Rattle.pc_flow.specs.Narrowing.{tested_by_call, tested_locals};
 
@@ -92,15 +93,21 @@ pub fn add_tested<R: Resolver>(
     }
 }
 
-/// The locals that a condition tests.
-pub fn tested_by<R: Resolver>(
+/// The locals that one of two conditions tests, each once and in order.
+pub(crate) fn tested_by_both<R: Resolver>(
     alloc: Global,
     names: &R,
-    condition: &Expr,
+    left: &Expr,
+    right: &Expr,
 ) -> Result<Vec<usize>, OutOfMemory>
-    ensures { IfOk result (λ tested. tested.items ≡ tested_locals (R.meaning names.now) (expr_of condition.now)) }
+    ensures { (x : ℕ) → IfOk result (λ tested. is_among tested.items x
+        ≡ is_among (tested_locals (R.meaning names.now) (expr_of left.now)
+        ++ tested_locals (R.meaning names.now) (expr_of right.now)) x) }
 {
     let mut tested = Vec::new(alloc);
-    add_tested(names, condition, &mut tested)?;
+    add_tested(names, left, &mut tested)?;
+    add_tested(names, right, &mut tested)?;
+    tested.sort_unstable();
+    tested.dedup();
     Ok(tested)
 }

@@ -7,3 +7,4 @@ pub mod Offering
 pub mod Operators
 pub mod StoredByHead
 pub mod Storing
+pub mod WaysGiven

@@ -2,3 +2,4 @@ pub mod Displays
 pub mod Internal
 pub mod JudgedOperations
 pub mod Storing
+pub mod Ways

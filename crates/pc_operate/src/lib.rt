@@ -9,6 +9,7 @@ mod offers;
 mod operating;
 mod pairs;
 mod stores;
+mod ways;
 
 pub use comparing::label_comparison;
 pub use display::{
@@ -17,10 +18,11 @@ pub use display::{
 pub use iterating::item_label;
 pub use offers::{Operation, member_offers, offers_label};
 pub use operating::{
-    env_where, label_attribute, label_bool, label_index, label_int, label_junction, label_negative,
+    label_attribute, label_bool, label_index, label_int, label_junction, label_negative,
     label_none, label_str, still_stands,
 };
 pub use pairs::binary_label;
 pub use stores::{
     StoreOffer, StoreTarget, only_type, store_codes, store_index_types, store_offers, stored_types,
 };
+pub use ways::{and_ways, both_ways, or_ways};

@@ -8,8 +8,6 @@ ghost use Rattle.pc_types.specs.Shape.{members};
 ghost use Rattle.pc_types.specs.Store.{KeepsTypes};
 ghost use Rattle.pc_class.specs.Tables.{classes_with, HasEntries};
 ghost use Rattle.pc_flow.specs.Environment.{join_or_object};
-ghost use Rattle.pc_flow.specs.Narrowing.{narrow};
-ghost use Rattle.pc_flow.specs.Stored.{env_of, declared_of};
 ghost use Rattle.pc_notes.specs.Notes.{notes_of};
 ghost use Rattle.pc_rules.specs.Operations.{Mark, clean, offers_mark, operand_types, negative_member, attribute_member};
 ghost use Rattle.pc_rules.specs.Operations.{index_member};
@@ -19,7 +17,7 @@ ghost use Rattle.pc_rules.specs.Found.{brief, flows_at};
 ghost use Rattle.pc_rules.specs.Standing.{mark_with, HasGivenAll, IsMark};
 
 use crate::offers::{Operation, literal_index, member_offers, offers_label, operand_types};
-use pc_flow::{Env, Resolver, join_or_object, narrow_false, narrow_true};
+use pc_flow::{Env, Resolver, join_or_object};
 use pc_notes::Notes;
 use pc_rules::{Label, Setting, find_flows};
 use pc_source::OutOfMemory;
@@ -168,48 +166,6 @@ pub fn label_junction<S: TypeStore>(
     let ty = join_or_object(store, alloc, parents, left, right)?;
     let codes = Vec::new(alloc);
     Ok(Label { ty, codes })
-}
-
-/// The environment where a condition is true, or where it is false. Typing specification, "Type narrowing".
-pub fn env_where<S: TypeStore, R: Resolver>(
-    store: &mut S,
-    alloc: Global,
-    setting: &Setting<'_, S::Ty, R>,
-    env: &Env<S::Ty>,
-    holds: bool,
-    condition: &Expr,
-) -> Result<Env<S::Ty>, OutOfMemory>
-    requires { HasGivenAll (S.has store.old) S.tree setting.now env.now }
-    ensures given { IfOk result (λ e. HasGivenAll (S.has store.new) S.tree setting.now e) }
-    ensures value { IfOk result
-        (λ e. env_of S.tree e ≡ narrow setting.now.parents.now (declared_of S.tree setting.now.declared.now)
-        (R.meaning setting.now.names.now) holds (expr_of condition.now) (env_of S.tree env.now)) }
-    ensures kept { KeepsTypes S.has store.old store.new }
-{
-    let parents = setting.parents;
-    let declared = setting.declared;
-    if holds {
-        let after = narrow_true(
-            store,
-            alloc,
-            parents,
-            declared,
-            setting.names,
-            condition,
-            env,
-        )?;
-        return Ok(after);
-    }
-    let after = narrow_false(
-        store,
-        alloc,
-        parents,
-        declared,
-        setting.names,
-        condition,
-        env,
-    )?;
-    Ok(after)
 }
 
 /// Does nothing: it says again that a setting and an environment hold types of the store, for a call that needs it

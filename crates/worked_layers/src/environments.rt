@@ -11,7 +11,7 @@ ghost use Rattle.pc_flow.specs.Stored.{env_of, declared_of, HasOne, HasEach};
 use pc_ann::{parents_of, read_option, type_text};
 use pc_flow::{
     DeclaredTypes, Env, OwnerNames, assigned_type, copy_env, join_env, join_or_object, loop_head,
-    narrow, narrow_false, narrow_true,
+    narrow,
 };
 use pc_front::read_module;
 use pc_scope::{Owner, Res, Scopes, scopes};
@@ -321,8 +321,7 @@ fn condition_of(def: &FuncDef) -> Option<&Expr> {
     }
 }
 
-/// What the condition of a row leaves of the first way, by one walk over it, and by two where these tell something
-/// else.
+/// What the condition of a row leaves of the first way.
 fn narrowed(setting: &Setting, alloc: Global, condition: &Expr) -> Result<String, Fault>
     requires { AreScopes (module_of setting.now.tree.now) setting.now.scopes.now }
 {
@@ -334,21 +333,10 @@ fn narrowed(setting: &Setting, alloc: Global, condition: &Expr) -> Result<String
     let declared = declared_types(setting, alloc)?;
     let env = assigned(setting, alloc, setting.one)?;
     let mut store = BoxStore::new();
-    let holds = narrow_true(
-        &mut store, alloc, parents, &declared, &names, condition, &env,
-    )?;
-    let fails = narrow_false(
-        &mut store, alloc, parents, &declared, &names, condition, &env,
-    )?;
-    let mut text = ways_text(setting, alloc, &holds, &fails)?;
-    let both = narrow(
+    let ways = narrow(
         &mut store, alloc, parents, &declared, &names, condition, env,
     )?;
-    let at_once = ways_text(setting, alloc, &both.where_true, &both.where_false)?;
-    if text.as_str() != at_once.as_str() {
-        write!(text, ", but at once {at_once}")?;
-    }
-    Ok(text)
+    ways_text(setting, alloc, &ways.where_true, &ways.where_false)
 }
 
 /// What is known where the two ways meet.

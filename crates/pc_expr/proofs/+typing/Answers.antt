@@ -14,7 +14,7 @@ use Rattle.pc_expr.proofs.Typed.{whole_found, negative_is, attribute_is, binary_
 use Rattle.std.proofs.lemmas.List.Elements.{All-push, All-nil}
 use Rattle.pc_rules.specs.Calls.{positional_seat, method_callee, named_seat}
 use Rattle.pc_rules.specs.Computed.{flows_of}
-use Rattle.pc_rules.specs.Found.{once, flows_at}
+use Rattle.pc_rules.specs.Found.{brief, once, flows_at}
 use Rattle.pc_call.specs.JudgedCalls.{HasCallOffer, offer_called, given_with, rule_of, names_in}
 use Rattle.pc_expr.specs.Internal.Seats.{seats_of, seat_with}
 use Rattle.pc_expr.proofs.EntrySteps.{keys_step, values_step, entries_step, keys_end, values_end, entries_end, keywords_step, keywords_end}
@@ -30,6 +30,7 @@ use Rattle.pc_scope.specs.Resolution.{is_one_of}
 use Rattle.pc_call.proofs.NamesGiven.{with_name, name_inserted}
 use Rattle.pc_expr.proofs.NamesBefore.{same_with}
 use Rattle.pc_tree.specs.declared.tree.Expr.TheFolds.{the_lemmas}
+use Rattle.pc_expr.proofs.ConditionsTyped.{negation_found, conjunction_found, disjunction_found}
 use Rattle.pc_expr.proofs.+typing.Goals as goal
 
 pub typing::type_expr-returns-clause-pushed : goal.typing::type_expr-returns-clause-pushed
@@ -150,19 +151,19 @@ typing::label_binary-returns-in_ok-index-in-Index-clause-pushed g t c expected =
 
 pub typing::label_connective-returns-in_ok-second-in-And-clause-marked : goal.typing::label_connective-returns-in_ok-second-in-And-clause-marked
 typing::label_connective-returns-in_ok-second-in-And-clause-marked g t c expected =
-    rw c.in-And.is (marked_by g.S.TypeStore.has g.S.TypeStore.tree _ c.label_junction.result _ _ (and_is g.S.TypeStore.tree (standing_of g.S.TypeStore.tree g.R.Resolver.meaning c.args.setting.now c.args.env.now) expected c.in-And.field-0 (expr_of c.in-And.left.value) (expr_of c.in-And.right.value) c.in_ok-first-in-And.first c.in_ok-second-in-And.second (rw c.deref.ensures at c.in_ok-first-in-And.ensures.marked.is) (standing_of g.S.TypeStore.tree g.R.Resolver.meaning c.args.setting.now c.in_ok-after-in-And.after) (rw c.deref-in-And-2.ensures at c.in_ok-second-in-And.ensures.marked.is) (standing_after (standing_of g.S.TypeStore.tree g.R.Resolver.meaning c.args.setting.now c.args.env.now) _ true (expr_of c.in-And.left.value) (rw c.deref-in-And.ensures at c.in_ok-after-in-And.ensures.value))) c.label_junction.ensures.value)
+    rw c.in-And.is (marked_by g.S.TypeStore.has g.S.TypeStore.tree _ c.label_junction.result _ _ (and_is g.S.TypeStore.tree (standing_of g.S.TypeStore.tree g.R.Resolver.meaning c.args.setting.now c.args.env.now) expected c.in-And.field-0 (expr_of c.in-And.left.value) (expr_of c.in-And.right.value) c.in_ok-first-in-And.first.label c.in_ok-second-in-And.second (rw c.deref.ensures at c.in_ok-first-in-And.ensures.marked.is) (standing_of g.S.TypeStore.tree g.R.Resolver.meaning c.args.setting.now c.in_ok-first-in-And.first.ways.where_true) (rw c.deref-in-And.ensures at c.in_ok-second-in-And.ensures.marked.is) (standing_after (standing_of g.S.TypeStore.tree g.R.Resolver.meaning c.args.setting.now c.args.env.now) _ true (expr_of c.in-And.left.value) (rw c.deref.ensures at c.in_ok-first-in-And.ensures.ways.where_true))) c.label_junction.ensures.value)
 
 pub typing::label_connective-returns-in_ok-second-in-And-clause-pushed : goal.typing::label_connective-returns-in_ok-second-in-And-clause-pushed
 typing::label_connective-returns-in_ok-second-in-And-clause-pushed g t c expected =
-    rw c.in-And.is (on_ok c.label_junction.result (and_found g.S.TypeStore.tree (standing_of g.S.TypeStore.tree g.R.Resolver.meaning c.args.setting.now c.args.env.now) expected c.in-And.field-0 (expr_of c.in-And.left.value) (expr_of c.in-And.right.value) (standing_of g.S.TypeStore.tree g.R.Resolver.meaning c.args.setting.now c.in_ok-after-in-And.after) _ _ _ (standing_after (standing_of g.S.TypeStore.tree g.R.Resolver.meaning c.args.setting.now c.args.env.now) _ true (expr_of c.in-And.left.value) (rw c.deref-in-And.ensures at c.in_ok-after-in-And.ensures.value)) (rw c.deref.ensures at c.in_ok-first-in-And.ensures.pushed) (rw c.deref-in-And-2.ensures at c.in_ok-second-in-And.ensures.pushed)))
+    rw c.in-And.is (on_ok c.label_junction.result (and_found g.S.TypeStore.tree (standing_of g.S.TypeStore.tree g.R.Resolver.meaning c.args.setting.now c.args.env.now) expected c.in-And.field-0 (expr_of c.in-And.left.value) (expr_of c.in-And.right.value) (standing_of g.S.TypeStore.tree g.R.Resolver.meaning c.args.setting.now c.in_ok-first-in-And.first.ways.where_true) _ _ _ (standing_after (standing_of g.S.TypeStore.tree g.R.Resolver.meaning c.args.setting.now c.args.env.now) _ true (expr_of c.in-And.left.value) (rw c.deref.ensures at c.in_ok-first-in-And.ensures.ways.where_true)) (rw c.deref.ensures at c.in_ok-first-in-And.ensures.pushed) (rw c.deref-in-And.ensures at c.in_ok-second-in-And.ensures.pushed)))
 
 pub typing::label_connective-returns-in_ok-second-in-Or-clause-marked : goal.typing::label_connective-returns-in_ok-second-in-Or-clause-marked
 typing::label_connective-returns-in_ok-second-in-Or-clause-marked g t c expected =
-    rw c.in-Or.is (marked_by g.S.TypeStore.has g.S.TypeStore.tree _ c.label_junction-in-Or.result _ _ (or_is g.S.TypeStore.tree (standing_of g.S.TypeStore.tree g.R.Resolver.meaning c.args.setting.now c.args.env.now) expected c.in-Or.field-0 (expr_of c.in-Or.left.value) (expr_of c.in-Or.right.value) c.in_ok-first-in-Or.first c.in_ok-second-in-Or.second (rw c.deref-in-Or.ensures at c.in_ok-first-in-Or.ensures.marked.is) (standing_of g.S.TypeStore.tree g.R.Resolver.meaning c.args.setting.now c.in_ok-after-in-Or.after) (rw c.deref-in-Or-3.ensures at c.in_ok-second-in-Or.ensures.marked.is) (standing_after (standing_of g.S.TypeStore.tree g.R.Resolver.meaning c.args.setting.now c.args.env.now) _ false (expr_of c.in-Or.left.value) (rw c.deref-in-Or-2.ensures at c.in_ok-after-in-Or.ensures.value))) c.label_junction-in-Or.ensures.value)
+    rw c.in-Or.is (marked_by g.S.TypeStore.has g.S.TypeStore.tree _ c.label_junction-in-Or.result _ _ (or_is g.S.TypeStore.tree (standing_of g.S.TypeStore.tree g.R.Resolver.meaning c.args.setting.now c.args.env.now) expected c.in-Or.field-0 (expr_of c.in-Or.left.value) (expr_of c.in-Or.right.value) c.in_ok-first-in-Or.first.label c.in_ok-second-in-Or.second (rw c.deref-in-Or.ensures at c.in_ok-first-in-Or.ensures.marked.is) (standing_of g.S.TypeStore.tree g.R.Resolver.meaning c.args.setting.now c.in_ok-first-in-Or.first.ways.where_false) (rw c.deref-in-Or-2.ensures at c.in_ok-second-in-Or.ensures.marked.is) (standing_after (standing_of g.S.TypeStore.tree g.R.Resolver.meaning c.args.setting.now c.args.env.now) _ false (expr_of c.in-Or.left.value) (rw c.deref-in-Or.ensures at c.in_ok-first-in-Or.ensures.ways.where_false))) c.label_junction-in-Or.ensures.value)
 
 pub typing::label_connective-returns-in_ok-second-in-Or-clause-pushed : goal.typing::label_connective-returns-in_ok-second-in-Or-clause-pushed
 typing::label_connective-returns-in_ok-second-in-Or-clause-pushed g t c expected =
-    rw c.in-Or.is (on_ok c.label_junction-in-Or.result (or_found g.S.TypeStore.tree (standing_of g.S.TypeStore.tree g.R.Resolver.meaning c.args.setting.now c.args.env.now) expected c.in-Or.field-0 (expr_of c.in-Or.left.value) (expr_of c.in-Or.right.value) (standing_of g.S.TypeStore.tree g.R.Resolver.meaning c.args.setting.now c.in_ok-after-in-Or.after) _ _ _ (standing_after (standing_of g.S.TypeStore.tree g.R.Resolver.meaning c.args.setting.now c.args.env.now) _ false (expr_of c.in-Or.left.value) (rw c.deref-in-Or-2.ensures at c.in_ok-after-in-Or.ensures.value)) (rw c.deref-in-Or.ensures at c.in_ok-first-in-Or.ensures.pushed) (rw c.deref-in-Or-3.ensures at c.in_ok-second-in-Or.ensures.pushed)))
+    rw c.in-Or.is (on_ok c.label_junction-in-Or.result (or_found g.S.TypeStore.tree (standing_of g.S.TypeStore.tree g.R.Resolver.meaning c.args.setting.now c.args.env.now) expected c.in-Or.field-0 (expr_of c.in-Or.left.value) (expr_of c.in-Or.right.value) (standing_of g.S.TypeStore.tree g.R.Resolver.meaning c.args.setting.now c.in_ok-first-in-Or.first.ways.where_false) _ _ _ (standing_after (standing_of g.S.TypeStore.tree g.R.Resolver.meaning c.args.setting.now c.args.env.now) _ false (expr_of c.in-Or.left.value) (rw c.deref-in-Or.ensures at c.in_ok-first-in-Or.ensures.ways.where_false)) (rw c.deref-in-Or.ensures at c.in_ok-first-in-Or.ensures.pushed) (rw c.deref-in-Or-2.ensures at c.in_ok-second-in-Or.ensures.pushed)))
 
 pub typing::label_unary-label_attribute-requires-clause-classes : goal.typing::label_unary-label_attribute-requires-clause-classes
 typing::label_unary-label_attribute-requires-clause-classes g t c =
@@ -187,14 +188,6 @@ typing::label_binary-still_stands-requires-in-Index g t c =
 pub displays::type_entries-still_stands-requires : goal.displays::type_entries-still_stands-requires
 displays::type_entries-still_stands-requires g t c =
     stands_kept (g.S.TypeStore.has _) (g.S.TypeStore.has _) c.type_seated.ensures.kept g.S.TypeStore.tree c.args.setting.now c.args.env.now c.loop-entry.invariant.given
-
-pub typing::label_connective-env_where-requires : goal.typing::label_connective-env_where-requires
-typing::label_connective-env_where-requires g t c =
-    stands_kept (g.S.TypeStore.has _) (g.S.TypeStore.has _) c.type_expr.ensures.kept g.S.TypeStore.tree c.args.setting.now c.args.env.now c.requires.given
-
-pub typing::label_connective-env_where-requires-in-Or : goal.typing::label_connective-env_where-requires-in-Or
-typing::label_connective-env_where-requires-in-Or g t c =
-    stands_kept (g.S.TypeStore.has _) (g.S.TypeStore.has _) c.type_expr-in-Or.ensures.kept g.S.TypeStore.tree c.args.setting.now c.args.env.now c.requires.given
 
 pub displays::label_display-returns-in_ok-types-in-List-clause-marked : goal.displays::label_display-returns-in_ok-types-in-List-clause-marked
 displays::label_display-returns-in_ok-types-in-List-clause-marked g t c =
@@ -442,3 +435,40 @@ typing::label_expr-returns-in-Call-clause-marked g t c = c.label_called.ensures.
 
 pub typing::label_expr-returns-in-Call-clause-pushed : goal.typing::label_expr-returns-in-Call-clause-pushed
 typing::label_expr-returns-in-Call-clause-pushed g t c = c.label_called.ensures.pushed _
+
+pub conditions::type_condition-both_ways-requires : goal.conditions::type_condition-both_ways-requires
+conditions::type_condition-both_ways-requires g t c = stands_kept (g.S.TypeStore.has _) (g.S.TypeStore.has _) c.type_expr.ensures.kept g.S.TypeStore.tree c.args.setting.now c.args.env.now c.requires
+
+pub conditions::type_condition-returns-in_ok-label-in-Not-clause-marked : goal.conditions::type_condition-returns-in_ok-label-in-Not-clause-marked
+conditions::type_condition-returns-in_ok-label-in-Not-clause-marked g t c = rw c.in-Not.is (record { given = c.in_ok-label-in-Not.ensures.value.given; is = c.in_ok-label-in-Not.ensures.value.is ∙ ap brief (sym (mark_negation (standing_of g.S.TypeStore.tree g.R.Resolver.meaning c.args.setting.now c.args.env.now) None c.in-Not.field-0 (expr_of c.in-Not.operand.value))) })
+
+pub conditions::type_condition-returns-in_ok-label-in-Not-clause-ways : goal.conditions::type_condition-returns-in_ok-label-in-Not-clause-ways
+conditions::type_condition-returns-in_ok-label-in-Not-clause-ways g t c =
+    let w = c.in_ok-condition-in-Not.ensures.ways in
+    rw c.in-Not.is (record {
+      given_true = stands_kept (g.S.TypeStore.has _) (g.S.TypeStore.has _) c.label_bool.ensures.kept g.S.TypeStore.tree c.args.setting.now c.in_ok-condition-in-Not.condition.ways.where_false w.given_false;
+      given_false = stands_kept (g.S.TypeStore.has _) (g.S.TypeStore.has _) c.label_bool.ensures.kept g.S.TypeStore.tree c.args.setting.now c.in_ok-condition-in-Not.condition.ways.where_true w.given_true;
+      where_true = rw c.deref.ensures at w.where_false;
+      where_false = rw c.deref.ensures at w.where_true;
+    })
+
+pub conditions::type_condition-returns-in_ok-label-in-Not-clause-pushed : goal.conditions::type_condition-returns-in_ok-label-in-Not-clause-pushed
+conditions::type_condition-returns-in_ok-label-in-Not-clause-pushed g t c = rw c.in-Not.is (negation_found g.S.TypeStore.tree (standing_of g.S.TypeStore.tree g.R.Resolver.meaning c.args.setting.now c.args.env.now) c.in-Not.field-0 (expr_of c.in-Not.operand.value) _ _ (rw c.deref.ensures at c.in_ok-condition-in-Not.ensures.pushed))
+
+pub conditions::type_condition-returns-in_ok-second-in-And-clause-marked : goal.conditions::type_condition-returns-in_ok-second-in-And-clause-marked
+conditions::type_condition-returns-in_ok-second-in-And-clause-marked g t c = rw c.in-And.is (rw (c.deref-in-And-3.ensures, c.deref-in-And-4.ensures) at (c.and_condition.ensures.marked c.in-And.field-0))
+
+pub conditions::type_condition-returns-in_ok-second-in-And-clause-ways : goal.conditions::type_condition-returns-in_ok-second-in-And-clause-ways
+conditions::type_condition-returns-in_ok-second-in-And-clause-ways g t c = rw c.in-And.is (rw (c.deref-in-And-3.ensures, c.deref-in-And-4.ensures) at (c.and_condition.ensures.ways c.in-And.field-0))
+
+pub conditions::type_condition-returns-in_ok-second-in-And-clause-pushed : goal.conditions::type_condition-returns-in_ok-second-in-And-clause-pushed
+conditions::type_condition-returns-in_ok-second-in-And-clause-pushed g t c = rw c.in-And.is (on_ok c.and_condition.result (conjunction_found g.S.TypeStore.tree (standing_of g.S.TypeStore.tree g.R.Resolver.meaning c.args.setting.now c.args.env.now) c.in-And.field-0 (expr_of c.in-And.left.value) (expr_of c.in-And.right.value) (standing_of g.S.TypeStore.tree g.R.Resolver.meaning c.args.setting.now c.in_ok-first-in-And.first.ways.where_true) _ _ _ (standing_after (standing_of g.S.TypeStore.tree g.R.Resolver.meaning c.args.setting.now c.args.env.now) _ true (expr_of c.in-And.left.value) (rw c.deref-in-And.ensures at c.in_ok-first-in-And.ensures.ways.where_true)) (rw c.deref-in-And.ensures at c.in_ok-first-in-And.ensures.pushed) (rw c.deref-in-And-2.ensures at c.in_ok-second-in-And.ensures.pushed)))
+
+pub conditions::type_condition-returns-in_ok-second-in-Or-clause-marked : goal.conditions::type_condition-returns-in_ok-second-in-Or-clause-marked
+conditions::type_condition-returns-in_ok-second-in-Or-clause-marked g t c = rw c.in-Or.is (rw (c.deref-in-Or-3.ensures, c.deref-in-Or-4.ensures) at (c.or_condition.ensures.marked c.in-Or.field-0))
+
+pub conditions::type_condition-returns-in_ok-second-in-Or-clause-ways : goal.conditions::type_condition-returns-in_ok-second-in-Or-clause-ways
+conditions::type_condition-returns-in_ok-second-in-Or-clause-ways g t c = rw c.in-Or.is (rw (c.deref-in-Or-3.ensures, c.deref-in-Or-4.ensures) at (c.or_condition.ensures.ways c.in-Or.field-0))
+
+pub conditions::type_condition-returns-in_ok-second-in-Or-clause-pushed : goal.conditions::type_condition-returns-in_ok-second-in-Or-clause-pushed
+conditions::type_condition-returns-in_ok-second-in-Or-clause-pushed g t c = rw c.in-Or.is (on_ok c.or_condition.result (disjunction_found g.S.TypeStore.tree (standing_of g.S.TypeStore.tree g.R.Resolver.meaning c.args.setting.now c.args.env.now) c.in-Or.field-0 (expr_of c.in-Or.left.value) (expr_of c.in-Or.right.value) (standing_of g.S.TypeStore.tree g.R.Resolver.meaning c.args.setting.now c.in_ok-first-in-Or.first.ways.where_false) _ _ _ (standing_after (standing_of g.S.TypeStore.tree g.R.Resolver.meaning c.args.setting.now c.args.env.now) _ false (expr_of c.in-Or.left.value) (rw c.deref-in-Or.ensures at c.in_ok-first-in-Or.ensures.ways.where_false)) (rw c.deref-in-Or.ensures at c.in_ok-first-in-Or.ensures.pushed) (rw c.deref-in-Or-2.ensures at c.in_ok-second-in-Or.ensures.pushed)))

@@ -1,10 +1,11 @@
-use Rattle.std.proofs.Common.{rules, ◌≡◌, sym, length, subst, ◌∙◌, arith}
+use Rattle.std.proofs.Common.{rules, ◌≡◌, ◌++◌, ℕ, sym, length, subst, arith}
 use Rattle.std.proofs.lemmas.List.{length-map}
 use Rattle.std.specs.Prelude.{IfOk}
 use Rattle.pc_tree.specs.Tree.{Expr, expr_of, is_none, is_not_none, conjunction, disjunction}
 use Rattle.pc_tree.specs.declared.tree.Expr.TheVariants as tree
 use Rattle.pc_tree.specs.declared.tree.Expr.TheFolds.{the_lemmas}
 use Rattle.pc_tree.proofs.Trees.{call_tree}
+use Rattle.pc_flow.specs.Agreement.{is_among}
 use Rattle.pc_flow.specs.Narrowing.{tested_locals, narrow}
 use Rattle.pc_flow.specs.Stored.{env_of, declared_one, declared_of}
 use Rattle.pc_flow.specs.Ways.{GivesBoth}
@@ -25,12 +26,12 @@ narrow-returns-in_ok-is_none-in-IsNotNone-clause-value g t c =
 pub narrow-returns-in_ok-first-in-And-clause-value : goal.narrow-returns-in_ok-first-in-And-clause-value
 narrow-returns-in_ok-first-in-And-clause-value g t c =
     rw c.in-And.is (well_formed_result g.S.TypeStore.has g.S.TypeStore.tree c.args.parents.now (declared_of g.S.TypeStore.tree c.args.declared.now) (g.R.Resolver.meaning c.args.names.now) c.ordered.ensures c.requires.declared_well_formed _ (conjunction c.in-And.field-0 (expr_of c.in-And.a.value) (expr_of c.in-And.b.value)) (env_of g.S.TypeStore.tree c.args.env) c.requires.env_well_formed c.narrow_both.result
-    (both_hold g.S.TypeStore.has g.S.TypeStore.tree c.args.parents.now (declared_of g.S.TypeStore.tree c.args.declared.now) (g.R.Resolver.meaning c.args.names.now) _ _ c.in-And.field-0 (expr_of c.in-And.a.value) (expr_of c.in-And.b.value) (env_of g.S.TypeStore.tree c.args.env) c.in_ok-first-in-And.first (rw c.deref-in-And.ensures at c.in_ok-first-in-And.ensures.value.both) c.narrow_both.result (rw c.deref-in-And-2.ensures at c.narrow_both.ensures.value)))
+    (both_hold g.S.TypeStore.has g.S.TypeStore.tree c.args.parents.now (declared_of g.S.TypeStore.tree c.args.declared.now) (g.R.Resolver.meaning c.args.names.now) _ _ c.in-And.field-0 (expr_of c.in-And.a.value) (expr_of c.in-And.b.value) (env_of g.S.TypeStore.tree c.args.env) c.in_ok-first-in-And.first (rw c.deref-in-And-3.ensures at c.in_ok-first-in-And.ensures.value.both) c.narrow_both.result (rw c.deref-in-And-4.ensures at c.narrow_both.ensures.value)))
 
 pub narrow-returns-in_ok-first-in-Or-clause-value : goal.narrow-returns-in_ok-first-in-Or-clause-value
 narrow-returns-in_ok-first-in-Or-clause-value g t c =
     rw c.in-Or.is (well_formed_result g.S.TypeStore.has g.S.TypeStore.tree c.args.parents.now (declared_of g.S.TypeStore.tree c.args.declared.now) (g.R.Resolver.meaning c.args.names.now) c.ordered.ensures c.requires.declared_well_formed _ (disjunction c.in-Or.field-0 (expr_of c.in-Or.a.value) (expr_of c.in-Or.b.value)) (env_of g.S.TypeStore.tree c.args.env) c.requires.env_well_formed c.narrow_either.result
-    (either_holds g.S.TypeStore.has g.S.TypeStore.tree c.args.parents.now (declared_of g.S.TypeStore.tree c.args.declared.now) (g.R.Resolver.meaning c.args.names.now) _ _ c.in-Or.field-0 (expr_of c.in-Or.a.value) (expr_of c.in-Or.b.value) (env_of g.S.TypeStore.tree c.args.env) c.in_ok-first-in-Or.first (rw c.deref-in-Or.ensures at c.in_ok-first-in-Or.ensures.value.both) c.narrow_either.result (rw c.deref-in-Or-2.ensures at c.narrow_either.ensures.value)))
+    (either_holds g.S.TypeStore.has g.S.TypeStore.tree c.args.parents.now (declared_of g.S.TypeStore.tree c.args.declared.now) (g.R.Resolver.meaning c.args.names.now) _ _ c.in-Or.field-0 (expr_of c.in-Or.a.value) (expr_of c.in-Or.b.value) (env_of g.S.TypeStore.tree c.args.env) c.in_ok-first-in-Or.first (rw c.deref-in-Or-3.ensures at c.in_ok-first-in-Or.ensures.value.both) c.narrow_either.result (rw c.deref-in-Or-4.ensures at c.narrow_either.ensures.value)))
 
 pub narrow_both-returns-clause-value : goal.narrow_both-returns-clause-value
 narrow_both-returns-clause-value g t c =
@@ -52,10 +53,10 @@ pub narrow-narrow_both-requires : goal.narrow-narrow_both-requires
 narrow-narrow_both-requires g t c κs within =
     let resolve = g.R.Resolver.meaning c.args.names.now in
     let a = expr_of c.in-And.a.value in
-    let b = expr_of c.deref-in-And-2.result.now in
+    let b = expr_of c.deref-in-And-4.result.now in
     let v = c.in_ok-first-in-And.ensures.value in
-    let e : c.deref-in-And-3.result.now ≡ tested_locals resolve (conjunction c.in-And.field-0 a b) = rw c.deref-in-And-2.ensures (c.deref-in-And-3.ensures.value ∙ (rw c.in-And.is at c.in_ok-tested-in-And.ensures)) in
-    let agree = both_ready g.S.TypeStore.has g.S.TypeStore.tree c.args.parents.now (declared_of g.S.TypeStore.tree c.args.declared.now) resolve c.ordered.ensures c.requires.declared_well_formed _ c.in-And.field-0 a b (env_of g.S.TypeStore.tree c.args.env) c.requires.env_well_formed c.in_ok-first-in-And.first (rw c.deref-in-And.ensures at v.both) (length c.args.declared.now) (sym (length-map c.args.declared.now (declared_one g.S.TypeStore.tree))) c.deref-in-And-3.result.now e in (
+    let e : (x : ℕ) → is_among c.deref-in-And-5.result.now x ≡ is_among (tested_locals resolve a ++ tested_locals resolve b) x = λ x. rw (c.deref-in-And-4.ensures, c.deref-in-And-5.ensures.value) (rw (c.deref-in-And.ensures, c.deref-in-And-2.ensures) at (c.in_ok-tested-in-And.ensures x)) in
+    let agree = both_ready g.S.TypeStore.has g.S.TypeStore.tree c.args.parents.now (declared_of g.S.TypeStore.tree c.args.declared.now) resolve c.ordered.ensures c.requires.declared_well_formed _ a b (env_of g.S.TypeStore.tree c.args.env) c.requires.env_well_formed c.in_ok-first-in-And.first (rw c.deref-in-And-3.ensures at v.both) (length c.args.declared.now) (sym (length-map c.args.declared.now (declared_one g.S.TypeStore.tree))) c.deref-in-And-5.result.now e in (
       first_of (search (rules, the_lemmas), grind (the_lemmas, arith)),
       (within.0, (within.1.0, (within.1.1, (each_kept g.S.TypeStore.has _ _ c.narrow-in-And.ensures.kept c.args.declared.now c.requires.declared, (v.both.where_true.given, (v.both.where_false.given, (c.requires.declared_well_formed, (v.where_true, (v.where_false, agree))))))))),
     )
@@ -64,10 +65,10 @@ pub narrow-narrow_either-requires : goal.narrow-narrow_either-requires
 narrow-narrow_either-requires g t c κs within =
     let resolve = g.R.Resolver.meaning c.args.names.now in
     let a = expr_of c.in-Or.a.value in
-    let b = expr_of c.deref-in-Or-2.result.now in
+    let b = expr_of c.deref-in-Or-4.result.now in
     let v = c.in_ok-first-in-Or.ensures.value in
-    let e : c.deref-in-Or-3.result.now ≡ tested_locals resolve (disjunction c.in-Or.field-0 a b) = rw c.deref-in-Or-2.ensures (c.deref-in-Or-3.ensures.value ∙ (rw c.in-Or.is at c.in_ok-tested-in-Or.ensures)) in
-    let agree = either_ready g.S.TypeStore.has g.S.TypeStore.tree c.args.parents.now (declared_of g.S.TypeStore.tree c.args.declared.now) resolve c.ordered.ensures c.requires.declared_well_formed _ c.in-Or.field-0 a b (env_of g.S.TypeStore.tree c.args.env) c.requires.env_well_formed c.in_ok-first-in-Or.first (rw c.deref-in-Or.ensures at v.both) (length c.args.declared.now) (sym (length-map c.args.declared.now (declared_one g.S.TypeStore.tree))) c.deref-in-Or-3.result.now e in (
+    let e : (x : ℕ) → is_among c.deref-in-Or-5.result.now x ≡ is_among (tested_locals resolve a ++ tested_locals resolve b) x = λ x. rw (c.deref-in-Or-4.ensures, c.deref-in-Or-5.ensures.value) (rw (c.deref-in-Or.ensures, c.deref-in-Or-2.ensures) at (c.in_ok-tested-in-Or.ensures x)) in
+    let agree = either_ready g.S.TypeStore.has g.S.TypeStore.tree c.args.parents.now (declared_of g.S.TypeStore.tree c.args.declared.now) resolve c.ordered.ensures c.requires.declared_well_formed _ a b (env_of g.S.TypeStore.tree c.args.env) c.requires.env_well_formed c.in_ok-first-in-Or.first (rw c.deref-in-Or-3.ensures at v.both) (length c.args.declared.now) (sym (length-map c.args.declared.now (declared_one g.S.TypeStore.tree))) c.deref-in-Or-5.result.now e in (
       first_of (search (rules, the_lemmas), grind (the_lemmas, arith)),
       (within.0, (within.1.0, (within.1.1, (each_kept g.S.TypeStore.has _ _ c.narrow-in-Or.ensures.kept c.args.declared.now c.requires.declared, (v.both.where_true.given, (v.both.where_false.given, (c.requires.declared_well_formed, (v.where_false, (v.where_true, agree))))))))),
     )
