@@ -191,6 +191,7 @@ pub(crate) fn check_function<S: TypeStore, R: Resolver>(
         frame,
         &mut declared,
         Some(env),
+        &[],
         &mut broken,
         &def.body,
         found,

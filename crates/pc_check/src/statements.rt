@@ -11,15 +11,15 @@ ghost use Rattle.pc_flow.specs.Stored.{env_of};
 ghost use Rattle.pc_notes.specs.Notes.{notes_of};
 ghost use Rattle.pc_labels.specs.ComputedStatements.{step, walk_suite, walk_branches, behind_branches};
 ghost use Rattle.pc_frames.specs.StatementsHeld.{frame_with, HoldsFrame, HoldsTypes, HoldsTypesIfAny};
-ghost use Rattle.pc_frames.specs.Touched.{touched_by, touched_by_branches};
+ghost use Rattle.pc_frames.specs.Touched.{touched_by, touched_by_branches, touched_by_stmt};
 ghost use Rattle.pc_frames.specs.Untouched.{AreAmong};
 ghost use Rattle.pc_check.specs.Internal.StatementWalk.{walk_with, forked_with, GivesWalk, GivesForked, IsLong};
-ghost use Rattle.pc_check.specs.Internal.StatementWalk.{IsAsLong, ForkAgrees};
+ghost use Rattle.pc_check.specs.Internal.StatementWalk.{IsAsLong, ForkAgrees, BreaksAgree};
 
 use pc_flow::{BothWays, DeclaredTypes, Env, Resolver, copy_env};
 use pc_frames::{
     Frame, bind_item, break_out, declare_unreached, for_start, meet, narrow_in, touched_by,
-    while_start,
+    touched_by_for, touched_by_while, while_start,
 };
 use pc_notes::Notes;
 use pc_source::{OutOfMemory, Place};
@@ -36,7 +36,8 @@ struct Fork<Ty: Drop> {
     ways: Option<Env<Ty>>,
 }
 
-/// Walks over statements, one after another, and answers the environment behind them, if a run comes there.
+/// Walks over statements, one after another, and answers the environment behind them, if a run comes there. At a `break`
+/// only the locals that the loop around them touches are joined onto the way out of it, since it agrees on every other one.
 #[cycle(statements)]
 pub(crate) fn check_suite<S: TypeStore, R: Resolver>(
     store: &mut S,
@@ -44,6 +45,7 @@ pub(crate) fn check_suite<S: TypeStore, R: Resolver>(
     frame: &Frame<'_, S::Ty, R>,
     declared: &mut DeclaredTypes<S::Ty>,
     env: Option<Env<S::Ty>>,
+    breaking: &[usize],
     broken: &mut Option<Env<S::Ty>>,
     body: &[Stmt],
     found: &mut Notes,
@@ -53,6 +55,8 @@ pub(crate) fn check_suite<S: TypeStore, R: Resolver>(
     requires env { HoldsTypesIfAny (S.has store.old) S.tree frame.now.parents.now env }
     requires broken { HoldsTypesIfAny (S.has store.old) S.tree frame.now.parents.now broken.old }
     requires long { IsLong (walk_with S.tree declared.old env broken.old (notes_of found.old)) }
+    requires breaks { BreaksAgree breaking.now (touched_by (R.meaning frame.now.names.now) (stmts_of_list body.now))
+        (option_map (env_of S.tree) broken.old) (option_map (env_of S.tree) env) }
     ensures walked { IfOk result
         (λ out. GivesWalk S.has S.tree frame.now.parents.now store.new declared.new out broken.new (notes_of found.new)
         (walk_suite (frame_with S.tree R.meaning frame.now)
@@ -61,7 +65,9 @@ pub(crate) fn check_suite<S: TypeStore, R: Resolver>(
 {
     let mut env = env;
     for statement in body {
-        env = check_next(store, alloc, frame, declared, env, broken, statement, found)?;
+        env = check_next(
+            store, alloc, frame, declared, env, breaking, broken, statement, found,
+        )?;
     }
     Ok(env)
 }
@@ -74,6 +80,7 @@ fn check_next<S: TypeStore, R: Resolver>(
     frame: &Frame<'_, S::Ty, R>,
     declared: &mut DeclaredTypes<S::Ty>,
     env: Option<Env<S::Ty>>,
+    breaking: &[usize],
     broken: &mut Option<Env<S::Ty>>,
     statement: &Stmt,
     found: &mut Notes,
@@ -83,6 +90,9 @@ fn check_next<S: TypeStore, R: Resolver>(
     requires env { HoldsTypesIfAny (S.has store.old) S.tree frame.now.parents.now env }
     requires broken { HoldsTypesIfAny (S.has store.old) S.tree frame.now.parents.now broken.old }
     requires long { IsLong (walk_with S.tree declared.old env broken.old (notes_of found.old)) }
+    requires breaks { BreaksAgree breaking.now
+        (touched_by_stmt (R.meaning frame.now.names.now) (stmt_of statement.now))
+        (option_map (env_of S.tree) broken.old) (option_map (env_of S.tree) env) }
     ensures walked { IfOk result
         (λ out. GivesWalk S.has S.tree frame.now.parents.now store.new declared.new out broken.new (notes_of found.new)
         (step (frame_with S.tree R.meaning frame.now) (env_of S.tree declared.old) (option_map (env_of S.tree) env)
@@ -100,6 +110,7 @@ fn check_next<S: TypeStore, R: Resolver>(
             frame,
             declared,
             env,
+            breaking,
             broken,
             statement.first,
             &statement.kind,
@@ -116,6 +127,7 @@ fn check_stmt<S: TypeStore, R: Resolver>(
     frame: &Frame<'_, S::Ty, R>,
     declared: &mut DeclaredTypes<S::Ty>,
     env: Env<S::Ty>,
+    breaking: &[usize],
     broken: &mut Option<Env<S::Ty>>,
     first: Place,
     kind: &StmtKind,
@@ -126,6 +138,9 @@ fn check_stmt<S: TypeStore, R: Resolver>(
     requires env { HoldsTypes (S.has store.old) S.tree frame.now.parents.now env }
     requires broken { HoldsTypesIfAny (S.has store.old) S.tree frame.now.parents.now broken.old }
     requires long { IsLong (walk_with S.tree declared.old (Some env) broken.old (notes_of found.old)) }
+    requires breaks { BreaksAgree breaking.now
+        (touched_by_stmt (R.meaning frame.now.names.now) (stmt_of_kind first kind.now))
+        (option_map (env_of S.tree) broken.old) (Some (env_of S.tree env)) }
     ensures walked { IfOk result
         (λ out. GivesWalk S.has S.tree frame.now.parents.now store.new declared.new out broken.new (notes_of found.new)
         (step (frame_with S.tree R.meaning frame.now) (env_of S.tree declared.old) (Some (env_of S.tree env))
@@ -135,7 +150,7 @@ fn check_stmt<S: TypeStore, R: Resolver>(
     match kind {
         StmtKind::Pass => Ok(Some(env)),
         StmtKind::Break => {
-            break_out(store, alloc, frame, declared, &env, broken)?;
+            break_out(store, alloc, frame, declared, breaking, &env, broken)?;
             Ok(None)
         }
         StmtKind::Continue => Ok(None),
@@ -170,10 +185,10 @@ fn check_stmt<S: TypeStore, R: Resolver>(
         StmtKind::If(branches, suite) => {
             let locals = touched_by(alloc, frame.names, branches, suite)?;
             let fork = check_branches(
-                store, alloc, frame, declared, &locals, env, broken, branches, found,
+                store, alloc, frame, declared, &locals, env, breaking, broken, branches, found,
             )?;
             check_otherwise(
-                store, alloc, frame, declared, &locals, fork, broken, suite, found,
+                store, alloc, frame, declared, &locals, fork, breaking, broken, suite, found,
             )
         }
     }
@@ -212,6 +227,7 @@ fn check_while<S: TypeStore, R: Resolver>(
         where_true,
         where_false,
     } = narrow_in(store, alloc, frame, declared, condition, head)?;
+    let breaking = touched_by_while(alloc, frame.names, condition, body)?;
     let mut way = Some(where_false);
     check_suite(
         store,
@@ -219,6 +235,7 @@ fn check_while<S: TypeStore, R: Resolver>(
         frame,
         declared,
         Some(where_true),
+        &breaking,
         &mut way,
         body,
         found,
@@ -252,6 +269,7 @@ fn check_for<S: TypeStore, R: Resolver>(
         (for_loop p (name_of name.now) (expr_of iterable.now) (stmts_of_list body.now)))) }
     ensures kept { KeepsTypes S.has store.old store.new }
 {
+    let breaking = touched_by_for(alloc, frame.names, name, body)?;
     let item = item_type(store, alloc, frame, declared, env, iterable, found)?;
     let head = for_start(store, alloc, frame, declared, env, name, body)?;
     let mut way = Some(copy_env(store, alloc, &head)?);
@@ -272,6 +290,7 @@ fn check_for<S: TypeStore, R: Resolver>(
         frame,
         declared,
         Some(inside),
+        &breaking,
         &mut way,
         body,
         found,
@@ -289,6 +308,7 @@ fn check_otherwise<S: TypeStore, R: Resolver>(
     declared: &mut DeclaredTypes<S::Ty>,
     locals: &[usize],
     fork: Fork<S::Ty>,
+    breaking: &[usize],
     broken: &mut Option<Env<S::Ty>>,
     otherwise: &[Stmt],
     found: &mut Notes,
@@ -300,6 +320,9 @@ fn check_otherwise<S: TypeStore, R: Resolver>(
     requires broken { HoldsTypesIfAny (S.has store.old) S.tree frame.now.parents.now broken.old }
     requires agree { ForkAgrees locals.now
         (forked_with S.tree declared.old fork.last fork.ways broken.old (notes_of found.old)) }
+    requires breaks { BreaksAgree breaking.now
+        (touched_by (R.meaning frame.now.names.now) (stmts_of_list otherwise.now))
+        (option_map (env_of S.tree) broken.old) (Some (env_of S.tree fork.last)) }
     requires touched { AreAmong locals.now (touched_by (R.meaning frame.now.names.now) (stmts_of_list otherwise.now)) }
     ensures walked { IfOk result
         (λ out. GivesWalk S.has S.tree frame.now.parents.now store.new declared.new out broken.new (notes_of found.new)
@@ -316,6 +339,7 @@ fn check_otherwise<S: TypeStore, R: Resolver>(
         frame,
         declared,
         Some(last),
+        breaking,
         broken,
         otherwise,
         found,
@@ -333,6 +357,7 @@ fn check_branches<S: TypeStore, R: Resolver>(
     declared: &mut DeclaredTypes<S::Ty>,
     locals: &[usize],
     env: Env<S::Ty>,
+    breaking: &[usize],
     broken: &mut Option<Env<S::Ty>>,
     branches: &[Branch],
     found: &mut Notes,
@@ -342,6 +367,9 @@ fn check_branches<S: TypeStore, R: Resolver>(
     requires env { HoldsTypes (S.has store.old) S.tree frame.now.parents.now env }
     requires broken { HoldsTypesIfAny (S.has store.old) S.tree frame.now.parents.now broken.old }
     requires long { IsLong (walk_with S.tree declared.old (Some env) broken.old (notes_of found.old)) }
+    requires breaks { BreaksAgree breaking.now
+        (touched_by_branches (R.meaning frame.now.names.now) (branches_of_list branches.now))
+        (option_map (env_of S.tree) broken.old) (Some (env_of S.tree env)) }
     requires touched { AreAmong locals.now (touched_by_branches (R.meaning frame.now.names.now)
         (branches_of_list branches.now)) }
     ensures walked { IfOk result
@@ -356,7 +384,7 @@ fn check_branches<S: TypeStore, R: Resolver>(
     };
     for branch in branches {
         fork = check_branch(
-            store, alloc, frame, declared, locals, fork, broken, branch, found,
+            store, alloc, frame, declared, locals, fork, breaking, broken, branch, found,
         )?;
     }
     Ok(fork)
@@ -371,6 +399,7 @@ fn check_branch<S: TypeStore, R: Resolver>(
     declared: &mut DeclaredTypes<S::Ty>,
     locals: &[usize],
     fork: Fork<S::Ty>,
+    breaking: &[usize],
     broken: &mut Option<Env<S::Ty>>,
     branch: &Branch,
     found: &mut Notes,
@@ -382,6 +411,9 @@ fn check_branch<S: TypeStore, R: Resolver>(
     requires broken { HoldsTypesIfAny (S.has store.old) S.tree frame.now.parents.now broken.old }
     requires agree { ForkAgrees locals.now
         (forked_with S.tree declared.old fork.last fork.ways broken.old (notes_of found.old)) }
+    requires breaks { BreaksAgree breaking.now
+        (touched_by_branches (R.meaning frame.now.names.now) (with_branch branch.now no_branches))
+        (option_map (env_of S.tree) broken.old) (Some (env_of S.tree fork.last)) }
     requires touched { AreAmong locals.now (touched_by_branches (R.meaning frame.now.names.now)
         (with_branch branch.now no_branches)) }
     ensures walked { IfOk result
@@ -412,6 +444,7 @@ fn check_branch<S: TypeStore, R: Resolver>(
         frame,
         declared,
         Some(where_true),
+        breaking,
         broken,
         &branch.body,
         found,

@@ -1,6 +1,6 @@
 -- A walk over statements leaves each local that they do not touch as it is.
 use Rattle.std.proofs.Common.{◌≡◌, ◌∙◌, ℕ, List, [], ◌∷◌, ◌++◌, length, refl, sym, ap, subst, arith}
-use Rattle.std.specs.Prelude.{Bool as Test, true, false, ◌||◌, nat_eq, Option, Some, None, slice_set, unwrap_or}
+use Rattle.std.specs.Prelude.{Bool as Test, true, false, ◌||◌, nat_eq, Option, Some, None, unwrap_or}
 use Rattle.std.specs.List.{cons_option}
 use Rattle.std.proofs.lemmas.List.{length-set, length-map}
 use Rattle.std.proofs.lemmas.List.Elements.{filter_map-append}
@@ -12,10 +12,9 @@ use Rattle.pc_tree.specs.Depth.{place_of}
 use Rattle.pc_scope.specs.declared.resolution.Res.{Res}
 use Rattle.pc_scope.specs.declared.resolution.Res.TheVariants as res
 use Rattle.pc_types.specs.Tree.{Tree, Any}
-use Rattle.pc_types.specs.Below.{Bases}
 use Rattle.pc_flow.specs.Environment.{Env, current, join_env}
-use Rattle.pc_flow.specs.Narrowing.{as_local, narrow}
-use Rattle.pc_flow.specs.WellFormed.{IsWellFormedIfAny, IsWellFormedEnv}
+use Rattle.pc_flow.specs.Narrowing.{as_local}
+use Rattle.pc_flow.specs.WellFormed.{IsWellFormedIfAny}
 use Rattle.pc_flow.proofs.Conditions.{current_well_formed}
 use Rattle.pc_notes.specs.Notes.{Note}
 use Rattle.pc_rules.specs.Operations.{Mark, clean}
@@ -24,9 +23,9 @@ use Rattle.pc_ann.specs.Annotations.{read_ann}
 use Rattle.pc_labels.specs.Statements.{binds_number, is_local_number}
 use Rattle.pc_labels.specs.ComputedStatements.{BodyFrame, Table, type_table, bound_type, with_declared, known_declared, Walk, BindingResult, BranchesResult, join_onto_way, with_way, at, narrowed_at, unreached_name, unreached_names, bind_label, bind_value, declared_alone, annotation_finds, bound_name, bind_annotated, assign_target, bind_item, head_at, item_mark_of, step, walk_suite, walk_branches}
 use Rattle.pc_frames.specs.Touched.{numbers_of, tested_in_stmt, tested_in, tested_in_branches, touched_by}
-use Rattle.pc_flow.specs.Agreement.{is_among, AgreeOutside}
+use Rattle.pc_flow.specs.Agreement.{is_among}
 use Rattle.pc_flow.specs.Narrowing.{tested_locals}
-use Rattle.pc_frames.specs.Untouched.{AreAmong, IsAsOutside, IsAsOutsideIfAny, KeepsOutside, SuitesKeepUntouchedLocals}
+use Rattle.pc_frames.specs.Untouched.{AreAmong, IsAsOutsideIfAny, SuitesKeepUntouchedLocals}
 use Rattle.pc_frames.proofs.KeptLocals.{IsKept, IsKeptIfAny, AreApart, apart_both, assigned_kept, head_kept, joined_kept, narrow_kept}
 
 -- ---- tables stay as long
@@ -106,7 +105,7 @@ module _ (frame : BodyFrame) (Kind : ℕ → Type 0) (base : Env) (fine : (x : �
   pub narrowed_here : (table : Table) (holds : Test) (c : Expr) (env : Env) → length table ≡ length base → AreApart Kind base (tested_locals frame.context.resolve c) → Here env → Here (narrowed_at frame table holds c env)
   narrowed_here table holds c env l a h = narrow_kept Kind base frame.context.bases (type_table table) (here_types table l) fine frame.context.resolve holds c env a h
 
-  head_here : (table : Table) (names : List Name) (env : Env) → length table ≡ length base → NamesApart names → Here env → Here (head_at frame table names env)
+  pub head_here : (table : Table) (names : List Name) (env : Env) → length table ≡ length base → NamesApart names → Here env → Here (head_at frame table names env)
   head_here table names env l n h = head_kept Kind base (binds_number frame.context.resolve names) (type_table table) env (here_types table l) (λ x k. binds_none names x k n) h
 
   join_here : (table : Table) (a b : Env) → length table ≡ length base → Here a → Here b → Here (join_env frame.context.bases (type_table table) a b)
@@ -123,9 +122,9 @@ module _ (frame : BodyFrame) (Kind : ℕ → Type 0) (base : Env) (fine : (x : �
 
   -- ---- names that are bound
 
-  record BindingHere (b : BindingResult) : Type 0 where
-    long : length b.table ≡ length base
-    env_here : IsKept Kind base b.env
+  pub record BindingHere (b : BindingResult) : Type 0 where
+    pub long : length b.table ≡ length base
+    pub env_here : IsKept Kind base b.env
 
   label_here : (table : Table) (env : Env) (x : ℕ) (want : Option Tree) (p : Place) (m : Mark) (found : List Note) → length table ≡ length base → (Kind x → ⊥) → Here env → BindingHere (bind_label frame table env x want p m found)
   label_here table env x want p m found l a h = record {
@@ -150,7 +149,7 @@ module _ (frame : BodyFrame) (Kind : ℕ → Type 0) (base : Env) (fine : (x : �
   target_here table env (to_attribute p o field) e found l m h = record { long = l; env_here = h }
   target_here table env (to_index p o i) e found l m h = record { long = l; env_here = h }
 
-  item_here : (table : Table) (head : Env) (r : Res) (p : Place) (t : Tree) (found : List Note) (others : List ℕ) → length table ≡ length base → MeaningApart r others → Here head → BindingHere (bind_item frame table head r p t found)
+  pub item_here : (table : Table) (head : Env) (r : Res) (p : Place) (t : Tree) (found : List Note) (others : List ℕ) → length table ≡ length base → MeaningApart r others → Here head → BindingHere (bind_item frame table head r p t found)
   item_here table head (res.Local x) p t found others l a h = label_here table head x (bound_type table x) p (clean t) found l a.0 h
   item_here table head (res.Const i) p t found others l a h = record { long = l; env_here = h }
   item_here table head (res.Func i) p t found others l a h = record { long = l; env_here = h }

@@ -1,9 +1,9 @@
 -- The locals that statements touch: those that they bind, and those that conditions in them test.
 -- Own rule of the profile.
-use Rattle.std.specs.Prelude.{ℕ, List, [], ◌++◌, filter_map}
-use Rattle.pc_tree.specs.Tree.{Name, Stmt, Stmts, Branches, asserts, while_loop, for_loop, conditional, no_stmts}
+use Rattle.std.specs.Prelude.{ℕ, List, [], ◌∷◌, ◌++◌, filter_map}
+use Rattle.pc_tree.specs.Tree.{Name, Expr, Stmt, Stmts, Branches, asserts, while_loop, for_loop, conditional, no_stmts}
 use Rattle.pc_tree.specs.Tree.{more_stmts, no_branches, more_branches}
-use Rattle.pc_tree.specs.Stopping.{bound_by, bound_by_branches}
+use Rattle.pc_tree.specs.Stopping.{bound_by, bound_by_stmt, bound_by_branches}
 use Rattle.pc_scope.specs.declared.resolution.Res.{Res}
 use Rattle.pc_flow.specs.Narrowing.{as_local}
 use Rattle.pc_flow.specs.Narrowing.{tested_locals}
@@ -33,6 +33,10 @@ module _ (resolve : List ℕ → Res) where
     tested_in_branches (more_branches condition body rest) =
         tested_locals resolve condition ++ (tested_in body ++ tested_in_branches rest)
 
+  -- the locals that a statement touches: those that it binds, at any depth, and those that conditions in it test
+  abbrev pub touched_by_stmt : Stmt → List ℕ
+  touched_by_stmt s = numbers_of resolve (bound_by_stmt s) ++ tested_in_stmt s
+
   -- the locals that a suite touches: those that it binds, at any depth, and those that conditions in it test
   abbrev pub touched_by : Stmts → List ℕ
   touched_by body = numbers_of resolve (bound_by body) ++ tested_in body
@@ -44,3 +48,12 @@ module _ (resolve : List ℕ → Res) where
   -- those that an `if` touches, with its suite of `else`
   abbrev pub touched_by_if : Branches → (otherwise : Stmts) → List ℕ
   touched_by_if branches otherwise = touched_by_branches branches ++ touched_by otherwise
+
+  -- those that a `while` touches
+  abbrev pub touched_by_while : (condition : Expr) → Stmts → List ℕ
+  touched_by_while condition body =
+      numbers_of resolve (bound_by body) ++ (tested_locals resolve condition ++ tested_in body)
+
+  -- those that a `for` touches, with its target
+  abbrev pub touched_by_for : (target : Name) → Stmts → List ℕ
+  touched_by_for target body = numbers_of resolve (target ∷ bound_by body) ++ tested_in body

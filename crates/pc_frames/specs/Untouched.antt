@@ -1,5 +1,6 @@
 -- A walk over statements leaves each local that they do not touch as it is, on the way behind them and on each way out of
--- a loop. So where the ways out of an `if` meet, only the locals that it touches have to be joined.
+-- a loop. So where the ways out of an `if` meet, only the locals that it touches have to be joined, and at a `break` only
+-- those that its loop touches.
 -- Own rule of the profile.
 use Rattle.std.specs.Prelude.{◌≡◌, ℕ, List, [], ◌∷◌, length, true, Option, Some, None}
 use Rattle.pc_tree.specs.Tree.{Stmts}
@@ -12,17 +13,11 @@ use Rattle.pc_frames.specs.Touched.{touched_by}
 
 -- ---- ways that agree
 
--- two environments have as many locals as a table, and agree at each local that is not among some
-pub record BothAgree (locals : List ℕ) (table : Table) (way out : Env) : Type 0 where
-  pub way_long : length way ≡ length table
-  pub out_long : length out ≡ length table
-  pub same : AgreeOutside locals way out
-
--- where two ways complete, their environments are so
-abbrev pub WaysAgree : (locals : List ℕ) → Table → (ways out : Option Env) → Type 0
-WaysAgree locals table None out = Unit {0}
-WaysAgree locals table (Some way) None = Unit {0}
-WaysAgree locals table (Some way) (Some out) = BothAgree locals table way out
+-- where two ways complete, their environments agree at each local that is not among some
+abbrev pub WaysAgree : (locals : List ℕ) → (ways out : Option Env) → Type 0
+WaysAgree locals None out = Unit {0}
+WaysAgree locals (Some way) None = Unit {0}
+WaysAgree locals (Some way) (Some out) = AgreeOutside locals way out
 
 -- ---- the law
 

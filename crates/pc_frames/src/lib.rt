@@ -16,6 +16,6 @@ pub use frame::Frame;
 pub use laws::suites_keep_untouched_locals;
 pub use loops::{bind_item, for_start, while_start};
 pub use standing::{flow_in, narrow_in};
-pub use touched::touched_by;
+pub use touched::{touched_by, touched_by_for, touched_by_while};
 pub use unreached::declare_unreached;
 pub use ways::{break_out, meet};

@@ -14,11 +14,10 @@ ghost use Rattle.pc_rules.specs.Found.{brief, flows_at};
 ghost use Rattle.pc_rules.specs.Standing.{mark_with};
 ghost use Rattle.pc_labels.specs.ComputedStatements.{type_table, narrowed_at};
 ghost use Rattle.pc_frames.specs.StatementsHeld.{frame_with, HoldsTypes, GivesTypes};
-ghost use Rattle.pc_flow.specs.Agreement.{is_among};
-ghost use Rattle.pc_frames.specs.Untouched.{BothAgree};
+ghost use Rattle.pc_flow.specs.Agreement.{is_among, AgreeOutside};
 
 use crate::frame::Frame;
-use pc_flow::{BothWays, DeclaredTypes, Env, Resolver, join_env, join_env_at, loop_head, narrow};
+use pc_flow::{BothWays, DeclaredTypes, Env, Resolver, join_env_at, loop_head, narrow};
 use pc_notes::Notes;
 use pc_rules::{Label, find_flow};
 use pc_source::{OutOfMemory, Place};
@@ -82,28 +81,6 @@ pub fn narrow_in<S: TypeStore, R: Resolver>(
     )
 }
 
-/// Two environments where their ways meet.
-pub(crate) fn join_in<S: TypeStore, R: Resolver>(
-    store: &mut S,
-    alloc: Global,
-    frame: &Frame<'_, S::Ty, R>,
-    declared: &DeclaredTypes<S::Ty>,
-    a: &Env<S::Ty>,
-    b: &Env<S::Ty>,
-) -> Result<Env<S::Ty>, OutOfMemory>
-    requires declared { HoldsTypes (S.has store.old) S.tree frame.now.parents.now declared.now }
-    requires left { HoldsTypes (S.has store.old) S.tree frame.now.parents.now a.now }
-    requires right { HoldsTypes (S.has store.old) S.tree frame.now.parents.now b.now }
-    ensures value { IfOk result
-        (λ e. GivesTypes S.has S.tree frame.now.parents.now store.new e
-        (join_env frame.now.parents.now (type_table (env_of S.tree declared.now)) (env_of S.tree a.now)
-        (env_of S.tree b.now))) }
-    ensures kept { KeepsTypes S.has store.old store.new }
-{
-    frame.parents.ordered();
-    join_env(store, alloc, frame.parents, declared, a, b)
-}
-
 /// Two environments where their ways meet, which agree at each local that is not among these.
 pub(crate) fn join_at<S: TypeStore, R: Resolver>(
     store: &mut S,
@@ -117,7 +94,7 @@ pub(crate) fn join_at<S: TypeStore, R: Resolver>(
     requires declared { HoldsTypes (S.has store.old) S.tree frame.now.parents.now declared.now }
     requires left { HoldsTypes (S.has store.old) S.tree frame.now.parents.now a }
     requires right { HoldsTypes (S.has store.old) S.tree frame.now.parents.now b.now }
-    requires agree { BothAgree locals.now (env_of S.tree declared.now) (env_of S.tree a) (env_of S.tree b.now) }
+    requires agree { AgreeOutside locals.now (env_of S.tree a) (env_of S.tree b.now) }
     ensures value { IfOk result
         (λ e. GivesTypes S.has S.tree frame.now.parents.now store.new e
         (join_env frame.now.parents.now (type_table (env_of S.tree declared.now)) (env_of S.tree a)

@@ -2,15 +2,16 @@
 
 ghost use Rattle.std.specs.Prelude.{◌≡◌, ◌++◌, ℕ, IfOk, OnOk};
 ghost use Rattle.pc_source.specs.declared.place.Place.{Place as PlaceOf};
-ghost use Rattle.pc_tree.specs.Tree.{stmts_of_list, stmt_of_kind};
+ghost use Rattle.pc_tree.specs.Tree.{expr_of, name_of, stmts_of_list, stmt_of_kind};
 ghost use Rattle.pc_tree.specs.Lists.{branches_of_list};
 ghost use Rattle.pc_flow.specs.Agreement.{is_among};
-ghost use Rattle.pc_frames.specs.Touched.{tested_in, tested_in_stmt, tested_in_branches, touched_by_if};
+ghost use Rattle.pc_frames.specs.Touched.{tested_in, tested_in_stmt, tested_in_branches, touched_by_if, touched_by_while};
+ghost use Rattle.pc_frames.specs.Touched.{touched_by_for};
 
-use crate::locals::{add_bound, add_bound_in, locals_of};
+use crate::locals::{add_bound, add_bound_in, add_name, locals_of};
 use pc_flow::{Resolver, add_tested};
 use pc_source::OutOfMemory;
-use pc_tree::{Branch, Stmt, StmtKind};
+use pc_tree::{Branch, Expr, Name, Stmt, StmtKind};
 use std::alloc::Global;
 
 /// Adds the locals that conditions in statements test, in text order.
@@ -94,6 +95,48 @@ pub fn touched_by<R: Resolver>(
     let mut locals = locals_of(alloc, names, &bound)?;
     add_tested_in_branches(names, branches, &mut locals)?;
     add_tested_in(names, otherwise, &mut locals)?;
+    locals.sort_unstable();
+    locals.dedup();
+    Ok(locals)
+}
+
+/// The locals that a `while` touches, each once and in order: those that its body binds, at any depth, and those that a
+/// condition in it tests. Inside it and behind it every other local is as before it. Own rule of the profile.
+pub fn touched_by_while<R: Resolver>(
+    alloc: Global,
+    names: &R,
+    condition: &Expr,
+    body: &[Stmt],
+) -> Result<Vec<usize>, OutOfMemory>
+    ensures { (x : ℕ) → IfOk result (λ locals. is_among locals.items x
+        ≡ is_among (touched_by_while (R.meaning names.now) (expr_of condition.now) (stmts_of_list body.now)) x) }
+{
+    let mut bound = Vec::new(alloc);
+    add_bound(&mut bound, body)?;
+    let mut locals = locals_of(alloc, names, &bound)?;
+    add_tested(names, condition, &mut locals)?;
+    add_tested_in(names, body, &mut locals)?;
+    locals.sort_unstable();
+    locals.dedup();
+    Ok(locals)
+}
+
+/// The locals that a `for` touches, each once and in order: its target, those that its body binds, at any depth, and those
+/// that a condition in it tests. Inside it and behind it every other local is as before it. Own rule of the profile.
+pub fn touched_by_for<R: Resolver>(
+    alloc: Global,
+    names: &R,
+    target: &Name,
+    body: &[Stmt],
+) -> Result<Vec<usize>, OutOfMemory>
+    ensures { (x : ℕ) → IfOk result (λ locals. is_among locals.items x
+        ≡ is_among (touched_by_for (R.meaning names.now) (name_of target.now) (stmts_of_list body.now)) x) }
+{
+    let mut bound = Vec::new(alloc);
+    add_name(&mut bound, target)?;
+    add_bound(&mut bound, body)?;
+    let mut locals = locals_of(alloc, names, &bound)?;
+    add_tested_in(names, body, &mut locals)?;
     locals.sort_unstable();
     locals.dedup();
     Ok(locals)

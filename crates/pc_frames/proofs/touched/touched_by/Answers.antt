@@ -10,7 +10,8 @@ use Rattle.pc_scope.specs.Internal.WalkViews.{name_seen}
 use Rattle.pc_flow.specs.Narrowing.{as_local}
 use Rattle.pc_flow.specs.Agreement.{is_among}
 use Rattle.pc_frames.specs.Touched.{numbers_of, tested_in, tested_in_branches}
-use Rattle.pc_frames.proofs.Among.{among_dedup, among_four}
+use Rattle.pc_flow.proofs.Among.{among_dedup}
+use Rattle.pc_frames.proofs.Among.{among_four}
 use Rattle.pc_frames.proofs.touched.touched_by.Goals as goal
 
 pub returns : goal.returns
