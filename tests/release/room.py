@@ -1,5 +1,5 @@
-"""What the tests of the shipped programs share: copies of the tree as a clone has them, an environment of few tools, and the
-commands that run there."""
+"""What the tests of the shipped programs share: copies of the tree as a clone has them, an environment of few tools,
+and the commands that run there."""
 from __future__ import annotations
 
 import contextlib
@@ -20,31 +20,33 @@ TOOLS = "sh gzip sha256sum find grep uname mktemp chmod mv rm mkdir dirname read
 # What the tools that build and write need beside these
 MORE_TOOLS = "touch cp cmp basename env bash tee sed wc tail".split()
 # The parts of the tree that the commands need
-PARTS = ("HANDLES", "LICENSE", "README.md", "CHANGELOG.md", "crates.txt", "pycheck", "pyrun", "test", ".ci", ".pre-commit-hooks.yaml",
-         "action.yml", "crates/pycheck", "crates/pyrun", "crates/pc_commands", "docs", "examples", "release", "tools")
+PARTS = (
+    "HANDLES", "LICENSE", "README.md", "CHANGELOG.md", "crates.txt", "pycheck", "pyrun", "test", ".ci", "action.yml",
+    ".pre-commit-hooks.yaml", "crates/pycheck", "crates/pyrun", "crates/pc_commands", "docs", "examples", "release",
+    "tools",
+)
+NOT_IN_CLONES = {".git", "out", "__pycache__"}
+# Seconds until a command is stopped, since a wrong program could let the tests hang
+LIMIT = 120
 SHIPPED = ("PROGRAMS", "README.md", "SHA256SUMS")
 Done = subprocess.CompletedProcess
 
 
-def is_of_clone(path: Path) -> bool:
-    """Whether a clone has a file: all but what was built, unpacked or kept by Python."""
-    inside = path.relative_to(ROOT)
-    if inside.parts[0] == "release":
-        return inside.name in SHIPPED or inside.suffix == ".gz"
-    return not {".git", "out", "__pycache__"} & set(inside.parts)
-
-
 def files_of(parts: Sequence[str]) -> Iterator[Path]:
-    """The files that a clone has in these parts of the tree."""
+    """The files that a clone has in these parts of the tree: all but what was built, unpacked or kept by Python."""
     for part in parts:
-        at = ROOT / part
-        files = [at] if at.is_file() else sorted(at.rglob("*"))
-        yield from (it for it in files if it.is_file() and is_of_clone(it))
+        if (ROOT / part).is_file():
+            yield ROOT / part
+        for at, folders, names in os.walk(ROOT / part):
+            folders[:] = sorted(set(folders) - NOT_IN_CLONES)
+            for name in sorted(names):
+                if part != "release" or name in SHIPPED or name.endswith(".gz"):
+                    yield Path(at, name)
 
 
 def nobody() -> Optional[List[str]]:
-    """The words that start a command as a user who may not write everywhere: none where this user is one, and None where there
-    is no way."""
+    """The words that start a command as a user who may not write everywhere: none where this user is one, and None
+    where there is no way."""
     if os.geteuid() != 0:
         return []
     words = [shutil.which("setpriv") or "setpriv", "--reuid=65534", "--regid=65534", "--clear-groups"]
@@ -54,12 +56,17 @@ def nobody() -> Optional[List[str]]:
     return None
 
 
+def run(words: Sequence[object], cwd: Path, environment: Dict[str, str], **how: object) -> "Done[str]":
+    """Runs a command, and takes its two outputs as text where `how` says nothing else of them."""
+    streams = {"stdin": subprocess.DEVNULL, "stdout": subprocess.PIPE, "stderr": subprocess.PIPE, **how}
+    if "input" in how:
+        del streams["stdin"]
+    given = [str(it) for it in words]
+    return subprocess.run(given, cwd=cwd, env=environment, text=True, timeout=LIMIT, check=False, **streams)
+
+
 class RoomCase(unittest.TestCase):
     """A test with a folder of its own, `room`, and in it a clone and the folder of the few tools."""
-
-    parts: Tuple[str, ...] = PARTS
-    # A wrong shipped program would let whole runs hang: seconds until a command is stopped
-    limit = 120
 
     def setUp(self) -> None:
         self.room = Path(tempfile.mkdtemp(prefix="pycheck-release-"))
@@ -78,7 +85,7 @@ class RoomCase(unittest.TestCase):
     def copy_tree(self, name: str) -> Path:
         """Makes a clone of the tree in the room."""
         clone = self.room / name
-        for file in files_of(self.parts):
+        for file in files_of(PARTS):
             to = clone / file.relative_to(ROOT)
             to.parent.mkdir(parents=True, exist_ok=True)
             shutil.copyfile(file, to)
@@ -104,9 +111,7 @@ class RoomCase(unittest.TestCase):
 
     def run_few(self, *words: object, user: Sequence[str] = (), cwd: Optional[Path] = None, **more: str) -> "Done[str]":
         """Runs a command with the few tools on PATH and nothing else in its environment but what is given."""
-        environment: Dict[str, str] = {"PATH": str(self.few), **more}
-        return subprocess.run([*user, *map(str, words)], cwd=cwd or self.clone, env=environment, stdin=subprocess.DEVNULL,
-                              capture_output=True, text=True, timeout=self.limit, check=False)
+        return run([*user, *words], cwd or self.clone, {"PATH": str(self.few), **more})
 
     def ship(self, name: str, program: bytes) -> None:
         """Ships another program in the clone, with its sum."""

@@ -1,11 +1,11 @@
-"""How the commands tell that a file or a device fails: the command, the file and the system's reason, and exit status 3."""
+"""How the commands tell that a file or a device fails: the command, the file and the system's reason, and exit status
+3."""
 from __future__ import annotations
 
-import subprocess
 from pathlib import Path
 from typing import List
 
-from room import RoomCase
+from room import RoomCase, run
 
 COMMANDS = {"pycheck": ["./pycheck"], "pyrun": ["./pyrun", "--fuel", "4"]}
 
@@ -45,9 +45,9 @@ class Faults(RoomCase):
             self.skipTest("there is no /dev/full")
         for name, words in COMMANDS.items():
             with self.subTest(name), open("/dev/full", "wb", buffering=0) as full:
-                done = subprocess.run([*words, "examples/add.py"], cwd=self.clone, env={"PATH": str(self.few)}, stdin=subprocess.DEVNULL,
-                                      stdout=full, stderr=subprocess.PIPE, text=True, timeout=self.limit, check=False)
-                self.assertEqual((done.returncode, done.stderr), (3, f"{name}: standard output: No space left on device\n"))
+                done = run([*words, "examples/add.py"], self.clone, {"PATH": str(self.few)}, stdout=full)
+                told = f"{name}: standard output: No space left on device\n"
+                self.assertEqual((done.returncode, done.stderr), (3, told))
 
     def test_a_refusal_stays_as_it_is(self) -> None:
         (self.clone / "latin.py").write_bytes(b'print("caf\xe9")\n')

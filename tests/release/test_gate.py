@@ -1,5 +1,5 @@
-"""What the gate says and does, with a small script in the place of the toolchain and others in that of the slow steps; and what
-CI installs before it."""
+"""What the gate says and does, with a small script in the place of the toolchain and others in that of the slow
+steps; and what CI installs before it."""
 from __future__ import annotations
 
 from pathlib import Path
@@ -74,8 +74,10 @@ class Gate(RoomCase):
         self.assertIn("tools/release writes the shipped programs anew", done.stderr)
 
     def test_each_step_that_fails_is_told(self) -> None:
-        for step, names in (("tools/check_definitions", "definitions"), ("tools/check_codes", "pages"), ("tools/compare_rows", "examples left_out"),
-                            ("tests/release/run", "release"), ("tests/reports/run", "reports")):
+        commands = {"tools/check_definitions": "definitions", "tools/check_codes": "pages",
+                    "tools/compare_rows": "examples left_out", "tests/release/run": "release",
+                    "tests/reports/run": "reports"}
+        for step, names in commands.items():
             with self.subTest(step):
                 kept = (self.clone / step).read_text(encoding="utf-8").splitlines()[1]
                 self.put_step(step, "echo '2 passed, 1 failed'; exit 1")
@@ -83,8 +85,10 @@ class Gate(RoomCase):
                 self.put_step(step, kept)
 
     def test_what_was_skipped_is_told_at_the_end(self) -> None:
-        self.put_step("tests/release/run", "echo 'skipped Hook.test_it: pre-commit is not there'; echo '8 passed, 0 failed, 1 skipped'")
-        self.put_step("tests/reports/run", "echo 'skipped page: there is no chromium'; echo 'skipped types: there is no mypy'\n"
+        self.put_step("tests/release/run", "echo 'skipped Hook.test_it: pre-commit is not there'\n"
+                                           "echo '8 passed, 0 failed, 1 skipped'")
+        self.put_step("tests/reports/run", "echo 'skipped page: there is no chromium'\n"
+                                           "echo 'skipped types: there is no mypy'\n"
                                            "echo '6 passed, 0 failed, 2 skipped'")
         done = self.gate()
         self.assertEqual(done.returncode, 0, done.stderr)
@@ -129,9 +133,10 @@ class InCI(RoomCase):
         done = self.run_few(".ci/run")
         self.assertEqual((done.returncode, done.stdout), (5, "the gate\n"), done.stderr)
         asked = (self.room / "asked").read_text(encoding="utf-8").splitlines()
-        common = "noninteractive -q -y -o DPkg::Lock::Timeout=60"
+        apt = "noninteractive -q -y -o DPkg::Lock::Timeout=60"
         packages = ("python3-venv", "pre-commit", "neovim", "chromium", "valgrind")
-        self.assertEqual(asked, [f"{common} update", *(f"{common} install --no-install-recommends {it}" for it in packages)])
+        installs = [f"{apt} install --no-install-recommends {it}" for it in packages]
+        self.assertEqual(asked, [f"{apt} update", *installs])
 
     def test_what_cannot_be_installed_is_told_and_is_no_fault(self) -> None:
         self.put_tool("apt-get", "exit 100\n")

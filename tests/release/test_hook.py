@@ -3,12 +3,11 @@ from __future__ import annotations
 
 import os
 import shutil
-import subprocess
 import textwrap
 from pathlib import Path
 from typing import Dict
 
-from room import ROOT, Done, RoomCase
+from room import ROOT, Done, RoomCase, run
 
 CONFIG = """\
 repos:
@@ -27,8 +26,10 @@ class Hook(RoomCase):
             self.skipTest("pre-commit or git is not there: Debian has them as packages of these names")
         super().setUp()
         self.environment: Dict[str, str] = {
-            "PATH": os.environ["PATH"], "HOME": str(self.room), "PRE_COMMIT_HOME": str(self.room / "kept"), "LC_ALL": "C.UTF-8",
-            "GIT_CONFIG_NOSYSTEM": "1", **{f"GIT_{who}_{what}": f"a@{who}" for who in ("AUTHOR", "COMMITTER") for what in ("NAME", "EMAIL")}}
+            "PATH": os.environ["PATH"], "HOME": str(self.room), "PRE_COMMIT_HOME": str(self.room / "kept"),
+            "LC_ALL": "C.UTF-8", "GIT_CONFIG_NOSYSTEM": "1"}
+        for who in ("AUTHOR", "COMMITTER"):
+            self.environment.update({f"GIT_{who}_NAME": "A", f"GIT_{who}_EMAIL": "a@b"})
         self.commit(self.clone)
         revision = self.command("git", "rev-parse", "HEAD", cwd=self.clone).stdout.strip()
         self.project = self.room / "project"
@@ -40,8 +41,7 @@ class Hook(RoomCase):
 
     def command(self, *words: str, cwd: Path) -> "Done[str]":
         """Runs a command of git or of pre-commit."""
-        return subprocess.run(words, cwd=cwd, env=self.environment, stdin=subprocess.DEVNULL, capture_output=True, text=True,
-                              timeout=self.limit, check=False)
+        return run(words, cwd, self.environment)
 
     def commit(self, folder: Path) -> None:
         """Makes a repository of a folder, or commits what changed."""
@@ -89,14 +89,14 @@ class Action(RoomCase):
         environment = {"PATH": os.environ["PATH"], "HOME": str(self.room), "GITHUB_ACTION_PATH": str(self.clone),
                        "PYCHECK_FILES": files, "PYCHECK_OUTPUT": output}
         words = ["bash", "--noprofile", "--norc", "-e", "-o", "pipefail", str(file)]
-        return subprocess.run(words, cwd=self.clone / "examples", env=environment, stdin=subprocess.DEVNULL, capture_output=True,
-                              text=True, timeout=self.limit, check=False)
+        return run(words, self.clone / "examples", environment)
 
     def test_its_inputs_become_words(self) -> None:
         tool = self.clone / "tools" / "check_all"
         tool.write_text('#!/bin/sh\nprintf "<%s>" "$@"\nexit 4\n', encoding="utf-8")
         done = self.run_step("a  b.py\n\n$(exit 9)\n-c\n", "sarif")
-        self.assertEqual((done.returncode, done.stdout), (4, "<--output><sarif><--><a  b.py><$(exit 9)><-c>"), done.stderr)
+        words = "<--output><sarif><--><a  b.py><$(exit 9)><-c>"
+        self.assertEqual((done.returncode, done.stdout), (4, words), done.stderr)
 
     def test_it_fails_with_an_error_and_passes_without(self) -> None:
         done = self.run_step("ages_mended.py\nages.py\n", "github")

@@ -1,5 +1,5 @@
-"""The tools that build the programs, write the shipped ones and compare the two. The toolchain is played by a small script here:
-these tests are of what the tools do with what it made."""
+"""The tools that build the programs, write the shipped ones and compare the two. The toolchain is played by a small
+script here: these tests are of what the tools do with what it made."""
 from __future__ import annotations
 
 import hashlib
@@ -27,7 +27,8 @@ class Making(RoomCase):
 
     def files(self) -> Dict[str, bytes]:
         """The files in release/ by their name, but for unpacked programs."""
-        return {it.name: it.read_bytes() for it in (self.clone / "release").iterdir() if it.name not in ("pycheck", "pyrun")}
+        files = (it for it in (self.clone / "release").iterdir() if it.name not in ("pycheck", "pyrun"))
+        return {it.name: it.read_bytes() for it in files}
 
 
 class Comparing(Making):
@@ -53,7 +54,8 @@ class Comparing(Making):
         content = bytearray(self.shipped("pycheck"))
         content[len(content) // 2] ^= 1
         self.put_built("pycheck", content)
-        self.assert_differs("pycheck: the shipped program is not the one that was built", f"{len(content) // 2 + 1}, line",
+        place = len(content) // 2 + 1
+        self.assert_differs("pycheck: the shipped program is not the one that was built", f" {place}, line",
                             "1 shipped programs are those that were built, 1 differ")
 
     def test_a_byte_more_in_what_was_built_fails(self) -> None:
@@ -138,8 +140,9 @@ class Building(Making):
 
     def test_both_are_built_and_their_sums_stand_beside_the_shipped_ones(self) -> None:
         done = self.run_few("tools/build")
-        self.assert_answer(done, 0, "".join(f"{self.sums[it]}  {it}, built here\n{self.sums[it]}  {it}, shipped: the same\n"
-                                            for it in ("pycheck", "pyrun")))
+        sums = [f"{self.sums[it]}  {it}, {where}\n" for it in ("pycheck", "pyrun")
+                for where in ("built here", "shipped: the same")]
+        self.assert_answer(done, 0, "".join(sums))
         self.assertEqual(self.asked(), "rt all check --jobs 4\nrt run -- --version\n" * 2)
         self.assertEqual(self.run_few("tools/release", "--check").returncode, 0)
 

@@ -8,12 +8,15 @@ import time
 from pathlib import Path
 from typing import List
 
-from room import ROOT, RoomCase, report_of
+from room import LIMIT, ROOT, RoomCase, report_of, run
 
 RUN_OF_README = "58 59\n62 65\n58 65\nend TypeError\n"
 # What a program of these tests says, so that it can be told from the shipped one
 OTHER = b'#!/bin/sh\necho "another program: $*"\n'
 OLD = 1_000_000_000  # a time in seconds, long before any file of the clone
+AGES = ROOT / "examples" / "ages.py"
+# What the repository may grow by with each submission, in bytes
+GROWTH = 3 << 20
 
 
 class InAClone(RoomCase):
@@ -28,7 +31,8 @@ class InAClone(RoomCase):
                 self.assert_answer(done, *report_of(module))
 
     def test_a_run_is_answered_as_the_first_page_shows(self) -> None:
-        self.assertIn("".join(f"    {it}\n" for it in RUN_OF_README.splitlines()), (ROOT / "README.md").read_text(encoding="utf-8"))
+        shown = "".join(f"    {it}\n" for it in RUN_OF_README.splitlines())
+        self.assertIn(shown, (ROOT / "README.md").read_text(encoding="utf-8"))
         self.assert_answer(self.run_few("./pyrun", "--fuel", "4", "examples/add.py"), 0, RUN_OF_README)
 
     def test_the_first_answer_takes_less_than_a_second(self) -> None:
@@ -44,23 +48,23 @@ class InAClone(RoomCase):
     def test_a_link_to_the_command_serves_from_another_folder(self) -> None:
         shutil.copy(self.clone / "examples" / "ages.py", self.room / "here.py")
         (self.room / "checker").symlink_to(self.clone / "pycheck")
-        self.assert_answer(self.run_few("../checker", "../here.py", cwd=self.few), *report_of(ROOT / "examples" / "ages.py"))
+        self.assert_answer(self.run_few("../checker", "../here.py", cwd=self.few), *report_of(AGES))
 
     def test_a_path_with_spaces_serves(self) -> None:
         clone = self.copy_tree("a  clone $HOME 'of' \"it\"")
-        self.assert_answer(self.run_few(clone / "pycheck", "examples/ages.py"), *report_of(ROOT / "examples" / "ages.py"))
+        self.assert_answer(self.run_few(clone / "pycheck", "examples/ages.py"), *report_of(AGES))
 
     def test_standard_input_is_left_to_the_program(self) -> None:
-        done = subprocess.run([self.clone / "pycheck", "/dev/stdin"], env={"PATH": str(self.few)}, capture_output=True, text=True,
-                              input=(ROOT / "examples" / "ages.py").read_text(encoding="utf-8"), timeout=self.limit, check=False)
-        self.assert_answer(done, *report_of(ROOT / "examples" / "ages.py"))
+        words = ["./pycheck", "/dev/stdin"]
+        done = run(words, self.clone, {"PATH": str(self.few)}, input=AGES.read_text(encoding="utf-8"))
+        self.assert_answer(done, *report_of(AGES))
 
     def test_many_at_once_do_no_harm(self) -> None:
         words: List[str] = [str(self.clone / "pycheck"), "examples/ages.py"]
-        begun = [subprocess.Popen(words, cwd=self.clone, env={"PATH": str(self.few)}, stdout=subprocess.PIPE, stderr=subprocess.PIPE, text=True)
-                 for _ in range(12)]
-        answers = {(*it.communicate(timeout=self.limit), it.returncode) for it in begun}
-        status, report = report_of(ROOT / "examples" / "ages.py")
+        how = {"cwd": self.clone, "env": {"PATH": str(self.few)}, "stdout": subprocess.PIPE, "stderr": subprocess.PIPE}
+        begun = [subprocess.Popen(words, text=True, **how) for _ in range(12)]
+        answers = {(*it.communicate(timeout=LIMIT), it.returncode) for it in begun}
+        status, report = report_of(AGES)
         self.assertEqual(answers, {(report, "", status)})
         self.assertEqual([it.name for it in (self.clone / "release").iterdir() if it.name.startswith(".")], [])
 
@@ -77,6 +81,11 @@ class InAClone(RoomCase):
         os.utime(self.clone / "release" / "pycheck", (OLD, OLD))
         self.ship("pycheck", OTHER)
         self.assert_answer(self.run_few("./pycheck", "a.py"), 0, "another program: a.py\n")
+
+    def test_what_is_shipped_is_small(self) -> None:
+        shipped = list((self.clone / "release").glob("*.gz"))
+        self.assertGreaterEqual(len(shipped), 2)
+        self.assertLess(sum(it.stat().st_size for it in shipped), GROWTH)
 
     def test_words_and_status_are_those_of_the_program(self) -> None:
         self.ship("pyrun", b'#!/bin/sh\n[ "$1" = --version ] && exit\nprintf "<%s>" "$@"\nexit 7\n')
@@ -100,7 +109,7 @@ class Unwritable(RoomCase):
         before = sorted(it.name for it in (self.clone / "release").iterdir())
         for _ in range(2):
             done = self.run_few("./pycheck", "examples/ages.py", user=self.user, **environment)
-            self.assert_answer(done, *report_of(ROOT / "examples" / "ages.py"))
+            self.assert_answer(done, *report_of(AGES))
         self.assertEqual(sorted(it.name for it in (self.clone / "release").iterdir()), before)
 
     def unpacked(self) -> List[str]:
@@ -134,7 +143,8 @@ class Unwritable(RoomCase):
         content = bytearray(unpacked.read_bytes())
         content[len(content) // 2] ^= 1
         unpacked.write_bytes(content)
-        self.assert_not_run(self.run_few("./pycheck", "examples/ages.py", user=self.user, HOME=str(self.home)), str(unpacked), "nothing is run")
+        done = self.run_few("./pycheck", "examples/ages.py", user=self.user, HOME=str(self.home))
+        self.assert_not_run(done, str(unpacked), "nothing is run")
 
 
 class BuiltHere(RoomCase):
@@ -151,7 +161,7 @@ class BuiltHere(RoomCase):
                 self.assertEqual(self.run_few("tools/program", "--built", "pycheck").returncode, 0)
                 later = time.time() + 60
                 os.utime(self.clone / source, (later, later))
-                self.assert_answer(self.run_few("./pycheck", "examples/ages.py"), *report_of(ROOT / "examples" / "ages.py"))
+                self.assert_answer(self.run_few("./pycheck", "examples/ages.py"), *report_of(AGES))
                 done = self.run_few("tools/program", "--built", "pycheck")
                 self.assertEqual((done.returncode, done.stdout), (1, ""))
                 self.assertIn("older than its sources", done.stderr)

@@ -7,13 +7,12 @@ import email.message
 import hashlib
 import importlib.util
 import os
-import subprocess
 import sys
 import zipfile
 from pathlib import Path
 from typing import Dict
 
-from room import ROOT, Done, RoomCase, report_of
+from room import ROOT, Done, RoomCase, report_of, run
 
 
 class Wheel(RoomCase):
@@ -22,7 +21,7 @@ class Wheel(RoomCase):
     def make(self, clone: Path, out: str, **more: str) -> "Done[str]":
         """Asks a clone for its wheel."""
         words = [sys.executable, "-B", clone / "tools" / "wheel", self.room / out]
-        return subprocess.run(words, env={**os.environ, **more}, capture_output=True, text=True, timeout=self.limit, check=False)
+        return run(words, self.room, {**os.environ, **more})
 
     def wheel(self, out: str = "out") -> Path:
         """The clone's wheel."""
@@ -134,9 +133,9 @@ class Installed(Wheel):
             self.skipTest("python3 has no venv: on Debian it is in the package python3-venv")
         environment = self.room / "environment"
         plain: Dict[str, str] = {"PATH": os.environ["PATH"], "HOME": str(self.room)}
-        for words in ([sys.executable, "-m", "venv", environment],
-                      [environment / "bin" / "pip", "install", "--no-index", "--disable-pip-version-check", self.wheel()]):
-            done = subprocess.run(words, env=plain, capture_output=True, text=True, timeout=self.limit, check=False)
+        pip = [environment / "bin" / "pip", "install", "--no-index", "--disable-pip-version-check"]
+        for words in ([sys.executable, "-m", "venv", environment], [*pip, self.wheel()]):
+            done = run(words, self.room, plain)
             self.assertEqual(done.returncode, 0, done.stdout + done.stderr)
         return environment / "bin"
 
