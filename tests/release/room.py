@@ -12,7 +12,7 @@ import subprocess
 import tempfile
 import unittest
 from pathlib import Path
-from typing import Dict, Iterator, List, Optional, Sequence, Tuple
+from typing import Any, Dict, Iterator, List, Optional, Sequence, Tuple
 
 ROOT = Path(__file__).resolve().parents[2]
 # All that the shipped programs need: a shell, gzip, the sums, find, grep, and the small tools of every system
@@ -56,9 +56,9 @@ def nobody() -> Optional[List[str]]:
     return None
 
 
-def run(words: Sequence[object], cwd: Path, environment: Dict[str, str], **how: object) -> "Done[str]":
+def run(words: Sequence[object], cwd: Path, environment: Dict[str, str], **how: Any) -> "Done[str]":
     """Runs a command, and takes its two outputs as text where `how` says nothing else of them."""
-    streams = {"stdin": subprocess.DEVNULL, "stdout": subprocess.PIPE, "stderr": subprocess.PIPE, **how}
+    streams: Dict[str, Any] = {"stdin": subprocess.DEVNULL, "stdout": subprocess.PIPE, "stderr": subprocess.PIPE, **how}
     if "input" in how:
         del streams["stdin"]
     given = [str(it) for it in words]
@@ -109,9 +109,10 @@ class RoomCase(unittest.TestCase):
         path.write_text("#!/bin/sh\n" + text, encoding="utf-8")
         path.chmod(0o755)
 
-    def run_few(self, *words: object, user: Sequence[str] = (), cwd: Optional[Path] = None, **more: str) -> "Done[str]":
-        """Runs a command with the few tools on PATH and nothing else in its environment but what is given."""
-        return run([*user, *words], cwd or self.clone, {"PATH": str(self.few), **more})
+    def run_few(self, *words: object, user: Sequence[str] = (), cwd: Optional[Path] = None,
+                more: Optional[Dict[str, str]] = None) -> "Done[str]":
+        """Runs a command with the few tools on PATH, and nothing in its environment beside that but `more`."""
+        return run([*user, *words], cwd or self.clone, {"PATH": str(self.few), **(more or {})})
 
     def ship(self, name: str, program: bytes) -> None:
         """Ships another program in the clone, with its sum."""

@@ -169,7 +169,7 @@ class Building(Making):
 
     def test_an_edit_during_the_build_leaves_the_program_older(self) -> None:
         self.put_tool("rt", f"ROOM='{self.room}'\n{TOOLCHAIN}sleep 0.02\ntouch '{self.clone}/crates.txt'\n")
-        self.run_few("tools/build", "pycheck", PATH=f"{self.few}:/usr/bin:/bin")
+        self.run_few("tools/build", "pycheck", more={"PATH": f"{self.few}:/usr/bin:/bin"})
         done = self.run_few("tools/program", "--built", "pycheck")
         self.assertEqual(done.returncode, 1)
         self.assertIn("older than its sources", done.stderr)

@@ -6,9 +6,9 @@ import shutil
 import subprocess
 import time
 from pathlib import Path
-from typing import List
+from typing import Any, Dict, List
 
-from room import LIMIT, ROOT, RoomCase, report_of, run
+from room import LIMIT, ROOT, RoomCase, files_of, report_of, run
 
 RUN_OF_README = "58 59\n62 65\n58 65\nend TypeError\n"
 # What a program of these tests says, so that it can be told from the shipped one
@@ -61,7 +61,7 @@ class InAClone(RoomCase):
 
     def test_many_at_once_do_no_harm(self) -> None:
         words: List[str] = [str(self.clone / "pycheck"), "examples/ages.py"]
-        how = {"cwd": self.clone, "env": {"PATH": str(self.few)}, "stdout": subprocess.PIPE, "stderr": subprocess.PIPE}
+        how: Dict[str, Any] = {"cwd": self.clone, "env": {"PATH": str(self.few)}, "stdout": subprocess.PIPE, "stderr": subprocess.PIPE}
         begun = [subprocess.Popen(words, text=True, **how) for _ in range(12)]
         answers = {(*it.communicate(timeout=LIMIT), it.returncode) for it in begun}
         status, report = report_of(AGES)
@@ -92,6 +92,24 @@ class InAClone(RoomCase):
         self.assert_answer(self.run_few("./pyrun", "a  b", "", "$HOME", "--", "-c"), 7, "<a  b><><$HOME><--><-c>")
 
 
+class InAGitClone(RoomCase):
+    """The committed state, with the shipped files of the work tree."""
+
+    def test_it_answers_and_git_sees_no_change(self) -> None:
+        environment = {"PATH": os.environ["PATH"], "HOME": str(self.room), "LC_ALL": "C"}
+        done = run(["git", "clone", "-q", ROOT, "cloned"], self.room, environment)
+        if done.returncode != 0:
+            self.skipTest(f"git does not clone this tree: {done.stderr.strip()}")
+        clone = self.room / "cloned"
+        for file in files_of(["release"]):
+            shutil.copyfile(file, clone / "release" / file.name)
+        before = run(["git", "status", "--porcelain", "-uall"], clone, environment).stdout
+        self.assert_answer(self.run_few("./pycheck", "examples/ages.py", cwd=clone), *report_of(AGES))
+        self.assert_answer(self.run_few("./pyrun", "--fuel", "4", "examples/add.py", cwd=clone), 0, RUN_OF_README)
+        self.assertTrue((clone / "release" / "pycheck").is_file())
+        self.assertEqual(run(["git", "status", "--porcelain", "-uall"], clone, environment).stdout, before)
+
+
 class Unwritable(RoomCase):
     """A clone that its user may not write in."""
 
@@ -108,7 +126,7 @@ class Unwritable(RoomCase):
         """The example is answered, twice, and nothing is left in the clone."""
         before = sorted(it.name for it in (self.clone / "release").iterdir())
         for _ in range(2):
-            done = self.run_few("./pycheck", "examples/ages.py", user=self.user, **environment)
+            done = self.run_few("./pycheck", "examples/ages.py", user=self.user, more=environment)
             self.assert_answer(done, *report_of(AGES))
         self.assertEqual(sorted(it.name for it in (self.clone / "release").iterdir()), before)
 
@@ -133,7 +151,7 @@ class Unwritable(RoomCase):
         (folder,) = self.home.iterdir()
         (folder / "pycheck").unlink()
         folder.chmod(0o777)
-        done = self.run_few("./tools/program", "pycheck", user=self.user, TMPDIR=str(self.home))
+        done = self.run_few("./tools/program", "pycheck", user=self.user, more={"TMPDIR": str(self.home)})
         self.assertEqual((done.returncode, done.stdout), (1, ""))
         self.assertIn("cannot be unpacked", done.stderr)
 
@@ -143,7 +161,7 @@ class Unwritable(RoomCase):
         content = bytearray(unpacked.read_bytes())
         content[len(content) // 2] ^= 1
         unpacked.write_bytes(content)
-        done = self.run_few("./pycheck", "examples/ages.py", user=self.user, HOME=str(self.home))
+        done = self.run_few("./pycheck", "examples/ages.py", user=self.user, more={"HOME": str(self.home)})
         self.assert_not_run(done, str(unpacked), "nothing is run")
 
 
@@ -210,6 +228,7 @@ class WhereItDoesNotServe(RoomCase):
         self.assert_told("there is no release/pycheck.gz")
 
     def test_mistaken_words(self) -> None:
-        for words in ([], ["nothing"], ["pycheck", "pyrun"], ["--built"], [""]):
+        mistaken: List[List[str]] = [[], ["nothing"], ["pycheck", "pyrun"], ["--built"], [""]]
+        for words in mistaken:
             with self.subTest(words=words):
                 self.assert_not_run(self.run_few("tools/program", *words), "usage: tools/program")
