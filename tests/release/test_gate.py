@@ -144,6 +144,16 @@ class InCI(RoomCase):
         self.assertEqual((done.returncode, done.stdout), (5, "the gate\n"), done.stderr)
         self.assertIn("chromium could not be installed: tests that use it are skipped", done.stderr)
 
+    def test_what_takes_too_long_is_left_out(self) -> None:
+        text = (self.clone / ".ci" / "run").read_text(encoding="utf-8")
+        (self.clone / ".ci" / "run").write_text(text.replace("limit=600", "limit=1"), encoding="utf-8")
+        self.put_tool("apt-get", f'PATH=/usr/bin:/bin\necho "$*" >>\'{self.room}/asked\'\n'
+                                 'case "$*" in *" install "*) exec sleep 60 ;; esac\n')
+        done = self.run_few(".ci/run")
+        self.assertEqual((done.returncode, done.stdout), (5, "the gate\n"), done.stderr)
+        self.assertEqual((self.room / "asked").read_text(encoding="utf-8").count(" install "), 1)
+        self.assertEqual(done.stderr.count("could not be installed: tests that use it are skipped"), 5)
+
     def test_another_user_installs_nothing(self) -> None:
         self.put_tool("id", "echo 1000\n")
         self.put_tool("apt-get", f": >'{self.room}/asked'\n")

@@ -61,7 +61,8 @@ class InAClone(RoomCase):
 
     def test_many_at_once_do_no_harm(self) -> None:
         words: List[str] = [str(self.clone / "pycheck"), "examples/ages.py"]
-        how: Dict[str, Any] = {"cwd": self.clone, "env": {"PATH": str(self.few)}, "stdout": subprocess.PIPE, "stderr": subprocess.PIPE}
+        how: Dict[str, Any] = {"cwd": self.clone, "env": {"PATH": str(self.few)}}
+        how.update(stdout=subprocess.PIPE, stderr=subprocess.PIPE)
         begun = [subprocess.Popen(words, text=True, **how) for _ in range(12)]
         answers = {(*it.communicate(timeout=LIMIT), it.returncode) for it in begun}
         status, report = report_of(AGES)
@@ -88,8 +89,10 @@ class InAClone(RoomCase):
         self.assertLess(sum(it.stat().st_size for it in shipped), GROWTH)
 
     def test_words_and_status_are_those_of_the_program(self) -> None:
-        self.ship("pyrun", b'#!/bin/sh\n[ "$1" = --version ] && exit\nprintf "<%s>" "$@"\nexit 7\n')
-        self.assert_answer(self.run_few("./pyrun", "a  b", "", "$HOME", "--", "-c"), 7, "<a  b><><$HOME><--><-c>")
+        for name in ("pycheck", "pyrun"):
+            self.ship(name, b'#!/bin/sh\n[ "$1" = --version ] && exit\nprintf "<%s>" "$@"\nexit 7\n')
+            done = self.run_few(f"./{name}", "a  b", "", "$HOME", "--", "-c")
+            self.assert_answer(done, 7, "<a  b><><$HOME><--><-c>")
 
 
 class InAGitClone(RoomCase):
@@ -149,9 +152,27 @@ class Unwritable(RoomCase):
     def test_a_folder_that_others_may_write_is_not_taken(self) -> None:
         self.check(TMPDIR=str(self.home))
         (folder,) = self.home.iterdir()
-        (folder / "pycheck").unlink()
-        folder.chmod(0o777)
-        done = self.run_few("./tools/program", "pycheck", user=self.user, more={"TMPDIR": str(self.home)})
+        for mode in (0o720, 0o702):
+            with self.subTest(mode=oct(mode)):
+                folder.chmod(mode)
+                self.assert_not_taken()
+        folder.chmod(0o700)
+        folder.rename(self.home / "moved")
+        folder.symlink_to(self.home / "moved")
+        self.assert_not_taken()
+
+    def test_a_folder_of_another_user_is_not_taken(self) -> None:
+        if not self.user:
+            self.skipTest("only root can make a folder of another user")
+        self.check(TMPDIR=str(self.home))
+        (folder,) = self.home.iterdir()
+        os.chown(folder, 0, 0)
+        folder.chmod(0o755)
+        self.assert_not_taken()
+
+    def assert_not_taken(self) -> None:
+        """The program that stands among the temporary files is not taken."""
+        done = self.run_few("tools/program", "pycheck", user=self.user, more={"TMPDIR": str(self.home)})
         self.assertEqual((done.returncode, done.stdout), (1, ""))
         self.assertIn("cannot be unpacked", done.stderr)
 
