@@ -88,13 +88,14 @@ class Gate(RoomCase):
         self.put_step("tests/release/run", "echo 'skipped Hook.test_it: pre-commit is not there'\n"
                                            "echo '8 passed, 0 failed, 1 skipped'")
         self.put_step("tests/reports/run", "echo 'skipped page: there is no chromium'\n"
-                                           "echo 'skipped types: there is no mypy'\n"
+                                           "echo 'Types.test_all: skipped: there is no mypy'\n"
+                                           "echo 'no line is skipped here'\n"
                                            "echo '6 passed, 0 failed, 2 skipped'")
         done = self.gate()
         self.assertEqual(done.returncode, 0, done.stderr)
         self.assertEqual(self.last_lines(done, 3), ["in the step release skipped Hook.test_it: pre-commit is not there",
                                                     "in the step reports skipped page: there is no chromium",
-                                                    "in the step reports skipped types: there is no mypy"])
+                                                    "in the step reports Types.test_all: skipped: there is no mypy"])
 
     def test_a_skipped_test_without_a_reason_fails(self) -> None:
         self.put_step("tests/release/run", "echo '8 passed, 0 failed, 1 skipped'")
