@@ -5,20 +5,23 @@ import functools
 import json
 import re
 from pathlib import Path
-from typing import Dict, List, NamedTuple
+from typing import Dict, List, NamedTuple, Optional
+
+from . import forms
+from .source import Spot
 
 TEXTS = Path(__file__).with_name("codes.json")
 LINK = re.compile(r"\[([^\]]+)\]\([^)]*\)")
 
 
 class Entry(NamedTuple):
-    """What the page says of a code; `words` says what to write instead of single words."""
+    """What the page says of a code; the rows say what to write instead of what."""
 
     title: str
     kind: str
     meaning: str
     mend: str
-    words: Dict[str, str]
+    rows: List[List[str]]
     entry: str
 
 
@@ -46,14 +49,15 @@ def meaning_of(code: str) -> str:
     return entry.meaning if entry else ""
 
 
-def mending_of(code: str, word: str = "") -> str:
-    """A sentence that says how to mend the code, as the page says it; of a word in the table of the entry, what that says."""
+def mending_of(code: str, spot: Optional[Spot] = None) -> str:
+    """A sentence that says how to mend the code, as the page says it; of a spot that the table of the entry has, its row."""
     entry = entries().get(code)
     if entry is None:
         return ""
-    if word in entry.words:
-        return f"Instead of `{word}` write {entry.words[word]}."
-    return entry.mend
+    row = forms.row_of(entry.rows, spot) if spot else None
+    if row is None:
+        return entry.mend
+    return f"There is {row[0]}: write {row[1]}." if row[0].startswith("no ") else f"Instead of {row[0]} write {row[1]}."
 
 
 def explained(code: str, width: int) -> str:

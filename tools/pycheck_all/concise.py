@@ -13,7 +13,7 @@ def line_of(file: Checked, finding: Finding, mending: bool) -> str:
     if finding.kind in (REFUSED, GUIDE):
         title = (finding.kind + (f": {title}" if title else ""))
         if mending:
-            title += ". " + codes.mending_of(finding.code, file.word_of(finding))
+            title += ". " + codes.mending_of(finding.code, file.spot_of(finding))
     if finding.flow:
         title = f"{title} {finding.flow[0]} -> {finding.flow[1]}"
     return f"{printed(file.path)}:{start.line}:{start.column}: {finding.code} {title}".rstrip()

@@ -6,7 +6,7 @@ import dataclasses
 import os
 from typing import Counter, List, NamedTuple, Optional, Tuple
 
-from .source import Place, Text
+from .source import Place, Spot, Text
 
 ERROR, DYNAMIC, REFUSED, GUIDE = "error", "dynamic", "refused", "guide"
 
@@ -62,9 +62,9 @@ class Checked:
         """The text of the line in which a finding starts, without blanks at its ends."""
         return self.text.line(finding.place.start.line).strip()
 
-    def word_of(self, finding: Finding) -> str:
-        """The word or sign at which a refusal stands; empty for other findings."""
-        return self.text.word(finding.place.start.byte) if finding.kind in (REFUSED, GUIDE) else ""
+    def spot_of(self, finding: Finding) -> Optional[Spot]:
+        """The word or sign at which a refusal stands; none for other findings."""
+        return self.text.spot(finding.place.start.byte) if finding.kind in (REFUSED, GUIDE) else None
 
 
 class Known(NamedTuple):

@@ -42,7 +42,7 @@ class Full:
         what = self.colours(finding.kind, f"{finding.kind} {finding.code} {title}".rstrip())
         yield f"{where} {what}" + (f": {meaning}" if meaning else "")
         yield from self.excerpt(file, finding)
-        mending = codes.mending_of(finding.code, file.word_of(finding))
+        mending = codes.mending_of(finding.code, file.spot_of(finding))
         if finding.kind == GUIDE:
             mending += " This is a guide: the program was asked again without the refusals before."
         before = " " * (3 + len(str(finding.place.end.line)))

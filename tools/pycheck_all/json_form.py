@@ -23,7 +23,7 @@ def of_finding(file: Checked, it: Finding) -> Dict[str, Any]:
     if it.flow:
         found.update({"from": it.flow[0], "to": it.flow[1]})
     if it.kind in (REFUSED, GUIDE):
-        found["instead"] = codes.mending_of(it.code, file.word_of(it))
+        found["instead"] = codes.mending_of(it.code, file.spot_of(it))
     return found
 
 

@@ -20,7 +20,7 @@ def message_of(file: Checked, finding: Finding) -> str:
     """What is found and how to mend it, in a line."""
     flow = f" ({finding.flow[0]} -> {finding.flow[1]})" if finding.flow else ""
     meaning = codes.meaning_of(finding.code) or finding.code
-    mending = codes.mending_of(finding.code, file.word_of(finding))
+    mending = codes.mending_of(finding.code, file.spot_of(finding))
     guide = " This is a guide, not the program's answer on the file as it is." if finding.kind == GUIDE else ""
     return f"{meaning}{flow}. {mending}{guide}".strip()
 

@@ -125,6 +125,7 @@ class Draft:
     def __init__(self, data: bytes) -> None:
         self.statements = list(statements(data))
         self.length = len(data)
+        self.ended = False
 
     @property
     def data(self) -> bytes:
@@ -186,7 +187,7 @@ class Draft:
             return self.unindent(at)
         if code == "I2":
             return self.open_suite(at)
-        if code == "G1" and at == 0 and not found.tries and not found.code.startswith(HEADER):
+        if code == "G1" and not found.code.startswith(HEADER) and not any(it.code for it in self.statements[:at]):
             self.insert(0, HEADER)
             return True
         self.replace(at, within)
@@ -213,12 +214,13 @@ class Draft:
                 self.replace(self.statements.index(found), 0)
                 return True
         last = self.statements[-1]
-        if last.code == b"main()" and last.tries:
-            return False
         if not last.text.endswith(b"\n"):
             last.text += b"\n"
-        self.insert(len(self.statements), b"main()")
-        return True
+        if not self.ended:
+            self.insert(len(self.statements), b"main()")
+            self.ended = True
+            return True
+        return False
 
     def insert(self, at: int, text: bytes) -> None:
         """Puts in a statement, which is no text of the file."""
@@ -294,8 +296,9 @@ class Draft:
         named = NAME.match(found.code)
         name = named[1] if named and is_plain(named[1]) else b"refused"
         if place == MODULE and found.word == b"class":
-            marked = at > 0 and self.statements[at - 1].code == b"@dataclass"
-            return [b"@dataclass"] * (not marked) + [b"class " + name + b":"] + suite
+            if at == 0 or self.statements[at - 1].code != b"@dataclass":
+                self.insert(at, b"@dataclass")
+            return [b"class " + name + b":"] + suite
         if place == MODULE:
             return [b"def " + name + b"():"] + suite
         if place == CLASS:
@@ -319,6 +322,7 @@ def rest_of(text: Text, first: Finding, refusal: Refusal) -> Rest:
     draft = Draft(text.data)
     found: List[Finding] = []
     code, byte = first.code, first.place.start.byte
+    met = {(code, byte)}
     with tempfile.TemporaryDirectory(prefix="pycheck-") as folder:
         path = os.path.join(folder, "module.py")
         for _ in range(3 * LIMIT):
@@ -331,7 +335,8 @@ def rest_of(text: Text, first: Finding, refusal: Refusal) -> Rest:
                 return Rest(found, "")
             code, byte = answer
             origin = draft.origin(byte)
-            if origin is not None:
+            if origin is not None and (code, origin) not in met:
+                met.add((code, origin))
                 found.append(Finding(GUIDE, code, text.token(origin)))
             if len(found) >= LIMIT:
                 break

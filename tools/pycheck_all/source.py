@@ -7,6 +7,8 @@ from typing import List, NamedTuple, Optional
 
 TOKEN = re.compile(r"\w+|\*\*=?|//=?|<<=?|>>=?|\.\.\.|:=|->|[-+*/%@&|^<>=!]=|\S")
 
+CODE = re.compile(rb"^[ \t]*[^#\s]", re.MULTILINE)
+
 
 class Point(NamedTuple):
     """A point of a text: its byte, from 0, and its line and column, from 1. Columns count characters."""
@@ -21,6 +23,15 @@ class Place(NamedTuple):
 
     start: Point
     end: Point
+
+
+class Spot(NamedTuple):
+    """A word or sign of a text, with what stands before and after it in its line. `first` says that no statement is before."""
+
+    before: str
+    word: str
+    after: str
+    first: bool
 
 
 def characters(data: bytes) -> int:
@@ -61,6 +72,14 @@ class Text:
         line = self.data[byte : self.after(byte)].decode("utf-8", "surrogateescape")
         found = TOKEN.match(line)
         return found[0] if found else line[:1].strip("\r\n")
+
+    def spot(self, byte: int) -> Spot:
+        """That word or sign with its line."""
+        start = self.starts[self.point(byte).line - 1]
+        before = self.data[start:byte].decode("utf-8", "replace")
+        word = self.word(byte)
+        after = self.data[byte : self.after(byte)].decode("utf-8", "surrogateescape")[len(word) :]
+        return Spot(before, word, after, not CODE.search(self.data[:byte]))
 
     def after(self, byte: int) -> int:
         """The byte after the last one of the line that a byte stands in; its line end counts to it."""
