@@ -1,7 +1,7 @@
 """The baseline: findings that are known, so that only new ones fail.
 
-A finding is known by its path, its code and the text of its line without blanks at the ends, not by the number of the line; and
-so many times as it is written down. Paths are relative to the folder of the baseline, with slashes."""
+A finding is known by its path, its code and the text of its line without blanks at the ends, not by the number of the
+line; and so many times as it is written down. Paths are relative to the folder of the baseline, with slashes."""
 from __future__ import annotations
 
 import dataclasses
@@ -43,9 +43,9 @@ class Baseline:
     def mark(self, files: Sequence[Checked]) -> List[Known]:
         """Marks the findings that are known, and gives the entries that are gone from the code.
 
-        An entry is gone if its file is no longer there, or if the file was checked and has no such finding. Of a refused file
-        nothing is checked, and one refusal alone is named; so its entries are gone only where all refusals were listed, and then
-        only those of refusals."""
+        An entry is gone if its file is no longer there, or if the file was checked and has no such finding. Of a
+        refused file nothing is checked, and one refusal alone is named; so its entries are gone only where all
+        refusals were listed, and then only those of refusals."""
         left = Counter(self.counts)
         for file in files:
             path = self.key_path(file.path)
@@ -96,9 +96,9 @@ def entry_of(row: Dict[str, Any]) -> Tuple[Key, int]:
 
 
 def write(path: str, files: Sequence[Checked]) -> int:
-    """Writes down everything that was found, and gives the number of it. Of a baseline that is there already, the entries of
-    files that were not checked now, and are still there, stay. NoBaseline says why it could not be written."""
-    old = read(path) if os.path.exists(path) else Baseline(path, Counter())
+    """Writes down everything that was found, and gives the number of it. Of a baseline that is there already, the
+    entries of files that were not checked now, and are still there, stay. NoBaseline says why it could not be
+    written.""" old = read(path) if os.path.exists(path) else Baseline(path, Counter())
     counts: Counter[Key] = Counter()
     checked = {old.key_path(it.path): it for it in files}
     for key, count in old.counts.items():

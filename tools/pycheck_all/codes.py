@@ -50,14 +50,16 @@ def meaning_of(code: str) -> str:
 
 
 def mending_of(code: str, spot: Optional[Spot] = None) -> str:
-    """A sentence that says how to mend the code, as the page says it; of a spot that the table of the entry has, its row."""
+    """A sentence that says how to mend the code, as the page says it; at a spot that the entry's table has, its row."""
     entry = entries().get(code)
     if entry is None:
         return ""
     row = forms.row_of(entry.rows, spot) if spot else None
     if row is None:
         return entry.mend
-    return f"There is {row[0]}: write {row[1]}." if row[0].startswith("no ") else f"Instead of {row[0]} write {row[1]}."
+    if row[0].startswith("no "):
+        return f"There is {row[0]}: write {row[1]}."
+    return f"Instead of {row[0]} write {row[1]}."
 
 
 def explained(code: str, width: int) -> str:

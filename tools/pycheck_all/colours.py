@@ -4,7 +4,15 @@ from __future__ import annotations
 import os
 from typing import TextIO
 
-CODES = {"error": "1;31", "dynamic": "1;33", "refused": "1;35", "guide": "35", "path": "1", "number": "34", "mend": "36"}
+CODES = {
+    "error": "1;31",
+    "dynamic": "1;33",
+    "refused": "1;35",
+    "guide": "35",
+    "path": "1",
+    "number": "34",
+    "mend": "36",
+}
 
 
 class Colours:

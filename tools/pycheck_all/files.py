@@ -38,7 +38,9 @@ def ignored_by_git(folder: str) -> Set[str]:
     # A hook of git runs with variables that name another checkout or index
     kept = {name: value for name, value in os.environ.items() if not name.startswith("GIT_")}
     try:
-        done = subprocess.run(words, stdin=subprocess.DEVNULL, stdout=subprocess.PIPE, stderr=subprocess.DEVNULL, env=kept)
+        done = subprocess.run(
+            words, stdin=subprocess.DEVNULL, stdout=subprocess.PIPE, stderr=subprocess.DEVNULL, env=kept
+        )
     except OSError:
         return set()
     names = os.fsdecode(done.stdout).split("\0")[:-1] if done.returncode == 0 else []
@@ -89,6 +91,11 @@ def is_module(entry: os.DirEntry[str]) -> bool:
         return True
 
 
+def is_utf8(path: str) -> bool:
+    """Whether the program can be given a path: it takes words in UTF-8 alone."""
+    return not any("\udc80" <= it <= "\udcff" for it in path)
+
+
 class Files:
     """The files of a run. Texts that have no path that can be read twice are kept in a folder until `close`."""
 
@@ -113,7 +120,7 @@ class Files:
                 key = (word == STANDARD_INPUT, os.path.abspath(source.name))
                 if key not in met:
                     met.add(key)
-                    sources.append(source)
+                    sources.append(source if is_utf8(source.path) or source.failure else self.kept(source.name, None))
         return Found(sources, walk.excluded)
 
     def named(self, word: str, walk: Walk) -> Iterator[Source]:

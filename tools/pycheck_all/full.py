@@ -23,14 +23,15 @@ class Full:
     def lines(self, project: Project) -> Iterator[str]:
         """The lines of all new findings, with an empty line after each, and of the files that could not be checked."""
         for file in project.files:
+            name = self.colours("path", printed(file.path))
             if file.failure:
-                yield f"{self.colours('path', printed(file.path))}: {self.colours('refused', 'not checked')}: {file.failure}"
+                yield f"{name}: {self.colours('refused', 'not checked')}: {file.failure}"
                 yield ""
             for finding in file.new:
                 yield from self.finding(file, finding)
                 yield ""
             if file.unlisted:
-                yield f"{self.colours('path', printed(file.path))}: there may be more refusals: {file.unlisted}"
+                yield f"{name}: there may be more refusals: {file.unlisted}"
                 yield ""
         yield from concise.gone(project)
 
@@ -46,8 +47,9 @@ class Full:
         if finding.kind == GUIDE:
             mending += " This is a guide: the program was asked again without the refusals before."
         before = " " * (3 + len(str(finding.place.end.line)))
-        words = textwrap.wrap(mending.strip(), self.width - len(before) - 2, break_long_words=False, break_on_hyphens=False)
-        for at, line in enumerate(words):
+        room = self.width - len(before) - 2
+        lines = textwrap.wrap(mending.strip(), room, break_long_words=False, break_on_hyphens=False)
+        for at, line in enumerate(lines):
             sign = " " if at else self.colours("number", "=")
             yield f"{before}{sign} {self.colours('mend', line)}"
 
@@ -79,8 +81,8 @@ class Full:
 
 
 def part_of(line: str, number: int, place: Place) -> Tuple[int, int]:
-    """The characters of a line that belong to a place, without the blanks in front: the first, from 0, and the one after the
-    last."""
+    """The characters of a line that belong to a place, without the blanks in front: the first, from 0, and the one
+    after the last."""
     start = place.start.column - 1 if number == place.start.line else len(line) - len(line.lstrip())
     end = place.end.column - 1 if number == place.end.line else len(line.rstrip())
     return start, max(start, end)

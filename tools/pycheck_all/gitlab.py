@@ -11,11 +11,15 @@ from .messages import fingerprint, fingerprints, message_of, name_of
 SEVERITIES = {ERROR: "major", REFUSED: "critical", GUIDE: "info", DYNAMIC: "minor"}
 
 
-def issue(file: Checked, name: str, text: str, severity: str, fingerprint: str, lines: Dict[str, int]) -> Dict[str, Any]:
+def issue(file: Checked, name: str, text: str, severity: str, mark: str, lines: Dict[str, int]) -> Dict[str, Any]:
     """An entry of the report."""
-    path = shown(os.path.normpath(file.path))
-    return {"description": text, "check_name": name, "fingerprint": fingerprint, "severity": severity,
-            "location": {"path": path, "lines": lines}}
+    return {
+        "description": text,
+        "check_name": name,
+        "fingerprint": mark,
+        "severity": severity,
+        "location": {"path": shown(os.path.normpath(file.path)), "lines": lines},
+    }
 
 
 def issues(project: Project) -> Iterator[Dict[str, Any]]:

@@ -40,7 +40,8 @@ def cases_of(file: Checked, strict: bool) -> Iterator[Tuple[str, List[str]]]:
         yield "", case_of(path, "no finding", "", "")
     for it in file.findings:
         start, outcome = it.place.start, outcome_of(it, strict)
-        message = f"{path}:{start.line}:{start.column}: {message_of(file, it)}" + (" Known in the baseline." if it.known else "")
+        known = " Known in the baseline." if it.known else ""
+        message = f"{path}:{start.line}:{start.column}: {message_of(file, it)}{known}"
         yield outcome, case_of(path, f"{start.line}:{start.column} {name_of(it)}", outcome, message)
     if file.unlisted:
         yield "skipped", case_of(path, "there may be more refusals", "skipped", file.unlisted)

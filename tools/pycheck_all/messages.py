@@ -26,8 +26,8 @@ def message_of(file: Checked, finding: Finding) -> str:
 
 
 def fingerprints(file: Checked) -> List[str]:
-    """What tells each finding of a file from every other and stays when lines move: a hash of the path, the code, the text of
-    the line, and how many such findings are before it."""
+    """What tells each finding of a file from every other and stays when lines move: a hash of the path, the code, the
+    text of the line, and how many such findings are before it."""
     counts: Counter[Tuple[str, str]] = collections.Counter()
     made: List[str] = []
     for finding in file.findings:

@@ -1,10 +1,11 @@
 """The page: one document of HTML with a table of the files and each module with its places marked.
 
-It loads nothing and has no scripts. A finding is one `mark` of class `place`; where its place goes over several lines, or crosses
-another one, the other parts are marks of class `rest`."""
+It loads nothing and has no scripts. A finding is one `mark` of class `place`; where its place goes over several lines,
+or holds another one, the other parts are marks of class `rest`."""
 from __future__ import annotations
 
 import html
+import re
 import unicodedata
 from typing import Iterator, List, NamedTuple, Sequence, Set, Tuple
 
@@ -14,11 +15,12 @@ from .messages import name_of
 from .widths import REPLACEMENT, TURNS
 
 STYLE = """
-:root { --back: #fff; --fore: #1b1f24; --soft: #59636e; --line: #d8dee4; --code: #f6f8fa; --error: #b91c1c;
-  --error-back: #fecaca; --dynamic: #8a5a00; --dynamic-back: #fde68a; --refused: #7c2d9c; --refused-back: #e9d5ff; --link: #0550ae }
+:root { --back: #fff; --fore: #1b1f24; --soft: #59636e; --line: #d8dee4; --code: #f6f8fa; --link: #0550ae;
+  --error: #b91c1c; --error-back: #fecaca; --dynamic: #8a5a00; --dynamic-back: #fde68a; --refused: #7c2d9c;
+  --refused-back: #e9d5ff }
 @media (prefers-color-scheme: dark) { :root { --back: #0d1117; --fore: #e6edf3; --soft: #9198a1; --line: #30363d;
-  --code: #161b22; --error: #ff9c94; --error-back: #6b1d1d; --dynamic: #f2cc60; --dynamic-back: #574108; --refused: #dbb7ff;
-  --refused-back: #4a2268; --link: #79b8ff } }
+  --code: #161b22; --link: #79b8ff; --error: #ff9c94; --error-back: #6b1d1d; --dynamic: #f2cc60;
+  --dynamic-back: #574108; --refused: #dbb7ff; --refused-back: #4a2268 } }
 * { box-sizing: border-box }
 body { margin: 0 auto; padding: 1rem; max-width: 80rem; background: var(--back); color: var(--fore);
   font: 1rem/1.5 system-ui, sans-serif }
@@ -32,21 +34,37 @@ td.said { text-align: left; overflow-wrap: anywhere }
 .soft { color: var(--soft) }
 ul { padding-left: 1.2rem; margin: .5rem 0 } li { overflow-wrap: anywhere }
 summary { cursor: pointer; color: var(--soft) }
-.code { overflow-x: auto; background: var(--code); border: 1px solid var(--line); border-radius: .4rem; padding: .5rem 0;
-  font: .85rem/1.6 ui-monospace, monospace; tab-size: 4 }
+.code { overflow-x: auto; background: var(--code); border: 1px solid var(--line); border-radius: .4rem;
+  padding: .5rem 0; font: .85rem/1.6 ui-monospace, monospace; tab-size: 4 }
 .line { white-space: pre; min-height: 1.6em; width: max-content; min-width: 100%; padding-right: 1rem }
 .line:target, li:target { outline: 2px solid var(--link) }
 .number { display: inline-block; min-width: 4em; padding-right: 1em; text-align: right; color: var(--soft);
   text-decoration: none; user-select: none }
-mark { color: inherit; background: var(--error-back); box-shadow: inset 0 -2px var(--error) }
-mark.dynamic { background: var(--dynamic-back); box-shadow: inset 0 -2px var(--dynamic) }
-mark.refused, mark.guide { background: var(--refused-back); box-shadow: inset 0 -2px var(--refused) }
-mark.known { background: none } mark.empty::after { content: "\\25b2" }
+mark.place, mark.rest { color: inherit; background: var(--error-back); box-shadow: inset 0 -2px var(--error) }
+mark.place.dynamic, mark.rest.dynamic { background: var(--dynamic-back); box-shadow: inset 0 -2px var(--dynamic) }
+mark.place.refused, mark.rest.refused, mark.place.guide, mark.rest.guide { background: var(--refused-back);
+  box-shadow: inset 0 -2px var(--refused) }
+mark.place.known, mark.rest.known { background: none }
+ul code { background: var(--code); border-radius: .2rem; padding: 0 .2rem }
+mark.empty::after { content: "\\25b2" }
 """
+HEAD = f"""<!doctype html>
+<html lang="en">
+<head>
+<meta charset="utf-8">
+<meta http-equiv="Content-Security-Policy" content="default-src 'none'; style-src 'unsafe-inline'; img-src data:">
+<meta name="viewport" content="width=device-width, initial-scale=1">
+<meta name="color-scheme" content="light dark">
+<title>pycheck</title>
+<link rel="icon" href="data:,">
+<style>{STYLE}</style>
+</head>
+<body>"""
 
 
 class Part(NamedTuple):
-    """A part of a line that belongs to a finding: its first character, from 0, the one after the last, and the finding's number."""
+    """A part of a line that belongs to a finding: its first character, from 0, the one after the last, and the number
+    of the finding."""
 
     start: int
     end: int
@@ -60,6 +78,11 @@ def escaped(text: str) -> str:
         return it == "\t" or not (unicodedata.category(it) in ("Cc", "Cs") or unicodedata.bidirectional(it) in TURNS)
 
     return html.escape("".join(it if fine(it) else REPLACEMENT for it in text))
+
+
+def worded(text: str) -> str:
+    """A text of the page of codes as HTML."""
+    return re.sub("`([^`]*)`", r"<code>\1</code>", escaped(text))
 
 
 def tooltip(finding: Finding) -> str:
@@ -136,7 +159,7 @@ class Module:
             known = ' <span class="soft">known</span>' if it.known else ""
             words = f"{codes.meaning_of(it.code)}. {codes.mending_of(it.code, self.file.spot_of(it))}"
             name = f'<b class="{it.kind}">{html.escape(name_of(it))}</b>'
-            yield f'<li id="{self.name}-n{at}">{link} {name}{flow}{known}: {escaped(words)}</li>'
+            yield f'<li id="{self.name}-n{at}">{link} {name}{flow}{known}: {worded(words)}</li>'
 
     def section(self) -> Iterator[str]:
         """The module with its findings; one without findings is folded."""
@@ -176,9 +199,11 @@ def row(module: Module) -> str:
         more = f", and {guides} more as a guide" if guides else ""
         said = f"{name_of(refusal)}{more}{' (known)' if refusal.known else ''}"
         return f'<tr>{name}<td colspan="3" class="said refused">{html.escape(said)}</td></tr>'
-    errors, dynamic = (sum(it.kind == kind for it in file.findings) for kind in (ERROR, DYNAMIC))
-    marks = [f'<td{f" class={kind}" if number else ""}>{number}</td>' for kind, number in (("error", errors), ("dynamic", dynamic))]
-    return f"<tr>{name}{''.join(marks)}<td>{share(*free_lines(file))}</td></tr>"
+    cells = ""
+    for kind in (ERROR, DYNAMIC):
+        number = sum(it.kind == kind for it in file.findings)
+        cells += f'<td class="{kind if number else ""}">{number}</td>'
+    return f"<tr>{name}{cells}<td>{share(*free_lines(file))}</td></tr>"
 
 
 def total(files: Sequence[Checked]) -> str:
@@ -190,20 +215,27 @@ def total(files: Sequence[Checked]) -> str:
     return f"<tr><th>All that have a report</th><th>{errors}</th><th>{dynamic}</th><th>{part}</th></tr>"
 
 
+def gone_list(project: Project) -> Iterator[str]:
+    """What is known but gone, if something is."""
+    if project.gone:
+        yield "<h2>Known but gone</h2>\n<ul>"
+        for it in project.gone:
+            words = f"{html.escape(shown(it.path))}: {html.escape(it.code)}: <code>{escaped(it.line)}</code>"
+            yield f"<li>{words}{f' ({it.times} times)' if it.times > 1 else ''}</li>"
+        yield "</ul>"
+
+
 def document(project: Project) -> str:
     """The page of a project."""
     modules = [Module(at, file) for at, file in enumerate(project.files)]
-    gone = [f"<li>{html.escape(shown(it.path))}: {html.escape(it.code)}: <code>{escaped(it.line)}</code></li>" for it in project.gone]
+    heads = "".join(f"<th>{it}</th>" for it in ("File", "Errors", "Dynamic places", "Lines without either"))
     lines = [
-        '<!doctype html>\n<html lang="en">\n<head>\n<meta charset="utf-8">',
-        """<meta http-equiv="Content-Security-Policy" content="default-src 'none'; style-src 'unsafe-inline'; img-src data:">""",
-        '<meta name="viewport" content="width=device-width, initial-scale=1">\n<meta name="color-scheme" content="light dark">',
-        f'<title>pycheck</title>\n<link rel="icon" href="data:,">\n<style>{STYLE}</style>\n</head>\n<body>',
+        HEAD,
         f"<h1>pycheck</h1>\n<p>{html.escape(summary(project))}</p>",
-        "<table><thead><tr><th>File</th><th>Errors</th><th>Dynamic places</th><th>Lines without either</th></tr></thead><tbody>",
+        f"<table>\n<thead><tr>{heads}</tr></thead>\n<tbody>",
         *map(row, modules),
-        f"</tbody><tfoot>{total(project.files)}</tfoot></table>",
-        *(["<h2>Known but gone</h2><ul>", *gone, "</ul>"] if gone else []),
+        f"</tbody>\n<tfoot>{total(project.files)}</tfoot>\n</table>",
+        *gone_list(project),
         *(line for module in modules for line in module.section()),
         "</body>\n</html>\n",
     ]

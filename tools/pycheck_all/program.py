@@ -21,7 +21,7 @@ class NoProgram(Exception):
 
 
 class Answer(NamedTuple):
-    """What the program answered: its exit status, or minus the number of the signal that ended it, and its two outputs."""
+    """What the program answered: its exit status, or minus the signal that ended it; and its two outputs."""
 
     status: int
     output: bytes
@@ -55,7 +55,7 @@ def in_checkout() -> str:
     if FINDER.parent.name != "tools" or not os.access(FINDER, os.X_OK):
         return ""
     try:
-        done = subprocess.run([str(FINDER), NAME], stdin=subprocess.DEVNULL, stdout=subprocess.PIPE, stderr=subprocess.PIPE)
+        done = subprocess.run([str(FINDER), NAME], stdin=subprocess.DEVNULL, capture_output=True)
     except OSError as fault:
         raise NoProgram(f"{FINDER}: {fault.strerror}") from None
     lines = os.fsdecode(done.stdout).splitlines()
@@ -75,8 +75,8 @@ def beside() -> str:
 
 
 def chosen(named: str) -> str:
-    """The program to ask: the one that is named, by a word or by the variable PYCHECK; else the one of the checkout, of the
-    wheel, or on PATH."""
+    """The program to ask: the one that is named, by a word or by the variable PYCHECK; else the one of the checkout, of
+    the wheel, or on PATH."""
     named = named or os.environ.get("PYCHECK", "")
     if named:
         return found(named)

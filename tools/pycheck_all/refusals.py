@@ -1,9 +1,9 @@
 """All refusals of a file, as a guide.
 
-The program names the first fault of a file that is no module. Here the statement with that fault is replaced by one that is
-allowed there, the program is asked again, and so on. What is found so is a guide, not the program's answer on the file: a
-statement with two faults is listed once, and what stands in for a statement may raise a refusal of its own.
-"""
+The program names the first fault of a file that is no module. Here the statement with that fault is replaced by one
+that is allowed there, the program is asked again, and so on. What is found so is a guide, not the program's answer on
+the file: a statement with two faults is listed once, and what stands in for a statement may raise a refusal of its
+own. """
 from __future__ import annotations
 
 import bisect
@@ -43,9 +43,9 @@ class Rest(NamedTuple):
 class Statement:
     """A logical line with the blank and comment lines before it.
 
-    `start` is its first byte in the file, `cut` how many bytes of the file are left out in front (less than 0: put in). `tries`
-    counts how often it was replaced; one that was replaced or put in is no text of the file. `colon` is the byte after the
-    colon that opens a suite, from its own first byte, 0 without one."""
+    `start` is its first byte in the file, `cut` how many bytes of the file are left out in front (less than 0: put in).
+    `tries` counts how often it was replaced; one that was replaced or put in is no text of the file. `colon` is the
+    byte after the colon that opens a suite, from its own first byte, 0 without one."""
 
     text: bytes
     start: int
@@ -133,7 +133,7 @@ class Draft:
         return b"".join(it.text for it in self.statements)
 
     def find(self, byte: int) -> Tuple[int, int]:
-        """The statement in which a byte of the draft stands, as its number, and the byte within it; the last one at the end."""
+        """The number of the statement that a byte of the draft stands in, and the byte within it."""
         ends = list(itertools.accumulate(len(it.text) for it in self.statements))
         at = min(bisect.bisect_right(ends, byte), len(ends) - 1)
         return at, byte - (ends[at] - len(self.statements[at].text))
@@ -200,7 +200,8 @@ class Draft:
             found.text, found.cut = found.text[3:], found.cut + 3
         elif code == "S5":
             end = found.text.find(b"\n", within)
-            found.text = found.text[:within] + b"#" * ((end if end >= 0 else len(found.text)) - within) + found.text[max(end, 0) :]
+            end = end if end >= 0 else len(found.text)
+            found.text = found.text[:within] + b"#" * (end - within) + found.text[end:]
         elif code == "S2":
             found.text = re.sub("[\udc80-\udcff]", "_", found.text.decode("utf-8", "surrogateescape")).encode()
         else:
@@ -270,10 +271,9 @@ class Draft:
         found = self.statements[at]
         place, spaces = self.context(at), b" " * found.indent
         if found.tries:
-            end = at + 1
-            while end < len(self.statements) and (not self.statements[end].code or self.statements[end].indent > found.indent):
-                end += 1
-            del self.statements[at + 1 : end]
+            rest = self.statements[at + 1 :]
+            suite = list(itertools.takewhile(lambda it: not it.code or it.indent > found.indent, rest))
+            del self.statements[at + 1 : at + 1 + len(suite)]
             lines = [] if place == MODULE else [spaces + SIMPLE[place]]
         elif found.opens or self.has_suite(at):
             lines = self.opener(at, place, within)
@@ -327,7 +327,7 @@ def rest_of(text: Text, first: Finding, refusal: Refusal) -> Rest:
         path = os.path.join(folder, "module.py")
         for _ in range(3 * LIMIT):
             if not draft.mend(code, byte):
-                return Rest(found, f"what follows {code} in line {text.point(min(byte, len(text.data))).line} is not listed")
+                return Rest(found, f"there is no stand-in for what {code} refuses")
             with open(path, "wb") as file:
                 file.write(draft.data)
             answer = refusal(path)

@@ -52,7 +52,7 @@ def finding_of(row: Dict[str, Any], text: Text) -> Finding:
 
 
 class Run:
-    """A run of the program over files. `all_refusals` asks for each refusal of a file, `texts` for the text of each file."""
+    """A run of the program over files. `all_refusals` asks for each refusal of a file, `texts` for the text of each."""
 
     def __init__(self, program: Program, all_refusals: bool, texts: bool) -> None:
         self.program = program

@@ -74,7 +74,8 @@ def notifications(project: Project) -> List[Dict[str, Any]]:
     for file in project.files:
         location = {"physicalLocation": {"artifactLocation": {"uri": uri_of(file.path)}}}
         if file.failure:
-            found.append({"level": "error", "message": {"text": f"not checked: {file.failure}"}, "locations": [location]})
+            text = f"not checked: {file.failure}"
+            found.append({"level": "error", "message": {"text": text}, "locations": [location]})
         if file.unlisted:
             text = f"there may be more refusals: {file.unlisted}"
             found.append({"level": "note", "message": {"text": text}, "locations": [location]})

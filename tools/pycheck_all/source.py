@@ -26,7 +26,7 @@ class Place(NamedTuple):
 
 
 class Spot(NamedTuple):
-    """A word or sign of a text, with what stands before and after it in its line. `first` says that no statement is before."""
+    """A word or sign of a text, with what stands before and after it in its line. `first`: no code is before."""
 
     before: str
     word: str

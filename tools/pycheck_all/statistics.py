@@ -8,7 +8,7 @@ from .findings import Project
 
 
 def lines(project: Project) -> Iterator[str]:
-    """A line for each code that stands somewhere, known findings included: the number, the code, its title; the most first."""
+    """A line for each code that stands somewhere, known findings included: number, code, title; the most first."""
     counts = project.codes()
     width = len(str(max(counts.values(), default=0)))
     for code, count in sorted(counts.items(), key=lambda it: (-it[1], it[0])):

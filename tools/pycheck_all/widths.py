@@ -10,7 +10,7 @@ TURNS = {"LRE", "RLE", "LRO", "RLO", "PDF", "LRI", "RLI", "FSI", "PDI"}
 
 
 def drawn(character: str) -> str:
-    """What is shown for a character: blanks for a tab, a replacement for what would steer the terminal or turn the line."""
+    """What is shown for a character: blanks for a tab; a replacement for what steers terminals or turns lines."""
     if character == "\t":
         return " " * TAB
     if unicodedata.category(character) in ("Cc", "Cs") or unicodedata.bidirectional(character) in TURNS:
@@ -41,8 +41,8 @@ class Cut(NamedTuple):
 
 
 def cut(line: str, start: int, end: int, width: int) -> Cut:
-    """A line cut to a width, so that the marked characters, from `start` to before `end`, can be seen; a mark has at least one
-    column."""
+    """A line cut to a width, so that the marked characters, from `start` to before `end`, can be seen; a mark has at
+    least one column."""
     pieces = [drawn(it) for it in line]
     first, last = 0, len(pieces)
     if width_of("".join(pieces)) > width:
@@ -56,7 +56,7 @@ def cut(line: str, start: int, end: int, width: int) -> Cut:
 
 
 def first_shown(pieces: List[str], start: int, end: int, width: int) -> int:
-    """The first character to show: the first of the line where the mark fits so, else one that leaves room before the mark."""
+    """The first character to show: the line's where the mark fits so, else one that leaves room before it."""
     if width_of("".join(pieces[:end])) <= width - 1:
         return 0
     room = max(0, min(width // 3, width - 2 - width_of("".join(pieces[start:end]))))

@@ -61,7 +61,8 @@ def parser_of(name: str) -> Parser:
     add("--statistics", action="store_true", help="say how often each code stands")
     add("--baseline", default="", metavar="FILE", help="do not fail on what this file has as known")
     add("--write-baseline", default="", metavar="FILE", help="write down what is found as known")
-    add("--all-refusals", action="store_true", help="list all refusals of a file, as a guide, and what to write instead")
+    add("--all-refusals", action="store_true",
+        help="list all refusals of a file, as a guide, and what to write instead")
     add("--page", default="", metavar="FILE.html", help="write a page that shows the modules with their findings")
     add("--explain", default="", metavar="CODE", help="explain a code, and check nothing")
     add("--version", action="store_true", help="say the version of the program that is used, and check nothing")
