@@ -98,7 +98,8 @@ def entry_of(row: Dict[str, Any]) -> Tuple[Key, int]:
 def write(path: str, files: Sequence[Checked]) -> int:
     """Writes down everything that was found, and gives the number of it. Of a baseline that is there already, the
     entries of files that were not checked now, and are still there, stay. NoBaseline says why it could not be
-    written.""" old = read(path) if os.path.exists(path) else Baseline(path, Counter())
+    written."""
+    old = read(path) if os.path.exists(path) else Baseline(path, Counter())
     counts: Counter[Key] = Counter()
     checked = {old.key_path(it.path): it for it in files}
     for key, count in old.counts.items():

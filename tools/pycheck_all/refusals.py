@@ -3,7 +3,8 @@
 The program names the first fault of a file that is no module. Here the statement with that fault is replaced by one
 that is allowed there, the program is asked again, and so on. What is found so is a guide, not the program's answer on
 the file: a statement with two faults is listed once, and what stands in for a statement may raise a refusal of its
-own. """
+own.
+"""
 from __future__ import annotations
 
 import bisect
