@@ -88,8 +88,11 @@ def show(asked: words.Words, project: Project, width: int) -> None:
     if asked.page:
         from . import page
 
-        with open(asked.page, "w", encoding="utf-8", errors="replace") as file:
-            file.write(page.document(project))
+        try:
+            with open(asked.page, "w", encoding="utf-8", errors="replace") as file:
+                file.write(page.document(project))
+        except OSError as fault:
+            raise Failure(f"{asked.page}: {fault.strerror}") from None
     form = asked.output or ("full" if is_terminal() else "concise")
     rest = closing(asked, project)
     if form in DOCUMENTS:

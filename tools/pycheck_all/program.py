@@ -100,6 +100,7 @@ class Program:
         self._lock = threading.Lock()
         self._stopped = False
         self._nothing = os.open(os.devnull, os.O_RDONLY)
+        self._variables = dict(os.environ)
 
     def ask(self, *words: str) -> Answer:
         """Runs the program with these words. OSError says that it could not be run."""
@@ -121,7 +122,7 @@ class Program:
         with self._lock:
             if self._stopped:
                 raise OSError(0, "stopped")
-            process = os.posix_spawn(self.path, [self.path, *words], os.environ, file_actions=actions)
+            process = os.posix_spawn(self.path, [self.path, *words], self._variables, file_actions=actions)
             self._running.add(process)
         return process
 

@@ -88,6 +88,13 @@ class Statement:
         """Whether it begins as a statement that has a suite."""
         return self.colon > 0 and self.word in OPENERS
 
+    @property
+    def awaits(self) -> bool:
+        """Whether it ends in the colon that opens a suite."""
+        if self.tries:
+            return self.code.endswith(b":")
+        return self.opens and not re.sub(rb"#[^\n]*", b"", self.text[self.colon :]).strip()
+
 
 def statements(data: bytes) -> Iterator[Statement]:
     """The statements of a text. Of a bracket that is never closed, the line in which its statement begins is one; after
@@ -126,7 +133,7 @@ class Draft:
     def __init__(self, data: bytes) -> None:
         self.statements = list(statements(data))
         self.length = len(data)
-        self.ended = False
+        self.end: Optional[Statement] = None
 
     @property
     def data(self) -> bytes:
@@ -180,6 +187,11 @@ class Draft:
         if byte >= len(self.data):
             return self.mend_end()
         found = self.statements[at]
+        if code == "G1" and not found.code.startswith(HEADER) and not any(it.code for it in self.statements[:at]):
+            self.insert(0, HEADER)
+            return True
+        if found is self.end:
+            return self.mend_before(at)
         if found.tries > 1:
             return False
         if code == "L7":
@@ -188,11 +200,15 @@ class Draft:
             return self.unindent(at)
         if code == "I2":
             return self.open_suite(at)
-        if code == "G1" and not found.code.startswith(HEADER) and not any(it.code for it in self.statements[:at]):
-            self.insert(0, HEADER)
-            return True
+        if code == "G1" and self.lacks_suite(at):
+            return self.mend_before(at)
         self.replace(at, within)
         return True
+
+    def lacks_suite(self, at: int) -> bool:
+        """Whether the statement before this one opens a suite that is not there."""
+        before = next((it for it in reversed(self.statements[:at]) if it.code), None)
+        return before is not None and before.awaits and before.indent >= self.statements[at].indent
 
     def mend_bytes(self, code: str, at: int, within: int) -> bool:
         """Mends bytes that no text has."""
@@ -218,15 +234,30 @@ class Draft:
         last = self.statements[-1]
         if not last.text.endswith(b"\n"):
             last.text += b"\n"
-        if not self.ended:
-            self.insert(len(self.statements), b"main()")
-            self.ended = True
+        if self.mend_before(len(self.statements)):
+            return True
+        if self.end is None:
+            self.end = self.insert(len(self.statements), b"main()")
             return True
         return False
 
-    def insert(self, at: int, text: bytes) -> None:
+    def mend_before(self, at: int) -> bool:
+        """Gives a suite to what opens one before a statement, and takes away a decorator before it."""
+        coded = [number for number, it in enumerate(self.statements[:at]) if it.code]
+        last = self.statements[coded[-1]] if coded else None
+        if last is not None and last.awaits:
+            self.insert(coded[-1] + 1, b" " * (last.indent + 4) + b"pass")
+            return True
+        if last is not None and last.word == b"@":
+            last.text, last.tries = b"\n", last.tries + 1
+            return True
+        return False
+
+    def insert(self, at: int, text: bytes) -> Statement:
         """Puts in a statement, which is no text of the file."""
-        self.statements.insert(at, Statement(text + b"\n", 0, tries=1))
+        made = Statement(text + b"\n", 0, tries=1)
+        self.statements.insert(at, made)
+        return made
 
     def indent_by_spaces(self, at: int) -> bool:
         """Indents by spaces what is indented by tabs."""
