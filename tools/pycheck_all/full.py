@@ -64,7 +64,7 @@ class Full:
                 yield self.colours("number", f"  {'.' * gutter} |")
             line = file.text.line(number)
             start, end = part_of(line, number, place)
-            shown = widths.cut(line, start, end, self.width - gutter - 6)
+            shown = widths.cut(line, start, end, self.width - gutter - 5)
             yield f"{self.colours('number', f'  {number:>{gutter}} |')} {shown.text}".rstrip()
             mark = self.colours(finding.kind, "^" * (shown.end - shown.start))
             under = f"{self.colours('number', '  ' + ' ' * gutter + ' |')} {' ' * shown.start}{mark}"
