@@ -33,6 +33,10 @@ NAME = re.compile(rb"(?:async\s+)?(?:def|class)\s+(\w+)")
 Refusal = Callable[[str], Optional[Tuple[str, int]]]
 
 
+class Unanswered(Exception):
+    """The program answered neither a report nor a refusal; the text says why."""
+
+
 class Rest(NamedTuple):
     """The refusals after the first, and why there may be more; empty where there are no more."""
 
@@ -148,8 +152,8 @@ class Draft:
 
     def origin(self, byte: int) -> Optional[int]:
         """The byte of the file where a byte of the draft comes from; none where it was put in."""
-        if not self.statements:
-            return None
+        if byte >= len(self.data) and self.end is None:
+            return self.length
         at, within = self.find(byte)
         found = self.statements[at]
         if found.tries:
@@ -350,7 +354,8 @@ def is_plain(name: bytes) -> bool:
 
 
 def rest_of(text: Text, first: Finding, refusal: Refusal) -> Rest:
-    """The refusals of a file after its first one, up to a limit. `refusal` asks the program of a file."""
+    """The refusals of a file after its first one, up to a limit. `refusal` asks the program of a file, and gives the code
+    and the byte of its refusal, or none; or raises Unanswered."""
     draft = Draft(text.data)
     found: List[Finding] = []
     code, byte = first.code, first.place.start.byte
@@ -362,7 +367,10 @@ def rest_of(text: Text, first: Finding, refusal: Refusal) -> Rest:
                 return Rest(found, f"there is no stand-in for what {code} refuses")
             with open(path, "wb") as file:
                 file.write(draft.data)
-            answer = refusal(path)
+            try:
+                answer = refusal(path)
+            except Unanswered as fault:
+                return Rest(found, str(fault))
             if answer is None:
                 return Rest(found, "")
             code, byte = answer

@@ -111,10 +111,14 @@ class Run:
         return reason
 
     def refusal(self, path: str) -> Optional[Tuple[str, int]]:
-        """The code and the byte of the refusal of a file, or none."""
+        """The code and the byte of the refusal of a file, or none; Unanswered where there is no report either."""
         answer = self.program.ask("--json", "--", path)
         refusal = REFUSAL.fullmatch(answer.error)
-        return (refusal[1].decode(), int(refusal[2])) if answer.status == 2 and refusal else None
+        if answer.status == 2 and refusal:
+            return refusal[1].decode(), int(refusal[2])
+        if answer.status not in (0, 1):
+            raise refusals.Unanswered(answer.reason)
+        return None
 
     def all(self, sources: Sequence[files.Source]) -> List[Checked]:
         """What comes of each file, in their order."""
