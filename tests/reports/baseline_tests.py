@@ -54,8 +54,17 @@ class Baselines(Test):
         self.write("a.py", self.module("    if True:\n", "    " + LINE))
         self.assertEqual(self.known("."), (0, ["1 file: 0 errors, 0 dynamic places, 1 known"]))
         self.write("a.py", self.module(LINE.replace("1", "2")))
-        self.assertEqual(self.known("."), (1, ["a.py:5:11: E13 operator", 'a.py: E13 is known but gone: print(1 + "a")',
-                                               "1 file: 1 error, 0 dynamic places, 1 known but gone"]))
+        self.assertEqual(
+            self.known("."),
+            (
+                1,
+                [
+                    "a.py:5:11: E13 operator",
+                    'a.py: E13 is known but gone: print(1 + "a")',
+                    "1 file: 1 error, 0 dynamic places, 1 known but gone",
+                ],
+            ),
+        )
 
     def test_other_code_and_other_file(self) -> None:
         self.write("a.py", ERROR)
@@ -70,10 +79,20 @@ class Baselines(Test):
         self.write("a.py", self.module(LINE, LINE))
         self.check("--write-baseline", "known.json", ".")
         self.write("a.py", self.module(LINE, LINE, LINE))
-        self.assertEqual(self.known("."), (1, ["a.py:7:11: E13 operator", "1 file: 1 error, 0 dynamic places, 2 known"]))
+        self.assertEqual(
+            self.known("."), (1, ["a.py:7:11: E13 operator", "1 file: 1 error, 0 dynamic places, 2 known"])
+        )
         self.write("a.py", self.module())
-        self.assertEqual(self.known("."), (0, ['a.py: E13 is known but gone (2 times): print(1 + "a")',
-                                               "1 file: 0 errors, 0 dynamic places, 2 known but gone"]))
+        self.assertEqual(
+            self.known("."),
+            (
+                0,
+                [
+                    'a.py: E13 is known but gone (2 times): print(1 + "a")',
+                    "1 file: 0 errors, 0 dynamic places, 2 known but gone",
+                ],
+            ),
+        )
 
     def test_gone_with_the_file(self) -> None:
         self.write("a.py", CLEAN)
@@ -81,17 +100,26 @@ class Baselines(Test):
         self.write("c.py", ERROR)
         self.check("--write-baseline", "known.json", ".")
         (self.folder / "b.py").unlink()
-        self.assertEqual(self.known("a.py"), (0, ['b.py: E13 is known but gone: print(1 + "a")',
-                                                  "1 file: 0 errors, 0 dynamic places, 1 known but gone"]))
+        self.assertEqual(
+            self.known("a.py"),
+            (
+                0,
+                ['b.py: E13 is known but gone: print(1 + "a")', "1 file: 0 errors, 0 dynamic places, 1 known but gone"],
+            ),
+        )
 
     def test_not_gone_while_it_cannot_be_seen(self) -> None:
         self.write("a.py", ERROR)
         self.check("--write-baseline", "known.json", ".")
         self.write("a.py", REFUSED)
-        self.assertEqual(self.known(".")[1], ["a.py:5:11: N2 refused: excluded operator",
-                                              "1 file: 0 errors, 0 dynamic places, 1 refused"])
+        self.assertEqual(
+            self.known(".")[1],
+            ["a.py:5:11: N2 refused: excluded operator", "1 file: 0 errors, 0 dynamic places, 1 refused"],
+        )
         program = self.program("exit 9")
-        self.assertEqual(self.known("--program", program, ".")[1][1:], ["1 file: 0 errors, 0 dynamic places, 1 not checked"])
+        self.assertEqual(
+            self.known("--program", program, ".")[1][1:], ["1 file: 0 errors, 0 dynamic places, 1 not checked"]
+        )
 
     def test_refusals_one_after_the_other(self) -> None:
         body = "    x = 1\n    x += 1\n    x -= 1\n"
@@ -100,8 +128,10 @@ class Baselines(Test):
         self.assertEqual(self.known("."), (0, ["1 file: 0 errors, 0 dynamic places, 1 known"]))
         self.write("a.py", self.module(body.replace("x += 1", "x = x + 1")))
         self.assertEqual(self.known("."), (0, ["1 file: 0 errors, 0 dynamic places, 1 known"]))
-        self.assertEqual(self.known("--all-refusals", ".")[1], ["a.py: N2 is known but gone: x += 1",
-                                                                "1 file: 0 errors, 0 dynamic places, 1 known, 1 known but gone"])
+        self.assertEqual(
+            self.known("--all-refusals", ".")[1],
+            ["a.py: N2 is known but gone: x += 1", "1 file: 0 errors, 0 dynamic places, 1 known, 1 known but gone"],
+        )
 
     def test_written_again_it_shrinks(self) -> None:
         for name in ("a.py", "b.py", "c.py"):
@@ -149,8 +179,16 @@ class Baselines(Test):
 
     def test_files_that_are_no_baseline(self) -> None:
         self.write("a.py", ERROR)
-        for text in ("", "[]", "{}", '{"format": 2, "known": []}', '{"format": 1, "known": [{}]}', "\x00", '{"format": 1}',
-                     '{"format": 1, "known": [{"path": 1, "code": "E13", "line": "", "count": 1}]}'):
+        for text in (
+            "",
+            "[]",
+            "{}",
+            '{"format": 2, "known": []}',
+            '{"format": 1, "known": [{}]}',
+            "\x00",
+            '{"format": 1}',
+            '{"format": 1, "known": [{"path": 1, "code": "E13", "line": "", "count": 1}]}',
+        ):
             with self.subTest(text):
                 self.write("known.json", text)
                 for option in ("--baseline", "--write-baseline"):

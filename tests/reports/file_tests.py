@@ -8,7 +8,7 @@ import sys
 import traceback
 import unittest
 
-from support import CLEAN, DYNAMIC, ERROR, REFUSED, Test
+from support import CLEAN, COMMAND, DYNAMIC, ERROR, REFUSED, Test, variables
 
 GIT = shutil.which("git")
 
@@ -52,6 +52,9 @@ class Files(Test):
                 self.assertEqual(self.paths(*words, "."), wanted)
                 self.assertTrue(self.lines(*words, ".")[-1].endswith(f", {number} left out by --exclude"))
         self.assertEqual(self.paths("--exclude", "a.py", "a.py"), ["a.py"])
+        inside = str(self.folder / "src")
+        self.assertEqual(len(self.paths("--exclude", "made/*", inside)), 1)
+        self.assertEqual(len(self.paths("--exclude", f"{inside}/old", inside)), 2)
 
     @unittest.skipUnless(GIT, "there is no git")
     def test_what_git_ignores(self) -> None:
@@ -90,8 +93,10 @@ class Files(Test):
         self.assertEqual((done.status, done.output.splitlines()[0]), (1, "<stdin>:4:11: E13 operator"))
         done = self.check("--stdin-name", "src/a b.py", "-", "-", given=REFUSED.encode())
         self.assertEqual(done.status, 2)
-        self.assertEqual(done.output.splitlines(), ["src/a b.py:5:11: N2 refused: excluded operator",
-                                                    "1 file: 0 errors, 0 dynamic places, 1 refused"])
+        self.assertEqual(
+            done.output.splitlines(),
+            ["src/a b.py:5:11: N2 refused: excluded operator", "1 file: 0 errors, 0 dynamic places, 1 refused"],
+        )
 
     def test_a_file_that_can_be_read_once(self) -> None:
         pipe = self.folder / "pipe"
@@ -100,6 +105,13 @@ class Files(Test):
         done = self.check("--output", "full", "pipe")
         writer.wait(60)
         self.assertEqual(done.output.splitlines()[1], '  4 |     print(1 + "a")')
+
+    def test_a_path_that_each_process_reads_otherwise(self) -> None:
+        path = self.write("a.py", ERROR)
+        with open(path, "rb") as file:
+            words = [sys.executable, str(COMMAND), "/dev/stdin"]
+            done = subprocess.run(words, stdin=file, capture_output=True, env=variables({}))
+        self.assertEqual(done.stdout.decode().splitlines()[0], "/dev/stdin:4:11: E13 operator")
 
     def test_names(self) -> None:
         for name in ("-a.py", " b .py", "größe 𐀀.py", "c\nd.py"):
@@ -116,8 +128,10 @@ class Files(Test):
         done = self.check(".", "missing.py")
         self.assertEqual(done.status, 3)
         reason = "cannot be read: No such file or directory"
-        self.assertEqual(done.output.splitlines(), [f"b.py: {reason}", f"missing.py: {reason}",
-                                                    "3 files: 0 errors, 0 dynamic places, 2 not checked"])
+        self.assertEqual(
+            done.output.splitlines(),
+            [f"b.py: {reason}", f"missing.py: {reason}", "3 files: 0 errors, 0 dynamic places, 2 not checked"],
+        )
 
     def test_what_may_not_be_read(self) -> None:
         self.write("a.py", ERROR)
@@ -131,8 +145,15 @@ class Files(Test):
         else:
             output = self.check(".").output
         reason = "cannot be read: Permission denied"
-        self.assertEqual(output.splitlines(), ["a.py:4:11: E13 operator", f"b.py: {reason}", f"c: {reason}",
-                                               "3 files: 1 error, 0 dynamic places, 2 not checked"])
+        self.assertEqual(
+            output.splitlines(),
+            [
+                "a.py:4:11: E13 operator",
+                f"b.py: {reason}",
+                f"c: {reason}",
+                "3 files: 1 error, 0 dynamic places, 2 not checked",
+            ],
+        )
 
     def as_nobody(self, *words: str) -> str:
         """What the command prints in a process without rights."""
@@ -165,11 +186,23 @@ class Files(Test):
     def test_nothing_to_check(self) -> None:
         (self.folder / "empty").mkdir()
         done = self.check("empty")
-        self.assertEqual((done.status, done.output, done.error), (3, "", "check_all: error: no module to check in empty\n"))
+        self.assertEqual(
+            (done.status, done.output, done.error), (3, "", "check_all: error: no module to check in empty\n")
+        )
 
     def test_status_is_the_worst(self) -> None:
         for name, text in (("a.py", CLEAN), ("b.py", DYNAMIC), ("c.py", ERROR), ("d.py", REFUSED)):
             self.write(name, text)
-        statuses = [self.check(*words).status for words in (["a.py"], ["a.py", "b.py"], ["c.py", "a.py"], ["d.py", "c.py"],
-                                                            ["missing.py", "d.py"], ["--strict", "a.py"], ["--strict", "b.py"])]
+        statuses = [
+            self.check(*words).status
+            for words in (
+                ["a.py"],
+                ["a.py", "b.py"],
+                ["c.py", "a.py"],
+                ["d.py", "c.py"],
+                ["missing.py", "d.py"],
+                ["--strict", "a.py"],
+                ["--strict", "b.py"],
+            )
+        ]
         self.assertEqual(statuses, [0, 0, 1, 2, 3, 0, 1])

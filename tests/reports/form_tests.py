@@ -119,7 +119,9 @@ class Sarif(Test):
             self.assertIn(result["level"], ("none", "note", "warning", "error"))
             region = result["locations"][0]["physicalLocation"]["region"]
             self.assertTrue(all(region[name] >= 1 for name in ("startLine", "startColumn", "endLine", "endColumn")))
-        suppressed = [self.require(it, "suppression") for result in run["results"] for it in result.get("suppressions", [])]
+        suppressed = [
+            self.require(it, "suppression") for result in run["results"] for it in result.get("suppressions", [])
+        ]
         self.assertEqual([it["kind"] for it in suppressed], ["external", "external"])
 
 
@@ -149,7 +151,9 @@ class Details(Test):
         self.assertIn("\x1b[1;31m", self.check("--output", "full", "--color", "always", "a.py").output)
 
     def test_long_lines_are_cut_to_the_width(self) -> None:
-        self.write("a.py", HEADER + 'def main():\n    print("' + "x" * 100 + '", 1 + "a", "' + "y" * 100 + '")\n\nmain()\n')
+        self.write(
+            "a.py", HEADER + 'def main():\n    print("' + "x" * 100 + '", 1 + "a", "' + "y" * 100 + '")\n\nmain()\n'
+        )
         lines = self.lines("--output", "full", "a.py", COLUMNS="60")
         self.assertEqual(len(lines[1]), 60)
         self.assertTrue(lines[1].startswith("  4 | …xx") and lines[1].endswith("yy…"))

@@ -46,9 +46,13 @@ class Programs(Test):
         self.assertTrue(self.told("echo '{\"findings\":[]}'; exit 0").startswith(unread))
         self.assertTrue(self.told("echo '[[[['; exit 1").startswith(unread))
         counts = '{"dynamic":0,"errors":2,"findings":[],"format":2}'
-        self.assertEqual(self.told(f"echo '{counts}'; exit 1"), "b.py: the report of pycheck does not agree with its counts")
+        self.assertEqual(
+            self.told(f"echo '{counts}'; exit 1"), "b.py: the report of pycheck does not agree with its counts"
+        )
         none = '{"dynamic":0,"errors":0,"findings":[],"format":2}'
-        self.assertEqual(self.told(f"echo '{none}'; exit 1"), "b.py: the report of pycheck does not agree with its status")
+        self.assertEqual(
+            self.told(f"echo '{none}'; exit 1"), "b.py: the report of pycheck does not agree with its status"
+        )
 
     def test_places_outside_the_file(self) -> None:
         changed = "b.py: the file is not what was checked: was it changed meanwhile?"
@@ -69,12 +73,22 @@ class Programs(Test):
     def test_missing_in_the_midst(self) -> None:
         program = self.program('rm -f "$0"; real "$@"')
         words = [sys.executable, str(COMMAND), "--program", program, *(f"{name}.py" for name in "abc")]
-        one = f"import os, sys; os.sched_setaffinity(0, [min(os.sched_getaffinity(0))]); os.execv({sys.executable!r}, {words!r})"
-        done = subprocess.run([sys.executable, "-c", one], cwd=self.folder, capture_output=True, env=variables({}), timeout=60)
+        one = "import os; os.sched_setaffinity(0, [min(os.sched_getaffinity(0))]); "
+        one += f"os.execv({sys.executable!r}, {words!r})"
+        done = subprocess.run(
+            [sys.executable, "-c", one], cwd=self.folder, capture_output=True, env=variables({}), timeout=60
+        )
         self.assertEqual(done.returncode, 3)
         gone = f"{program}: No such file or directory"
-        self.assertEqual(done.stdout.decode().splitlines(), ["a.py:4:11: E13 operator", f"b.py: {gone}", f"c.py: {gone}",
-                                                             "3 files: 1 error, 0 dynamic places, 2 not checked"])
+        self.assertEqual(
+            done.stdout.decode().splitlines(),
+            [
+                "a.py:4:11: E13 operator",
+                f"b.py: {gone}",
+                f"c.py: {gone}",
+                "3 files: 1 error, 0 dynamic places, 2 not checked",
+            ],
+        )
 
     def test_no_program_of_the_system(self) -> None:
         program = self.write("pycheck", "no program")
@@ -83,9 +97,11 @@ class Programs(Test):
         self.assertEqual(done.output.splitlines()[0], f"a.py: {program}: Exec format error")
 
     def test_interrupted(self) -> None:
-        program = self.program('touch begun; exec sleep 60')
+        program = self.program("touch begun; exec sleep 60")
         words = [sys.executable, str(COMMAND), "--program", program, "."]
-        process = subprocess.Popen(words, cwd=self.folder, stdout=subprocess.PIPE, stderr=subprocess.PIPE, env=variables({}))
+        process = subprocess.Popen(
+            words, cwd=self.folder, stdout=subprocess.PIPE, stderr=subprocess.PIPE, env=variables({})
+        )
         began = time.monotonic()
         while not (self.folder / "begun").exists() and time.monotonic() < began + 30:
             time.sleep(0.05)
@@ -119,7 +135,9 @@ class Choice(Test):
     def checkout(self, script: str) -> "list[str]":
         """A copy of the tools beside a script that finds the program; the words that run the command there."""
         tools = self.folder / "tools"
-        shutil.copytree(ROOT / "tools" / "pycheck_all", tools / "pycheck_all", ignore=shutil.ignore_patterns("__pycache__"))
+        shutil.copytree(
+            ROOT / "tools" / "pycheck_all", tools / "pycheck_all", ignore=shutil.ignore_patterns("__pycache__")
+        )
         shutil.copy(COMMAND, tools)
         self.write("tools/program", f"#!/bin/sh\n{script}\n").chmod(0o755)
         return [sys.executable, str(tools / "check_all"), "--version"]
@@ -151,10 +169,13 @@ class Choice(Test):
         self.stand_in("bin/pycheck", "pycheck 3.2.1")
         entry = "import sys\nfrom pycheck_all.command import main\nsys.exit(main())\n"
         command = self.write("bin/pycheck-all", entry)
-        status, output, error = self.run_words([sys.executable, str(command), "--version"], PYTHONPATH=str(package.parent),
-                                               PATH="/usr/bin:/bin")
+        status, output, error = self.run_words(
+            [sys.executable, str(command), "--version"], PYTHONPATH=str(package.parent), PATH="/usr/bin:/bin"
+        )
         self.assertEqual((status, output, error), (0, f"pycheck 3.2.1 at {self.folder}/bin/pycheck\n", ""))
-        status, output, error = self.run_words([sys.executable, str(command), "--wrong"], PYTHONPATH=str(package.parent))
+        status, output, error = self.run_words(
+            [sys.executable, str(command), "--wrong"], PYTHONPATH=str(package.parent)
+        )
         self.assertTrue(error.splitlines()[-1].startswith("pycheck-all: error: "))
         self.assertEqual((status, output), (3, ""))
 
@@ -180,8 +201,21 @@ class Command(Test):
     def test_help(self) -> None:
         done = self.check("--help")
         self.assertEqual((done.status, done.error), (0, ""))
-        for option in ("--exclude", "--stdin-name", "--output", "--strict", "--explain", "--statistics", "--baseline",
-                       "--write-baseline", "--all-refusals", "--page", "--color", "--version", "--program"):
+        for option in (
+            "--exclude",
+            "--stdin-name",
+            "--output",
+            "--strict",
+            "--explain",
+            "--statistics",
+            "--baseline",
+            "--write-baseline",
+            "--all-refusals",
+            "--page",
+            "--color",
+            "--version",
+            "--program",
+        ):
             self.assertIn(option, done.output)
 
     def test_explain(self) -> None:

@@ -54,14 +54,39 @@ if __name__ == "__main__":
     print(load("x"))
     go()
 '''
-# Line and column of each refused statement, with its code: of two in one statement, that of the earlier layer. N1 to N5 come
-# before G1. Line 6, `class`, has a G1 twice, at one place: there is no header, and no @dataclass. Line 32 has a G1 at
+# Line and column of each refused statement, with its code: of two in one statement, that of the earlier layer. N1 to N5
+# come before G1. Line 6, `class`, has a G1 twice, at one place: there is no header, and no @dataclass. Line 32 has a G1 at
 # `return` too, of a later layer than its N2
 WANTED = [
-    (1, 1, "L2"), (2, 1, "N1"), (4, 9, "L3"), (6, 1, "G1"), (7, 11, "G1"), (9, 9, "L4"), (10, 26, "G1"), (12, 5, "N5"),
-    (16, 19, "G1"), (17, 15, "G1"), (18, 24, "N2"), (19, 9, "N3"), (24, 5, "N1"), (25, 9, "N1"), (27, 5, "N1"), (28, 9, "N1"),
-    (29, 5, "N1"), (30, 15, "L2"), (32, 23, "N2"), (33, 11, "G1"), (35, 16, "N2"), (36, 11, "G1"), (37, 14, "G1"),
-    (39, 1, "L7"), (40, 28, "L1"), (43, 1, "N1"), (44, 5, "N1"), (46, 4, "L4"), (49, 1, "G1"),
+    (1, 1, "L2"),
+    (2, 1, "N1"),
+    (4, 9, "L3"),
+    (6, 1, "G1"),
+    (7, 11, "G1"),
+    (9, 9, "L4"),
+    (10, 26, "G1"),
+    (12, 5, "N5"),
+    (16, 19, "G1"),
+    (17, 15, "G1"),
+    (18, 24, "N2"),
+    (19, 9, "N3"),
+    (24, 5, "N1"),
+    (25, 9, "N1"),
+    (27, 5, "N1"),
+    (28, 9, "N1"),
+    (29, 5, "N1"),
+    (30, 15, "L2"),
+    (32, 23, "N2"),
+    (33, 11, "G1"),
+    (35, 16, "N2"),
+    (36, 11, "G1"),
+    (37, 14, "G1"),
+    (39, 1, "L7"),
+    (40, 28, "L1"),
+    (43, 1, "N1"),
+    (44, 5, "N1"),
+    (46, 4, "L4"),
+    (49, 1, "G1"),
 ]
 
 
@@ -93,12 +118,20 @@ class Refusals(Test):
     def test_the_first_is_the_programs(self) -> None:
         self.write("a.py", OLD)
         lines = self.lines("--all-refusals", "a.py")
-        self.assertEqual(lines[0], "a.py:1:1: L2 refused: bad string. Write plain strings, each on one line; join them with `+`,"
-                                   " and turn other values into strings with `str`.")
-        self.assertEqual(lines[1], "a.py:2:1: N1 guide: excluded keyword. Instead of `import` write the functions and classes"
-                                   " that are needed, in this module.")
+        self.assertEqual(
+            lines[0],
+            "a.py:1:1: L2 refused: bad string. Write plain strings, each on one line; join them with `+`,"
+            " and turn other values into strings with `str`.",
+        )
+        self.assertEqual(
+            lines[1],
+            "a.py:2:1: N1 guide: excluded keyword. Instead of `import` write the functions and classes"
+            " that are needed, in this module.",
+        )
         self.assertEqual(sum(" guide: " in it for it in lines), len(WANTED) - 1)
-        self.assertEqual(lines[-1], f"1 file: 0 errors, 0 dynamic places, 1 refused, {len(WANTED) - 1} more refusals as a guide")
+        self.assertEqual(
+            lines[-1], f"1 file: 0 errors, 0 dynamic places, 1 refused, {len(WANTED) - 1} more refusals as a guide"
+        )
         self.assertEqual(self.check("a.py").output.splitlines()[0], "a.py:1:1: L2 refused: bad string")
 
     def test_files_without_a_refusal(self) -> None:
@@ -110,12 +143,19 @@ class Refusals(Test):
             (["x = 1", "x += 1", "x = x ** 2"], [(5, 7, "N2"), (6, 11, "N2")]),
             (["if True:", "    x = 1 / 2", "else:", "    y = 2 / 3"], [(5, 15, "N2"), (7, 15, "N2")]),
             (["for k, v in []:", "    del k", "print(1.5)"], [(4, 10, "G1"), (5, 9, "N1"), (6, 11, "L3")]),
-            (["if 1 < 2 < 3:", "    pass", "elif 1 < 2 < 3:", "    pass", "else:", "    pass"],
-             [(4, 14, "G1"), (6, 16, "G1")]),
+            (
+                ["if 1 < 2 < 3:", "    pass", "elif 1 < 2 < 3:", "    pass", "else:", "    pass"],
+                [(4, 14, "G1"), (6, 16, "G1")],
+            ),
             (["if True:", "    pass", "elif 1 < 2 < 3: return", "else: return"], [(6, 16, "G1"), (7, 11, "G1")]),
-            (["while True:", "    x = [1,", "         2 /", "         3]", "    y = f'a'"], [(6, 16, "N2"), (8, 14, "L2")]),
-            (["with a: pass", "with b:", "    with c:", "        lambda: 1"],
-             [(4, 5, "N1"), (5, 5, "N1"), (6, 9, "N1"), (7, 13, "N1")]),
+            (
+                ["while True:", "    x = [1,", "         2 /", "         3]", "    y = f'a'"],
+                [(6, 16, "N2"), (8, 14, "L2")],
+            ),
+            (
+                ["with a: pass", "with b:", "    with c:", "        lambda: 1"],
+                [(4, 5, "N1"), (5, 5, "N1"), (6, 9, "N1"), (7, 13, "N1")],
+            ),
             (["x = 1", "    y = 2", "z = 3 / 4"], [(5, 9, "I2"), (6, 11, "N2")]),
             (["if True:", "        x = 1", "    y = 2 / 3"], [(6, 9, "I1"), (6, 15, "N2")]),
             (["x = '''a", "b''' / 2", "y = 1 / 2"], [(4, 9, "L2"), (6, 11, "N2")]),
@@ -148,7 +188,9 @@ class Refusals(Test):
         self.write("a.py", self.body(*["x = 1 / 2"] * 300))
         lines = self.lines("--all-refusals", "a.py")
         self.assertEqual(len(lines), 103)
-        self.assertEqual(lines[100], "a.py:104:11: N2 guide: excluded operator. Instead of `/` write `//`, which rounds down.")
+        self.assertEqual(
+            lines[100], "a.py:104:11: N2 guide: excluded operator. Instead of `/` write `//`, which rounds down."
+        )
         self.assertEqual(lines[101], "a.py: there may be more refusals: only the first 100 are listed")
 
     def test_what_to_write(self) -> None:
@@ -168,14 +210,22 @@ class Refusals(Test):
         ):
             with self.subTest(line):
                 self.write("a.py", self.body(line))
-                self.assertTrue(self.lines("--all-refusals", "a.py")[0].endswith(f". {wanted}"), self.lines("--all-refusals", "a.py"))
+                self.assertTrue(
+                    self.lines("--all-refusals", "a.py")[0].endswith(f". {wanted}"),
+                    self.lines("--all-refusals", "a.py"),
+                )
         self.write("a.py", CLEAN.partition("\n")[2])
-        self.assertTrue(self.lines("--all-refusals", "a.py")[0].endswith(
-            "There is no `from __future__ import annotations`: write this header, as the first line."))
+        self.assertTrue(
+            self.lines("--all-refusals", "a.py")[0].endswith(
+                "There is no `from __future__ import annotations`: write this header, as the first line."
+            )
+        )
 
     def test_a_program_that_fails_meanwhile(self) -> None:
         self.write("a.py", REFUSED)
         program = self.program('case "$3" in *module.py) kill -9 $$;; esac; real "$@"')
         done = self.check("--program", program, "--all-refusals", "a.py")
         self.assertEqual(done.status, 2)
-        self.assertEqual(done.output.splitlines()[1], "a.py: there may be more refusals: pycheck was ended by signal 9 (SIGKILL)")
+        self.assertEqual(
+            done.output.splitlines()[1], "a.py: there may be more refusals: pycheck was ended by signal 9 (SIGKILL)"
+        )

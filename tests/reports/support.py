@@ -36,8 +36,14 @@ class Done(NamedTuple):
 
 
 def variables(changed: Dict[str, Optional[str]]) -> Dict[str, str]:
-    """The variables of a run: those of this process, of a plain terminal of 100 columns, with some changed or left out."""
-    plain: Dict[str, Optional[str]] = {**os.environ, "COLUMNS": "100", "TERM": "xterm", "NO_COLOR": None, "LC_ALL": "C.UTF-8"}
+    """The variables of a run: those of this process, of a terminal of 100 columns, with some changed or left out."""
+    plain: Dict[str, Optional[str]] = {
+        **os.environ,
+        "COLUMNS": "100",
+        "TERM": "xterm",
+        "NO_COLOR": None,
+        "LC_ALL": "C.UTF-8",
+    }
     return {name: value for name, value in {**plain, **changed}.items() if value is not None}
 
 
@@ -58,8 +64,8 @@ class Test(unittest.TestCase):
         return path
 
     def program(self, lines: str) -> str:
-        """Writes a script of the shell that stands in for the program, and gives its path. `$3` is the file; `real` runs the
-        program itself."""
+        """Writes a script of the shell that stands in for the program, and gives its path. `$3` is the file; `real` runs
+        the program itself."""
         path = self.write("stand-in", f'#!/bin/sh\nreal() {{ exec "{os.environ["PYCHECK"]}" "$@"; }}\n{lines}\n')
         path.chmod(0o755)
         return str(path)

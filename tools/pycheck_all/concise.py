@@ -11,7 +11,7 @@ def line_of(file: Checked, finding: Finding, mending: bool) -> str:
     """The line of a finding; where asked for, a refusal has what to write instead behind it."""
     start, title = finding.place.start, codes.title_of(finding.code)
     if finding.kind in (REFUSED, GUIDE):
-        title = (finding.kind + (f": {title}" if title else ""))
+        title = finding.kind + (f": {title}" if title else "")
         if mending:
             title += ". " + codes.mending_of(finding.code, file.spot_of(finding))
     if finding.flow:

@@ -10,6 +10,8 @@ from typing import Iterator, List, NamedTuple, Optional, Sequence, Set, Tuple
 
 LIMIT = 1024 * 1024 + 4096
 STANDARD_INPUT = "-"
+# Where a path may mean another file to another process
+OF_PROCESSES = ("/dev/", "/proc/")
 
 
 class Source(NamedTuple):
@@ -54,13 +56,19 @@ class Walk:
         self.excluding = excluding
         self.excluded = 0
 
-    def excludes(self, name: str, path: str) -> bool:
-        """Whether a pattern names it: one without a slash its name, one with a slash its path."""
-        return any(fnmatch.fnmatchcase(path if "/" in it else name, it.rstrip("/")) for it in self.excluding)
+    def excludes(self, path: str, top: str) -> bool:
+        """Whether a pattern names it: one without a slash its name, one with a slash its path, as it is shown or from the
+        folder that is named."""
+        for pattern in (it.rstrip("/") for it in self.excluding):
+            paths = [path, os.path.relpath(path, top)] if "/" in pattern else [os.path.basename(path)]
+            if any(fnmatch.fnmatchcase(it, pattern) for it in paths):
+                return True
+        return False
 
-    def modules(self, folder: str, ignored: Set[str], top: bool = True) -> Iterator[Source]:
-        """The modules of a folder and of those in it, without hidden ones and those that git ignores."""
-        if top or os.path.lexists(os.path.join(folder, ".git")):
+    def modules(self, folder: str, top: str, ignored: Set[str]) -> Iterator[Source]:
+        """The modules of a folder and of those in it, without hidden ones and those that git ignores. `top` is the folder
+        that is named."""
+        if folder == top or os.path.lexists(os.path.join(folder, ".git")):
             ignored = ignored | ignored_by_git(folder)
         try:
             with os.scandir(folder) as entries:
@@ -73,10 +81,10 @@ class Walk:
             is_folder = entry.is_dir(follow_symlinks=False)
             if entry.name.startswith(".") or not (is_folder or is_module(entry)) or os.path.abspath(path) in ignored:
                 continue
-            if self.excludes(entry.name, path):
+            if self.excludes(path, top):
                 self.excluded += 1
             elif is_folder:
-                yield from self.modules(path, ignored, top=False)
+                yield from self.modules(path, top, ignored)
             else:
                 yield Source(path, path)
 
@@ -134,8 +142,9 @@ class Files:
             yield Source(word, word, reason(fault) if isinstance(fault, OSError) else f"cannot be read: {fault}")
             return
         if stat.S_ISDIR(kind):
-            yield from walk.modules(os.path.normpath(word), set())
-        elif stat.S_ISREG(kind):
+            folder = os.path.normpath(word)
+            yield from walk.modules(folder, folder, set())
+        elif stat.S_ISREG(kind) and not os.path.abspath(word).startswith(OF_PROCESSES):
             yield Source(word, word)
         else:
             yield self.kept(word, None)

@@ -118,8 +118,14 @@ def summary(project: Project) -> str:
     """The last line: the counts in words. Those that are usually 0 are left out where they are."""
     counts = project.counted()
     parts = [amount(counts[ERROR], "error"), amount(counts[DYNAMIC], "dynamic place")]
-    rest = [(REFUSED, "refused"), (GUIDE, "more refusals as a guide"), ("failed", "not checked"), ("known", "known"),
-            ("gone", "known but gone"), ("excluded", "left out by --exclude")]
+    rest = [
+        (REFUSED, "refused"),
+        (GUIDE, "more refusals as a guide"),
+        ("failed", "not checked"),
+        ("known", "known"),
+        ("gone", "known but gone"),
+        ("excluded", "left out by --exclude"),
+    ]
     parts += [f"{counts[name]} {words}" for name, words in rest if counts[name]]
     return f"{amount(counts['files'], 'file')}: {', '.join(parts)}"
 

@@ -49,8 +49,17 @@ def of_known(it: Known) -> Dict[str, Any]:
 def document(project: Project) -> str:
     """The document."""
     counts = project.counted()
-    names = {"files": "files", "errors": "error", "dynamic": "dynamic", "refused": "refused", "guides": "guide",
-             "not_checked": "failed", "known": "known", "gone": "gone", "excluded": "excluded"}
+    names = {
+        "files": "files",
+        "errors": "error",
+        "dynamic": "dynamic",
+        "refused": "refused",
+        "guides": "guide",
+        "not_checked": "failed",
+        "known": "known",
+        "gone": "gone",
+        "excluded": "excluded",
+    }
     whole = {
         "format": FORMAT,
         "program": project.version,

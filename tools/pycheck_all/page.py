@@ -40,6 +40,7 @@ summary { cursor: pointer; color: var(--soft) }
 .line:target, li:target { outline: 2px solid var(--link) }
 .number { display: inline-block; min-width: 4em; padding-right: 1em; text-align: right; color: var(--soft);
   text-decoration: none; user-select: none }
+@media (max-width: 40rem) { table { font-size: .85rem } th:first-child, td:first-child { width: 40% } }
 mark.place, mark.rest { color: inherit; background: var(--error-back); box-shadow: inset 0 -2px var(--error) }
 mark.place.dynamic, mark.rest.dynamic { background: var(--dynamic-back); box-shadow: inset 0 -2px var(--dynamic) }
 mark.place.refused, mark.rest.refused, mark.place.guide, mark.rest.guide { background: var(--refused-back);
@@ -75,6 +76,7 @@ def escaped(text: str) -> str:
     """A text of a module as HTML; what no page can show, or what would turn the line, has a replacement character."""
 
     def fine(it: str) -> bool:
+        """Whether a page can show it."""
         return it == "\t" or not (unicodedata.category(it) in ("Cc", "Cs") or unicodedata.bidirectional(it) in TURNS)
 
     return html.escape("".join(it if fine(it) else REPLACEMENT for it in text))
@@ -177,8 +179,12 @@ class Module:
 
 def free_lines(file: Checked) -> Tuple[int, int]:
     """How many lines no error and no dynamic place touches, and how many there are."""
-    touched = {number for it in file.findings if it.kind in (ERROR, DYNAMIC)
-               for number in range(it.place.start.line, it.place.end.line + 1)}
+    touched = {
+        number
+        for it in file.findings
+        if it.kind in (ERROR, DYNAMIC)
+        for number in range(it.place.start.line, it.place.end.line + 1)
+    }
     return file.text.lines - len(touched), file.text.lines
 
 

@@ -354,8 +354,8 @@ def is_plain(name: bytes) -> bool:
 
 
 def rest_of(text: Text, first: Finding, refusal: Refusal) -> Rest:
-    """The refusals of a file after its first one, up to a limit. `refusal` asks the program of a file, and gives the code
-    and the byte of its refusal, or none; or raises Unanswered."""
+    """The refusals of a file after its first one, up to a limit. `refusal` asks the program of a file, and gives the
+    code and the byte of its refusal, or none; or raises Unanswered."""
     draft = Draft(text.data)
     found: List[Finding] = []
     code, byte = first.code, first.place.start.byte

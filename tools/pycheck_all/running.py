@@ -78,6 +78,7 @@ class Run:
         """Asks of a file, and writes down what is answered."""
 
         def text() -> Text:
+            """The text of the file, read once."""
             if not checked.text.data:
                 checked.text = Text(content(path))
             return checked.text

@@ -45,8 +45,14 @@ def rule_of(code: str, strict: bool) -> Dict[str, Any]:
 def location_of(file: Checked, finding: Finding) -> Dict[str, Any]:
     """The place of a finding."""
     start, end = finding.place
-    region = {"startLine": start.line, "startColumn": start.column, "endLine": end.line, "endColumn": end.column,
-              "byteOffset": start.byte, "byteLength": end.byte - start.byte}
+    region = {
+        "startLine": start.line,
+        "startColumn": start.column,
+        "endLine": end.line,
+        "endColumn": end.column,
+        "byteOffset": start.byte,
+        "byteLength": end.byte - start.byte,
+    }
     return {"physicalLocation": {"artifactLocation": {"uri": uri_of(file.path)}, "region": region}}
 
 

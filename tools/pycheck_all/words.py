@@ -52,8 +52,13 @@ def parser_of(name: str) -> Parser:
     add = parser.add_argument
     add("files", nargs="*", metavar="FILE", help="a module, a folder with modules (*.py), or - for standard input")
     add("--program", default="", metavar="PYCHECK", help="the program; else the variable PYCHECK names it")
-    add("--exclude", action="append", default=[], metavar="GLOB",
-        help="leave out what has this name in a folder; with a slash, what has this path; may stand several times")
+    add(
+        "--exclude",
+        action="append",
+        default=[],
+        metavar="GLOB",
+        help="leave out what has this name in a folder; with a slash, what has this path; may stand several times",
+    )
     add("--stdin-name", default="<stdin>", metavar="NAME", help="the path that reports show for standard input")
     add("--output", default="", choices=FORMS, help="the form; full on a terminal, else concise")
     add("--color", default="auto", choices=("auto", "always", "never"), help="colours in the form full")
@@ -61,8 +66,9 @@ def parser_of(name: str) -> Parser:
     add("--statistics", action="store_true", help="say how often each code stands")
     add("--baseline", default="", metavar="FILE", help="do not fail on what this file has as known")
     add("--write-baseline", default="", metavar="FILE", help="write down what is found as known")
-    add("--all-refusals", action="store_true",
-        help="list all refusals of a file, as a guide, and what to write instead")
+    add(
+        "--all-refusals", action="store_true", help="list all refusals of a file, as a guide, and what to write instead"
+    )
     add("--page", default="", metavar="FILE.html", help="write a page that shows the modules with their findings")
     add("--explain", default="", metavar="CODE", help="explain a code, and check nothing")
     add("--version", action="store_true", help="say the version of the program that is used, and check nothing")
