@@ -134,7 +134,7 @@ class InBrowser(Test):
         done = self.check("--all-refusals", "--page", "page.html", "--output", "json", ".")
         counts = json.loads(done.output)["counts"]
         self.findings = sum(counts[it] for it in ("errors", "dynamic", "refused", "guides"))
-        # 13 of the folder, the second refusal of refused.py, an error each of a.py and wide.py, two refusals of guides.py
+        # 13 of the folder, the second refusal of refused.py, an error each of a.py and wide.py, two of guides.py
         self.assertEqual(self.findings, 18)
         self.browser = browser.Browser(str(browser.found()))
         self.addCleanup(self.browser.close)

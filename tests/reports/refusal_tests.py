@@ -55,8 +55,8 @@ if __name__ == "__main__":
     go()
 '''
 # Line and column of each refused statement, with its code: of two in one statement, that of the earlier layer. N1 to N5
-# come before G1. Line 6, `class`, has a G1 twice, at one place: there is no header, and no @dataclass. Line 32 has a G1 at
-# `return` too, of a later layer than its N2
+# come before G1. Line 6, `class`, has a G1 twice, at one place: there is no header, and no @dataclass. Line 32 has a G1
+# at `return` too, of a later layer than its N2
 WANTED = [
     (1, 1, "L2"),
     (2, 1, "N1"),

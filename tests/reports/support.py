@@ -64,8 +64,8 @@ class Test(unittest.TestCase):
         return path
 
     def program(self, lines: str) -> str:
-        """Writes a script of the shell that stands in for the program, and gives its path. `$3` is the file; `real` runs
-        the program itself."""
+        """Writes a script of the shell that stands in for the program, and gives its path. `$3` is the file; `real`
+        runs the program itself."""
         path = self.write("stand-in", f'#!/bin/sh\nreal() {{ exec "{os.environ["PYCHECK"]}" "$@"; }}\n{lines}\n')
         path.chmod(0o755)
         return str(path)

@@ -57,8 +57,8 @@ class Walk:
         self.excluded = 0
 
     def excludes(self, path: str, top: str) -> bool:
-        """Whether a pattern names it: one without a slash its name, one with a slash its path, as it is shown or from the
-        folder that is named."""
+        """Whether a pattern names it: one without a slash its name, one with a slash its path, as it is shown or from
+        the folder that is named."""
         for pattern in (it.rstrip("/") for it in self.excluding):
             paths = [path, os.path.relpath(path, top)] if "/" in pattern else [os.path.basename(path)]
             if any(fnmatch.fnmatchcase(it, pattern) for it in paths):
@@ -66,8 +66,8 @@ class Walk:
         return False
 
     def modules(self, folder: str, top: str, ignored: Set[str]) -> Iterator[Source]:
-        """The modules of a folder and of those in it, without hidden ones and those that git ignores. `top` is the folder
-        that is named."""
+        """The modules of a folder and of those in it, without hidden ones and those that git ignores. `top` is the
+        folder that is named."""
         if folder == top or os.path.lexists(os.path.join(folder, ".git")):
             ignored = ignored | ignored_by_git(folder)
         try:

@@ -15,14 +15,16 @@ ERROR, DYNAMIC, REFUSED, GUIDE = "error", "dynamic", "refused", "guide"
 class Finding:
     """An error, a dynamic place or a refusal at a place of a file.
 
-    A guide is a refusal that the program gave after what it refused before was replaced. `flow` has the two types of a
-    dynamic flow: of the value, and of the place where it goes. `known` says that it stands in the baseline."""
+    A guide is a refusal that the program gave after what it refused before was replaced; `headless` says that it is for
+    want of the first header. `flow` has the two types of a dynamic flow: of the value, and of the place where it goes.
+    `known` says that it stands in the baseline."""
 
     kind: str
     code: str
     place: Place
     flow: Optional[Tuple[str, str]] = None
     known: bool = False
+    headless: bool = False
 
     def fails(self, strict: bool) -> int:
         """The exit status that it asks for."""
@@ -64,7 +66,10 @@ class Checked:
 
     def spot_of(self, finding: Finding) -> Optional[Spot]:
         """The word or sign at which a refusal stands; none for other findings."""
-        return self.text.spot(finding.place.start.byte) if finding.kind in (REFUSED, GUIDE) else None
+        if finding.kind not in (REFUSED, GUIDE):
+            return None
+        spot = self.text.spot(finding.place.start.byte)
+        return spot._replace(first=True) if finding.headless else spot
 
 
 class Known(NamedTuple):

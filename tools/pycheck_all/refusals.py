@@ -138,6 +138,7 @@ class Draft:
         self.statements = list(statements(data))
         self.length = len(data)
         self.end: Optional[Statement] = None
+        self.headed = False
 
     @property
     def data(self) -> bytes:
@@ -181,8 +182,7 @@ class Draft:
     def mend(self, code: str, byte: int) -> bool:
         """Changes the draft where it is refused, so that it is not refused there; whether something was changed."""
         if not self.statements:
-            self.insert(0, HEADER)
-            return True
+            return self.mend_header()
         at, within = self.find(byte)
         if code == "S1":
             return False
@@ -192,8 +192,7 @@ class Draft:
             return self.mend_end()
         found = self.statements[at]
         if code == "G1" and not found.code.startswith(HEADER) and not any(it.code for it in self.statements[:at]):
-            self.insert(0, HEADER)
-            return True
+            return self.mend_header()
         if found is self.end:
             return self.mend_before(at)
         if found.tries > 1:
@@ -213,6 +212,12 @@ class Draft:
         """Whether the statement before this one opens a suite that is not there."""
         before = next((it for it in reversed(self.statements[:at]) if it.code), None)
         return before is not None and before.awaits and before.indent >= self.statements[at].indent
+
+    def mend_header(self) -> bool:
+        """Puts in the header, which stands first."""
+        self.insert(0, HEADER)
+        self.headed = True
+        return True
 
     def mend_bytes(self, code: str, at: int, within: int) -> bool:
         """Mends bytes that no text has."""
@@ -358,13 +363,17 @@ def rest_of(text: Text, first: Finding, refusal: Refusal) -> Rest:
     code and the byte of its refusal, or none; or raises Unanswered."""
     draft = Draft(text.data)
     found: List[Finding] = []
+    listed = False
     code, byte = first.code, first.place.start.byte
     met = {(code, byte)}
     with tempfile.TemporaryDirectory(prefix="pycheck-") as folder:
         path = os.path.join(folder, "module.py")
         for _ in range(3 * LIMIT):
+            headed = draft.headed
             if not draft.mend(code, byte):
                 return Rest(found, f"there is no stand-in for what {code} refuses")
+            if draft.headed and not headed and listed:
+                found[-1] = dataclasses.replace(found[-1], headless=True)
             with open(path, "wb") as file:
                 file.write(draft.data)
             try:
@@ -375,7 +384,8 @@ def rest_of(text: Text, first: Finding, refusal: Refusal) -> Rest:
                 return Rest(found, "")
             code, byte = answer
             origin = draft.origin(byte)
-            if origin is not None and (code, origin) not in met:
+            listed = origin is not None and (code, origin) not in met
+            if origin is not None and listed:
                 met.add((code, origin))
                 found.append(Finding(GUIDE, code, text.token(origin)))
             if len(found) >= LIMIT:
