@@ -114,11 +114,11 @@ class Files(Test):
         self.assertEqual(done.stdout.decode().splitlines()[0], "/dev/stdin:4:11: E13 operator")
 
     def test_names(self) -> None:
-        for name in ("-a.py", " b .py", "größe 𐀀.py", "c\nd.py"):
+        for name in ("-a.py", " b .py", "größe 𐀀\u00a0.py", "c\nd.py", "e\x9b.py"):
             self.write(name, ERROR)
         with open(os.fsencode(self.folder) + b"/n\xff.py", "wb") as file:
             file.write(ERROR.encode())
-        wanted = [" b .py", "-a.py", "c\\x0ad.py", "größe 𐀀.py", "n\udcff.py"]
+        wanted = [" b .py", "-a.py", "c\\nd.py", "e\\x9b.py", "größe 𐀀\u00a0.py", "n\udcff.py"]
         self.assertEqual(self.lines(".")[:-1], [f"{name}:4:11: E13 operator" for name in wanted])
         self.assertEqual(self.check("--", "-a.py").status, 1)
 

@@ -3,7 +3,7 @@ from __future__ import annotations
 
 import json
 import re
-from typing import Any
+from typing import Any, Dict, List, Tuple
 from xml.etree import ElementTree
 
 from support import CLEAN, DYNAMIC, ERROR, EXPECTED, HEADER, REFUSED, ROOT, Test, modules
@@ -138,13 +138,14 @@ class Details(Test):
 
     def test_colours(self) -> None:
         self.write("a.py", ERROR)
-        for words, changed, coloured in (
+        cases: List[Tuple[Tuple[str, ...], Dict[str, str], bool]] = [
             ((), {"NO_COLOR": "1"}, False),
             ((), {"NO_COLOR": ""}, True),
             ((), {"TERM": "dumb"}, False),
             (("--color", "never"), {}, False),
             (("--color", "always"), {"NO_COLOR": "1"}, True),
-        ):
+        ]
+        for words, changed, coloured in cases:
             with self.subTest(words=words, changed=changed):
                 self.assertEqual("\x1b[1;31m" in self.on_terminal(*words, "a.py", **changed)[1], coloured)
         self.assertNotIn("\x1b", self.check("--output", "full", "a.py").output)

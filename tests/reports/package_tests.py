@@ -20,8 +20,8 @@ def others() -> Dict[str, str]:
     names = [f"python3.{minor}" for minor in range(9, 20)]
     paths = [*map(shutil.which, names), *glob.glob(os.path.expanduser("~/.pyenv/versions/*/bin/python3"))]
     told = "import sys; print('.'.join(map(str, sys.version_info[:2])), sys.version_info >= (3, 9))"
-    made = {}
-    for path in filter(None, paths):
+    made: Dict[str, str] = {}
+    for path in [it for it in paths if it]:
         done = subprocess.run([path, "-c", told], capture_output=True, env=variables({}))
         version, _, new = done.stdout.decode().strip().partition(" ")
         if done.returncode == 0 and new == "True" and version != f"3.{sys.version_info[1]}":

@@ -4,11 +4,13 @@ from __future__ import annotations
 import collections
 import dataclasses
 import os
+import re
 from typing import Counter, List, NamedTuple, Optional, Tuple
 
 from .source import Place, Spot, Text
 
 ERROR, DYNAMIC, REFUSED, GUIDE = "error", "dynamic", "refused", "guide"
+CONTROL = re.compile("[\x00-\x1f\x7f-\x9f\u2028\u2029]")
 
 
 @dataclasses.dataclass(frozen=True)
@@ -137,10 +139,9 @@ def summary(project: Project) -> str:
 
 def shown(path: str) -> str:
     """A path as a document shows it: control characters and bytes that are not UTF-8 are written as `\\xNN`."""
-    text = os.fsencode(path).decode("utf-8", "backslashreplace")
-    return "".join(it if it.isprintable() or it == " " else it.encode("unicode_escape").decode() for it in text)
+    return printed(os.fsencode(path).decode("utf-8", "backslashreplace"))
 
 
 def printed(path: str) -> str:
-    """A path as lines show it: as it is, but for control characters, which are written as `\\xNN`."""
-    return "".join(f"\\x{ord(it):02x}" if ord(it) < 32 or ord(it) == 127 else it for it in path)
+    """A path as lines show it: as it is, but for control characters and ends of lines, which are written as `\\xNN`."""
+    return CONTROL.sub(lambda found: found[0].encode("unicode_escape").decode(), path)
