@@ -25,7 +25,7 @@ def others() -> Dict[str, str]:
         done = subprocess.run([path, "-c", told], capture_output=True, env=variables({}))
         version, _, new = done.stdout.decode().strip().partition(" ")
         if done.returncode == 0 and new == "True" and version != f"3.{sys.version_info[1]}":
-            made.setdefault(version, path)
+            made.setdefault(version, str(path))
     return made
 
 

@@ -125,7 +125,7 @@ class Choice(Test):
 
     def version(self, *words: str, **changed: "str | None") -> str:
         """What the command says of the version."""
-        return self.check(*words, "--version", **changed).output
+        return self.checked([*words, "--version"], b"", changed).output
 
     def test_option_before_variable(self) -> None:
         one, two = self.stand_in("one", "pycheck 1.2.3"), self.stand_in("two", "pycheck 4.5.6")
@@ -157,6 +157,12 @@ class Choice(Test):
         words = self.checkout("echo it cannot be unpacked >&2; exit 1")
         path = f"{self.folder}/path:/usr/bin:/bin"
         self.assertEqual(self.run_words(words, PATH=path), (0, f"pycheck 7.8.9 at {self.folder}/path/pycheck\n", ""))
+
+    def test_a_broken_program_of_a_checkout(self) -> None:
+        self.stand_in("path/pycheck", "pycheck 7.8.9")
+        words = self.checkout("echo its sum is another >&2; exit 3")
+        path = f"{self.folder}/path:/usr/bin:/bin"
+        self.assertEqual(self.run_words(words, PATH=path), (3, "", "check_all: error: its sum is another\n"))
 
     def test_none(self) -> None:
         words = self.checkout("echo it cannot be unpacked >&2; exit 1")

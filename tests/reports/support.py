@@ -9,7 +9,7 @@ import sys
 import tempfile
 import unittest
 from pathlib import Path
-from typing import Dict, List, NamedTuple, Optional, Tuple
+from typing import Dict, List, NamedTuple, Optional, Sequence, Tuple
 
 HERE = Path(__file__).resolve().parent
 ROOT = HERE.parent.parent
@@ -17,6 +17,7 @@ COMMAND = ROOT / "tools" / "check_all"
 PACKAGE = ROOT / "tools" / "pycheck_all"
 MODULES = HERE / "modules"
 EXPECTED = HERE / "expected"
+CACHE = tempfile.TemporaryDirectory(prefix="reports-cache-")
 HEADER = "from __future__ import annotations\n\n"
 CLEAN = HEADER + 'def main():\n    print("hello")\n\nmain()\n'
 # An error at line 4, column 11
@@ -37,7 +38,9 @@ class Done(NamedTuple):
 
 def variables(changed: Dict[str, Optional[str]]) -> Dict[str, str]:
     """The variables of a run: those of this process, of a terminal of 100 columns, with some changed or left out."""
+    # Compiled modules of the package stay outside the checkout, for all runs of this process
     plain: Dict[str, Optional[str]] = {
+        "PYTHONPYCACHEPREFIX": CACHE.name,
         **os.environ,
         "COLUMNS": "100",
         "TERM": "xterm",
@@ -72,6 +75,10 @@ class Test(unittest.TestCase):
 
     def check(self, *words: str, given: bytes = b"", **changed: Optional[str]) -> Done:
         """Runs the command with these words, a text as standard input, and some variables changed."""
+        return self.checked(words, given, changed)
+
+    def checked(self, words: Sequence[str], given: bytes, changed: Dict[str, Optional[str]]) -> Done:
+        """The same, with all of it as it is given."""
         done = subprocess.run(
             [sys.executable, str(COMMAND), *words],
             cwd=self.folder,
@@ -86,7 +93,7 @@ class Test(unittest.TestCase):
 
     def lines(self, *words: str, **changed: Optional[str]) -> List[str]:
         """The lines that the command prints."""
-        return self.check(*words, **changed).output.splitlines()
+        return self.checked(words, b"", changed).output.splitlines()
 
     def on_terminal(self, *words: str, **changed: Optional[str]) -> Tuple[int, str]:
         """The exit status, and what both outputs show on a terminal."""

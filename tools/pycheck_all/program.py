@@ -14,10 +14,16 @@ from typing import Dict, List, NamedTuple, Sequence, Set
 
 NAME = "pycheck"
 FINDER = Path(__file__).resolve().parent.parent / "program"
+# The exit status of the finder where no program serves
+NO_PROGRAM = 1
 
 
 class NoProgram(Exception):
     """There is no program to ask; the text says why."""
+
+
+class Broken(NoProgram):
+    """The program of a checkout is broken, and no other one is to be asked in its place."""
 
 
 class Answer(NamedTuple):
@@ -62,7 +68,8 @@ def in_checkout() -> str:
     if done.returncode == 0 and lines:
         return found(lines[0])
     said = done.stderr.decode("utf-8", "replace").strip().splitlines()
-    raise NoProgram(said[-1] if said else f"{FINDER} ended with status {done.returncode}")
+    kind = NoProgram if done.returncode == NO_PROGRAM else Broken
+    raise kind(said[-1] if said else f"{FINDER} ended with status {done.returncode}")
 
 
 def beside() -> str:
@@ -83,6 +90,8 @@ def chosen(named: str) -> str:
     why = "no program: name it by --program or by the variable PYCHECK"
     try:
         path = in_checkout()
+    except Broken:
+        raise
     except NoProgram as fault:
         path, why = "", str(fault)
     path = path or beside() or os.path.abspath(shutil.which(NAME) or "")
