@@ -17,7 +17,6 @@ COMMAND = ROOT / "tools" / "check_all"
 PACKAGE = ROOT / "tools" / "pycheck_all"
 MODULES = HERE / "modules"
 EXPECTED = HERE / "expected"
-CACHE = tempfile.TemporaryDirectory(prefix="reports-cache-")
 HEADER = "from __future__ import annotations\n\n"
 CLEAN = HEADER + 'def main():\n    print("hello")\n\nmain()\n'
 # An error at line 4, column 11
@@ -38,9 +37,7 @@ class Done(NamedTuple):
 
 def variables(changed: Dict[str, Optional[str]]) -> Dict[str, str]:
     """The variables of a run: those of this process, of a terminal of 100 columns, with some changed or left out."""
-    # Compiled modules of the package stay outside the checkout, for all runs of this process
     plain: Dict[str, Optional[str]] = {
-        "PYTHONPYCACHEPREFIX": CACHE.name,
         **os.environ,
         "COLUMNS": "100",
         "TERM": "xterm",
