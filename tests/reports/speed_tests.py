@@ -3,12 +3,16 @@ from __future__ import annotations
 
 import importlib.machinery
 import importlib.util
+import json
 import os
 import random
+import shutil
+import subprocess
+import sys
 import time
-from typing import Any
+from typing import Any, List
 
-from support import ROOT, Test
+from support import COMMAND, ROOT, Test, variables
 
 FILES = 1000
 # Seconds on four processors, and so of processor time
@@ -26,6 +30,14 @@ def maker() -> Any:
     return made
 
 
+def before_others() -> List[str]:
+    """The words that run a command before all other work of the machine, as on one that has no other; none where that is
+    not allowed."""
+    words = ["chrt", "--fifo", "1"]
+    tried = shutil.which("chrt") and subprocess.run([*words, "true"], capture_output=True).returncode == 0
+    return words if tried else []
+
+
 class Speed(Test):
     """A thousand modules that are made at random, a third of them changed and a third broken."""
 
@@ -38,21 +50,20 @@ class Speed(Test):
             self.write(f"{number // 100}/m{number:03}.py", kinds[number % len(kinds)](fuzz.made_module(rng), rng))
 
     def test_a_thousand_files(self) -> None:
-        self.check("--version")
+        first = before_others()
+        words = [*first, sys.executable, str(COMMAND), "."]
         before, began = os.times(), time.monotonic()
-        done = self.check(".")
+        done = subprocess.run(words, cwd=self.folder, capture_output=True, env=variables({}), timeout=300)
         passed, after = time.monotonic() - began, os.times()
         used = after.children_user + after.children_system - before.children_user - before.children_system
-        self.assertIn(done.status, (1, 2))
-        self.assertTrue(done.output.splitlines()[-1].startswith("1000 files: "))
-        # A machine with other work, or with fewer processors, takes longer; the time of the processors says the same
+        self.assertEqual(done.returncode, 2)
+        self.assertTrue(done.stdout.decode().splitlines()[-1].startswith("1000 files: "))
+        # A machine with other work, or with fewer processors, takes longer; the time of the processors tells as much
         self.assertLess(used, SECONDS * PROCESSORS / 2, f"{passed:.1f} seconds")
-        if os.getloadavg()[0] < 1 and (os.cpu_count() or 1) >= PROCESSORS:
+        if (first or os.getloadavg()[0] < 1) and (os.cpu_count() or 1) >= PROCESSORS:
             self.assertLess(passed, SECONDS)
 
     def test_every_option_of_a_thousand_files(self) -> None:
-        import json
-
         words = ["--all-refusals", "--statistics", "--strict", "--page", "page.html"]
         whole = json.loads(self.check(*words, "--output", "json", ".").output)
         counts, files = whole["counts"], whole["files"]

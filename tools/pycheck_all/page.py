@@ -6,13 +6,12 @@ from __future__ import annotations
 
 import html
 import re
-import unicodedata
 from typing import Iterator, List, NamedTuple, Sequence, Set, Tuple
 
 from . import codes, full
 from .findings import DYNAMIC, ERROR, GUIDE, REFUSED, Checked, Finding, Project, shown, summary
 from .messages import name_of
-from .widths import REPLACEMENT, TURNS
+from .widths import REPLACEMENT, UNFIT
 
 STYLE = """
 :root { --back: #fff; --fore: #1b1f24; --soft: #59636e; --line: #d8dee4; --code: #f6f8fa; --link: #0550ae;
@@ -73,13 +72,8 @@ class Part(NamedTuple):
 
 
 def escaped(text: str) -> str:
-    """A text of a module as HTML; what no page can show, or what would turn the line, has a replacement character."""
-
-    def fine(it: str) -> bool:
-        """Whether a page can show it."""
-        return it == "\t" or not (unicodedata.category(it) in ("Cc", "Cs") or unicodedata.bidirectional(it) in TURNS)
-
-    return html.escape("".join(it if fine(it) else REPLACEMENT for it in text))
+    """A text of a module as HTML; what cannot be shown has a replacement character."""
+    return html.escape(UNFIT.sub(REPLACEMENT, text))
 
 
 def worded(text: str) -> str:

@@ -1,21 +1,19 @@
 """How wide characters stand on a terminal, and lines that are cut to a width."""
 from __future__ import annotations
 
+import re
 import unicodedata
 from typing import List, NamedTuple
 
 TAB = 4
 REPLACEMENT = "\ufffd"
-TURNS = {"LRE", "RLE", "LRO", "RLO", "PDF", "LRI", "RLI", "FSI", "PDI"}
+# What steers a terminal, what is no character, and what turns the direction of a line; a tab is none of them
+UNFIT = re.compile("[\x00-\x08\x0a-\x1f\x7f-\x9f\ud800-\udfff\u202a-\u202e\u2066-\u2069]")
 
 
 def drawn(character: str) -> str:
-    """What is shown for a character: blanks for a tab; a replacement for what steers terminals or turns lines."""
-    if character == "\t":
-        return " " * TAB
-    if unicodedata.category(character) in ("Cc", "Cs") or unicodedata.bidirectional(character) in TURNS:
-        return REPLACEMENT
-    return character
+    """What is shown for a character: blanks for a tab, a replacement for what cannot be shown."""
+    return " " * TAB if character == "\t" else UNFIT.sub(REPLACEMENT, character)
 
 
 def width_of(text: str) -> int:
