@@ -178,6 +178,25 @@ class Refusals(Test):
         self.assertEqual(self.places(HEADER + "def f():\n    return 1 / 2\n"), [(4, 14, "N2"), (5, 1, "G1")])
         self.assertEqual(self.places(HEADER + "def f():\n    print((1 / 2)\n\nmain()\n")[-1], (7, 1, "L5"))
 
+    def test_a_class_in_a_function(self) -> None:
+        lines = [
+            "class C:",
+            "    def __init__(self, x):",
+            "        self.x = x / 2",
+            "    def m(self):",
+            "        return 1.5",
+        ]
+        wanted = [(4, 5, "N4"), (5, 13, "L4"), (6, 24, "N2"), (7, 9, "N3"), (8, 20, "L3")]
+        self.assertEqual(self.places(self.body(*lines)), wanted)
+
+    def test_what_is_left_out_is_told(self) -> None:
+        nested = [" " * (4 * depth) + "if True:" for depth in range(55)] + [" " * 220 + "x = 1 / 2"]
+        self.write("a.py", self.body(*nested, "y = 1 / 2"))
+        lines = self.lines("--all-refusals", "a.py")
+        # The suite of main is the first of 50; the 51st is that of the 50th `if`, in line 53
+        self.assertTrue(lines[0].startswith("a.py:54:205: I3 refused: too many suites. "), lines[0])
+        self.assertTrue(lines[-2].startswith("a.py: there may be more refusals: "), lines[-2])
+
     def test_too_long(self) -> None:
         self.write("a.py", CLEAN + "# long\n" * 160000)
         lines = self.lines("--all-refusals", "a.py")

@@ -24,6 +24,8 @@ HEADER = b"from __future__ import annotations"
 MODULE, CLASS, FUNCTION = "module", "class", "function"
 OPENERS = b"if elif else for while try except finally with def class async match case".split()
 UNCLOSED_TRIES = 20
+# How often a statement is replaced at most, one more than this
+MOST_TRIES = 2
 PIECE = re.compile(
     rb"""#[^\n]*|\"\"\"(?:[^\\]|\\.)*?\"\"\"|'''(?:[^\\]|\\.)*?'''|"(?:[^"\\\n]|\\.)*"|'(?:[^'\\\n]|\\.)*'"""
     rb"""|["'][^\n]*|\\\r?\n|[^#"'()\[\]{}\\\n:]+|.""",
@@ -132,13 +134,14 @@ def statement_at(data: bytes, at: int) -> Tuple[Statement, bool]:
 
 
 class Draft:
-    """A text in which refused statements are replaced."""
+    """A text in which refused statements are replaced. `unseen` is the byte where a suite begins that was left out."""
 
     def __init__(self, data: bytes) -> None:
         self.statements = list(statements(data))
         self.length = len(data)
         self.end: Optional[Statement] = None
         self.headed = False
+        self.unseen: Optional[int] = None
 
     @property
     def data(self) -> bytes:
@@ -195,7 +198,7 @@ class Draft:
             return self.mend_header()
         if found is self.end:
             return self.mend_before(at)
-        if found.tries > 1:
+        if found.tries > MOST_TRIES:
             return False
         if code == "L7":
             return self.indent_by_spaces(at)
@@ -205,7 +208,7 @@ class Draft:
             return self.open_suite(at)
         if code == "G1" and self.lacks_suite(at):
             return self.mend_before(at)
-        self.replace(at, within)
+        self.replace(at)
         return True
 
     def lacks_suite(self, at: int) -> bool:
@@ -238,7 +241,7 @@ class Draft:
         """Mends a text after which something must follow."""
         for found in self.statements:
             if found.unclosed and not found.tries:
-                self.replace(self.statements.index(found), 0)
+                self.replace(self.statements.index(found))
                 return True
         last = self.statements[-1]
         if not last.text.endswith(b"\n"):
@@ -307,17 +310,22 @@ class Draft:
         self.insert(at, b" " * column + line)
         return True
 
-    def replace(self, at: int, within: int) -> None:
+    def replace(self, at: int) -> None:
         """Replaces a statement by one that is allowed where it stands; the second time also its suite."""
         found = self.statements[at]
         place, spaces = self.context(at), b" " * found.indent
-        if found.tries:
+        if found.tries and place == FUNCTION and found.code.startswith(b"def ") and self.has_suite(at):
+            # It stood in for a method, of a class that is itself no class any more
+            lines = [spaces + b"if True:"]
+        elif found.tries:
             rest = self.statements[at + 1 :]
             suite = list(itertools.takewhile(lambda it: not it.code or it.indent > found.indent, rest))
+            if self.unseen is None:
+                self.unseen = next((it.start for it in suite if it.code and not it.tries), None)
             del self.statements[at + 1 : at + 1 + len(suite)]
             lines = [] if place == MODULE else [spaces + SIMPLE[place]]
         elif found.opens or self.has_suite(at):
-            lines = self.opener(at, place, within)
+            lines = self.opener(at, place)
         elif found.word == b"@":
             lines = [spaces + b"@dataclass"] if place == MODULE and self.before_class(at) else []
         else:
@@ -329,7 +337,7 @@ class Draft:
         """Whether a class follows a decorator."""
         return any(it.word == b"class" for it in self.statements[at + 1 : at + 2])
 
-    def opener(self, at: int, place: str, within: int) -> List[bytes]:
+    def opener(self, at: int, place: str) -> List[bytes]:
         """The lines that stand in for a statement that opens a suite."""
         found = self.statements[at]
         spaces = b" " * found.indent
@@ -341,21 +349,26 @@ class Draft:
                 self.insert(at, b"@dataclass")
             return [b"class " + name + b":"] + suite
         if place == MODULE:
+            if at and self.statements[at - 1].word == b"@":
+                self.statements[at - 1].text = b"\n"
             return [b"def " + name + b"():"] + suite
         if place == CLASS:
             return [spaces + b"def " + name + b"(self):"] + suite
-        keeps = found.word in (b"elif", b"else") and within > found.lead
-        return [spaces + (KEPT[found.word] if keeps else b"if True:")] + suite
+        return [spaces + b"if True:"] + suite
 
 
 SIMPLE = {CLASS: b"refused: int = 0", FUNCTION: b"pass"}
-KEPT = {b"elif": b"elif True:", b"else": b"else:"}
 
 
 def is_plain(name: bytes) -> bool:
     """Whether the profile takes a name."""
     text = name.decode("utf-8", "replace")
     return text.isascii() and text.isidentifier() and not text.startswith("__") and not keyword.iskeyword(text)
+
+
+def unseen(text: Text, byte: int) -> str:
+    """What is said of a suite that was left out."""
+    return f"the suite that begins in line {text.point(byte).line} was left out"
 
 
 def rest_of(text: Text, first: Finding, refusal: Refusal) -> Rest:
@@ -381,7 +394,7 @@ def rest_of(text: Text, first: Finding, refusal: Refusal) -> Rest:
             except Unanswered as fault:
                 return Rest(found, str(fault))
             if answer is None:
-                return Rest(found, "")
+                return Rest(found, "" if draft.unseen is None else unseen(text, draft.unseen))
             code, byte = answer
             origin = draft.origin(byte)
             listed = origin is not None and (code, origin) not in met
