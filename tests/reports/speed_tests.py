@@ -80,7 +80,8 @@ class Speed(Test):
         )
         self.check("--all-refusals", "--write-baseline", "known.json", ".")
         known = self.check("--all-refusals", "--baseline", "known.json", "--strict", ".")
-        self.assertEqual(known.output, f"1000 files: 0 errors, 0 dynamic places, {len(found)} known\n")
+        shown = [line for line in known.output.splitlines() if "there may be more" not in line]
+        self.assertEqual(shown, [f"1000 files: 0 errors, 0 dynamic places, {len(found)} known"])
         self.assertEqual(known.status, 0)
         lines = [
             line for line in self.check("--all-refusals", ".").output.splitlines() if "there may be more" not in line

@@ -11,7 +11,7 @@ from .messages import fingerprint, fingerprints, message_of, name_of
 SEVERITIES = {ERROR: "major", REFUSED: "critical", GUIDE: "info", DYNAMIC: "minor"}
 
 
-def issue(file: Checked, name: str, text: str, severity: str, mark: str, lines: Dict[str, int]) -> Dict[str, Any]:
+def entry(file: Checked, name: str, text: str, severity: str, mark: str, lines: Dict[str, int]) -> Dict[str, Any]:
     """An entry of the report."""
     return {
         "description": text,
@@ -22,19 +22,19 @@ def issue(file: Checked, name: str, text: str, severity: str, mark: str, lines: 
     }
 
 
-def issues(project: Project) -> Iterator[Dict[str, Any]]:
+def entries(project: Project) -> Iterator[Dict[str, Any]]:
     """An entry for each new finding and for each file that could not be checked."""
     for file in project.files:
         if file.failure:
-            yield issue(file, "not checked", file.failure, "blocker", fingerprint(file, "not checked"), {"begin": 1})
+            yield entry(file, "not checked", file.failure, "blocker", fingerprint(file, "not checked"), {"begin": 1})
         for it, mark in zip(file.findings, fingerprints(file)):
             if it.known:
                 continue
             severity = "major" if it.kind == DYNAMIC and project.strict else SEVERITIES[it.kind]
             lines = {"begin": it.place.start.line, "end": it.place.end.line}
-            yield issue(file, it.code, f"{name_of(it)}: {message_of(file, it)}", severity, mark, lines)
+            yield entry(file, it.code, f"{name_of(it)}: {message_of(file, it)}", severity, mark, lines)
 
 
 def document(project: Project) -> str:
     """The report."""
-    return json.dumps(list(issues(project)), indent=1)
+    return json.dumps(list(entries(project)), indent=1)
