@@ -1,0 +1,162 @@
+"""What the gate says and does, with a small script in the place of the toolchain and others in that of the slow
+steps; and what CI installs before it."""
+from __future__ import annotations
+
+from pathlib import Path
+from typing import List
+
+from room import MORE_TOOLS, TOOLS, Done, RoomCase
+
+# The toolchain: it gives the programs of the folder `gives`
+TOOLCHAIN = """for name in pycheck pyrun; do
+  mkdir -p "crates/$name/out"
+  cp "{room}/gives/$name" "crates/$name/out/$name" && chmod 755 "crates/$name/out/$name"
+done
+echo "{last}"
+exit {status}
+"""
+SLOW_STEPS = ("tools/check_definitions", "tools/check_codes", "tools/compare_rows")
+
+
+class Gate(RoomCase):
+    """`./test` in a clone, whose steps pass but for what a test puts in their place."""
+
+    def setUp(self) -> None:
+        super().setUp()
+        self.few = self.folder_of_tools("more", [*TOOLS, *MORE_TOOLS])
+        (self.room / "gives").mkdir()
+        for name in ("pycheck", "pyrun"):
+            (self.room / "gives" / name).write_bytes(self.shipped(name))
+        self.prove(0, "75 passed, 0 failed")
+        for step in SLOW_STEPS:
+            self.put_step(step, "exit 0")
+        self.put_step("tests/release/run", "echo '9 passed, 0 failed'")
+        self.put_step("tests/reports/run", "echo '8 passed, 0 failed'")
+
+    def prove(self, status: int, last: str) -> None:
+        """Has the toolchain end with this status and this last line."""
+        self.put_tool("rt", TOOLCHAIN.format(room=self.room, status=status, last=last))
+
+    def put_step(self, path: str, text: str) -> None:
+        """Puts a shell script in the place of a step's command."""
+        file = self.clone / path
+        file.parent.mkdir(parents=True, exist_ok=True)
+        file.write_text(f"#!/bin/sh\n{text}\n", encoding="utf-8")
+        file.chmod(0o755)
+
+    def gate(self) -> "Done[str]":
+        """Runs the gate."""
+        return self.run_few("./test")
+
+    def last_lines(self, done: "Done[str]", number: int) -> List[str]:
+        """The last lines of what the gate says, but for the time it took, which has to be the very last."""
+        *lines, last = done.stderr.splitlines()
+        self.assertRegex(last, r"^the gate took \d+ seconds$")
+        return lines[-number:]
+
+    def assert_failed(self, done: "Done[str]", steps: str) -> None:
+        """The gate failed at these steps, and said so at the end."""
+        self.assertEqual(done.returncode, 1)
+        self.assertEqual(self.last_lines(done, 1), [f"FAILED: {steps}"])
+
+    def test_it_passes(self) -> None:
+        done = self.gate()
+        self.assertEqual((done.returncode, done.stdout), (0, "75 passed, 0 failed\n"), done.stderr)
+        self.assertEqual(self.last_lines(done, 1), ["8 passed, 0 failed"])
+
+    def test_a_shipped_byte_that_was_not_built_fails(self) -> None:
+        program = bytearray(self.shipped("pyrun"))
+        program[-1] ^= 1
+        (self.room / "gives" / "pyrun").write_bytes(program)
+        done = self.gate()
+        self.assert_failed(done, "shipped")
+        self.assertIn("pyrun: the shipped program is not the one that was built", done.stderr)
+        self.assertIn("tools/release writes the shipped programs anew", done.stderr)
+
+    def test_each_step_that_fails_is_told(self) -> None:
+        commands = {"tools/check_definitions": "definitions", "tools/check_codes": "pages",
+                    "tools/compare_rows": "examples left_out", "tests/release/run": "release",
+                    "tests/reports/run": "reports"}
+        for step, names in commands.items():
+            with self.subTest(step):
+                kept = (self.clone / step).read_text(encoding="utf-8").splitlines()[1]
+                self.put_step(step, "echo '2 passed, 1 failed'; exit 1")
+                self.assert_failed(self.gate(), names)
+                self.put_step(step, kept)
+
+    def test_what_was_skipped_is_told_at_the_end(self) -> None:
+        self.put_step("tests/release/run", "echo 'skipped Hook.test_it: pre-commit is not there'\n"
+                                           "echo '8 passed, 0 failed, 1 skipped'")
+        self.put_step("tests/reports/run", "echo 'skipped page: there is no chromium'\n"
+                                           "echo 'Types.test_all: skipped: there is no mypy'\n"
+                                           "echo 'no line is skipped here'\n"
+                                           "echo '6 passed, 0 failed, 2 skipped'")
+        done = self.gate()
+        self.assertEqual(done.returncode, 0, done.stderr)
+        self.assertEqual(self.last_lines(done, 3), ["in the step release skipped Hook.test_it: pre-commit is not there",
+                                                    "in the step reports skipped page: there is no chromium",
+                                                    "in the step reports Types.test_all: skipped: there is no mypy"])
+
+    def test_a_skipped_test_without_a_reason_fails(self) -> None:
+        self.put_step("tests/release/run", "echo '8 passed, 0 failed, 1 skipped'")
+        self.assert_failed(self.gate(), "release")
+
+    def test_a_runner_that_is_not_there(self) -> None:
+        (self.clone / "tests" / "reports" / "run").unlink()
+        done = self.gate()
+        self.assertEqual(done.returncode, 0, done.stderr)
+        self.assertEqual(self.last_lines(done, 1), ["in the step reports skipped tests/reports/run: it is not there"])
+        (self.clone / "tests" / "release" / "run").unlink()
+        self.assert_failed(self.gate(), "release")
+
+    def test_where_the_proofs_fail_no_program_is_tried(self) -> None:
+        self.prove(1, "74 passed, 1 failed")
+        self.put_step("tools/check_codes", f": >'{self.room}/ran'")
+        done = self.gate()
+        self.assertEqual(done.stdout, "74 passed, 1 failed\n")
+        self.assert_failed(done, "proofs")
+        self.assertIn("the other steps need the programs, and were not run", done.stderr)
+        self.assertFalse((self.room / "ran").exists())
+
+
+class InCI(RoomCase):
+    """`.ci/run`."""
+
+    def setUp(self) -> None:
+        super().setUp()
+        self.few = self.folder_of_tools("more", [*TOOLS, *MORE_TOOLS, "timeout"])
+        (self.clone / "test").write_text("#!/bin/sh\necho 'the gate'\nexit 5\n", encoding="utf-8")
+        self.put_tool("id", "echo 0\n")
+        self.put_tool("dpkg-query", 'for it; do :; done\n[ "$it" = mypy ] && printf "install ok installed"\n')
+
+    def test_what_is_missing_is_installed_and_then_the_gate_runs(self) -> None:
+        self.put_tool("apt-get", f"echo \"$DEBIAN_FRONTEND $*\" >>'{self.room}/asked'\n")
+        done = self.run_few(".ci/run")
+        self.assertEqual((done.returncode, done.stdout), (5, "the gate\n"), done.stderr)
+        asked = (self.room / "asked").read_text(encoding="utf-8").splitlines()
+        apt = "noninteractive -q -y -o DPkg::Lock::Timeout=60"
+        packages = ("python3-venv", "pre-commit", "neovim", "chromium", "valgrind")
+        installs = [f"{apt} install --no-install-recommends {it}" for it in packages]
+        self.assertEqual(asked, [f"{apt} update", *installs])
+
+    def test_what_cannot_be_installed_is_told_and_is_no_fault(self) -> None:
+        self.put_tool("apt-get", "exit 100\n")
+        done = self.run_few(".ci/run")
+        self.assertEqual((done.returncode, done.stdout), (5, "the gate\n"), done.stderr)
+        self.assertIn("chromium could not be installed: tests that use it are skipped", done.stderr)
+
+    def test_what_takes_too_long_is_left_out(self) -> None:
+        text = (self.clone / ".ci" / "run").read_text(encoding="utf-8")
+        (self.clone / ".ci" / "run").write_text(text.replace("limit=600", "limit=4"), encoding="utf-8")
+        self.put_tool("apt-get", f'PATH=/usr/bin:/bin\necho "$*" >>\'{self.room}/asked\'\n'
+                                 'case "$*" in *" install "*) exec sleep 60 ;; esac\n')
+        done = self.run_few(".ci/run")
+        self.assertEqual((done.returncode, done.stdout), (5, "the gate\n"), done.stderr)
+        self.assertEqual((self.room / "asked").read_text(encoding="utf-8").count(" install "), 1)
+        self.assertEqual(done.stderr.count("could not be installed: tests that use it are skipped"), 5)
+
+    def test_another_user_installs_nothing(self) -> None:
+        self.put_tool("id", "echo 1000\n")
+        self.put_tool("apt-get", f": >'{self.room}/asked'\n")
+        self.assertEqual(self.run_few(".ci/run").stdout, "the gate\n")
+        self.assertFalse(Path(self.room, "asked").exists())
