@@ -1,0 +1,60 @@
+"""What docs/PROJECTS.md shows: each command on it is run, and prints what stands there."""
+from __future__ import annotations
+
+import re
+import shlex
+import shutil
+import subprocess
+import sys
+from typing import Iterator, List, Tuple
+
+from support import COMMAND, ROOT, Test, variables
+
+PAGE = ROOT / "docs" / "PROJECTS.md"
+BLOCK = re.compile(r"(?:^(?:    .*)?\n)+", re.MULTILINE)
+
+
+def blocks() -> Iterator[List[str]]:
+    """The blocks of the page that are indented by four, as lines."""
+    for found in BLOCK.finditer(PAGE.read_text(encoding="utf-8")):
+        lines = [line[4:] for line in found[0].split("\n")]
+        while lines and not lines[-1]:
+            lines.pop()
+        while lines and not lines[0]:
+            lines.pop(0)
+        if lines:
+            yield lines
+
+
+def calls(lines: List[str]) -> Iterator[Tuple[str, List[str]]]:
+    """The commands of a block, each with the lines that it prints."""
+    starts = [at for at, line in enumerate(lines) if line.startswith("$ ")]
+    for at, end in zip(starts, [*starts[1:], len(lines)]):
+        yield lines[at][2:], lines[at + 1 : end]
+
+
+class Document(Test):
+    """The page, from its top to its end, in one folder."""
+
+    def test_what_the_page_shows(self) -> None:
+        shutil.copytree(ROOT / "examples", self.folder / "examples")
+        shown = 0
+        for lines in blocks():
+            if re.fullmatch(r"# \w+\.py", lines[0]):
+                self.write(lines[0][2:], "\n".join(lines) + "\n")
+            for call, wanted in calls(lines):
+                with self.subTest(call):
+                    words = shlex.split(call)
+                    words[:1] = [sys.executable, str(COMMAND)] if words[0] == "tools/check_all" else words[:1]
+                    done = subprocess.run(words, cwd=self.folder, capture_output=True, env=variables({}), timeout=60)
+                    self.assertEqual(done.stdout.decode().splitlines(), wanted)
+                    self.assertEqual(done.stderr, b"")
+                    shown += 1
+        self.assertGreaterEqual(shown, 8)
+
+    def test_options_are_those_of_the_command(self) -> None:
+        page = PAGE.read_text(encoding="utf-8")
+        told = set(re.findall(r"--[a-z][a-z-]+", self.check("--help").output)) - {"--help"}
+        self.assertEqual(told - set(re.findall(r"--[a-z][a-z-]+", page)), set())
+        named = set(re.findall(r"`(--[a-z][a-z-]+)", page))
+        self.assertEqual(named - told, set())

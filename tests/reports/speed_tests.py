@@ -1,0 +1,101 @@
+"""How long a project of a thousand files takes."""
+from __future__ import annotations
+
+import importlib.machinery
+import importlib.util
+import json
+import os
+import random
+import shutil
+import subprocess
+import sys
+import time
+from typing import Any, List
+
+from support import COMMAND, ROOT, Test, variables
+
+FILES = 1000
+# Seconds on four processors, and so of processor time
+SECONDS = 3.0
+PROCESSORS = 4
+
+
+def maker() -> Any:
+    """The tool that makes modules at random."""
+    loader = importlib.machinery.SourceFileLoader("fuzz", str(ROOT / "tools" / "fuzz"))
+    spec = importlib.util.spec_from_loader("fuzz", loader)
+    assert spec is not None
+    made = importlib.util.module_from_spec(spec)
+    loader.exec_module(made)
+    return made
+
+
+def before_others() -> List[str]:
+    """The words that run a command before all other work of the machine, as on one that has no other; none where that is
+    not allowed."""
+    words = ["chrt", "--fifo", "1"]
+    tried = shutil.which("chrt") and subprocess.run([*words, "true"], capture_output=True).returncode == 0
+    return words if tried else []
+
+
+class Speed(Test):
+    """A thousand modules that are made at random, a third of them changed and a third broken."""
+
+    def setUp(self) -> None:
+        super().setUp()
+        fuzz = maker()
+        kinds = list(fuzz.KINDS.values())
+        for number in range(FILES):
+            rng = random.Random(f"reports/{number}")
+            self.write(f"{number // 100}/m{number:03}.py", kinds[number % len(kinds)](fuzz.made_module(rng), rng))
+
+    def test_a_thousand_files(self) -> None:
+        first = before_others()
+        words = [*first, sys.executable, str(COMMAND), "."]
+        before, began = os.times(), time.monotonic()
+        done = subprocess.run(words, cwd=self.folder, capture_output=True, env=variables({}), timeout=300)
+        passed, after = time.monotonic() - began, os.times()
+        used = after.children_user + after.children_system - before.children_user - before.children_system
+        self.assertEqual(done.returncode, 2)
+        self.assertTrue(done.stdout.decode().splitlines()[-1].startswith("1000 files: "))
+        # A machine with other work, or with fewer processors, takes longer; the time of the processors tells as much
+        self.assertLess(used, SECONDS * PROCESSORS / 2, f"{passed:.1f} seconds")
+        if (first or os.getloadavg()[0] < 1) and (os.cpu_count() or 1) >= PROCESSORS:
+            self.assertLess(passed, SECONDS)
+
+    def test_every_option_of_a_thousand_files(self) -> None:
+        words = ["--all-refusals", "--statistics", "--strict", "--page", "page.html"]
+        whole = json.loads(self.check(*words, "--output", "json", ".").output)
+        counts, files = whole["counts"], whole["files"]
+        found = [
+            it
+            for file in files
+            for it in [*file["findings"], *file.get("guides", []), *filter(None, [file["refusal"]])]
+        ]
+        self.assertEqual(len(found), sum(counts[it] for it in ("errors", "dynamic", "refused", "guides")))
+        self.assertEqual((counts["files"], counts["not_checked"]), (FILES, 0))
+        self.assertEqual(sum(whole["codes"].values()), len(found))
+        self.assertEqual(
+            (self.folder / "page.html").read_text(encoding="utf-8").count('<mark class="place '), len(found)
+        )
+        self.check("--all-refusals", "--write-baseline", "known.json", ".")
+        known = self.check("--all-refusals", "--baseline", "known.json", "--strict", ".")
+        shown = [line for line in known.output.splitlines() if "there may be more" not in line]
+        self.assertEqual(shown, [f"1000 files: 0 errors, 0 dynamic places, {len(found)} known"])
+        self.assertEqual(known.status, 0)
+        lines = [
+            line for line in self.check("--all-refusals", ".").output.splitlines() if "there may be more" not in line
+        ]
+        self.assertEqual(len(lines), len(found) + 1)
+        for form, mark in (
+            ("github", "\n::"),
+            ("gitlab", '"fingerprint"'),
+            ("sarif", '"ruleIndex"'),
+            ("junit", "<testcase "),
+        ):
+            output = "\n" + self.check("--all-refusals", "--output", form, ".").output
+            others = output.count('name="no finding"')
+            if form in ("github", "junit"):
+                others += output.count("there may be more refusals")
+            marks = output.count(mark) - others
+            self.assertEqual(marks, len(found), form)

@@ -1,0 +1,102 @@
+"""The texts of the codes, as the page of codes says them."""
+from __future__ import annotations
+
+import functools
+import json
+import re
+from pathlib import Path
+from typing import Dict, List, NamedTuple, Optional
+
+from . import forms
+from .source import Spot
+
+TEXTS = Path(__file__).with_name("codes.json")
+LINK = re.compile(r"\[([^\]]+)\]\([^)]*\)")
+
+
+class Entry(NamedTuple):
+    """What the page says of a code; the rows say what to write instead of what."""
+
+    title: str
+    kind: str
+    meaning: str
+    mend: str
+    rows: List[List[str]]
+    entry: str
+
+
+@functools.lru_cache(maxsize=None)
+def entries() -> Dict[str, Entry]:
+    """The entry of each code, in the order of the page; none where the texts are not there."""
+    try:
+        return {code: Entry(**it) for code, it in json.loads(TEXTS.read_text(encoding="utf-8")).items()}
+    except OSError:
+        return {}
+
+
+def title_of(code: str) -> str:
+    """The label of an error or a dynamic place; of a refusal its title. Empty for a code without an entry."""
+    entry = entries().get(code)
+    if entry is None:
+        return ""
+    keep = entry.kind != "refused" or entry.title.startswith("UTF")
+    return entry.title if keep else entry.title[0].lower() + entry.title[1:]
+
+
+def meaning_of(code: str) -> str:
+    """What the code says, in words."""
+    entry = entries().get(code)
+    return entry.meaning if entry else ""
+
+
+def mending_of(code: str, spot: Optional[Spot] = None) -> str:
+    """A sentence that says how to mend the code, as the page says it; at a spot that the entry's table has, its row."""
+    entry = entries().get(code)
+    if entry is None:
+        return ""
+    row = forms.row_of(entry.rows, spot) if spot else None
+    if row is None:
+        return entry.mend
+    if row[0].startswith("no "):
+        return f"There is {row[0]}: write {row[1]}."
+    return f"Instead of {row[0]} write {row[1]}."
+
+
+def explained(code: str, width: int) -> str:
+    """The entry of a code as a text of lines that have, but for its modules and tables, at most so many characters."""
+    entry = entries()[code]
+    heading = f"{code} {entry.title}"
+    blocks = [heading + "\n" + "=" * len(heading)]
+    text = entry.entry
+    for part in re.split(r"(^```.*?^```$)", text, flags=re.MULTILINE | re.DOTALL):
+        if part.startswith("```"):
+            blocks.append("\n".join(("    " + line).rstrip() for line in part.splitlines()[1:-1]))
+        else:
+            blocks += [plain(paragraph, width) for paragraph in part.split("\n\n") if paragraph.strip()]
+    return "\n\n".join(blocks) + "\n"
+
+
+def plain(paragraph: str, width: int) -> str:
+    """A paragraph, a list or a table of the page, without marks."""
+    import textwrap
+
+    lines = LINK.sub(r"\1", paragraph).replace("**", "\0").split("\n")
+    lines = [line.replace("\0", "") if "`" not in line else unmarked(line) for line in lines if line.strip()]
+    if lines[0].startswith("|"):
+        return table(lines)
+    return textwrap.fill(" ".join(lines), width, break_long_words=False, break_on_hyphens=False)
+
+
+def unmarked(line: str) -> str:
+    """A line without its marks of bold text; two stars in backquotes stay."""
+    parts = line.split("`")
+    return "`".join(part.replace("\0", "**" if at % 2 else "") for at, part in enumerate(parts))
+
+
+def table(lines: List[str]) -> str:
+    """A table with its columns below one another."""
+    rows = [[cell.strip().replace("\\|", "|") for cell in re.split(r"(?<!\\)\|", line)[1:-1]] for line in lines]
+    rows = [row for row in rows if not all(set(cell) <= set("-:") for cell in row)]
+    widths = [max(len(row[at]) for row in rows) for at in range(len(rows[0]))]
+    rows.insert(1, ["-" * width for width in widths])
+    return "\n".join("  ".join(cell.ljust(width) for cell, width in zip(row, widths)).rstrip() for row in rows)

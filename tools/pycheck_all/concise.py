@@ -1,0 +1,38 @@
+"""The form `concise`: a line for each finding, as editors read it."""
+from __future__ import annotations
+
+from typing import Iterator
+
+from . import codes
+from .findings import GUIDE, REFUSED, Checked, Finding, Project, printed
+
+
+def line_of(file: Checked, finding: Finding, mending: bool) -> str:
+    """The line of a finding; where asked for, a refusal has what to write instead behind it."""
+    start, title = finding.place.start, codes.title_of(finding.code)
+    if finding.kind in (REFUSED, GUIDE):
+        title = finding.kind + (f": {title}" if title else "")
+        if mending:
+            title += ". " + codes.mending_of(finding.code, file.spot_of(finding))
+    if finding.flow:
+        title = f"{title} {finding.flow[0]} -> {finding.flow[1]}"
+    return f"{printed(file.path)}:{start.line}:{start.column}: {finding.code} {title}".rstrip()
+
+
+def lines(project: Project, mending: bool) -> Iterator[str]:
+    """The lines of the new findings of all files, and of the files that could not be checked."""
+    for file in project.files:
+        if file.failure:
+            yield f"{printed(file.path)}: {file.failure}"
+        for finding in file.new:
+            yield line_of(file, finding, mending)
+        if file.unlisted:
+            yield f"{printed(file.path)}: there may be more refusals: {file.unlisted}"
+    yield from gone(project)
+
+
+def gone(project: Project) -> Iterator[str]:
+    """A line for each entry of the baseline that is no longer found."""
+    for entry in project.gone:
+        times = f" ({entry.times} times)" if entry.times > 1 else ""
+        yield f"{printed(entry.path)}: {entry.code} is known but gone{times}: {printed(entry.line)}"

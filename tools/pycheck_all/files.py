@@ -1,0 +1,171 @@
+"""Which files are checked: those that are named, and the modules in the folders that are named."""
+from __future__ import annotations
+
+import fnmatch
+import os
+import stat
+import subprocess
+import tempfile
+from typing import Iterator, List, NamedTuple, Optional, Sequence, Set, Tuple
+
+LIMIT = 1024 * 1024 + 4096
+STANDARD_INPUT = "-"
+# Where a path may mean another file to another process
+OF_PROCESSES = ("/dev/", "/proc/")
+
+
+class Source(NamedTuple):
+    """A file to check: the name that reports show, the path that is read, or why it cannot be read."""
+
+    name: str
+    path: str
+    failure: str = ""
+
+
+class Found(NamedTuple):
+    """The files, in the order in which they are shown, and how many files and folders were left out by --exclude."""
+
+    sources: List[Source]
+    excluded: int
+
+
+def reason(fault: OSError) -> str:
+    """Why a file cannot be read, in the words of the system."""
+    return f"cannot be read: {fault.strerror or fault}"
+
+
+def ignored_by_git(folder: str) -> Set[str]:
+    """What git ignores in a folder, as absolute paths; nothing outside a checkout, or where there is no git."""
+    words = ["git", "-C", folder, "ls-files", "-z", "--others", "--ignored", "--exclude-standard", "--directory"]
+    # A hook of git runs with variables that name another checkout or index
+    kept = {name: value for name, value in os.environ.items() if not name.startswith("GIT_")}
+    try:
+        done = subprocess.run(
+            words, stdin=subprocess.DEVNULL, stdout=subprocess.PIPE, stderr=subprocess.DEVNULL, env=kept
+        )
+    except OSError:
+        return set()
+    names = os.fsdecode(done.stdout).split("\0")[:-1] if done.returncode == 0 else []
+    return {os.path.abspath(os.path.join(folder, name)) for name in names if name not in ("./", "../")}
+
+
+class Walk:
+    """A walk through a folder, in the order of the names. Links to folders are not followed."""
+
+    def __init__(self, excluding: Sequence[str]) -> None:
+        self.excluding = excluding
+        self.excluded = 0
+
+    def excludes(self, path: str, top: str) -> bool:
+        """Whether a pattern names it: one without a slash its name, one with a slash its path, as it is shown or from
+        the folder that is named."""
+        for pattern in (it.rstrip("/") for it in self.excluding):
+            paths = [path, os.path.relpath(path, top)] if "/" in pattern else [os.path.basename(path)]
+            if any(fnmatch.fnmatchcase(it, pattern) for it in paths):
+                return True
+        return False
+
+    def modules(self, folder: str, top: str, ignored: Set[str]) -> Iterator[Source]:
+        """The modules of a folder and of those in it, without hidden ones and those that git ignores. `top` is the
+        folder that is named."""
+        if folder == top or os.path.lexists(os.path.join(folder, ".git")):
+            ignored = ignored | ignored_by_git(folder)
+        try:
+            with os.scandir(folder) as entries:
+                inside = sorted(entries, key=lambda it: os.fsencode(it.name))
+        except OSError as fault:
+            yield Source(folder, folder, reason(fault))
+            return
+        for entry in inside:
+            path = os.path.normpath(os.path.join(folder, entry.name))
+            is_folder = entry.is_dir(follow_symlinks=False)
+            if entry.name.startswith(".") or not (is_folder or is_module(entry)) or os.path.abspath(path) in ignored:
+                continue
+            if self.excludes(path, top):
+                self.excluded += 1
+            elif is_folder:
+                yield from self.modules(path, top, ignored)
+            else:
+                yield Source(path, path)
+
+
+def is_module(entry: os.DirEntry[str]) -> bool:
+    """Whether it is a file `*.py`, or a link to one or to nothing; a link to a folder is none."""
+    if not entry.name.endswith(".py"):
+        return False
+    try:
+        return stat.S_ISREG(entry.stat().st_mode)
+    except OSError:
+        return True
+
+
+def is_utf8(path: str) -> bool:
+    """Whether the program can be given a path: it takes words in UTF-8 alone."""
+    return not any("\udc80" <= it <= "\udcff" for it in path)
+
+
+class Files:
+    """The files of a run. Texts that have no path that can be read twice are kept in a folder until `close`."""
+
+    def __init__(self, excluding: Sequence[str], stdin_name: str) -> None:
+        self.excluding = excluding
+        self.stdin_name = stdin_name
+        self._folder: Optional[tempfile.TemporaryDirectory[str]] = None
+        self._kept = 0
+
+    def close(self) -> None:
+        """Removes the texts that were kept."""
+        if self._folder is not None:
+            self._folder.cleanup()
+
+    def find(self, words: Sequence[str]) -> Found:
+        """The files that the words of the command line name, each once, where it is named first."""
+        walk = Walk(self.excluding)
+        sources: List[Source] = []
+        met: Set[Tuple[bool, str]] = set()
+        for word in words:
+            for source in self.named(word, walk):
+                key = (word == STANDARD_INPUT, os.path.abspath(source.name))
+                if key not in met:
+                    met.add(key)
+                    sources.append(source if is_utf8(source.path) or source.failure else self.kept(source.name, None))
+        return Found(sources, walk.excluded)
+
+    def named(self, word: str, walk: Walk) -> Iterator[Source]:
+        """The files that one word names."""
+        if word == STANDARD_INPUT:
+            yield self.kept(self.stdin_name, 0)
+            return
+        try:
+            kind = os.stat(word).st_mode
+        except (OSError, ValueError) as fault:
+            yield Source(word, word, reason(fault) if isinstance(fault, OSError) else f"cannot be read: {fault}")
+            return
+        if stat.S_ISDIR(kind):
+            folder = os.path.normpath(word)
+            yield from walk.modules(folder, folder, set())
+        elif stat.S_ISREG(kind) and not os.path.abspath(word).startswith(OF_PROCESSES):
+            yield Source(word, word)
+        else:
+            yield self.kept(word, None)
+
+    def kept(self, name: str, descriptor: Optional[int]) -> Source:
+        """A text that can be read only once, from an open file or by its name, kept in a file of its own."""
+        try:
+            with open(name if descriptor is None else descriptor, "rb", closefd=descriptor is None) as file:
+                data = file.read(LIMIT)
+        except OSError as fault:
+            return Source(name, name, reason(fault))
+        if self._folder is None:
+            self._folder = tempfile.TemporaryDirectory(prefix="pycheck-")
+        self._kept += 1
+        path = os.path.join(self._folder.name, f"{self._kept}.py")
+        with open(path, "wb") as file:
+            file.write(data)
+        return Source(name, path)
+
+
+def content_of(path: str) -> bytes:
+    """The bytes of a file, or somewhat more of them than the program reads."""
+    with open(path, "rb") as file:
+        return file.read(LIMIT)

@@ -1,0 +1,147 @@
+"""What the program found in the files, and how it is counted."""
+from __future__ import annotations
+
+import collections
+import dataclasses
+import os
+import re
+from typing import Counter, List, NamedTuple, Optional, Tuple
+
+from .source import Place, Spot, Text
+
+ERROR, DYNAMIC, REFUSED, GUIDE = "error", "dynamic", "refused", "guide"
+CONTROL = re.compile("[\x00-\x1f\x7f-\x9f\u2028\u2029]")
+
+
+@dataclasses.dataclass(frozen=True)
+class Finding:
+    """An error, a dynamic place or a refusal at a place of a file.
+
+    A guide is a refusal that the program gave after what it refused before was replaced; `headless` says that it is for
+    want of the first header. `flow` has the two types of a dynamic flow: of the value, and of the place where it goes.
+    `known` says that it stands in the baseline."""
+
+    kind: str
+    code: str
+    place: Place
+    flow: Optional[Tuple[str, str]] = None
+    known: bool = False
+    headless: bool = False
+
+    def fails(self, strict: bool) -> int:
+        """The exit status that it asks for."""
+        if self.known or self.kind == GUIDE:
+            return 0
+        return {ERROR: 1, REFUSED: 2}.get(self.kind, int(strict))
+
+
+@dataclasses.dataclass
+class Checked:
+    """What came of a file: its findings in the order of its text, or why it could not be checked.
+
+    Where all refusals were asked for, `complete` says that they are listed, and else `unlisted` says why not."""
+
+    path: str
+    findings: List[Finding] = dataclasses.field(default_factory=list)
+    text: Text = dataclasses.field(default_factory=lambda: Text(b""))
+    failure: str = ""
+    complete: bool = False
+    unlisted: str = ""
+
+    def status(self, strict: bool) -> int:
+        """The exit status of the file."""
+        return 3 if self.failure else max((it.fails(strict) for it in self.findings), default=0)
+
+    @property
+    def refused(self) -> bool:
+        """Whether the file is refused, known or not."""
+        return any(it.kind == REFUSED for it in self.findings)
+
+    @property
+    def new(self) -> List[Finding]:
+        """The findings that do not stand in the baseline."""
+        return [it for it in self.findings if not it.known]
+
+    def line_of(self, finding: Finding) -> str:
+        """The text of the line in which a finding starts, without blanks at its ends."""
+        return self.text.line(finding.place.start.line).strip()
+
+    def spot_of(self, finding: Finding) -> Optional[Spot]:
+        """The word or sign at which a refusal stands; none for other findings."""
+        if finding.kind not in (REFUSED, GUIDE):
+            return None
+        spot = self.text.spot(finding.place.start.byte)
+        return spot._replace(first=True) if finding.headless else spot
+
+
+class Known(NamedTuple):
+    """An entry of a baseline: a code, at a line of that text, in a file, so many times."""
+
+    path: str
+    code: str
+    line: str
+    times: int
+
+
+@dataclasses.dataclass
+class Project:
+    """Everything that a run has to show. `excluded` counts the files and folders that --exclude left out."""
+
+    files: List[Checked]
+    strict: bool = False
+    excluded: int = 0
+    gone: List[Known] = dataclasses.field(default_factory=list)
+    version: str = ""
+
+    @property
+    def status(self) -> int:
+        """The exit status: the worst of all files."""
+        return max((it.status(self.strict) for it in self.files), default=0)
+
+    def counted(self) -> Counter[str]:
+        """The counts: of files, of each kind of findings, of those that are known, and of what was not looked at.
+
+        What is known counts as known alone; `refused` counts files, `guide` the refusals after the first."""
+        counts: Counter[str] = collections.Counter(files=len(self.files), excluded=self.excluded)
+        for file in self.files:
+            counts["failed"] += bool(file.failure)
+            counts["unlisted"] += bool(file.unlisted)
+            for finding in file.findings:
+                counts["known" if finding.known else finding.kind] += 1
+        counts["gone"] = sum(it.times for it in self.gone)
+        return counts
+
+    def codes(self) -> Counter[str]:
+        """How often each code stands, known findings included."""
+        return collections.Counter(finding.code for file in self.files for finding in file.findings)
+
+
+def amount(number: int, one: str, many: str = "") -> str:
+    """A number with its noun."""
+    return f"{number} {one if number == 1 else many or one + 's'}"
+
+
+def summary(project: Project) -> str:
+    """The last line: the counts in words. Those that are usually 0 are left out where they are."""
+    counts = project.counted()
+    parts = [amount(counts[ERROR], "error"), amount(counts[DYNAMIC], "dynamic place")]
+    rest = [
+        (REFUSED, "refused"),
+        (GUIDE, "more refusals as a guide"),
+        ("failed", "not checked"),
+        ("known", "known"),
+        ("gone", "known but gone"),
+        ("excluded", "left out by --exclude"),
+    ]
+    parts += [f"{counts[name]} {words}" for name, words in rest if counts[name]]
+    return f"{amount(counts['files'], 'file')}: {', '.join(parts)}"
+
+
+def shown(path: str) -> str:
+    """A path as a document shows it: control characters and bytes that are not UTF-8 are written as `\\xNN`."""
+    return printed(os.fsencode(path).decode("utf-8", "backslashreplace"))
+
+
+def printed(path: str) -> str:
+    """A path as lines show it: as it is, but for control characters and ends of lines, which are written as `\\xNN`."""
+    return CONTROL.sub(lambda found: found[0].encode("unicode_escape").decode(), path)

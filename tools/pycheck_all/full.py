@@ -1,0 +1,88 @@
+"""The form `full`: each finding with its words, the lines that it stands in, and how to mend it."""
+from __future__ import annotations
+
+import textwrap
+from typing import Iterator, List, Tuple
+
+from . import codes, concise, widths
+from .colours import Colours
+from .findings import GUIDE, Checked, Finding, Project, printed
+from .source import Place
+
+FIRST_LINES, LAST_LINES = 4, 2
+NARROWEST = 40
+
+
+class Full:
+    """Shows findings in so many columns."""
+
+    def __init__(self, colours: Colours, width: int) -> None:
+        self.colours = colours
+        self.width = max(NARROWEST, width)
+
+    def lines(self, project: Project) -> Iterator[str]:
+        """The lines of all new findings, with an empty line after each, and of the files that could not be checked."""
+        for file in project.files:
+            name = self.colours("path", printed(file.path))
+            if file.failure:
+                yield f"{name}: {self.colours('refused', 'not checked')}: {file.failure}"
+                yield ""
+            for finding in file.new:
+                yield from self.finding(file, finding)
+                yield ""
+            if file.unlisted:
+                yield f"{name}: there may be more refusals: {file.unlisted}"
+                yield ""
+        yield from concise.gone(project)
+
+    def finding(self, file: Checked, finding: Finding) -> Iterator[str]:
+        """The lines of one finding."""
+        start = finding.place.start
+        title, meaning = codes.title_of(finding.code), codes.meaning_of(finding.code)
+        where = self.colours("path", f"{printed(file.path)}:{start.line}:{start.column}:")
+        what = self.colours(finding.kind, f"{finding.kind} {finding.code} {title}".rstrip())
+        yield f"{where} {what}" + (f": {meaning}" if meaning else "")
+        yield from self.excerpt(file, finding)
+        mending = codes.mending_of(finding.code, file.spot_of(finding))
+        if finding.kind == GUIDE:
+            mending += " This is a guide: the program was asked again without the refusals before."
+        before = " " * (3 + len(str(finding.place.end.line)))
+        room = self.width - len(before) - 2
+        lines = textwrap.wrap(mending.strip(), room, break_long_words=False, break_on_hyphens=False)
+        for at, line in enumerate(lines):
+            sign = " " if at else self.colours("number", "=")
+            yield f"{before}{sign} {self.colours('mend', line)}"
+
+    def excerpt(self, file: Checked, finding: Finding) -> Iterator[str]:
+        """The lines in which a finding stands, each with its number, and with its part underlined."""
+        place = finding.place
+        numbers = self.numbers(place)
+        gutter = len(str(place.end.line))
+        beside = f" {finding.flow[0]} -> {finding.flow[1]}" if finding.flow else ""
+        for at, number in enumerate(numbers):
+            if at and numbers[at - 1] != number - 1:
+                yield self.colours("number", f"  {'.' * gutter} |")
+            line = file.text.line(number)
+            start, end = part_of(line, number, place)
+            shown = widths.cut(line, start, end, self.width - gutter - 5)
+            yield f"{self.colours('number', f'  {number:>{gutter}} |')} {shown.text}".rstrip()
+            mark = self.colours(finding.kind, "^" * (shown.end - shown.start))
+            under = f"{self.colours('number', '  ' + ' ' * gutter + ' |')} {' ' * shown.start}{mark}"
+            if number == place.end.line:
+                under += self.colours(finding.kind, beside)
+            yield under
+
+    def numbers(self, place: Place) -> List[int]:
+        """The lines to show: all of the place, or its first and its last ones."""
+        all_of_them = list(range(place.start.line, place.end.line + 1))
+        if len(all_of_them) <= FIRST_LINES + LAST_LINES + 1:
+            return all_of_them
+        return all_of_them[:FIRST_LINES] + all_of_them[-LAST_LINES:]
+
+
+def part_of(line: str, number: int, place: Place) -> Tuple[int, int]:
+    """The characters of a line that belong to a place, without the blanks in front: the first, from 0, and the one
+    after the last."""
+    start = place.start.column - 1 if number == place.start.line else len(line) - len(line.lstrip())
+    end = place.end.column - 1 if number == place.end.line else len(line.rstrip())
+    return start, max(start, end)

@@ -1,0 +1,40 @@
+"""The form `github`: workflow commands, which a run of GitHub Actions shows beside the lines."""
+from __future__ import annotations
+
+from typing import Iterator
+
+from .findings import DYNAMIC, GUIDE, Finding, Project, shown
+from .messages import message_of, name_of
+
+
+def data(text: str) -> str:
+    """A text as the message of a command."""
+    return text.replace("%", "%25").replace("\r", "%0D").replace("\n", "%0A")
+
+
+def value(text: str) -> str:
+    """A text as a property of a command."""
+    return data(text).replace(":", "%3A").replace(",", "%2C")
+
+
+def level_of(finding: Finding, strict: bool) -> str:
+    """The level of a finding: what does not fail is no error."""
+    if finding.kind == GUIDE:
+        return "notice"
+    return "warning" if finding.kind == DYNAMIC and not strict else "error"
+
+
+def lines(project: Project) -> Iterator[str]:
+    """A command for each new finding and for each file that could not be checked."""
+    for file in project.files:
+        path = value(shown(file.path))
+        if file.failure:
+            yield f"::error file={path},title=not checked::{data(file.failure)}"
+        for it in file.new:
+            start, end = it.place
+            where = f"file={path},line={start.line},endLine={end.line},col={start.column},endColumn={end.column}"
+            yield f"::{level_of(it, project.strict)} {where},title={value(name_of(it))}::{data(message_of(file, it))}"
+        if file.unlisted:
+            yield f"::notice file={path},title=there may be more refusals::{data(file.unlisted)}"
+    for entry in project.gone:
+        yield f"::notice title=known but gone::{data(f'{shown(entry.path)}: {entry.code}: {entry.line}')}"

@@ -1,0 +1,72 @@
+"""The form `json`: one document with everything that was found."""
+from __future__ import annotations
+
+import json
+from typing import Any, Dict
+
+from . import codes
+from .findings import GUIDE, REFUSED, Checked, Finding, Known, Project, shown
+from .source import Point
+
+FORMAT = 1
+
+
+def point(it: Point) -> Dict[str, int]:
+    """A point of a text."""
+    return {"byte": it.byte, "line": it.line, "column": it.column}
+
+
+def of_finding(file: Checked, it: Finding) -> Dict[str, Any]:
+    """A finding or a refusal."""
+    found: Dict[str, Any] = {"code": it.code, "kind": it.kind, "title": codes.title_of(it.code)}
+    found.update(start=point(it.place.start), end=point(it.place.end), known=it.known)
+    if it.flow:
+        found.update({"from": it.flow[0], "to": it.flow[1]})
+    if it.kind in (REFUSED, GUIDE):
+        found["instead"] = codes.mending_of(it.code, file.spot_of(it))
+    return found
+
+
+def of_file(file: Checked, strict: bool) -> Dict[str, Any]:
+    """A file: what was found in it, or why it was not checked."""
+    found: Dict[str, Any] = {"path": shown(file.path), "status": file.status(strict)}
+    if file.failure:
+        found["failure"] = file.failure
+    refusals = [of_finding(file, it) for it in file.findings if it.kind == REFUSED]
+    found["refusal"] = refusals[0] if refusals else None
+    found["findings"] = [of_finding(file, it) for it in file.findings if it.kind not in (REFUSED, GUIDE)]
+    guides = [of_finding(file, it) for it in file.findings if it.kind == GUIDE]
+    if guides or file.unlisted:
+        found.update(guides=guides, unlisted=file.unlisted)
+    return found
+
+
+def of_known(it: Known) -> Dict[str, Any]:
+    """An entry of the baseline."""
+    return {"path": shown(it.path), "code": it.code, "line": it.line, "count": it.times}
+
+
+def document(project: Project) -> str:
+    """The document."""
+    counts = project.counted()
+    names = {
+        "files": "files",
+        "errors": "error",
+        "dynamic": "dynamic",
+        "refused": "refused",
+        "guides": "guide",
+        "not_checked": "failed",
+        "known": "known",
+        "gone": "gone",
+        "excluded": "excluded",
+    }
+    whole = {
+        "format": FORMAT,
+        "program": project.version,
+        "status": project.status,
+        "counts": {name: counts[kind] for name, kind in names.items()},
+        "codes": dict(sorted(project.codes().items())),
+        "files": [of_file(it, project.strict) for it in project.files],
+        "gone": [of_known(it) for it in project.gone],
+    }
+    return json.dumps(whole, indent=1)

@@ -1,0 +1,43 @@
+"""The texts of findings, and what tells them from others, as systems show and compare them."""
+from __future__ import annotations
+
+import collections
+import hashlib
+import os
+from typing import Counter, List, Tuple
+
+from . import codes
+from .findings import GUIDE, REFUSED, Checked, Finding
+
+
+def name_of(finding: Finding) -> str:
+    """The name of a finding: its code and its title; of a refusal that word too."""
+    kind = f" {finding.kind}:" if finding.kind in (REFUSED, GUIDE) else ""
+    return f"{finding.code}{kind} {codes.title_of(finding.code)}".rstrip(" :")
+
+
+def message_of(file: Checked, finding: Finding) -> str:
+    """What is found and how to mend it, in a line."""
+    flow = f" ({finding.flow[0]} -> {finding.flow[1]})" if finding.flow else ""
+    meaning = codes.meaning_of(finding.code) or finding.code
+    mending = codes.mending_of(finding.code, file.spot_of(finding))
+    guide = " This is a guide, not the program's answer on the file as it is." if finding.kind == GUIDE else ""
+    return f"{meaning}{flow}. {mending}{guide}".strip()
+
+
+def fingerprints(file: Checked) -> List[str]:
+    """What tells each finding of a file from every other and stays when lines move: a hash of the path, the code, the
+    text of the line, and how many such findings are before it."""
+    counts: Counter[Tuple[str, str]] = collections.Counter()
+    made: List[str] = []
+    for finding in file.findings:
+        key = (finding.code, file.line_of(finding))
+        made.append(fingerprint(file, *key, str(counts[key])))
+        counts[key] += 1
+    return made
+
+
+def fingerprint(file: Checked, *parts: str) -> str:
+    """A hash of the path of a file and of some texts."""
+    path = os.fsencode(os.path.normpath(file.path))
+    return hashlib.sha256(b"\0".join([path, *(it.encode() for it in parts)])).hexdigest()

@@ -1,0 +1,176 @@
+"""Which program is asked, and what it answers."""
+from __future__ import annotations
+
+import os
+import select
+import shutil
+import signal
+import subprocess
+import sys
+import sysconfig
+import threading
+from pathlib import Path
+from typing import Dict, List, NamedTuple, Sequence, Set
+
+NAME = "pycheck"
+FINDER = Path(__file__).resolve().parent.parent / "program"
+# The exit status of the finder where no program serves
+NO_PROGRAM = 1
+
+
+class NoProgram(Exception):
+    """There is no program to ask; the text says why."""
+
+
+class Broken(NoProgram):
+    """The program of a checkout is broken, and no other one is to be asked in its place."""
+
+
+class Answer(NamedTuple):
+    """What the program answered: its exit status, or minus the signal that ended it; and its two outputs."""
+
+    status: int
+    output: bytes
+    error: bytes
+
+    @property
+    def reason(self) -> str:
+        """Why there is no report, as the program says it, or as its end says it."""
+        if self.status < 0:
+            try:
+                name = signal.Signals(-self.status).name
+            except ValueError:
+                name = "unknown"
+            return f"{NAME} was ended by signal {-self.status} ({name})"
+        said = self.error.decode("utf-8", "replace").strip().splitlines()
+        if said and self.status == 3:
+            return said[0]
+        return f"{NAME} ended with status {self.status} and without a report"
+
+
+def found(name: str) -> str:
+    """The path of a program that is named, or NoProgram."""
+    path = shutil.which(name)
+    if path is None:
+        raise NoProgram(f"{name}: no such program")
+    return os.path.abspath(path)
+
+
+def in_checkout() -> str:
+    """The program of the checkout that this package stands in, as its script says; empty where it is no checkout."""
+    if FINDER.parent.name != "tools" or not os.access(FINDER, os.X_OK):
+        return ""
+    try:
+        done = subprocess.run([str(FINDER), NAME], stdin=subprocess.DEVNULL, capture_output=True)
+    except OSError as fault:
+        raise NoProgram(f"{FINDER}: {fault.strerror}") from None
+    lines = os.fsdecode(done.stdout).splitlines()
+    if done.returncode == 0 and lines:
+        return found(lines[0])
+    said = done.stderr.decode("utf-8", "replace").strip().splitlines()
+    kind = NoProgram if done.returncode == NO_PROGRAM else Broken
+    raise kind(said[-1] if said else f"{FINDER} ended with status {done.returncode}")
+
+
+def beside() -> str:
+    """The program in the folder of the interpreter's scripts, or beside this command; empty where there is none."""
+    for folder in (sysconfig.get_path("scripts"), os.path.dirname(os.path.abspath(sys.argv[0]))):
+        path = shutil.which(os.path.join(folder, NAME)) if folder else None
+        if path:
+            return os.path.abspath(path)
+    return ""
+
+
+def chosen(named: str) -> str:
+    """The program to ask: the one that is named, by a word or by the variable PYCHECK; else the one of the checkout, of
+    the wheel, or on PATH."""
+    named = named or os.environ.get("PYCHECK", "")
+    if named:
+        return found(named)
+    why = "no program: name it by --program or by the variable PYCHECK"
+    try:
+        path = in_checkout()
+    except Broken:
+        raise
+    except NoProgram as fault:
+        path, why = "", str(fault)
+    path = path or beside() or os.path.abspath(shutil.which(NAME) or "")
+    if path == os.path.abspath(""):
+        raise NoProgram(why)
+    return path
+
+
+class Program:
+    """The program, which many threads may ask at once."""
+
+    def __init__(self, path: str) -> None:
+        self.path = path
+        self._running: Set[int] = set()
+        self._lock = threading.Lock()
+        self._stopped = False
+        self._nothing = os.open(os.devnull, os.O_RDONLY)
+        self._variables = dict(os.environ)
+
+    def ask(self, *words: str) -> Answer:
+        """Runs the program with these words. OSError says that it could not be run."""
+        reads, writes = zip(os.pipe(), os.pipe())
+        try:
+            process = self._start(words, writes)
+        except BaseException:
+            for read in reads:
+                os.close(read)
+            raise
+        finally:
+            for write in writes:
+                os.close(write)
+        output, error = read_all(reads)
+        return Answer(self._wait(process), output, error)
+
+    def _start(self, words: Sequence[str], writes: Sequence[int]) -> int:
+        actions = [(os.POSIX_SPAWN_DUP2, file, at) for at, file in enumerate([self._nothing, *writes])]
+        with self._lock:
+            if self._stopped:
+                raise OSError(0, "stopped")
+            process = os.posix_spawn(self.path, [self.path, *words], self._variables, file_actions=actions)
+            self._running.add(process)
+        return process
+
+    def _wait(self, process: int) -> int:
+        _, ended = os.waitpid(process, 0)
+        with self._lock:
+            self._running.discard(process)
+        return -os.WTERMSIG(ended) if os.WIFSIGNALED(ended) else os.WEXITSTATUS(ended)
+
+    def stop(self) -> None:
+        """Ends what still runs, and starts nothing more."""
+        with self._lock:
+            self._stopped = True
+            for process in self._running:
+                try:
+                    os.kill(process, signal.SIGKILL)
+                except ProcessLookupError:
+                    pass
+
+    def version(self) -> str:
+        """What the program says of its version, a line."""
+        answer = self.ask("--version")
+        said = answer.output.decode("utf-8", "replace").strip().splitlines()
+        return said[0] if answer.status == 0 and said else ""
+
+
+def read_all(files: Sequence[int]) -> List[bytes]:
+    """What comes from some open files until their ends, read side by side; they are closed."""
+    parts: Dict[int, List[bytes]] = {file: [] for file in files}
+    poll = select.poll()
+    for file in files:
+        poll.register(file, select.POLLIN)
+    left = len(files)
+    while left:
+        for file, _ in poll.poll():
+            part = os.read(file, 65536)
+            parts[file].append(part)
+            if not part:
+                poll.unregister(file)
+                os.close(file)
+                left -= 1
+    return [b"".join(parts[file]) for file in files]

@@ -1,0 +1,406 @@
+"""All refusals of a file, as a guide.
+
+The program names the first fault of a file that is no module. Here the statement with that fault is replaced by one
+that is allowed there, the program is asked again, and so on. What is found so is a guide, not the program's answer on
+the file: a statement with two faults is listed once, and what stands in for a statement may raise a refusal of its
+own.
+"""
+from __future__ import annotations
+
+import bisect
+import dataclasses
+import itertools
+import keyword
+import os
+import re
+import tempfile
+from typing import Callable, Iterator, List, NamedTuple, Optional, Tuple
+
+from .findings import GUIDE, Finding
+from .source import Text
+
+LIMIT = 100
+HEADER = b"from __future__ import annotations"
+MODULE, CLASS, FUNCTION = "module", "class", "function"
+OPENERS = b"if elif else for while try except finally with def class async match case".split()
+UNCLOSED_TRIES = 20
+# How often a statement is replaced at most, one more than this
+MOST_TRIES = 2
+PIECE = re.compile(
+    rb"""#[^\n]*|\"\"\"(?:[^\\]|\\.)*?\"\"\"|'''(?:[^\\]|\\.)*?'''|"(?:[^"\\\n]|\\.)*"|'(?:[^'\\\n]|\\.)*'"""
+    rb"""|["'][^\n]*|\\\r?\n|[^#"'()\[\]{}\\\n:]+|.""",
+    re.DOTALL,
+)
+NAME = re.compile(rb"(?:async\s+)?(?:def|class)\s+(\w+)")
+Refusal = Callable[[str], Optional[Tuple[str, int]]]
+
+
+class Unanswered(Exception):
+    """The program answered neither a report nor a refusal; the text says why."""
+
+
+class Rest(NamedTuple):
+    """The refusals after the first, and why there may be more; empty where there are no more."""
+
+    findings: List[Finding]
+    unlisted: str
+
+
+@dataclasses.dataclass
+class Statement:
+    """A logical line with the blank and comment lines before it.
+
+    `start` is its first byte in the file, `cut` how many bytes of the file are left out in front (less than 0: put in).
+    `tries` counts how often it was replaced; one that was replaced or put in is no text of the file. `colon` is the
+    byte after the colon that opens a suite, from its own first byte, 0 without one."""
+
+    text: bytes
+    start: int
+    cut: int = 0
+    tries: int = 0
+    colon: int = 0
+    unclosed: bool = False
+
+    @property
+    def code(self) -> bytes:
+        """Its text without the blank and comment lines before it and without its end."""
+        return self.text[self.lead :].strip()
+
+    @property
+    def lead(self) -> int:
+        """The byte of its first word."""
+        at = 0
+        while True:
+            found = re.compile(rb"[ \t]*(?:#[^\n]*)?\r?\n").match(self.text, at)
+            if not found:
+                break
+            at = found.end()
+        return at + len(self.text[at:]) - len(self.text[at:].lstrip(b" \t"))
+
+    @property
+    def indent(self) -> int:
+        """The columns before its first word; a tab counts to the next multiple of 8."""
+        before = self.text[: self.lead].rpartition(b"\n")[2]
+        return len(before.expandtabs(8))
+
+    @property
+    def word(self) -> bytes:
+        """Its first word, or b"@" of a decorator."""
+        found = re.match(rb"\w+|@", self.code)
+        return found[0] if found else b""
+
+    @property
+    def opens(self) -> bool:
+        """Whether it begins as a statement that has a suite."""
+        return self.colon > 0 and self.word in OPENERS
+
+    @property
+    def awaits(self) -> bool:
+        """Whether it ends in the colon that opens a suite."""
+        if self.tries:
+            return self.code.endswith(b":")
+        return self.opens and not re.sub(rb"#[^\n]*", b"", self.text[self.colon :]).strip()
+
+
+def statements(data: bytes) -> Iterator[Statement]:
+    """The statements of a text. Of a bracket that is never closed, the line in which its statement begins is one; after
+    some of those, each line is one."""
+    at, tries = 0, 0
+    while at < len(data):
+        found, closed = statement_at(data, at)
+        if not closed or tries > UNCLOSED_TRIES:
+            tries += 1
+            end = data.find(b"\n", at + found.lead) + 1 or len(data)
+            found = Statement(data[at:end], at, unclosed=True)
+        yield found
+        at += len(found.text)
+
+
+def statement_at(data: bytes, at: int) -> Tuple[Statement, bool]:
+    """The statement at a byte, and whether its brackets are closed."""
+    depth, colon, begun, end = 0, 0, False, at
+    for piece in PIECE.finditer(data, at):
+        sign, end = piece[0], piece.end()
+        if sign in (b"(", b"[", b"{"):
+            depth += 1
+        elif sign in (b")", b"]", b"}"):
+            depth = max(0, depth - 1)
+        elif sign == b":" and depth == 0 and not colon:
+            colon = end - at
+        elif sign == b"\n" and depth == 0 and begun:
+            break
+        begun = begun or not (sign.isspace() or sign.startswith(b"#"))
+    return Statement(data[at:end], at, colon=colon), depth == 0
+
+
+class Draft:
+    """A text in which refused statements are replaced. `unseen` is the byte where a suite begins that was left out."""
+
+    def __init__(self, data: bytes) -> None:
+        self.statements = list(statements(data))
+        self.length = len(data)
+        self.end: Optional[Statement] = None
+        self.headed = False
+        self.unseen: Optional[int] = None
+
+    @property
+    def data(self) -> bytes:
+        """The bytes of the draft."""
+        return b"".join(it.text for it in self.statements)
+
+    def find(self, byte: int) -> Tuple[int, int]:
+        """The number of the statement that a byte of the draft stands in, and the byte within it."""
+        ends = list(itertools.accumulate(len(it.text) for it in self.statements))
+        at = min(bisect.bisect_right(ends, byte), len(ends) - 1)
+        return at, byte - (ends[at] - len(self.statements[at].text))
+
+    def origin(self, byte: int) -> Optional[int]:
+        """The byte of the file where a byte of the draft comes from; none where it was put in."""
+        if byte >= len(self.data) and self.end is None:
+            return self.length
+        at, within = self.find(byte)
+        found = self.statements[at]
+        if found.tries:
+            return None
+        return min(self.length, max(0, found.start + found.cut + within))
+
+    def around(self, at: int) -> Optional[Statement]:
+        """The statement in whose suite a statement stands."""
+        indent = self.statements[at].indent
+        outer = (it for it in reversed(self.statements[:at]) if it.code and it.indent < indent)
+        return next(outer, None)
+
+    def context(self, at: int) -> str:
+        """Where a statement stands: in the module, or in the suite of a class or of something else."""
+        outer = self.around(at)
+        if self.statements[at].indent == 0 or outer is None:
+            return MODULE
+        return CLASS if outer.word == b"class" else FUNCTION
+
+    def has_suite(self, at: int) -> bool:
+        """Whether the next statement is indented more."""
+        rest = self.statements[at + 1 : at + 2]
+        return bool(rest and rest[0].code and rest[0].indent > self.statements[at].indent)
+
+    def mend(self, code: str, byte: int) -> bool:
+        """Changes the draft where it is refused, so that it is not refused there; whether something was changed."""
+        if not self.statements:
+            return self.mend_header()
+        at, within = self.find(byte)
+        if code == "S1":
+            return False
+        if code[0] == "S":
+            return self.mend_bytes(code, at, within)
+        if byte >= len(self.data):
+            return self.mend_end()
+        found = self.statements[at]
+        if code == "G1" and not found.code.startswith(HEADER) and not any(it.code for it in self.statements[:at]):
+            return self.mend_header()
+        if found is self.end:
+            return self.mend_before(at)
+        if found.tries > MOST_TRIES:
+            return False
+        if code == "L7":
+            return self.indent_by_spaces(at)
+        if code == "I1":
+            return self.unindent(at)
+        if code == "I2":
+            return self.open_suite(at)
+        if code == "G1" and self.lacks_suite(at):
+            return self.mend_before(at)
+        self.replace(at)
+        return True
+
+    def lacks_suite(self, at: int) -> bool:
+        """Whether the statement before this one opens a suite that is not there."""
+        before = next((it for it in reversed(self.statements[:at]) if it.code), None)
+        return before is not None and before.awaits and before.indent >= self.statements[at].indent
+
+    def mend_header(self) -> bool:
+        """Puts in the header, which stands first."""
+        self.insert(0, HEADER)
+        self.headed = True
+        return True
+
+    def mend_bytes(self, code: str, at: int, within: int) -> bool:
+        """Mends bytes that no text has."""
+        found = self.statements[at]
+        if code == "S3":
+            found.text, found.cut = found.text[3:], found.cut + 3
+        elif code == "S5":
+            end = found.text.find(b"\n", within)
+            end = end if end >= 0 else len(found.text)
+            found.text = found.text[:within] + b"#" * (end - within) + found.text[end:]
+        elif code == "S2":
+            found.text = re.sub("[\udc80-\udcff]", "_", found.text.decode("utf-8", "surrogateescape")).encode()
+        else:
+            found.text = found.text[:within] + b" " + found.text[within + 1 :]
+        return True
+
+    def mend_end(self) -> bool:
+        """Mends a text after which something must follow."""
+        for found in self.statements:
+            if found.unclosed and not found.tries:
+                self.replace(self.statements.index(found))
+                return True
+        last = self.statements[-1]
+        if not last.text.endswith(b"\n"):
+            last.text += b"\n"
+        if self.mend_before(len(self.statements)):
+            return True
+        if self.end is None:
+            self.end = self.insert(len(self.statements), b"main()")
+            return True
+        return False
+
+    def mend_before(self, at: int) -> bool:
+        """Gives a suite to what opens one before a statement, and takes away a decorator before it."""
+        coded = [number for number, it in enumerate(self.statements[:at]) if it.code]
+        last = self.statements[coded[-1]] if coded else None
+        if last is not None and last.awaits:
+            self.insert(coded[-1] + 1, b" " * (last.indent + 4) + b"pass")
+            return True
+        if last is not None and last.word == b"@":
+            last.text, last.tries = b"\n", last.tries + 1
+            return True
+        return False
+
+    def insert(self, at: int, text: bytes) -> Statement:
+        """Puts in a statement, which is no text of the file."""
+        made = Statement(text + b"\n", 0, tries=1)
+        self.statements.insert(at, made)
+        return made
+
+    def indent_by_spaces(self, at: int) -> bool:
+        """Indents by spaces what is indented by tabs."""
+        found = self.statements[at]
+        lead = found.lead
+        start = found.text.rfind(b"\n", 0, lead) + 1
+        spaces = b" " * found.indent
+        if b"\t" not in found.text[start:lead]:
+            return False
+        found.cut -= len(spaces) - (lead - start)
+        found.text = found.text[:start] + spaces + found.text[lead:]
+        return True
+
+    def unindent(self, at: int) -> bool:
+        """Indents a statement, and those beside it, as the block that is open and nearest on the left."""
+        old = self.statements[at].indent
+        outer = self.around(at)
+        open_columns = [it.indent for it in self.statements[:at] if it.code and it.indent < old]
+        if outer is None or not open_columns:
+            return False
+        new = outer.indent
+        for found in self.statements[at:]:
+            if found.code and found.indent < old:
+                break
+            if found.code and found.indent == old:
+                lead = found.lead
+                found.cut += old - new
+                found.text = found.text[: lead - old] + b" " * new + found.text[lead:]
+        return True
+
+    def open_suite(self, at: int) -> bool:
+        """Opens a suite before a statement that is indented more than the one before it."""
+        column = self.statements[at - 1].indent if at else 0
+        if at and self.statements[at - 1].tries and self.statements[at - 1].code.endswith(b":"):
+            return False
+        place = MODULE if column == 0 else self.context(at - 1)
+        line = {MODULE: b"def refused():", CLASS: b"def refused(self):", FUNCTION: b"if True:"}[place]
+        self.insert(at, b" " * column + line)
+        return True
+
+    def replace(self, at: int) -> None:
+        """Replaces a statement by one that is allowed where it stands; the second time also its suite."""
+        found = self.statements[at]
+        place, spaces = self.context(at), b" " * found.indent
+        if found.tries and place == FUNCTION and found.code.startswith(b"def ") and self.has_suite(at):
+            # It stood in for a method, of a class that is itself no class any more
+            lines = [spaces + b"if True:"]
+        elif found.tries:
+            rest = self.statements[at + 1 :]
+            suite = list(itertools.takewhile(lambda it: not it.code or it.indent > found.indent, rest))
+            if self.unseen is None:
+                self.unseen = next((it.start for it in suite if it.code and not it.tries), None)
+            del self.statements[at + 1 : at + 1 + len(suite)]
+            lines = [] if place == MODULE else [spaces + SIMPLE[place]]
+        elif found.opens or self.has_suite(at):
+            lines = self.opener(at, place)
+        elif found.word == b"@":
+            lines = [spaces + b"@dataclass"] if place == MODULE and self.before_class(at) else []
+        else:
+            lines = [] if place == MODULE else [spaces + SIMPLE[place]]
+        found.text = b"".join(line + b"\n" for line in lines) or b"\n"
+        found.tries += 1
+
+    def before_class(self, at: int) -> bool:
+        """Whether a class follows a decorator."""
+        return any(it.word == b"class" for it in self.statements[at + 1 : at + 2])
+
+    def opener(self, at: int, place: str) -> List[bytes]:
+        """The lines that stand in for a statement that opens a suite."""
+        found = self.statements[at]
+        spaces = b" " * found.indent
+        suite = [] if self.has_suite(at) else [spaces + b"    pass"]
+        named = NAME.match(found.code)
+        name = named[1] if named and is_plain(named[1]) else b"refused"
+        if place == MODULE and found.word == b"class":
+            if at == 0 or self.statements[at - 1].code != b"@dataclass":
+                self.insert(at, b"@dataclass")
+            return [b"class " + name + b":"] + suite
+        if place == MODULE:
+            if at and self.statements[at - 1].word == b"@":
+                self.statements[at - 1].text = b"\n"
+            return [b"def " + name + b"():"] + suite
+        if place == CLASS:
+            return [spaces + b"def " + name + b"(self):"] + suite
+        return [spaces + b"if True:"] + suite
+
+
+SIMPLE = {CLASS: b"refused: int = 0", FUNCTION: b"pass"}
+
+
+def is_plain(name: bytes) -> bool:
+    """Whether the profile takes a name."""
+    text = name.decode("utf-8", "replace")
+    return text.isascii() and text.isidentifier() and not text.startswith("__") and not keyword.iskeyword(text)
+
+
+def unseen(text: Text, byte: int) -> str:
+    """What is said of a suite that was left out."""
+    return f"the suite that begins in line {text.point(byte).line} was left out"
+
+
+def rest_of(text: Text, first: Finding, refusal: Refusal) -> Rest:
+    """The refusals of a file after its first one, up to a limit. `refusal` asks the program of a file, and gives the
+    code and the byte of its refusal, or none; or raises Unanswered."""
+    draft = Draft(text.data)
+    found: List[Finding] = []
+    listed = False
+    code, byte = first.code, first.place.start.byte
+    met = {(code, byte)}
+    with tempfile.TemporaryDirectory(prefix="pycheck-") as folder:
+        path = os.path.join(folder, "module.py")
+        for _ in range(3 * LIMIT):
+            headed = draft.headed
+            if not draft.mend(code, byte):
+                return Rest(found, f"there is no stand-in for what {code} refuses")
+            if draft.headed and not headed and listed:
+                found[-1] = dataclasses.replace(found[-1], headless=True)
+            with open(path, "wb") as file:
+                file.write(draft.data)
+            try:
+                answer = refusal(path)
+            except Unanswered as fault:
+                return Rest(found, str(fault))
+            if answer is None:
+                return Rest(found, "" if draft.unseen is None else unseen(text, draft.unseen))
+            code, byte = answer
+            origin = draft.origin(byte)
+            listed = origin is not None and (code, origin) not in met
+            if origin is not None and listed:
+                met.add((code, origin))
+                found.append(Finding(GUIDE, code, text.token(origin)))
+            if len(found) >= LIMIT:
+                break
+    return Rest(found, f"only the first {len(found)} are listed")

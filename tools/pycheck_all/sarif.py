@@ -1,0 +1,114 @@
+"""The form `sarif`: a log of SARIF 2.1.0, which systems for code scanning read."""
+from __future__ import annotations
+
+import json
+import os
+import urllib.parse
+from typing import Any, Dict, List
+
+from . import codes
+from .findings import DYNAMIC, GUIDE, Checked, Finding, Project, shown
+from .messages import fingerprints, message_of, name_of
+
+SCHEMA = "https://json.schemastore.org/sarif-2.1.0.json"
+
+
+def uri_of(path: str) -> str:
+    """The address of a file; a relative one of a relative path."""
+    quoted = urllib.parse.quote(os.fsencode(os.path.normpath(path)))
+    return f"file://{quoted}" if os.path.isabs(path) else quoted
+
+
+def level_of(kind: str, strict: bool) -> str:
+    """The level of a kind of findings: what does not fail is no error."""
+    if kind == GUIDE:
+        return "note"
+    return "warning" if kind == DYNAMIC and not strict else "error"
+
+
+def rule_of(code: str, strict: bool) -> Dict[str, Any]:
+    """A rule with its help."""
+    entry = codes.entries().get(code)
+    rule: Dict[str, Any] = {"id": code}
+    if entry:
+        text = codes.explained(code, 100)
+        rule.update(
+            name=entry.title,
+            shortDescription={"text": entry.meaning},
+            fullDescription={"text": f"{entry.meaning}. {entry.mend}"},
+            defaultConfiguration={"level": level_of(entry.kind, strict)},
+            help={"text": text, "markdown": f"# {code} {entry.title}\n\n{entry.entry}"},
+        )
+    return rule
+
+
+def location_of(file: Checked, finding: Finding) -> Dict[str, Any]:
+    """The place of a finding."""
+    start, end = finding.place
+    region = {
+        "startLine": start.line,
+        "startColumn": start.column,
+        "endLine": end.line,
+        "endColumn": end.column,
+        "byteOffset": start.byte,
+        "byteLength": end.byte - start.byte,
+    }
+    return {"physicalLocation": {"artifactLocation": {"uri": uri_of(file.path)}, "region": region}}
+
+
+def results_of(file: Checked, rules: List[str], project: Project) -> List[Dict[str, Any]]:
+    """The results of a file. What is known is suppressed, and stays in the log."""
+    results = []
+    for it, mark in zip(file.findings, fingerprints(file)):
+        result: Dict[str, Any] = {
+            "ruleId": it.code,
+            "ruleIndex": rules.index(it.code),
+            "level": level_of(it.kind, project.strict),
+            "message": {"text": f"{name_of(it)}: {message_of(file, it)}"},
+            "locations": [location_of(file, it)],
+            "partialFingerprints": {"pathCodeLine/v1": mark},
+        }
+        if it.known:
+            result["suppressions"] = [{"kind": "external", "justification": "known in the baseline"}]
+        results.append(result)
+    return results
+
+
+def notifications(project: Project) -> List[Dict[str, Any]]:
+    """What is to be told beside the results: files that could not be checked, and what is gone."""
+    found = []
+    for file in project.files:
+        location = {"physicalLocation": {"artifactLocation": {"uri": uri_of(file.path)}}}
+        if file.failure:
+            text = f"not checked: {file.failure}"
+            found.append({"level": "error", "message": {"text": text}, "locations": [location]})
+        if file.unlisted:
+            text = f"there may be more refusals: {file.unlisted}"
+            found.append({"level": "note", "message": {"text": text}, "locations": [location]})
+    for entry in project.gone:
+        text = f"known but gone: {shown(entry.path)}: {entry.code}: {entry.line}"
+        found.append({"level": "note", "message": {"text": text}})
+    return found
+
+
+def document(project: Project) -> str:
+    """The log."""
+    rules = sorted(project.codes())
+    driver = {
+        "name": "pycheck",
+        "version": project.version.rpartition(" ")[2] or "unknown",
+        "rules": [rule_of(code, project.strict) for code in rules],
+    }
+    run = {
+        "tool": {"driver": driver},
+        "columnKind": "unicodeCodePoints",
+        "invocations": [
+            {
+                "executionSuccessful": not any(it.failure for it in project.files),
+                "exitCode": project.status,
+                "toolExecutionNotifications": notifications(project),
+            }
+        ],
+        "results": [result for file in project.files for result in results_of(file, rules, project)],
+    }
+    return json.dumps({"$schema": SCHEMA, "version": "2.1.0", "runs": [run]}, indent=1)

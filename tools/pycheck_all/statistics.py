@@ -1,0 +1,15 @@
+"""How often each code stands."""
+from __future__ import annotations
+
+from typing import Iterator
+
+from . import codes
+from .findings import Project
+
+
+def lines(project: Project) -> Iterator[str]:
+    """A line for each code that stands somewhere, known findings included: number, code, title; the most first."""
+    counts = project.codes()
+    width = len(str(max(counts.values(), default=0)))
+    for code, count in sorted(counts.items(), key=lambda it: (-it[1], it[0])):
+        yield f"{count:>{width}}  {code:<3}  {codes.title_of(code)}".rstrip()

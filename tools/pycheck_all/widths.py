@@ -1,0 +1,74 @@
+"""How wide characters stand on a terminal, and lines that are cut to a width."""
+from __future__ import annotations
+
+import re
+import unicodedata
+from typing import List, NamedTuple
+
+TAB = 4
+REPLACEMENT = "\ufffd"
+# What steers a terminal, what is no character, and what turns the direction of a line; a tab is none of them
+UNFIT = re.compile("[\x00-\x08\x0a-\x1f\x7f-\x9f\ud800-\udfff\u202a-\u202e\u2066-\u2069]")
+
+
+def drawn(character: str) -> str:
+    """What is shown for a character: blanks for a tab, a replacement for what cannot be shown."""
+    return " " * TAB if character == "\t" else UNFIT.sub(REPLACEMENT, character)
+
+
+def width_of(text: str) -> int:
+    """The columns of a terminal that a text takes: two for each wide character, none for each that combines."""
+    if text.isascii():
+        return len(text)
+    return sum(width_of_one(it) for it in text)
+
+
+def width_of_one(character: str) -> int:
+    """The columns of one character."""
+    if unicodedata.combining(character) or unicodedata.category(character) in ("Mn", "Me", "Cf"):
+        return 0
+    return 2 if unicodedata.east_asian_width(character) in "WF" else 1
+
+
+class Cut(NamedTuple):
+    """A line as it is shown, and the columns, from 0, at which the marked part starts and ends."""
+
+    text: str
+    start: int
+    end: int
+
+
+def cut(line: str, start: int, end: int, width: int) -> Cut:
+    """A line cut to a width, so that the marked characters, from `start` to before `end`, can be seen; a mark has at
+    least one column."""
+    pieces = [drawn(it) for it in line]
+    first, last = 0, len(pieces)
+    if width_of("".join(pieces)) > width:
+        first = first_shown(pieces, start, end, width)
+        last = last_shown(pieces, first, width)
+    before = "…" if first else ""
+    after = "…" if last < len(pieces) else ""
+    left = width_of(before + "".join(pieces[first : max(first, start)]))
+    marked = width_of("".join(pieces[max(first, start) : max(first, min(last, end))]))
+    return Cut(before + "".join(pieces[first:last]) + after, left, left + max(1, marked))
+
+
+def first_shown(pieces: List[str], start: int, end: int, width: int) -> int:
+    """The first character to show: the line's where the mark fits so, else one that leaves room before it."""
+    if width_of("".join(pieces[:end])) <= width - 1:
+        return 0
+    room = max(0, min(width // 3, width - 2 - width_of("".join(pieces[start:end]))))
+    first = start
+    while first and width_of("".join(pieces[first - 1 : start])) <= room:
+        first -= 1
+    return first
+
+
+def last_shown(pieces: List[str], first: int, width: int) -> int:
+    """The character after the last to show."""
+    room = width - (2 if first else 1)
+    last = first
+    while last < len(pieces) and width_of(pieces[last]) <= room:
+        room -= width_of(pieces[last])
+        last += 1
+    return last
