@@ -15,7 +15,8 @@ done
 echo "{last}"
 exit {status}
 """
-SLOW_STEPS = ("tools/check_definitions", "tools/check_codes", "tools/compare_rows")
+SLOW_STEPS = ("tools/check_definitions", "tools/check_edits", "tools/check_tested", "tests/tools/run", "tools/check_codes",
+              "tools/compare_rows", "tools/generated", "tests/memory/run", "tests/mypy/run")
 
 
 class Gate(RoomCase):
@@ -74,9 +75,10 @@ class Gate(RoomCase):
         self.assertIn("tools/release writes the shipped programs anew", done.stderr)
 
     def test_each_step_that_fails_is_told(self) -> None:
-        commands = {"tools/check_definitions": "definitions", "tools/check_codes": "pages",
-                    "tools/compare_rows": "examples left_out", "tests/release/run": "release",
-                    "tests/reports/run": "reports"}
+        commands = {"tools/check_definitions": "definitions", "tools/check_edits": "edits", "tools/check_tested": "tested",
+                    "tests/tools/run": "tools", "tools/check_codes": "pages", "tools/compare_rows": "examples left_out",
+                    "tools/generated": "generated", "tests/memory/run": "memory", "tests/mypy/run": "mypy",
+                    "tests/release/run": "release", "tests/reports/run": "reports"}
         for step, names in commands.items():
             with self.subTest(step):
                 kept = (self.clone / step).read_text(encoding="utf-8").splitlines()[1]
@@ -103,11 +105,9 @@ class Gate(RoomCase):
 
     def test_a_runner_that_is_not_there(self) -> None:
         (self.clone / "tests" / "reports" / "run").unlink()
-        done = self.gate()
-        self.assertEqual(done.returncode, 0, done.stderr)
-        self.assertEqual(self.last_lines(done, 1), ["in the step reports skipped tests/reports/run: it is not there"])
+        self.assert_failed(self.gate(), "reports")
         (self.clone / "tests" / "release" / "run").unlink()
-        self.assert_failed(self.gate(), "release")
+        self.assert_failed(self.gate(), "release reports")
 
     def test_where_the_proofs_fail_no_program_is_tried(self) -> None:
         self.prove(1, "74 passed, 1 failed")

@@ -15,6 +15,7 @@ ghost use Rattle.pc_check.specs.Internal.ModuleWalk.{module_in, IsModuleSetting}
 
 use crate::bodies::{ModuleSetting, check_owned};
 use pc_class::ClassTable;
+use pc_expr::Checker;
 use pc_notes::Notes;
 use pc_scope::{Owner, Scopes};
 use pc_signatures::read_signatures;
@@ -123,7 +124,12 @@ pub fn check_module<S: TypeStore>(
     ensures found { OnOk result (notes_of found.new ≡ module_finds (module_of tree.now) (notes_of found.old)) }
     ensures kept { KeepsTypes S.has store.old store.new }
 {
-    let signatures = read_signatures(store, alloc, parents, tree, scopes, classes, found)?;
+    let mut checker = Checker {
+        store,
+        alloc,
+        found,
+    };
+    let signatures = read_signatures(&mut checker, parents, tree, scopes, classes)?;
     let known = count_classes(tree.items.as_slice());
     let setting = ModuleSetting {
         tree,

@@ -70,7 +70,7 @@ fn command<'a>(alloc: Global) -> Result<Command<'a>, AllocError>
     ensures { IfOk result (λ c. app_of c ≡ command_line) }
 {
     Command::new(alloc, "pycheck")
-        .version("0.1.0")
+        .version("1.0.0")
         .about("Checks the types of a module of the profile, and prints the report")
         .no_binary_name(true)
         .arg(json_argument(alloc))?

@@ -59,7 +59,7 @@ fn command<'a>(alloc: Global) -> Result<Command<'a>, AllocError>
         .action(ArgAction::Set)
         .help("The module to run");
     Command::new(alloc, "pyrun")
-        .version("0.1.0")
+        .version("1.0.0")
         .about("Runs a module of the profile in the model, and prints its trace")
         .no_binary_name(true)
         .arg(fuel)?

@@ -1,5 +1,5 @@
 -- What is found in a condition whose own label has no code: what is found in its parts.
-use Rattle.std.proofs.Common.{◌≡◌, ◌++◌, sym, ap, ◌∙◌, Option, None}
+use Rattle.std.proofs.Common.{◌≡◌, ◌++◌, sym, ap, ◌∙◌, None}
 use Rattle.std.specs.Prelude.{List, true, false}
 use Rattle.std.proofs.lemmas.List.{append-nil}
 use Rattle.pc_source.specs.declared.place.Place.{Place}

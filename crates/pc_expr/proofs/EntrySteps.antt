@@ -17,6 +17,7 @@ use Rattle.pc_rules.specs.Computed.{flows_of}
 use Rattle.pc_rules.specs.Found.{brief, flows_at}
 use Rattle.pc_rules.specs.declared.label.Label.{Label}
 use Rattle.pc_rules.specs.Standing.{Standing, mark_with, mark_in, finds_in, keys_in, values_in, entries_find, keywords_find}
+use Rattle.pc_expr.proofs.Checkers.{in_turn}
 use Rattle.pc_expr.proofs.Forms.{keys_none, keys_more, values_none, values_more, entries_none, entries_more, keywords_none, keywords_more}
 use Rattle.pc_expr.proofs.Typed.{type_is, two_found}
 
@@ -50,16 +51,19 @@ module _ (k : Standing) (x y : Seat) (es : List RustEntry) (i : ℕ) (e : RustEn
         ∙ ap (λ ts. map tree out ++ ts) (sym (ap (λ rest. values_in k x y (entries_of_list rest)) (cons_at es i e lt is) ∙ values_more k x y (expr_of e.key) (expr_of e.value) (entries_of_list (drop (i + 1) es))))
         ∙ h
 
-  pub entries_step : (old a b c last all : List Note) → a ≡ old ++ finds_in k x.want (expr_of e.key) → b ≡ a ++ flows_at (place_of (expr_of e.key)) (flows_of k.context.bases (mark_in k x.want (expr_of e.key)) x.into) →
-      c ≡ b ++ finds_in k y.want (expr_of e.value) → last ≡ c ++ flows_at (place_of (expr_of e.value)) (flows_of k.context.bases (mark_in k y.want (expr_of e.value)) y.into) →
+  pub entries_step : (old b last all : List Note) →
+      b ≡ old ++ (finds_in k x.want (expr_of e.key) ++ flows_at (place_of (expr_of e.key)) (flows_of k.context.bases (mark_in k x.want (expr_of e.key)) x.into)) →
+      last ≡ b ++ (finds_in k y.want (expr_of e.value) ++ flows_at (place_of (expr_of e.value)) (flows_of k.context.bases (mark_in k y.want (expr_of e.value)) y.into)) →
       old ++ entries_from k x y es i ≡ all → last ++ entries_from k x y es (i + 1) ≡ all
-  entries_step old a b c last all ha hb hc hl h =
+  entries_step old b last all hb hl h =
       let p = finds_in k x.want (expr_of e.key) in
       let q = flows_at (place_of (expr_of e.key)) (flows_of k.context.bases (mark_in k x.want (expr_of e.key)) x.into) in
       let r = finds_in k y.want (expr_of e.value) in
       let s = flows_at (place_of (expr_of e.value)) (flows_of k.context.bases (mark_in k y.want (expr_of e.value)) y.into) in
       let rest = entries_from k x y es (i + 1) in
-      two_found old a (last ++ rest) p (q ++ (r ++ (s ++ rest))) ha (two_found a b (last ++ rest) q (r ++ (s ++ rest)) hb (two_found b c (last ++ rest) r (s ++ rest) hc (two_found c last (last ++ rest) s rest hl refl)))
+      two_found old (old ++ p) (last ++ rest) p (q ++ (r ++ (s ++ rest))) refl
+      (two_found (old ++ p) b (last ++ rest) q (r ++ (s ++ rest)) (in_turn old p q b hb)
+      (two_found b (b ++ r) (last ++ rest) r (s ++ rest) refl (two_found (b ++ r) last (last ++ rest) s rest (in_turn b r s last hl) refl)))
       ∙ ap (λ fs. old ++ fs) (sym (ap (λ l. entries_find k x y (entries_of_list l)) (cons_at es i e lt is) ∙ entries_more k x y (expr_of e.key) (expr_of e.value) (entries_of_list (drop (i + 1) es))))
       ∙ h
 
@@ -95,17 +99,19 @@ module _ (k : Standing) (seat : List ℕ → Seat) where
   module _ (es : List RustKeyword) (i : ℕ) (a : RustKeyword) (lt : i < length es) (is : a ≡ get_or es i a) where
     -- an argument further
     pub keywords_step : (before later : List (List ℕ)) → HaveSame later ((name_of a.name).text ∷ before) → (w : Option Tree) (ts : List Tree) → w ≡ (keyword_seat seat before (name_of a.name)).want → ts ≡ (keyword_seat seat before (name_of a.name)).into →
-        (old new last all : List Note) → new ≡ old ++ finds_in k w (expr_of a.value) → last ≡ new ++ flows_at (place_of (expr_of a.value)) (flows_of k.context.bases (mark_in k w (expr_of a.value)) ts) →
+        (old last all : List Note) → last ≡ old ++ (finds_in k w (expr_of a.value) ++ flows_at (place_of (expr_of a.value)) (flows_of k.context.bases (mark_in k w (expr_of a.value)) ts)) →
         old ++ keywords_find k seat before (keywords_of_list (drop i es)) ≡ all → last ++ keywords_find k seat later (keywords_of_list (drop (i + 1) es)) ≡ all
-    keywords_step before later same w ts wants into old new last all n l h =
+    keywords_step before later same w ts wants into old last all l h =
         let e = expr_of a.value in
         let s = keyword_seat seat before (name_of a.name) in
         let rest = keywords_find k seat ((name_of a.name).text ∷ before) (keywords_of_list (drop (i + 1) es)) in
+        let new = old ++ finds_in k w e in
         ap (λ fs. last ++ fs) (keywords_same later ((name_of a.name).text ∷ before) same (keywords_of_list (drop (i + 1) es)))
         ∙ two_found old new (last ++ rest) (finds_in k s.want e) (flows_at (place_of e) (flows_of k.context.bases (mark_in k s.want e) s.into) ++ rest)
-        (n ∙ ap (λ x. old ++ finds_in k x e) wants)
+        (ap (λ x. old ++ finds_in k x e) wants)
         (two_found new last (last ++ rest) (flows_at (place_of e) (flows_of k.context.bases (mark_in k s.want e) s.into)) rest
-        (l ∙ ap (λ x. new ++ flows_at (place_of e) (flows_of k.context.bases (mark_in k x e) ts)) wants ∙ ap (λ z. new ++ flows_at (place_of e) (flows_of k.context.bases (mark_in k s.want e) z)) into) refl)
+        (in_turn old (finds_in k w e) (flows_at (place_of e) (flows_of k.context.bases (mark_in k w e) ts)) last l
+        ∙ ap (λ x. new ++ flows_at (place_of e) (flows_of k.context.bases (mark_in k x e) ts)) wants ∙ ap (λ z. new ++ flows_at (place_of e) (flows_of k.context.bases (mark_in k s.want e) z)) into) refl)
         ∙ ap (λ fs. old ++ fs) (sym (ap (λ x. keywords_find k seat before (keywords_of_list x)) (cons_at es i a lt is) ∙ keywords_more k seat before (name_of a.name) e (keywords_of_list (drop (i + 1) es))))
         ∙ h
 

@@ -1,5 +1,6 @@
 pub mod CallForms
 pub mod CalleesTyped
+pub mod Checkers
 pub mod ConditionsTyped
 pub mod EntrySteps
 pub mod Forms

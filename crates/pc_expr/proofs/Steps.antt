@@ -16,6 +16,7 @@ use Rattle.pc_rules.specs.Calls.{Seat}
 use Rattle.pc_rules.specs.Computed.{flows_of}
 use Rattle.pc_rules.specs.Found.{brief, once, flows_at}
 use Rattle.pc_rules.specs.declared.label.Label.{Label}
+use Rattle.pc_expr.proofs.Checkers.{in_turn}
 use Rattle.pc_expr.proofs.Typed.{type_is}
 use Rattle.pc_rules.specs.Standing.{Standing, mark_with, mark_in, finds_in, types_in, items_find}
 use Rattle.pc_expr.specs.Typing.{early_in}
@@ -91,11 +92,17 @@ module _ (k : Standing) (seat : ℕ → Seat) (items : List RustExpr) (i : ℕ) 
       map tree out ++ types_from k seat items i ≡ all → map tree (out ++ l.ty ∷ []) ++ types_from k seat items (i + 1) ≡ all
   seated_types tree out l all m h = types_step k seat items i e lt is tree out l.ty all (type_is tree l (mark_in k w (expr_of e)) m ∙ ap (λ x. (mark_in k x (expr_of e)).type) wants) h
 
-  pub seated_finds : (ts : List Tree) → ts ≡ (seat i).into → (old new last all : List Note) → new ≡ old ++ finds_in k w (expr_of e) → last ≡ new ++ flows_at (place_of (expr_of e)) (flows_of k.context.bases (mark_in k w (expr_of e)) ts) →
+  pub seated_finds : (ts : List Tree) → ts ≡ (seat i).into → (old last all : List Note) →
+      last ≡ old ++ (finds_in k w (expr_of e) ++ flows_at (place_of (expr_of e)) (flows_of k.context.bases (mark_in k w (expr_of e)) ts)) →
       old ++ finds_from k seat items i ≡ all → last ++ finds_from k seat items (i + 1) ≡ all
-  seated_finds ts into old new last all n l h =
-      finds_step k seat items i e lt is old new last all (n ∙ ap (λ x. old ++ finds_in k x (expr_of e)) wants)
-      (l ∙ ap (λ x. new ++ flows_at (place_of (expr_of e)) (flows_of k.context.bases (mark_in k x (expr_of e)) ts)) wants ∙ ap (λ y. new ++ flows_at (place_of (expr_of e)) (flows_of k.context.bases (mark_in k (seat i).want (expr_of e)) y)) into) h
+  seated_finds ts into old last all l h =
+      let p = place_of (expr_of e) in
+      let finds = finds_in k w (expr_of e) in
+      let flows = flows_at p (flows_of k.context.bases (mark_in k w (expr_of e)) ts) in
+      let new = old ++ finds in
+      finds_step k seat items i e lt is old new last all (ap (λ x. old ++ finds_in k x (expr_of e)) wants)
+      (in_turn old finds flows last l ∙ ap (λ x. new ++ flows_at p (flows_of k.context.bases (mark_in k x (expr_of e)) ts)) wants
+      ∙ ap (λ y. new ++ flows_at p (flows_of k.context.bases (mark_in k (seat i).want (expr_of e)) y)) into) h
 
 -- ---- the end
 

@@ -1,2 +1,3 @@
+pub mod Checkers
 pub mod Internal
 pub mod Typing

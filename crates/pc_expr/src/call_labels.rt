@@ -1,4 +1,5 @@
 //! The label of a call, and what a callee is that is no function, class or method.
+#![tactic(auto, using(crate::proofs::Checkers::goes_further))]
 
 ghost use Rattle.std.specs.Prelude.{◌≡◌, ◌++◌, true, length, map, All, IfOk, OnOk};
 ghost use Rattle.pc_source.specs.declared.place.Place.{Place};
@@ -10,14 +11,15 @@ ghost use Rattle.pc_class.specs.Tables.{HasEntries};
 ghost use Rattle.pc_flow.specs.Stored.{env_of, HasEach};
 ghost use Rattle.pc_notes.specs.Notes.{notes_of};
 ghost use Rattle.pc_rules.specs.Operations.{Mark};
-ghost use Rattle.pc_rules.specs.Calls.{value_callee};
 ghost use Rattle.pc_rules.specs.Labels.{second_place};
 ghost use Rattle.pc_rules.specs.Lawful.{whole_call_mark};
 ghost use Rattle.pc_rules.specs.Found.{brief, notes_of_code};
-ghost use Rattle.pc_rules.specs.Standing.{mark_with, context_with, HasGivenAll, IsMark};
+ghost use Rattle.pc_rules.specs.Standing.{mark_with, context_with, HasGivenAll};
 ghost use Rattle.pc_call.specs.JudgedCalls.{offer_called, rule_of, second_code_of, HasCallOffer, IsCallee};
 ghost use Rattle.pc_expr.specs.Typing.{unnamed_callee};
+ghost use Rattle.pc_expr.specs.Checkers.{Finds, GoesOn, IsLabel};
 
+use crate::checker::Checker;
 use crate::items::Typed;
 use crate::whole::call_label;
 use pc_call::{CallOffer, Callee, callee_in_error, callee_of_value, second_code};
@@ -72,35 +74,40 @@ fn find_code(place: Place, code: Option<Code>, found: &mut Notes) -> Result<(), 
 /// The label of a call over the types of its arguments, with what is found at its second argument.
 /// Language Reference 6.3.4 "Calls".
 pub(crate) fn label_call<S: TypeStore, R: Resolver>(
-    store: &mut S,
-    alloc: Global,
+    checker: &mut Checker<'_, S>,
     setting: &Setting<'_, S::Ty, R>,
     env: &Env<S::Ty>,
     place: Place,
     callee: &Callee<'_, S::Ty>,
     arguments: &[Expr],
     typed: &Typed<S::Ty>,
-    found: &mut Notes,
 ) -> Result<Label<S::Ty>, OutOfMemory>
-    requires classes { HasEntries (S.has store.old) setting.now.classes.now }
-    requires env { HasEach (S.has store.old) env.now }
-    requires offers { All (HasCallOffer (S.has store.old)) callee.now.offers.items }
-    requires types { All (S.has store.old) typed.now.types.items }
+    requires classes { HasEntries (S.has checker.old.store.now) setting.now.classes.now }
+    requires env { HasEach (S.has checker.old.store.now) env.now }
+    requires offers { All (HasCallOffer (S.has checker.old.store.now)) callee.now.offers.items }
+    requires types { All (S.has checker.old.store.now) typed.now.types.items }
     ensures value { IfOk result
-        (λ l. IsMark S.has S.tree store.new l
+        (λ l. IsLabel S.TypeStore checker.new l
         (whole_call_mark (context_with S.tree R.meaning setting.now) (env_of S.tree env.now) (rule_of callee.now.rule)
         (map (offer_called S.tree) callee.now.offers.items) (exprs_of_list arguments.now)
         (map S.tree typed.now.types.items))) }
-    ensures pushed { OnOk result
-        (notes_of found.new ≡ notes_of found.old
-        ++ notes_of_code (second_place (exprs_of_list arguments.now) place)
+    ensures found { OnOk result (Finds checker.old checker.new
+        (notes_of_code (second_place (exprs_of_list arguments.now) place)
         (second_code_of (R.meaning setting.now.names.now) (rule_of callee.now.rule)
-        (exprs_of_list arguments.now) typed.now.early)) }
-    ensures kept { KeepsTypes S.has store.old store.new }
+        (exprs_of_list arguments.now) typed.now.early))) }
+    ensures goes_on { GoesOn S.TypeStore checker.old checker.new }
 {
     let code = second_code(setting.names, callee.rule, arguments, typed.early);
-    find_code(second_place(arguments, place), code, found)?;
-    call_label(store, alloc, setting, env, callee, arguments, &typed.types)
+    find_code(second_place(arguments, place), code, checker.found)?;
+    call_label(
+        checker.store,
+        checker.alloc,
+        setting,
+        env,
+        callee,
+        arguments,
+        &typed.types,
+    )
 }
 
 /// Whether a call is a test of an instance; then it has two arguments by position.

@@ -1,21 +1,20 @@
 //! The labels of calls, with what is found in their callees and arguments.
-#![tactic(auto, using(pc_rules::proofs::Kept::stands_further))]
+#![tactic(auto, using(pc_rules::proofs::Kept::stands_further, crate::proofs::Checkers::goes_further))]
 
-ghost use Rattle.std.specs.Prelude.{◌≡◌, ◌++◌, IfOk, OnOk, None, [], true, map, length, All, Option};
+ghost use Rattle.std.specs.Prelude.{◌≡◌, IfOk, OnOk, None, [], true, map, length, All, Option};
 ghost use Rattle.pc_tree.specs.Tree.{expr_of};
 ghost use Rattle.pc_tree.specs.Lists.{exprs_of_list, keywords_of_list};
 ghost use Rattle.pc_types.specs.Tree.{Tree};
-ghost use Rattle.pc_types.specs.Store.{KeepsTypes};
-ghost use Rattle.pc_notes.specs.Notes.{notes_of};
 ghost use Rattle.pc_rules.specs.Calls.{positional_seat, named_seat};
 ghost use Rattle.pc_rules.specs.Standing.{standing_of, mark_in, parts_find, arguments_find, keywords_find};
-ghost use Rattle.pc_rules.specs.Standing.{HasGivenAll, IsMark};
 ghost use Rattle.pc_call.specs.JudgedCalls.{given_with, offer_called, HasCallOffer, IsCallee};
 ghost use Rattle.pc_expr.specs.Typing.{callee_in};
 ghost use Rattle.pc_expr.specs.Internal.Seats.{AreTyped};
 ghost use Rattle.pc_expr.specs.Internal.Forms.{IsCall};
+ghost use Rattle.pc_expr.specs.Checkers.{Finds, GoesOn, IsLabel, Stands};
 
 use crate::call_labels::{callee_of_other, is_test, label_call, still_called};
+use crate::checker::Checker;
 use crate::items::{Typed, early_at};
 use crate::typing::{label_expr, type_expr, type_seated};
 use indexmap::IndexSet;
@@ -30,50 +29,35 @@ use pc_rules::{Label, Setting, find_codes, is_early};
 use pc_source::OutOfMemory;
 use pc_tree::{Expr, KeywordArgument};
 use pc_types::TypeStore;
-use std::alloc::Global;
 
 /// The label of a call, with what is found in its callee and its arguments. Language Reference 6.3.4 "Calls".
 #[cycle(typing)]
 pub(crate) fn label_called<S: TypeStore, R: Resolver>(
-    store: &mut S,
-    alloc: Global,
+    checker: &mut Checker<'_, S>,
     setting: &Setting<'_, S::Ty, R>,
     env: &Env<S::Ty>,
     e: &Expr,
-    found: &mut Notes,
 ) -> Result<Label<S::Ty>, OutOfMemory>
-    requires given { HasGivenAll (S.has store.old) S.tree setting.now env.now }
+    requires given { Stands S.TypeStore checker.old setting.now env.now }
     requires form { IsCall e.now }
     ensures marked { (expected : Option Tree) → IfOk result
-        (λ l. IsMark S.has S.tree store.new l
+        (λ l. IsLabel S.TypeStore checker.new l
         (mark_in (standing_of S.tree R.meaning setting.now env.now) expected (expr_of e.now))) }
-    ensures pushed { (expected : Option Tree) → OnOk result
-        (notes_of found.new ≡ notes_of found.old
-        ++ parts_find (standing_of S.tree R.meaning setting.now env.now) expected (expr_of e.now)) }
-    ensures kept { KeepsTypes S.has store.old store.new }
+    ensures found { (expected : Option Tree) → OnOk result (Finds checker.old checker.new
+        (parts_find (standing_of S.tree R.meaning setting.now env.now) expected (expr_of e.now))) }
+    ensures goes_on { GoesOn S.TypeStore checker.old checker.new }
 {
     match e {
         Expr::Call(place, callee, arguments, by_name) => {
-            let given = given(alloc, arguments, by_name)?;
-            let called = label_callee(store, alloc, setting, env, &given, callee, found)?;
-            find_codes(callee.place(), &called.label.codes, found)?;
+            let given = given(checker.alloc, arguments, by_name)?;
+            let called = label_callee(checker, setting, env, &given, callee)?;
+            find_codes(callee.place(), &called.label.codes, checker.found)?;
             let is_test = is_test(callee, arguments, by_name);
-            still_called(store, setting, env, &called.offers);
-            let typed = type_arguments(
-                store,
-                alloc,
-                setting,
-                env,
-                is_test,
-                &called.offers,
-                arguments,
-                found,
-            )?;
-            still_called(store, setting, env, &called.offers);
-            type_keywords(store, alloc, setting, env, &called.offers, by_name, found)?;
-            label_call(
-                store, alloc, setting, env, *place, &called, arguments, &typed, found,
-            )
+            still_called(checker.store, setting, env, &called.offers);
+            let typed = type_arguments(checker, setting, env, is_test, &called.offers, arguments)?;
+            still_called(checker.store, setting, env, &called.offers);
+            type_keywords(checker, setting, env, &called.offers, by_name)?;
+            label_call(checker, setting, env, *place, &called, arguments, &typed)
         }
         _ => unreachable!(),
     }
@@ -83,32 +67,36 @@ pub(crate) fn label_called<S: TypeStore, R: Resolver>(
 /// error.
 #[cycle(typing)]
 fn label_callee<'t, S: TypeStore, R: Resolver>(
-    store: &mut S,
-    alloc: Global,
+    checker: &mut Checker<'_, S>,
     setting: &Setting<'t, S::Ty, R>,
     env: &Env<S::Ty>,
     given: &Given,
     callee: &Expr,
-    found: &mut Notes,
 ) -> Result<Callee<'t, S::Ty>, OutOfMemory>
-    requires given { HasGivenAll (S.has store.old) S.tree setting.now env.now }
+    requires given { Stands S.TypeStore checker.old setting.now env.now }
     ensures called { IfOk result
-        (λ c. IsCallee S.has S.tree store.new c
+        (λ c. IsCallee S.has S.tree checker.new.store.now c
         (callee_in (standing_of S.tree R.meaning setting.now env.now) (given_with given.now) (expr_of callee.now))) }
-    ensures pushed { OnOk result
-        (notes_of found.new ≡ notes_of found.old
-        ++ parts_find (standing_of S.tree R.meaning setting.now env.now) None (expr_of callee.now)) }
-    ensures kept { KeepsTypes S.has store.old store.new }
+    ensures found { OnOk result (Finds checker.old checker.new
+        (parts_find (standing_of S.tree R.meaning setting.now env.now) None (expr_of callee.now))) }
+    ensures goes_on { GoesOn S.TypeStore checker.old checker.new }
 {
     match callee {
-        Expr::Name(name) => callee_of_name(store, alloc, setting, env, given, name),
+        Expr::Name(name) => callee_of_name(checker.store, checker.alloc, setting, env, given, name),
         Expr::Attribute(_, object, field) => {
             if setting.in_body {
-                let label = type_expr(store, alloc, setting, env, &None, object, found)?;
-                return callee_of_method(store, alloc, setting, given, field, &label.ty);
+                let label = type_expr(checker, setting, env, &None, object)?;
+                return callee_of_method(
+                    checker.store,
+                    checker.alloc,
+                    setting,
+                    given,
+                    field,
+                    &label.ty,
+                );
             }
-            let label = label_expr(store, alloc, setting, env, &None, callee, found)?;
-            callee_of_other(store, alloc, setting, label)
+            let label = label_expr(checker, setting, env, &None, callee)?;
+            callee_of_other(checker.store, checker.alloc, setting, label)
         }
         Expr::Int(_, _)
         | Expr::Str(_, _)
@@ -128,8 +116,8 @@ fn label_callee<'t, S: TypeStore, R: Resolver>(
         | Expr::Or(_, _, _)
         | Expr::Index(_, _, _)
         | Expr::Call(_, _, _, _) => {
-            let label = label_expr(store, alloc, setting, env, &None, callee, found)?;
-            callee_of_other(store, alloc, setting, label)
+            let label = label_expr(checker, setting, env, &None, callee)?;
+            callee_of_other(checker.store, checker.alloc, setting, label)
         }
     }
 }
@@ -138,42 +126,36 @@ fn label_callee<'t, S: TypeStore, R: Resolver>(
 /// named too early.
 #[cycle(typing)]
 fn type_tested<S: TypeStore, R: Resolver>(
-    store: &mut S,
-    alloc: Global,
+    checker: &mut Checker<'_, S>,
     setting: &Setting<'_, S::Ty, R>,
     env: &Env<S::Ty>,
     offers: &[CallOffer<'_, S::Ty>],
     arguments: &[Expr],
-    found: &mut Notes,
 ) -> Result<Typed<S::Ty>, OutOfMemory>
-    requires given { HasGivenAll (S.has store.old) S.tree setting.now env.now }
-    requires offers { All (HasCallOffer (S.has store.old)) offers.now }
+    requires given { Stands S.TypeStore checker.old setting.now env.now }
+    requires offers { All (HasCallOffer (S.has checker.old.store.now)) offers.now }
     requires two { length arguments.now ≡ 2 }
     ensures typed { IfOk result
-        (λ t. AreTyped S.has S.tree store.new (standing_of S.tree R.meaning setting.now env.now) t
+        (λ t. AreTyped S.has S.tree checker.new.store.now (standing_of S.tree R.meaning setting.now env.now) t
         (positional_seat (map (offer_called S.tree) offers.now)) (exprs_of_list arguments.now)) }
-    ensures pushed { OnOk result
-        (notes_of found.new ≡ notes_of found.old
-        ++ arguments_find (standing_of S.tree R.meaning setting.now env.now) true
-        (positional_seat (map (offer_called S.tree) offers.now)) (exprs_of_list arguments.now)) }
-    ensures kept { KeepsTypes S.has store.old store.new }
+    ensures found { OnOk result (Finds checker.old checker.new
+        (arguments_find (standing_of S.tree R.meaning setting.now env.now) true
+        (positional_seat (map (offer_called S.tree) offers.now)) (exprs_of_list arguments.now))) }
+    ensures goes_on { GoesOn S.TypeStore checker.old checker.new }
 {
-    let seat = positional_seat(store, alloc, offers, 0)?;
-    let tested = type_expr(store, alloc, setting, env, &seat.want, &arguments[0], found)?;
-    let seat = positional_seat(store, alloc, offers, 1)?;
-    let mut unseen = Notes::new(alloc);
-    still_stands(store, setting, env);
-    let kind = type_expr(
-        store,
-        alloc,
-        setting,
-        env,
-        &seat.want,
-        &arguments[1],
-        &mut unseen,
-    )?;
+    let seat = positional_seat(checker.store, checker.alloc, offers, 0)?;
+    let tested = type_expr(checker, setting, env, &seat.want, &arguments[0])?;
+    let seat = positional_seat(checker.store, checker.alloc, offers, 1)?;
+    let mut unseen = Notes::new(checker.alloc);
+    still_stands(checker.store, setting, env);
+    let mut apart = Checker {
+        store: checker.store,
+        alloc: checker.alloc,
+        found: &mut unseen,
+    };
+    let kind = type_expr(&mut apart, setting, env, &seat.want, &arguments[1])?;
     let early = is_early(&kind.codes);
-    let mut types = Vec::new(alloc);
+    let mut types = Vec::new(checker.alloc);
     types.push(tested.ty)?;
     types.push(kind.ty)?;
     Ok(Typed { types, early })
@@ -183,35 +165,32 @@ fn type_tested<S: TypeStore, R: Resolver>(
 /// and whether the second is named too early. Of a test of an instance the first alone is looked at.
 #[cycle(typing)]
 pub(crate) fn type_arguments<S: TypeStore, R: Resolver>(
-    store: &mut S,
-    alloc: Global,
+    checker: &mut Checker<'_, S>,
     setting: &Setting<'_, S::Ty, R>,
     env: &Env<S::Ty>,
     is_test: bool,
     offers: &[CallOffer<'_, S::Ty>],
     arguments: &[Expr],
-    found: &mut Notes,
 ) -> Result<Typed<S::Ty>, OutOfMemory>
-    requires given { HasGivenAll (S.has store.old) S.tree setting.now env.now }
-    requires offers { All (HasCallOffer (S.has store.old)) offers.now }
+    requires given { Stands S.TypeStore checker.old setting.now env.now }
+    requires offers { All (HasCallOffer (S.has checker.old.store.now)) offers.now }
     requires two { is_test ≡ true → length arguments.now ≡ 2 }
     ensures typed { IfOk result
-        (λ t. AreTyped S.has S.tree store.new (standing_of S.tree R.meaning setting.now env.now) t
+        (λ t. AreTyped S.has S.tree checker.new.store.now (standing_of S.tree R.meaning setting.now env.now) t
         (positional_seat (map (offer_called S.tree) offers.now)) (exprs_of_list arguments.now)) }
-    ensures pushed { OnOk result
-        (notes_of found.new ≡ notes_of found.old
-        ++ arguments_find (standing_of S.tree R.meaning setting.now env.now) is_test
-        (positional_seat (map (offer_called S.tree) offers.now)) (exprs_of_list arguments.now)) }
-    ensures kept { KeepsTypes S.has store.old store.new }
+    ensures found { OnOk result (Finds checker.old checker.new
+        (arguments_find (standing_of S.tree R.meaning setting.now env.now) is_test
+        (positional_seat (map (offer_called S.tree) offers.now)) (exprs_of_list arguments.now))) }
+    ensures goes_on { GoesOn S.TypeStore checker.old checker.new }
 {
     if is_test {
-        return type_tested(store, alloc, setting, env, offers, arguments, found);
+        return type_tested(checker, setting, env, offers, arguments);
     }
-    let mut types = Vec::new(alloc);
+    let mut types = Vec::new(checker.alloc);
     let mut early = false;
     for argument in arguments {
-        let seat = positional_seat(store, alloc, offers, types.len())?;
-        let label = type_seated(store, alloc, setting, env, &seat, argument, found)?;
+        let seat = positional_seat(checker.store, checker.alloc, offers, types.len())?;
+        let label = type_seated(checker, setting, env, &seat, argument)?;
         early = early_at(types.len(), &label.codes, early);
         types.push(label.ty)?;
     }
@@ -221,26 +200,29 @@ pub(crate) fn type_arguments<S: TypeStore, R: Resolver>(
 /// Adds what is found in the arguments by name of a call with these offers, and where they flow.
 #[cycle(typing)]
 pub(crate) fn type_keywords<S: TypeStore, R: Resolver>(
-    store: &mut S,
-    alloc: Global,
+    checker: &mut Checker<'_, S>,
     setting: &Setting<'_, S::Ty, R>,
     env: &Env<S::Ty>,
     offers: &[CallOffer<'_, S::Ty>],
     by_name: &[KeywordArgument],
-    found: &mut Notes,
 ) -> Result<(), OutOfMemory>
-    requires given { HasGivenAll (S.has store.old) S.tree setting.now env.now }
-    requires offers { All (HasCallOffer (S.has store.old)) offers.now }
-    ensures pushed { OnOk result
-        (notes_of found.new ≡ notes_of found.old
-        ++ keywords_find (standing_of S.tree R.meaning setting.now env.now)
-        (named_seat (map (offer_called S.tree) offers.now)) [] (keywords_of_list by_name.now)) }
-    ensures kept { KeepsTypes S.has store.old store.new }
+    requires given { Stands S.TypeStore checker.old setting.now env.now }
+    requires offers { All (HasCallOffer (S.has checker.old.store.now)) offers.now }
+    ensures found { OnOk result (Finds checker.old checker.new
+        (keywords_find (standing_of S.tree R.meaning setting.now env.now)
+        (named_seat (map (offer_called S.tree) offers.now)) [] (keywords_of_list by_name.now))) }
+    ensures goes_on { GoesOn S.TypeStore checker.old checker.new }
 {
-    let mut before = IndexSet::new(alloc);
+    let mut before = IndexSet::new(checker.alloc);
     for argument in by_name {
-        let seat = keyword_seat(store, alloc, offers, &before, &argument.name)?;
-        type_seated(store, alloc, setting, env, &seat, &argument.value, found)?;
+        let seat = keyword_seat(
+            checker.store,
+            checker.alloc,
+            offers,
+            &before,
+            &argument.name,
+        )?;
+        type_seated(checker, setting, env, &seat, &argument.value)?;
         before.insert(argument.name.text.as_str())?;
     }
     Ok(())

@@ -1,19 +1,19 @@
 //! The labels of conditions, with what each tells of the environment it stands in.
 //!
 //! Of a chain of `and` and `or` each part is asked once what it tells, in the walk that labels it.
-#![tactic(auto, using(pc_rules::proofs::Kept::stands_further))]
+#![tactic(auto, using(pc_rules::proofs::Kept::stands_further, crate::proofs::Checkers::goes_further))]
 
-ghost use Rattle.std.specs.Prelude.{◌≡◌, ◌++◌, IfOk, OnOk, None};
+ghost use Rattle.std.specs.Prelude.{IfOk, OnOk, None};
 ghost use Rattle.pc_source.specs.declared.place.Place.{Place as PlaceOf};
 ghost use Rattle.pc_tree.specs.Tree.{expr_of, conjunction, disjunction};
 ghost use Rattle.pc_types.specs.Store.{KeepsTypes};
-ghost use Rattle.pc_notes.specs.Notes.{notes_of};
 ghost use Rattle.pc_rules.specs.Standing.{standing_of, mark_in, finds_in, HasGivenAll, IsMark};
 ghost use Rattle.pc_operate.specs.Ways.{GivesWays};
+ghost use Rattle.pc_expr.specs.Checkers.{Finds, GoesOn, IsLabel, Stands};
 
+use crate::checker::Checker;
 use crate::typing::type_expr;
 use pc_flow::{BothWays, Env, Resolver};
-use pc_notes::Notes;
 use pc_operate::{and_ways, both_ways, label_bool, label_junction, or_ways};
 use pc_rules::{Label, Setting};
 use pc_source::OutOfMemory;
@@ -23,9 +23,9 @@ use std::alloc::Global;
 
 /// The label of a condition, and the environments where it is true and where it is false.
 #[derive(Drop)]
-pub(crate) struct Condition<Ty: Drop> {
-    pub(crate) label: Label<Ty>,
-    pub(crate) ways: BothWays<Ty>,
+pub struct Condition<Ty: Drop> {
+    pub label: Label<Ty>,
+    pub ways: BothWays<Ty>,
 }
 
 /// What `and` comes to, from its first part, and its second part where the first is true. Language Reference 6.11
@@ -131,30 +131,27 @@ fn or_condition<S: TypeStore, R: Resolver>(
 /// The label of a condition, of which nothing is expected, with what is found in it and what it tells of the
 /// environment. Typing specification, "Type narrowing".
 #[cycle(typing)]
-pub(crate) fn type_condition<S: TypeStore, R: Resolver>(
-    store: &mut S,
-    alloc: Global,
+pub fn type_condition<S: TypeStore, R: Resolver>(
+    checker: &mut Checker<'_, S>,
     setting: &Setting<'_, S::Ty, R>,
     env: &Env<S::Ty>,
     e: &Expr,
-    found: &mut Notes,
 ) -> Result<Condition<S::Ty>, OutOfMemory>
-    requires { HasGivenAll (S.has store.old) S.tree setting.now env.now }
+    requires { Stands S.TypeStore checker.old setting.now env.now }
     ensures marked { IfOk result
-        (λ n. IsMark S.has S.tree store.new n.label
+        (λ n. IsLabel S.TypeStore checker.new n.label
         (mark_in (standing_of S.tree R.meaning setting.now env.now) None (expr_of e.now))) }
     ensures ways { IfOk result
-        (λ n. GivesWays S.has S.tree store.new setting.now (standing_of S.tree R.meaning setting.now env.now) n.ways
+        (λ n. GivesWays S.has S.tree checker.new.store.now setting.now (standing_of S.tree R.meaning setting.now env.now) n.ways
         (expr_of e.now)) }
-    ensures pushed { OnOk result
-        (notes_of found.new ≡ notes_of found.old
-        ++ finds_in (standing_of S.tree R.meaning setting.now env.now) None (expr_of e.now)) }
-    ensures kept { KeepsTypes S.has store.old store.new }
+    ensures found { OnOk result (Finds checker.old checker.new
+        (finds_in (standing_of S.tree R.meaning setting.now env.now) None (expr_of e.now))) }
+    ensures goes_on { GoesOn S.TypeStore checker.old checker.new }
 {
     match e {
         Expr::Not(_, operand) => {
-            let condition = type_condition(store, alloc, setting, env, operand, found)?;
-            let label = label_bool(store, alloc)?;
+            let condition = type_condition(checker, setting, env, operand)?;
+            let label = label_bool(checker.store, checker.alloc)?;
             let ways = BothWays {
                 where_true: condition.ways.where_false,
                 where_false: condition.ways.where_true,
@@ -162,20 +159,38 @@ pub(crate) fn type_condition<S: TypeStore, R: Resolver>(
             Ok(Condition { label, ways })
         }
         Expr::And(_, left, right) => {
-            let first = type_condition(store, alloc, setting, env, left, found)?;
+            let first = type_condition(checker, setting, env, left)?;
             let after = &first.ways.where_true;
-            let second = type_condition(store, alloc, setting, after, right, found)?;
-            and_condition(store, alloc, setting, env, left, right, first, second)
+            let second = type_condition(checker, setting, after, right)?;
+            and_condition(
+                checker.store,
+                checker.alloc,
+                setting,
+                env,
+                left,
+                right,
+                first,
+                second,
+            )
         }
         Expr::Or(_, left, right) => {
-            let first = type_condition(store, alloc, setting, env, left, found)?;
+            let first = type_condition(checker, setting, env, left)?;
             let after = &first.ways.where_false;
-            let second = type_condition(store, alloc, setting, after, right, found)?;
-            or_condition(store, alloc, setting, env, left, right, first, second)
+            let second = type_condition(checker, setting, after, right)?;
+            or_condition(
+                checker.store,
+                checker.alloc,
+                setting,
+                env,
+                left,
+                right,
+                first,
+                second,
+            )
         }
         _ => {
-            let label = type_expr(store, alloc, setting, env, &None, e, found)?;
-            let ways = both_ways(store, alloc, setting, env, e)?;
+            let label = type_expr(checker, setting, env, &None, e)?;
+            let ways = both_ways(checker.store, checker.alloc, setting, env, e)?;
             Ok(Condition { label, ways })
         }
     }

@@ -3,6 +3,7 @@
 
 mod call_labels;
 mod calls;
+mod checker;
 mod conditions;
 mod displays;
 mod entries;
@@ -11,5 +12,7 @@ mod range_typing;
 mod typing;
 mod whole;
 
-pub use range_typing::type_range;
+pub use checker::Checker;
+pub use conditions::{Condition, type_condition};
+pub use range_typing::{RangeCall, type_range};
 pub use typing::type_expr;

@@ -1,83 +1,75 @@
 //! What is found in a call of `range` as what a `for` goes over.
+#![tactic(auto, using(crate::proofs::Checkers::goes_further))]
 
-ghost use Rattle.std.specs.Prelude.{◌≡◌, ◌++◌, IfOk, OnOk};
+ghost use Rattle.std.specs.Prelude.{IfOk, OnOk};
 ghost use Rattle.pc_tree.specs.Tree.{expr_of};
 ghost use Rattle.pc_tree.specs.Lists.{exprs_of_list, keywords_of_list};
-ghost use Rattle.pc_types.specs.Store.{KeepsTypes};
-ghost use Rattle.pc_notes.specs.Notes.{notes_of};
 ghost use Rattle.pc_rules.specs.Calls.{arguments_given, range_item};
-ghost use Rattle.pc_rules.specs.Standing.{standing_of, HasGivenAll, IsMark};
+ghost use Rattle.pc_rules.specs.Standing.{standing_of};
 ghost use Rattle.pc_rules.specs.RangesFound.{range_finds};
+ghost use Rattle.pc_expr.specs.Checkers.{Finds, GoesOn, IsLabel, Stands};
 
 use crate::calls::{type_arguments, type_keywords};
+use crate::checker::Checker;
 use pc_call::given::given;
 use pc_call::{call_codes, range_item, range_offers};
 use pc_flow::{Env, Resolver};
-use pc_notes::Notes;
 use pc_rules::{Label, Setting, find_codes};
 use pc_scope::is_instance_test;
 use pc_source::{OutOfMemory, Place};
 use pc_tree::{Expr, KeywordArgument};
 use pc_types::TypeStore;
-use std::alloc::Global;
 
-/// Adds what is found in a call of `range` at this place as what a `for` goes over: in its arguments, which flow into
-/// `int`, and at the call.
-fn find_range<S: TypeStore, R: Resolver>(
-    store: &mut S,
-    alloc: Global,
-    setting: &Setting<'_, S::Ty, R>,
-    env: &Env<S::Ty>,
-    place: Place,
-    callee: &Expr,
-    arguments: &[Expr],
-    by_name: &[KeywordArgument],
-    found: &mut Notes,
-) -> Result<(), OutOfMemory>
-    requires { HasGivenAll (S.has store.old) S.tree setting.now env.now }
-    ensures pushed { OnOk result
-        (notes_of found.new ≡ notes_of found.old
-        ++ range_finds (standing_of S.tree R.meaning setting.now env.now) place (expr_of callee.now)
-        (exprs_of_list arguments.now) (keywords_of_list by_name.now)) }
-    ensures kept { KeepsTypes S.has store.old store.new }
-{
-    let given = given(alloc, arguments, by_name)?;
-    let offers = range_offers(store, alloc, &given)?;
-    let is_test = is_instance_test(callee, arguments, by_name);
-    type_arguments(
-        store, alloc, setting, env, is_test, &offers, arguments, found,
-    )?;
-    type_keywords(store, alloc, setting, env, &offers, by_name, found)?;
-    let codes = call_codes(alloc, &offers)?;
-    find_codes(place, &codes, found)
+/// A call of `range`: where it stands, and its parts.
+#[derive(Drop)]
+pub struct RangeCall<'e> {
+    pub place: Place,
+    pub callee: &'e Expr,
+    pub arguments: &'e [Expr],
+    pub by_name: &'e [KeywordArgument],
 }
 
-/// The label of a turn's item where a `for` goes over a call of `range` at this place, with what is found in the call:
+/// Adds what is found in a call of `range` as what a `for` goes over: in its arguments, which flow into
+/// `int`, and at the call.
+fn find_range<S: TypeStore, R: Resolver>(
+    checker: &mut Checker<'_, S>,
+    setting: &Setting<'_, S::Ty, R>,
+    env: &Env<S::Ty>,
+    range: &RangeCall<'_>,
+) -> Result<(), OutOfMemory>
+    requires { Stands S.TypeStore checker.old setting.now env.now }
+    ensures found { OnOk result (Finds checker.old checker.new
+        (range_finds (standing_of S.tree R.meaning setting.now env.now) range.now.place
+        (expr_of range.now.callee.now) (exprs_of_list range.now.arguments.now) (keywords_of_list range.now.by_name.now))) }
+    ensures goes_on { GoesOn S.TypeStore checker.old checker.new }
+{
+    let given = given(checker.alloc, range.arguments, range.by_name)?;
+    let offers = range_offers(checker.store, checker.alloc, &given)?;
+    let is_test = is_instance_test(range.callee, range.arguments, range.by_name);
+    type_arguments(checker, setting, env, is_test, &offers, range.arguments)?;
+    type_keywords(checker, setting, env, &offers, range.by_name)?;
+    let codes = call_codes(checker.alloc, &offers)?;
+    find_codes(range.place, &codes, checker.found)
+}
+
+/// The label of a turn's item where a `for` goes over a call of `range`, with what is found in the call:
 /// in its arguments, which flow into `int`, and at the call. Library reference, "Built-in Functions"; own rule of the
 /// profile.
 pub fn type_range<S: TypeStore, R: Resolver>(
-    store: &mut S,
-    alloc: Global,
+    checker: &mut Checker<'_, S>,
     setting: &Setting<'_, S::Ty, R>,
     env: &Env<S::Ty>,
-    place: Place,
-    callee: &Expr,
-    arguments: &[Expr],
-    by_name: &[KeywordArgument],
-    found: &mut Notes,
+    range: &RangeCall<'_>,
 ) -> Result<Label<S::Ty>, OutOfMemory>
-    requires { HasGivenAll (S.has store.old) S.tree setting.now env.now }
+    requires { Stands S.TypeStore checker.old setting.now env.now }
     ensures label { IfOk result
-        (λ l. IsMark S.has S.tree store.new l
-        (range_item (arguments_given (exprs_of_list arguments.now) (keywords_of_list by_name.now)))) }
-    ensures pushed { OnOk result
-        (notes_of found.new ≡ notes_of found.old
-        ++ range_finds (standing_of S.tree R.meaning setting.now env.now) place (expr_of callee.now)
-        (exprs_of_list arguments.now) (keywords_of_list by_name.now)) }
-    ensures kept { KeepsTypes S.has store.old store.new }
+        (λ l. IsLabel S.TypeStore checker.new l
+        (range_item (arguments_given (exprs_of_list range.now.arguments.now) (keywords_of_list range.now.by_name.now)))) }
+    ensures found { OnOk result (Finds checker.old checker.new
+        (range_finds (standing_of S.tree R.meaning setting.now env.now) range.now.place
+        (expr_of range.now.callee.now) (exprs_of_list range.now.arguments.now) (keywords_of_list range.now.by_name.now))) }
+    ensures goes_on { GoesOn S.TypeStore checker.old checker.new }
 {
-    find_range(
-        store, alloc, setting, env, place, callee, arguments, by_name, found,
-    )?;
-    range_item(store, alloc, arguments, by_name)
+    find_range(checker, setting, env, range)?;
+    range_item(checker.store, checker.alloc, range.arguments, range.by_name)
 }

@@ -1,19 +1,20 @@
 //! Defaults of parameters and fields.
+#![tactic(auto, using(pc_expr::proofs::Checkers::goes_further))]
 
-ghost use Rattle.std.specs.Prelude.{◌≡◌, ◌++◌, ◌∷◌, [], IfOk, OnOk};
+ghost use Rattle.std.specs.Prelude.{◌≡◌, ◌∷◌, [], IfOk, OnOk};
 ghost use Rattle.pc_tree.specs.Tree.{literal_of, option_literal_of};
 ghost use Rattle.pc_scope.specs.Reserved.{is_builtin_name};
 ghost use Rattle.pc_types.specs.Store.{Means, KeepsTypes};
-ghost use Rattle.pc_notes.specs.Notes.{notes_of};
 ghost use Rattle.pc_rules.specs.Operations.{Mark, clean};
 ghost use Rattle.pc_rules.specs.Computed.{flows_of};
 ghost use Rattle.pc_rules.specs.Found.{brief, flows_at};
 ghost use Rattle.pc_rules.specs.Signatures.{literal_type};
 ghost use Rattle.pc_rules.specs.SignaturesFound.{bound_in, binds_text, literal_findings, default_findings};
 ghost use Rattle.pc_rules.specs.Standing.{IsMark, mark_with};
+ghost use Rattle.pc_expr.specs.Checkers.{Finds, GoesOn};
 
 use crate::bound::{Texts, is_bound};
-use pc_notes::Notes;
+use pc_expr::Checker;
 use pc_rules::{Label, find_flow};
 use pc_source::{OutOfMemory, Place};
 use pc_tree::{Literal, LiteralKind};
@@ -72,66 +73,66 @@ fn literal_label<S: TypeStore>(
 
 /// Finds the flow of a labelled expression, which stands at this place, into one type.
 pub(crate) fn find_into<S: TypeStore>(
-    store: &mut S,
-    alloc: Global,
+    checker: &mut Checker<'_, S>,
     parents: &Parents,
     place: Place,
     label: &Label<S::Ty>,
     into: &S::Ty,
-    found: &mut Notes,
 ) -> Result<(), OutOfMemory>
-    requires label { S.has store.old label.now.ty }
-    requires into { S.has store.old into.now }
-    ensures pushed { (m : Mark) → mark_with S.tree label.now ≡ brief m
-        → OnOk result (notes_of found.new
-        ≡ notes_of found.old ++ flows_at place (flows_of parents.now m (S.tree into.now ∷ []))) }
-    ensures kept { KeepsTypes S.has store.old store.new }
+    requires label { S.has checker.old.store.now label.now.ty }
+    requires into { S.has checker.old.store.now into.now }
+    ensures found { (m : Mark) → mark_with S.tree label.now ≡ brief m
+        → OnOk result (Finds checker.old checker.new
+        (flows_at place (flows_of parents.now m (S.tree into.now ∷ [])))) }
+    ensures goes_on { GoesOn S.TypeStore checker.old checker.new }
 {
-    find_flow(store, alloc, parents, place, label, into, found)?;
+    find_flow(
+        checker.store,
+        checker.alloc,
+        parents,
+        place,
+        label,
+        into,
+        checker.found,
+    )?;
     Ok(())
 }
 
 /// Finds the flow of a default's literal into its type.
 fn find_literal<S: TypeStore>(
-    store: &mut S,
-    alloc: Global,
+    checker: &mut Checker<'_, S>,
     parents: &Parents,
     literal: &Literal,
     into: &S::Ty,
-    found: &mut Notes,
 ) -> Result<(), OutOfMemory>
-    requires { S.has store.old into.now }
-    ensures pushed { OnOk result
-        (notes_of found.new ≡ notes_of found.old
-        ++ literal_findings parents.now (literal_of literal.now) (S.tree into.now)) }
-    ensures kept { KeepsTypes S.has store.old store.new }
+    requires { S.has checker.old.store.now into.now }
+    ensures found { OnOk result (Finds checker.old checker.new
+        (literal_findings parents.now (literal_of literal.now) (S.tree into.now))) }
+    ensures goes_on { GoesOn S.TypeStore checker.old checker.new }
 {
-    let label = literal_label(store, alloc, literal)?;
-    find_into(store, alloc, parents, literal.place, &label, into, found)
+    let label = literal_label(checker.store, checker.alloc, literal)?;
+    find_into(checker, parents, literal.place, &label, into)
 }
 
 /// Finds the flow of a default into its type, at the literal; into what binds no name nothing flows. Language Reference
 /// 3.12, 8.7 "Function definitions"; library reference, `dataclasses`.
 pub(crate) fn find_default<S: TypeStore>(
-    store: &mut S,
-    alloc: Global,
+    checker: &mut Checker<'_, S>,
     parents: &Parents,
     binds: bool,
     default: &Option<Literal>,
     into: &S::Ty,
-    found: &mut Notes,
 ) -> Result<(), OutOfMemory>
-    requires { S.has store.old into.now }
-    ensures pushed { OnOk result
-        (notes_of found.new ≡ notes_of found.old
-        ++ default_findings parents.now binds (option_literal_of default.now) (S.tree into.now)) }
-    ensures kept { KeepsTypes S.has store.old store.new }
+    requires { S.has checker.old.store.now into.now }
+    ensures found { OnOk result (Finds checker.old checker.new
+        (default_findings parents.now binds (option_literal_of default.now) (S.tree into.now))) }
+    ensures goes_on { GoesOn S.TypeStore checker.old checker.new }
 {
     match default {
         None => Ok(()),
         Some(literal) => {
             if binds {
-                find_literal(store, alloc, parents, literal, into, found)
+                find_literal(checker, parents, literal, into)
             } else {
                 Ok(())
             }

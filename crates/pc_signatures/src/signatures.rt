@@ -1,32 +1,33 @@
 //! What functions take and return.
+#![tactic(auto, using(pc_expr::proofs::Checkers::goes_further))]
 
 ghost use Rattle.std.specs.Prelude.{◌≡◌, ◌++◌, ◌∷◌, [], map, IfOk, OnOk};
 ghost use Rattle.pc_tree.specs.Tree.{ann_of, option_ann_of, param_of, func_of, item_of};
 ghost use Rattle.pc_scope.specs.Bindings.{functions_in};
-ghost use Rattle.pc_types.specs.Store.{Means, KeepsTypes};
+ghost use Rattle.pc_types.specs.Store.{Means};
 ghost use Rattle.pc_ann.specs.Annotations.{read_ann, read_option};
 ghost use Rattle.pc_ann.specs.Listed.{ann_findings, option_findings};
 ghost use Rattle.pc_class.specs.Bases.{bases_of};
 ghost use Rattle.pc_class.specs.Facts.{typed_parameter, parameters_of};
-ghost use Rattle.pc_notes.specs.Notes.{notes_of, plain_note};
+ghost use Rattle.pc_notes.specs.Notes.{plain_note};
 ghost use Rattle.pc_rules.specs.Signatures.{signature_of, signatures_of};
 ghost use Rattle.pc_rules.specs.SignaturesFound.{bound_in, param_findings, params_findings, def_findings};
 ghost use Rattle.pc_rules.specs.SignaturesFound.{function_findings, functions_findings};
 ghost use Rattle.pc_signatures.specs.Internal.SignaturesRead.{module_in, IsFrame, IsParameter, AreParameters};
 ghost use Rattle.pc_signatures.specs.Internal.SignaturesRead.{IsSignature};
 ghost use Rattle.pc_signatures.specs.Internal.SignaturesRead.{AreSignatures, HasSignatures, signatures_with};
+ghost use Rattle.pc_expr.specs.Checkers.{Finds, GoesOn};
 
 use crate::bound::{Texts, bind};
 use crate::defaults::{binds, find_default};
 use indexmap::IndexSet;
 use pc_class::Parameter;
-use pc_notes::Notes;
+use pc_expr::Checker;
 use pc_rules::Signature;
 use pc_scope::Scopes;
 use pc_source::OutOfMemory;
 use pc_tree::{Ann, FuncDef, Item, ItemKind, Module, Param};
 use pc_types::{Parents, TypeStore};
-use std::alloc::Global;
 
 /// What annotations are read in: a module, its scopes and the bases of its classes.
 #[derive(Drop)]
@@ -38,98 +39,81 @@ pub(crate) struct Frame<'f> {
 
 /// The type of an annotation, with what is found in it.
 pub(crate) fn read_annotation<S: TypeStore>(
-    store: &mut S,
-    alloc: Global,
+    checker: &mut Checker<'_, S>,
     frame: &Frame,
     ann: &Ann,
-    found: &mut Notes,
 ) -> Result<S::Ty, OutOfMemory>
     requires { IsFrame frame.now }
     ensures typed { IfOk result
-        (λ t. Means S.has S.tree store.new t
+        (λ t. Means S.has S.tree checker.new.store.now t
         (read_ann (module_in frame.now) (bases_of (module_in frame.now)) (ann_of ann.now))) }
-    ensures pushed { OnOk result
-        (notes_of found.new ≡ notes_of found.old
-        ++ map plain_note (ann_findings (module_in frame.now) (bases_of (module_in frame.now)) (ann_of ann.now))) }
-    ensures kept { KeepsTypes S.has store.old store.new }
+    ensures found { OnOk result (Finds checker.old checker.new
+        (map plain_note (ann_findings (module_in frame.now) (bases_of (module_in frame.now)) (ann_of ann.now)))) }
+    ensures goes_on { GoesOn S.TypeStore checker.old checker.new }
 {
-    let mut in_it = Vec::new(alloc);
+    let mut in_it = Vec::new(checker.alloc);
     let ty = pc_ann::read_ann(
-        store,
-        alloc,
+        checker.store,
+        checker.alloc,
         frame.parents,
         frame.tree,
         frame.scopes,
         &mut in_it,
         ann,
     )?;
-    found.put_all(&in_it)?;
+    checker.found.put_all(&in_it)?;
     Ok(ty)
 }
 
 /// The type of an annotation that may be left out, with what is found in it.
 pub(crate) fn read_optional<S: TypeStore>(
-    store: &mut S,
-    alloc: Global,
+    checker: &mut Checker<'_, S>,
     frame: &Frame,
     ann: &Option<Ann>,
-    found: &mut Notes,
 ) -> Result<S::Ty, OutOfMemory>
     requires { IsFrame frame.now }
     ensures typed { IfOk result
-        (λ t. Means S.has S.tree store.new t
+        (λ t. Means S.has S.tree checker.new.store.now t
         (read_option (module_in frame.now) (bases_of (module_in frame.now)) (option_ann_of ann.now))) }
-    ensures pushed { OnOk result
-        (notes_of found.new ≡ notes_of found.old
-        ++ map plain_note (option_findings (module_in frame.now) (bases_of (module_in frame.now))
-        (option_ann_of ann.now))) }
-    ensures kept { KeepsTypes S.has store.old store.new }
+    ensures found { OnOk result (Finds checker.old checker.new
+        (map plain_note (option_findings (module_in frame.now) (bases_of (module_in frame.now))
+        (option_ann_of ann.now)))) }
+    ensures goes_on { GoesOn S.TypeStore checker.old checker.new }
 {
-    let mut in_it = Vec::new(alloc);
+    let mut in_it = Vec::new(checker.alloc);
     let ty = pc_ann::read_option(
-        store,
-        alloc,
+        checker.store,
+        checker.alloc,
         frame.parents,
         frame.tree,
         frame.scopes,
         &mut in_it,
         ann,
     )?;
-    found.put_all(&in_it)?;
+    checker.found.put_all(&in_it)?;
     Ok(ty)
 }
 
 /// A parameter with its type, behind names that are bound already; what is found in its annotation and at its default.
 fn read_param<S: TypeStore>(
-    store: &mut S,
-    alloc: Global,
+    checker: &mut Checker<'_, S>,
     frame: &Frame,
     bound: &Texts,
     param: &Param,
-    found: &mut Notes,
 ) -> Result<Parameter<S::Ty>, OutOfMemory>
     requires { IsFrame frame.now }
     ensures typed { IfOk result
-        (λ p. IsParameter S.has S.tree store.new p (typed_parameter (module_in frame.now) (param_of param.now))) }
-    ensures pushed { OnOk result
-        (notes_of found.new ≡ notes_of found.old
-        ++ param_findings (module_in frame.now) (bound_in bound.now) (param_of param.now)) }
-    ensures kept { KeepsTypes S.has store.old store.new }
+        (λ p. IsParameter S.has S.tree checker.new.store.now p (typed_parameter (module_in frame.now) (param_of param.now))) }
+    ensures found { OnOk result (Finds checker.old checker.new
+        (param_findings (module_in frame.now) (bound_in bound.now) (param_of param.now))) }
+    ensures goes_on { GoesOn S.TypeStore checker.old checker.new }
 {
     let name = param.name.text.as_str();
-    let ty = read_optional(store, alloc, frame, &param.annotation, found)?;
+    let ty = read_optional(checker, frame, &param.annotation)?;
     let binds = binds(bound, name);
-    find_default(
-        store,
-        alloc,
-        frame.parents,
-        binds,
-        &param.default,
-        &ty,
-        found,
-    )?;
+    find_default(checker, frame.parents, binds, &param.default, &ty)?;
     Ok(Parameter {
-        name: String::from_str(alloc, name)?,
+        name: String::from_str(checker.alloc, name)?,
         ty,
         has_default: param.default.is_some(),
     })
@@ -138,27 +122,24 @@ fn read_param<S: TypeStore>(
 /// Parameters with their types, behind names that are bound already; what is found in their annotations and at their
 /// defaults.
 fn read_params<S: TypeStore>(
-    store: &mut S,
-    alloc: Global,
+    checker: &mut Checker<'_, S>,
     frame: &Frame,
     bound: &mut Texts,
     params: &[Param],
-    found: &mut Notes,
 ) -> Result<Vec<Parameter<S::Ty>>, OutOfMemory>
     requires { IsFrame frame.now }
     ensures typed { IfOk result
-        (λ ps. AreParameters S.has S.tree store.new ps.items
+        (λ ps. AreParameters S.has S.tree checker.new.store.now ps.items
         (parameters_of (module_in frame.now) (map param_of params.now))) }
-    ensures pushed { OnOk result
-        (notes_of found.new ≡ notes_of found.old
-        ++ params_findings (module_in frame.now) (bound_in bound.old) (map param_of params.now)) }
-    ensures kept { KeepsTypes S.has store.old store.new }
+    ensures found { OnOk result (Finds checker.old checker.new
+        (params_findings (module_in frame.now) (bound_in bound.old) (map param_of params.now))) }
+    ensures goes_on { GoesOn S.TypeStore checker.old checker.new }
 {
-    let mut all = Vec::new(alloc);
+    let mut all = Vec::new(checker.alloc);
     for param in params {
-        let one = read_param(store, alloc, frame, bound, param, found)?;
+        let one = read_param(checker, frame, bound, param)?;
         all.push(one)?;
-        bind(bound, alloc, param.name.text.as_str())?;
+        bind(bound, checker.alloc, param.name.text.as_str())?;
     }
     Ok(all)
 }
@@ -166,52 +147,47 @@ fn read_params<S: TypeStore>(
 /// What a function takes and returns, behind names that are bound already; what is found in its annotations and at its
 /// defaults. Language Reference 3.12, 8.7 "Function definitions".
 pub(crate) fn read_signature<S: TypeStore>(
-    store: &mut S,
-    alloc: Global,
+    checker: &mut Checker<'_, S>,
     frame: &Frame,
     bound: &mut Texts,
     def: &FuncDef,
-    found: &mut Notes,
 ) -> Result<Signature<S::Ty>, OutOfMemory>
     requires { IsFrame frame.now }
     ensures typed { IfOk result
-        (λ s. IsSignature S.has S.tree store.new s (signature_of (module_in frame.now) (func_of def.now))) }
-    ensures pushed { OnOk result
-        (notes_of found.new ≡ notes_of found.old
-        ++ def_findings (module_in frame.now) (bound_in bound.old) (func_of def.now)) }
-    ensures kept { KeepsTypes S.has store.old store.new }
+        (λ s. IsSignature S.has S.tree checker.new.store.now s (signature_of (module_in frame.now) (func_of def.now))) }
+    ensures found { OnOk result (Finds checker.old checker.new
+        (def_findings (module_in frame.now) (bound_in bound.old) (func_of def.now))) }
+    ensures goes_on { GoesOn S.TypeStore checker.old checker.new }
 {
-    let params = read_params(store, alloc, frame, bound, &def.params, found)?;
-    let ret = read_optional(store, alloc, frame, &def.returns, found)?;
+    let params = read_params(checker, frame, bound, &def.params)?;
+    let ret = read_optional(checker, frame, &def.returns)?;
     Ok(Signature { params, ret })
 }
 
 /// Adds the signature of an item that is a function.
 fn add_function<S: TypeStore>(
-    store: &mut S,
-    alloc: Global,
+    checker: &mut Checker<'_, S>,
     frame: &Frame,
     item: &Item,
     functions: &mut Vec<Signature<S::Ty>>,
-    found: &mut Notes,
 ) -> Result<(), OutOfMemory>
     requires frame { IsFrame frame.now }
-    requires held { HasSignatures (S.has store.old) functions.old.items }
-    ensures held { OnOk result (HasSignatures (S.has store.new) functions.new.items) }
+    requires held { HasSignatures (S.has checker.old.store.now) functions.old.items }
+    ensures held { OnOk result (HasSignatures (S.has checker.new.store.now) functions.new.items) }
     ensures typed { OnOk result
         (signatures_with S.tree functions.new.items
         ≡ signatures_with S.tree functions.old.items
         ++ map (signature_of (module_in frame.now)) (functions_in (item_of item.now ∷ []))) }
-    ensures pushed { OnOk result
-        (notes_of found.new ≡ notes_of found.old ++ function_findings (module_in frame.now) (item_of item.now)) }
-    ensures kept { KeepsTypes S.has store.old store.new }
+    ensures found { OnOk result (Finds checker.old checker.new
+        (function_findings (module_in frame.now) (item_of item.now))) }
+    ensures goes_on { GoesOn S.TypeStore checker.old checker.new }
 {
     match &item.kind {
         ItemKind::Constant(_) => Ok(()),
         ItemKind::Class(_) => Ok(()),
         ItemKind::Def(def) => {
-            let mut bound = IndexSet::new(alloc);
-            let signature = read_signature(store, alloc, frame, &mut bound, def, found)?;
+            let mut bound = IndexSet::new(checker.alloc);
+            let signature = read_signature(checker, frame, &mut bound, def)?;
             functions.push(signature)?;
             Ok(())
         }
@@ -219,25 +195,22 @@ fn add_function<S: TypeStore>(
 }
 
 /// What the functions of a module take and return; what is found in their annotations and at their defaults.
-#[tactic(auto, unfolding(pc_rules::specs::Signatures::signatures_of))]
+#[tactic(auto, using(pc_expr::proofs::Checkers::goes_further), unfolding(pc_rules::specs::Signatures::signatures_of))]
 pub(crate) fn read_functions<S: TypeStore>(
-    store: &mut S,
-    alloc: Global,
+    checker: &mut Checker<'_, S>,
     frame: &Frame,
-    found: &mut Notes,
 ) -> Result<Vec<Signature<S::Ty>>, OutOfMemory>
     requires { IsFrame frame.now }
     ensures typed { IfOk result
-        (λ fs. AreSignatures S.has S.tree store.new fs.items (signatures_of (module_in frame.now))) }
-    ensures pushed { OnOk result
-        (notes_of found.new ≡ notes_of found.old
-        ++ functions_findings (module_in frame.now) (module_in frame.now).items) }
-    ensures kept { KeepsTypes S.has store.old store.new }
+        (λ fs. AreSignatures S.has S.tree checker.new.store.now fs.items (signatures_of (module_in frame.now))) }
+    ensures found { OnOk result (Finds checker.old checker.new
+        (functions_findings (module_in frame.now) (module_in frame.now).items)) }
+    ensures goes_on { GoesOn S.TypeStore checker.old checker.new }
 {
     let items = frame.tree.items.as_slice();
-    let mut functions = Vec::new(alloc);
+    let mut functions = Vec::new(checker.alloc);
     for item in items {
-        add_function(store, alloc, frame, item, &mut functions, found)?;
+        add_function(checker, frame, item, &mut functions)?;
     }
     Ok(functions)
 }

@@ -1,30 +1,29 @@
 //! The signatures and constants of a module.
+#![tactic(auto, using(pc_expr::proofs::Checkers::goes_further))]
 
-ghost use Rattle.std.specs.Prelude.{◌≡◌, ◌++◌, map, slice_get, IfOk, OnOk};
+ghost use Rattle.std.specs.Prelude.{◌≡◌, map, slice_get, IfOk, OnOk};
 ghost use Rattle.std.specs.Option.{option_copied};
 ghost use Rattle.pc_tree.specs.Tree.{module_of};
 ghost use Rattle.pc_scope.specs.ModuleScopes.{AreScopes};
-ghost use Rattle.pc_types.specs.Store.{KeepsTypes};
 ghost use Rattle.pc_class.specs.Bases.{bases_of};
 ghost use Rattle.pc_class.specs.Facts.{classes_of};
 ghost use Rattle.pc_class.specs.Tables.{HasEntries, classes_with};
-ghost use Rattle.pc_notes.specs.Notes.{notes_of};
 ghost use Rattle.pc_rules.specs.Signatures.{signatures_of};
 ghost use Rattle.pc_rules.specs.SignaturesFound.{constants_of, method_signatures, signatures_find};
 ghost use Rattle.pc_signatures.specs.SignaturesHeld.{HeldSignatures, methods_seen, method_numbered, HasSigned};
 ghost use Rattle.pc_signatures.specs.SignaturesHeld.{all_signatures_with};
 ghost use Rattle.pc_rules.specs.Standing.{signature_with};
+ghost use Rattle.pc_expr.specs.Checkers.{Finds, GoesOn};
 
 use crate::constants::{Globals, read_items};
 use crate::signatures::{Frame, read_functions};
 use pc_class::ClassTable;
-use pc_notes::Notes;
+use pc_expr::Checker;
 use pc_rules::Signature;
 use pc_scope::Scopes;
 use pc_source::OutOfMemory;
 use pc_tree::Module;
 use pc_types::{Parents, TypeStore};
-use std::alloc::Global;
 use std::marker::Model;
 
 /// The types of the constants of a module, and what its functions and the methods of its classes take and return, each
@@ -87,40 +86,39 @@ impl<Ty: Drop> Sigs<Ty> {
 ///
 /// Language Reference 3.12, 7.2 "Assignment statements" and 8.7 "Function definitions"; library reference,
 /// `dataclasses`; typing specification, "Type annotations"; own rules of the profile.
-#[tactic(auto, unfolding(pc_rules::specs::SignaturesFound::signatures_find))]
+#[tactic(auto, using(pc_expr::proofs::Checkers::goes_further), unfolding(pc_rules::specs::SignaturesFound::signatures_find))]
 pub fn read_signatures<S: TypeStore>(
-    store: &mut S,
-    alloc: Global,
+    checker: &mut Checker<'_, S>,
     parents: &Parents,
     tree: &Module,
     scopes: &Scopes,
     classes: &ClassTable<S::Ty>,
-    found: &mut Notes,
 ) -> Result<Sigs<S::Ty>, OutOfMemory>
     requires scopes { AreScopes (module_of tree.now) scopes.now }
     requires parents { parents.now ≡ bases_of (module_of tree.now) }
     requires classes { classes_with S.tree classes.now ≡ classes_of (module_of tree.now) }
-    requires entries { HasEntries (S.has store.old) classes.now }
-    ensures held { IfOk result (HasSigned (S.has store.new)) }
+    requires entries { HasEntries (S.has checker.old.store.now) classes.now }
+    ensures held { IfOk result (HasSigned (S.has checker.new.store.now)) }
     ensures constants { IfOk result (λ s. map S.tree s.constants ≡ constants_of (module_of tree.now)) }
     ensures functions { IfOk result
         (λ s. map (signature_with S.tree) s.functions ≡ signatures_of (module_of tree.now)) }
     ensures methods { IfOk result (λ s. all_signatures_with S.tree s.methods ≡ method_signatures (module_of tree.now)) }
-    ensures pushed { OnOk result (notes_of found.new ≡ notes_of found.old ++ signatures_find (module_of tree.now)) }
-    ensures kept { KeepsTypes S.has store.old store.new }
+    ensures found { OnOk result (Finds checker.old checker.new
+        (signatures_find (module_of tree.now))) }
+    ensures goes_on { GoesOn S.TypeStore checker.old checker.new }
 {
     let frame = Frame {
         tree,
         scopes,
         parents,
     };
-    let functions = read_functions(store, alloc, &frame, found)?;
+    let functions = read_functions(checker, &frame)?;
     let globals = Globals {
         frame: &frame,
         classes,
         functions: &functions,
     };
-    let walk = read_items(store, alloc, &globals, found)?;
+    let walk = read_items(checker, &globals)?;
     Ok(Sigs {
         constants: walk.constants,
         functions,

@@ -16,25 +16,16 @@ ghost use Rattle.pc_frames.specs.StatementsHeld.{frame_with, HoldsFrame, HoldsTy
 
 use crate::typing::type_in;
 use pc_call::is_range;
-use pc_expr::type_range;
+use pc_expr::{Checker, RangeCall, type_range};
 use pc_flow::{DeclaredTypes, Env, Resolver};
 use pc_frames::Frame;
 use pc_notes::Notes;
 use pc_operate::item_label;
 use pc_rules::{Label, Setting, find_codes};
-use pc_source::{OutOfMemory, Place};
-use pc_tree::{Expr, KeywordArgument};
+use pc_source::OutOfMemory;
+use pc_tree::Expr;
 use pc_types::TypeStore;
 use std::alloc::Global;
-
-/// A call of `range`: where it stands, and its parts.
-#[derive(Drop)]
-struct RangeCall<'e> {
-    place: Place,
-    callee: &'e Expr,
-    arguments: &'e [Expr],
-    by_name: &'e [KeywordArgument],
-}
 
 /// Whether an expression is a name that means `range`.
 fn means_range<R: Resolver>(names: &R, e: &Expr) -> bool
@@ -136,17 +127,12 @@ fn label_range<S: TypeStore, R: Resolver>(
         names: frame.names,
         declared,
     };
-    type_range(
+    let mut checker = Checker {
         store,
         alloc,
-        &setting,
-        env,
-        iterable.place,
-        iterable.callee,
-        iterable.arguments,
-        iterable.by_name,
         found,
-    )
+    };
+    type_range(&mut checker, &setting, env, iterable)
 }
 
 /// The label of a turn's item, with what is found in the iterable.

@@ -10,7 +10,7 @@ ghost use Rattle.pc_rules.specs.Standing.{mark_in, finds_in};
 ghost use Rattle.pc_labels.specs.ComputedStatements.{at};
 ghost use Rattle.pc_frames.specs.StatementsHeld.{frame_with, HoldsFrame, HoldsTypes, HoldsTypeIfAny, GivesLabel};
 
-use pc_expr::type_expr;
+use pc_expr::{Checker, type_expr};
 use pc_flow::{DeclaredTypes, Env, Resolver};
 use pc_frames::Frame;
 use pc_notes::Notes;
@@ -55,5 +55,10 @@ pub fn type_in<S: TypeStore, R: Resolver>(
         names: frame.names,
         declared,
     };
-    type_expr(store, alloc, &setting, env, want, e, found)
+    let mut checker = Checker {
+        store,
+        alloc,
+        found,
+    };
+    type_expr(&mut checker, &setting, env, want, e)
 }

@@ -15,7 +15,7 @@ use Rattle.pc_report.specs.declared.writing.WriteFault.TheVariants as write_faul
 use Rattle.pc_report.specs.Report.{errors_of, dynamic_count}
 use Rattle.pc_report.specs.Writing.{OnWriteFault, TakesAll, TakesBeginning}
 use Rattle.pc_top.specs.Headline.{Headline, OnCheckFault}
-use Rattle.pc_top.specs.Streaming.{AreBytesOf, IsRefusedStream, IsReported, IsBegun, WhenRefused, WhenWriteFails, report_bytes, write_checked}
+use Rattle.pc_top.specs.Streaming.{AreBytesOf, IsRefusedStream, IsReported, IsBegun, IsWithinStream, WhenRefused, WhenWriteFails, most_read, report_bytes, write_checked}
 use Rattle.pc_top.specs.declared.fault.CheckFault.{CheckFault}
 use Rattle.pc_top.specs.declared.fault.CheckFault.TheVariants as check_fault
 
@@ -71,6 +71,21 @@ module _ (told left : Option (List ℕ)) (given : List ℕ) (consumed : Consumes
   refused_stream check_fault.OutOfMemory h = tt
   refused_stream check_fault.Read h = tt
   refused_stream check_fault.Write h = tt
+
+  -- it stands within them, and within what was read
+  within_all : length given ≤ most_read → (byte : ℕ) → byte ≤ length given → IsWithinStream told byte
+  within_all short byte h = record {
+    bytes = all_bytes told given;
+    given = are_all told given;
+    within = omega (arith, h, given_le told left given consumed);
+    most = omega (arith, h, short);
+  }
+
+  pub within_stream : length given ≤ most_read → (e : CheckFault) → OnCheckFault (λ r. r.byte ≤ length given) e → WhenRefused (λ r. IsWithinStream told r.byte) e
+  within_stream short (check_fault.Refused r) h = within_all short r.byte h
+  within_stream short check_fault.OutOfMemory h = tt
+  within_stream short check_fault.Read h = tt
+  within_stream short check_fault.Write h = tt
 
   -- and so is a report
   reported_all : (rows : List Row) → Headline given rows → Headline (all_bytes told given) rows

@@ -1,5 +1,5 @@
 -- What a check of a stream reads and writes. Own rule of the profile.
-use Rattle.std.specs.Prelude.{◌≡◌, ℕ, Bool, true, false, List, Option, None, Some, ⊤, Result, Err}
+use Rattle.std.specs.Prelude.{◌≡◌, ℕ, ◌≤◌, Bool, true, false, List, Option, None, Some, ⊤, Result, Err, length}
 use Rattle.pc_source.specs.declared.counted.Counted.{Counted}
 use Rattle.pc_source.specs.declared.fault.Refusal.{Refusal}
 use Rattle.pc_front.specs.Bytes.{IsRefusalOf}
@@ -11,6 +11,7 @@ use Rattle.pc_report.specs.declared.writing.WriteFault.TheVariants as write_faul
 use Rattle.pc_report.specs.declared.report.Row.{Row}
 use Rattle.pc_report.specs.Report.{report_text, errors_of, dynamic_count}
 use Rattle.pc_report.specs.Json.{report_json}
+use Rattle.pc_report.specs.Reading.{IsRead}
 use Rattle.pc_report.specs.Writing.{TakesAll, TakesBeginning}
 use Rattle.pc_top.specs.Headline.{Headline}
 use Rattle.pc_top.specs.declared.fault.CheckFault.{CheckFault}
@@ -55,6 +56,28 @@ UnlessWriteFails P _ = P
 abbrev pub AreBytesOf : Option (List ℕ) → List ℕ → Type 0
 AreBytesOf None bytes = ⊤
 AreBytesOf (Some told) bytes = bytes ≡ told
+
+-- how many bytes of a reader are read at most: one more than a source text may have
+abbrev pub most_read : ℕ
+most_read = 1048577
+
+-- of an answer: P holds unless the reader failed or memory did
+abbrev pub OnceRead : {T : Type 0} → Result T CheckFault → Type 0 → Type 0
+OnceRead (Err check_fault.Read) P = Unit {0}
+OnceRead (Err check_fault.OutOfMemory) P = Unit {0}
+OnceRead _ P = P
+
+-- the reader gave its bytes to its end, or so many; what it has left is what comes after them
+pub record IsReadThrough {R : Type 0} (remaining : R → Option (List ℕ)) (old new : Counted R) : Type 0 where
+  pub bytes : List ℕ
+  pub read : IsRead remaining most_read bytes old new
+
+-- a byte lies within the bytes of a reader, where it tells them, and within what is read of it
+pub record IsWithinStream (told : Option (List ℕ)) (byte : ℕ) : Type 0 where
+  pub bytes : List ℕ
+  pub given : AreBytesOf told bytes
+  pub within : byte ≤ length bytes
+  pub most : byte ≤ most_read
 
 -- a report in a format, as text or as JSON
 abbrev pub report_bytes : (json : Bool) → Format → List Row → List ℕ

@@ -5,6 +5,7 @@ ghost use Rattle.pc_source.specs.declared.place.Place.{Place};
 ghost use Rattle.pc_tree.specs.declared.code.Finding.{Finding};
 ghost use Rattle.pc_tree.specs.Tree.{module_of};
 ghost use Rattle.pc_scope.specs.ModuleScopes.{AreScopes};
+ghost use Rattle.pc_types.specs.Store.{KeepsTypes};
 ghost use Rattle.pc_class.specs.Bases.{bases_of};
 ghost use Rattle.pc_notes.specs.Notes.{findings_of, flow_noted, notes_of};
 ghost use Rattle.pc_labels.specs.DynamicFlows.{dynamic_flow};
@@ -42,6 +43,7 @@ pub fn findings_by<S: TypeStore>(
         (λ v. (f : Finding) → Contains (findings_of (notes_of v)) f ↔ IsFinding (module_of «module».now) f) }
     ensures flows { IfOk result
         (λ v. (p : Place) → flow_noted p (notes_of v) ≡ dynamic_flow (module_of «module».now) p) }
+    ensures kept { KeepsTypes S.has store.old store.new }
 {
     let mut of_classes = Vec::new(alloc);
     let classes = class_table(store, alloc, parents, module, scopes, &mut of_classes)?;

@@ -4,7 +4,8 @@ ghost use Rattle.std.specs.Prelude.{◌≡◌, IfOk, IfErr};
 ghost use Rattle.pc_source.specs.Devices.{failures_after};
 ghost use Rattle.pc_report.specs.Writing.{IsWritten};
 ghost use Rattle.pc_top.specs.Streaming.{IsReported, IsRefusedStream, IsBegun, WhenRefused, WhenWriteFails};
-ghost use Rattle.pc_top.specs.Streaming.{UnlessWriteFails, reader_fails, writer_fails, report_bytes};
+ghost use Rattle.pc_top.specs.Streaming.{UnlessWriteFails, OnceRead, IsReadThrough, IsWithinStream};
+ghost use Rattle.pc_top.specs.Streaming.{reader_fails, writer_fails, report_bytes};
 
 use crate::fault::CheckFault;
 use crate::top::check;
@@ -34,8 +35,8 @@ fn write_report<W: Write + Drop>(
 }
 
 /// Reads bytes to their end, checks them as `check` does, writes the report in the format that is asked for, as
-/// JSON or as text, and gives its numbers of errors and of dynamic places. The writer is not flushed.
-/// Own rule of the profile.
+/// JSON or as text, and gives its numbers of errors and of dynamic places. Reading stops after 1,048,577 bytes, one
+/// more than a source text may have. The writer is not flushed. Own rule of the profile.
 ///
 /// # Errors
 ///
@@ -54,6 +55,8 @@ pub fn check_stream<R: Read + Drop, W: Write + Drop>(
         (λ counts. IsReported W.contents
         (R.remaining reader.old.device) json format writer.old writer.new counts.0 counts.1) }
     ensures refused { IfErr result (WhenRefused (IsRefusedStream (R.remaining reader.old.device))) }
+    ensures within { IfErr result (WhenRefused (λ refusal. IsWithinStream (R.remaining reader.old.device) refusal.byte)) }
+    ensures read_through { OnceRead result (IsReadThrough R.remaining reader.old reader.new) }
     ensures begun { IfErr result
         (WhenWriteFails (IsBegun W.contents (R.remaining reader.old.device) json format writer.old writer.new)) }
     ensures untouched { IfErr result (UnlessWriteFails (writer.new ≡ writer.old)) }

@@ -152,7 +152,7 @@ fn words_for_help(rt: HostRuntime) -> Result<(), Fail> {
     for row in VERSIONS.lines() {
         assert_eq!(rt;
             told(rt.alloc(), row)?.as_str(),
-            "help: pycheck 0.1.0\n",
+            "help: pycheck 1.0.0\n",
             "at {row}"
         );
     }

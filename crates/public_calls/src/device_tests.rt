@@ -1,4 +1,5 @@
 //! Tests of reports over devices that fail or take few bytes a call.
+use pc_commands::{Explained, reason_of};
 use pc_report::{Format, ReadFault, Report, WriteFault, read_at_most};
 use pc_source::{Counted, Fault, Place, Refusal, RefusalCode, read_source};
 use pc_tree::{Code, Finding};
@@ -267,5 +268,26 @@ fn refusals_as_text(rt: HostRuntime) -> Result<(), Fail> {
     };
     let text = format!(in rt.alloc(); "{}; {}", Fault::Refused(refusal), Fault::OutOfMemory)?;
     assert_eq!(rt; text.as_str(), "refused N4 at byte 7; out of memory");
+    Ok(())
+}
+
+/// The reason of a device's last failed call, as the system says it.
+#[test]
+fn reasons_of_devices(rt: HostRuntime) -> Result<(), Fail> {
+    let mut device = Explained::new(FailingWriter {
+        taken: Vec::new(rt.alloc()),
+        each: 2,
+        most: 3,
+        fault: io::ErrorKind::StorageFull,
+    });
+    assert!(rt; device.write(b"abc").is_ok() && device.error().is_none());
+    assert!(rt; device.write(b"c").is_ok() && device.write(b"d").is_err());
+    let none = io::Error::from_raw_os_error(2);
+    let error = device.error().unwrap_or(none);
+    assert_eq!(rt; reason_of(rt.alloc(), &error)?.as_str(), "no storage space");
+    assert_eq!(rt;
+        reason_of(rt.alloc(), &none)?.as_str(),
+        "No such file or directory"
+    );
     Ok(())
 }

@@ -117,7 +117,7 @@ fn words_for_help(rt: HostRuntime) -> Result<(), Fail> {
     for row in VERSIONS.lines() {
         assert_eq!(rt;
             told(rt.alloc(), row)?.as_str(),
-            "help: pyrun 0.1.0\n",
+            "help: pyrun 1.0.0\n",
             "at {row}"
         );
     }

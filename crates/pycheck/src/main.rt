@@ -4,14 +4,16 @@
 ghost use Rattle.std.specs.Prelude.{◌≡◌};
 ghost use Rattle.pycheck.specs.Status.{status};
 
-use pc_commands::{CheckOptions, OptionFault, check_options};
+use pc_commands::{
+    CheckOptions, Explained, OptionFault, check_options, given_words, reason_of, tell,
+};
 use pc_source::Counted;
 use pc_top::{CheckFault, check_stream};
 use std::fs::File;
+use std::io;
 use std::io::Write;
 use std::process::ExitCode;
 use std::rt::{Env, Files};
-use std::{env, io};
 
 /// The exit status of an outcome, the numbers of errors and of dynamic places: 0 with no error, 1 with
 /// errors, 2 after a refusal, and 3 where memory or a device failed. Own rule of the profile.
@@ -28,43 +30,56 @@ pub fn status_of(outcome: &Result<(u64, u64), CheckFault>) -> u8
 
 /// What the words of the command line ask for.
 fn asked_for<R: Env + AllocGlobal>(rt: &R) -> Result<CheckOptions, OptionFault> {
-    let Ok(words) = env::args(rt) else {
-        let text = String::from_str(rt.alloc(), "error: the words could not be read\n")?;
-        return Err(OptionFault::Usage(text));
-    };
-    let given: Vec<String> = words.skip(1).collect(rt.alloc())?;
+    let given = given_words(rt)?;
     let words: Vec<&str> = given.iter().map(|word| word.as_str()).collect(rt.alloc())?;
     check_options(rt.alloc(), words.as_slice())
 }
 
-/// Tells why the words ask for no check, and gives the exit status.
-fn tell<R: Print + Eprint>(rt: &R, fault: &OptionFault) -> u8 {
-    if let OptionFault::Help(text) = fault
-        && print!(rt; "{text}").is_ok()
+/// Says why there is no report: of a file or of standard output with the system's reason, where it gave one.
+fn explain<R: Eprint + AllocGlobal>(
+    rt: &R,
+    fault: &CheckFault,
+    device: &str,
+    error: Option<io::Error>,
+) {
+    if let Some(error) = error
+        && let Ok(reason) = reason_of(rt.alloc(), &error)
     {
-        return 0;
+        let _ = eprintln!(rt; "pycheck: {device}: {reason}");
+        return;
     }
-    let _ = eprint!(rt; "{fault}");
-    3
+    let _ = eprintln!(rt; "{fault}");
 }
 
-/// Checks a file, and writes its report to standard output.
-fn checked<R: Print + Files + AllocGlobal>(
+/// Checks what a file has, and writes its report to standard output.
+fn checked<R: Print + Eprint + Files + AllocGlobal>(
     rt: &R,
     options: &CheckOptions,
+    file: R::File,
 ) -> Result<(u64, u64), CheckFault> {
-    let file = File::open(rt, options.file.as_str()).map_err(|_| CheckFault::Read)?;
-    let mut input = Counted::new(file);
-    let mut output = Counted::new(io::writer(rt));
-    let counts = check_stream(
+    let mut input = Counted::new(Explained::new(file));
+    let mut output = Counted::new(Explained::new(io::writer(rt)));
+    let mut outcome = check_stream(
         rt.alloc(),
         &mut input,
         &mut output,
         options.json,
         options.format,
-    )?;
-    output.flush().map_err(|_| CheckFault::Write)?;
-    Ok(counts)
+    );
+    if outcome.is_ok() && output.flush().is_err() {
+        outcome = Err(CheckFault::Write);
+    }
+    match &outcome {
+        Ok(_) => {}
+        Err(CheckFault::Write) => explain(
+            rt,
+            &CheckFault::Write,
+            "standard output",
+            output.inner().error(),
+        ),
+        Err(fault) => explain(rt, fault, options.file.as_str(), input.inner().error()),
+    }
+    outcome
 }
 
 /// Does what the words ask for, and gives the exit status.
@@ -73,10 +88,13 @@ fn run<R: Print + Eprint + Env + Files + AllocGlobal>(rt: &R) -> u8 {
         Ok(options) => options,
         Err(fault) => return tell(rt, &fault),
     };
-    let outcome = checked(rt, &options);
-    if let Err(fault) = &outcome {
-        let _ = eprintln!(rt; "{fault}");
-    }
+    let outcome = match File::open(rt, options.file.as_str()) {
+        Ok(file) => checked(rt, &options, file),
+        Err(error) => {
+            explain(rt, &CheckFault::Read, options.file.as_str(), Some(error));
+            Err(CheckFault::Read)
+        }
+    };
     status_of(&outcome)
 }
 

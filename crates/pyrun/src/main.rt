@@ -1,36 +1,24 @@
 //! Runs a module: `pyrun --fuel N FILE`.
 #![tactic(auto)]
 
-use pc_commands::{OptionFault, RunOptions, run_options, status_of, traced};
+use pc_commands::{
+    OptionFault, RunOptions, given_words, reason_of, run_options, status_of, tell, traced,
+};
 use pc_run::{Trace, trace_text};
 use pc_source::Fault;
 use std::alloc::AllocError;
 use std::hash::RandomState;
+use std::io::ErrorKind;
 use std::process::ExitCode;
 use std::random::RandomSource;
 use std::rt::{Env, Files};
-use std::{env, fs, io};
+use std::{fs, io};
 
 /// What the words of the command line ask for.
 fn asked_for<R: Env + AllocGlobal>(rt: &R) -> Result<RunOptions, OptionFault> {
-    let Ok(words) = env::args(rt) else {
-        let text = String::from_str(rt.alloc(), "error: the words could not be read\n")?;
-        return Err(OptionFault::Usage(text));
-    };
-    let given: Vec<String> = words.skip(1).collect(rt.alloc())?;
+    let given = given_words(rt)?;
     let words: Vec<&str> = given.iter().map(|word| word.as_str()).collect(rt.alloc())?;
     run_options(rt.alloc(), words.as_slice())
-}
-
-/// Tells why the words ask for no run, and gives the exit status.
-fn tell<R: Print + Eprint>(rt: &R, fault: &OptionFault) -> u8 {
-    if let OptionFault::Help(text) = fault
-        && print!(rt; "{text}").is_ok()
-    {
-        return 0;
-    }
-    let _ = eprint!(rt; "{fault}");
-    3
 }
 
 /// Prints a trace.
@@ -39,13 +27,24 @@ fn print_trace<R: Print + AllocGlobal>(rt: &R, trace: &Trace) -> io::Result<()> 
     print!(rt; "{text}")
 }
 
+/// Says why a device failed, with the system's reason, and gives the exit status.
+fn explain<R: Eprint + AllocGlobal>(rt: &R, device: &str, error: &io::Error) -> u8 {
+    let reason = reason_of(rt.alloc(), error);
+    let _ = match reason {
+        Ok(reason) if error.kind() != ErrorKind::OutOfMemory => {
+            eprintln!(rt; "pyrun: {device}: {reason}")
+        }
+        _ => eprintln!(rt; "out of memory"),
+    };
+    3
+}
+
 /// Prints what a run came to, and gives the exit status.
 fn report<R: Print + Eprint + AllocGlobal>(rt: &R, outcome: &Result<Trace, Fault>) -> u8 {
     match outcome {
         Ok(trace) => {
-            if print_trace(rt, trace).is_err() {
-                let _ = eprintln!(rt; "the trace could not be printed");
-                return 3;
+            if let Err(error) = print_trace(rt, trace) {
+                return explain(rt, "standard output", &error);
             }
         }
         Err(fault) => {
@@ -61,13 +60,13 @@ fn run<R: Print + Eprint + Env + Files + RandomSource + AllocGlobal>(rt: &R) -> 
         Ok(options) => options,
         Err(fault) => return tell(rt, &fault),
     };
-    let Ok(bytes) = fs::read(rt, options.file.as_str()) else {
-        let _ = eprintln!(rt; "the input could not be read");
-        return 3;
+    let bytes = match fs::read(rt, options.file.as_str()) {
+        Ok(bytes) => bytes,
+        Err(error) => return explain(rt, options.file.as_str(), &error),
     };
-    let Ok(keys) = RandomState::new(rt) else {
-        let _ = eprintln!(rt; "there are no random keys");
-        return 3;
+    let keys = match RandomState::new(rt) {
+        Ok(keys) => keys,
+        Err(error) => return explain(rt, "random keys", &error),
     };
     report(
         rt,

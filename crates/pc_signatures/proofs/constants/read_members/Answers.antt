@@ -3,6 +3,7 @@ use Rattle.pc_tree.specs.Tree.{Name}
 use Rattle.pc_class.specs.Facts.{base_facts, classes_of}
 use Rattle.pc_notes.specs.Notes.{notes_of}
 use Rattle.pc_rules.specs.SignaturesFound.{bound_in, with_name}
+use Rattle.pc_expr.proofs.Checkers.{goes_further}
 use Rattle.pc_signatures.specs.Internal.SignaturesRead.{module_in, signatures_with}
 use Rattle.pc_signatures.proofs.HeldSignatures.{globals_kept}
 use Rattle.pc_signatures.proofs.SignatureWalks.{stepped, walked, methods_apart, no_methods, members_found}
@@ -22,11 +23,11 @@ loop-member-preserved g c =
     let is = c.member-item.is in
     let text = c.as_str.ensures.value ∙ ap (λ (n : Name). n.text) c.name_of.ensures in
     record {
-      globals = globals_kept has tree c.loop-member.store c.add_member.new.store c.args.globals.now c.add_member.ensures.kept v.globals;
+      globals = globals_kept has tree c.loop-member.checker.store.now c.add_member.new.checker.store.now c.args.globals.now c.add_member.ensures.goes_on.kept v.globals;
       held = c.in_ok-add_member.ensures.held;
       are = stepped (signatures_with tree c.loop-member.methods.items) (signatures_with tree c.add_member.new.methods.items) _ _ _ _ v.are (methods_apart m ms i x less is) c.in_ok-add_member.ensures.typed;
-      found = stepped (notes_of c.loop-member.found) (notes_of c.add_member.new.found) _ _ _ _ v.found (members_found m base (bound_in c.loop-member.bound) (bound_in c.bind.new.bound) ms i x less is (c.in_ok-bind.ensures ∙ ap (with_name (bound_in c.loop-member.bound)) text)) c.in_ok-add_member.ensures.pushed;
-      kept = λ ty h. c.add_member.ensures.kept ty (v.kept ty h);
+      found = stepped (notes_of c.loop-member.checker.found.now) (notes_of c.add_member.new.checker.found.now) _ _ _ _ v.found (members_found m base (bound_in c.loop-member.bound) (bound_in c.bind.new.bound) ms i x less is (c.in_ok-bind.ensures ∙ ap (with_name (bound_in c.loop-member.bound)) text)) c.in_ok-add_member.ensures.found;
+      goes_on = goes_further v.goes_on c.add_member.ensures.goes_on;
     }
 
 pub returns-clause-typed : goal.returns-clause-typed

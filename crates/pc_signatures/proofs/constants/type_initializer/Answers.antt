@@ -16,13 +16,13 @@ returns-clause-marked g c =
     let m = module_in c.args.globals.now.frame.now in
     let is = standing_is m _ _ _ _ (map tree c.args.walk.now.constants.items) _ (length c.args.walk.now.methods.items) _ _ _
     globals.frame.parents globals.classes globals.functions.are (ap (map tree) c.deref.ensures.value) (c.len.ensures ∙ c.args.walk.now.methods.ok.0) (module_names m _ globals.frame.scopes.tables) (ap (declared_of tree) c.in_ok-declared.ensures) (ap (env_of tree) c.in_ok-env.ensures) in
-    subst (λ (k : Standing). IfOk c.type_expr.result (λ l. IsMark g.S.TypeStore.has tree c.type_expr.new.store l (mark_in k (option_map tree c.args.want.now) (expr_of c.args.value.now)))) is c.type_expr.ensures.marked
+    subst (λ (k : Standing). IfOk c.type_expr.result (λ l. IsMark g.S.TypeStore.has tree c.type_expr.new.checker.store.now l (mark_in k (option_map tree c.args.want.now) (expr_of c.args.value.now)))) is c.type_expr.ensures.marked
 
-pub returns-clause-pushed : goal.returns-clause-pushed
-returns-clause-pushed g c =
+pub returns-clause-found : goal.returns-clause-found
+returns-clause-found g c =
     let tree = g.S.TypeStore.tree in
     let globals = c.requires.globals in
     let m = module_in c.args.globals.now.frame.now in
     let is = standing_is m _ _ _ _ (map tree c.args.walk.now.constants.items) _ (length c.args.walk.now.methods.items) _ _ _
     globals.frame.parents globals.classes globals.functions.are (ap (map tree) c.deref.ensures.value) (c.len.ensures ∙ c.args.walk.now.methods.ok.0) (module_names m _ globals.frame.scopes.tables) (ap (declared_of tree) c.in_ok-declared.ensures) (ap (env_of tree) c.in_ok-env.ensures) in
-    subst (λ (k : Standing). OnOk c.type_expr.result ((notes_of c.type_expr.new.found) ≡ (notes_of c.args.found.now) ++ finds_in k (option_map tree c.args.want.now) (expr_of c.args.value.now))) is c.type_expr.ensures.pushed
+    subst (λ (k : Standing). OnOk c.type_expr.result ((notes_of c.type_expr.new.checker.found.now) ≡ (notes_of c.args.checker.now.found.now) ++ finds_in k (option_map tree c.args.want.now) (expr_of c.args.value.now))) is c.type_expr.ensures.found

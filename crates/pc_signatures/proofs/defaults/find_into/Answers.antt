@@ -10,11 +10,11 @@ use Rattle.pc_rules.specs.Standing.{mark_with}
 use Rattle.pc_rules.proofs.Flowing.{one_flow, flows_alike}
 use Rattle.pc_signatures.proofs.defaults.find_into.Goals as goal
 
-pub returns-clause-pushed : goal.returns-clause-pushed
-returns-clause-pushed g c = λ m e.
+pub returns-clause-found : goal.returns-clause-found
+returns-clause-found g c = λ m e.
     let tree = g.S.TypeStore.tree in
     let bases = c.args.parents.now in
-    let old = notes_of c.args.found.now in
+    let old = notes_of c.args.checker.now.found.now in
     let p = c.args.place in
     let from = tree c.args.label.now.ty in
     let into = tree c.args.into.now in

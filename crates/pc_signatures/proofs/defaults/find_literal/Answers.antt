@@ -9,10 +9,10 @@ use Rattle.pc_rules.specs.Found.{flows_at}
 use Rattle.pc_signatures.proofs.LiteralPlaces.{place_is}
 use Rattle.pc_signatures.proofs.defaults.find_literal.Goals as goal
 
-pub returns-clause-pushed : goal.returns-clause-pushed
-returns-clause-pushed g c =
+pub returns-clause-found : goal.returns-clause-found
+returns-clause-found g c =
     let l = c.args.literal.now in
     let bases = c.args.parents.now in
     let t = g.S.TypeStore.tree c.args.into.now in
-    subst (λ (p : Place). OnOk c.find_into.result ((notes_of c.find_into.new.found) ≡ (notes_of c.args.found.now) ++ flows_at p (flows_of bases (clean (literal_type (literal_of l))) (t ∷ [])))) (place_is l)
-    (c.find_into.ensures.pushed (clean (literal_type (literal_of l))) c.in_ok-label.ensures.marked.is)
+    subst (λ (p : Place). OnOk c.find_into.result ((notes_of c.find_into.new.checker.found.now) ≡ (notes_of c.args.checker.now.found.now) ++ flows_at p (flows_of bases (clean (literal_type (literal_of l))) (t ∷ [])))) (place_is l)
+    (c.find_into.ensures.found (clean (literal_type (literal_of l))) c.in_ok-label.ensures.marked.is)

@@ -1,4 +1,5 @@
 use Rattle.pc_notes.specs.Notes.{notes_of}
+use Rattle.pc_expr.proofs.Checkers.{goes_further}
 use Rattle.pc_signatures.specs.Internal.SignaturesRead.{module_in, signatures_with}
 use Rattle.pc_signatures.proofs.SignatureWalks.{stepped, functions_apart, functions_found}
 use Rattle.pc_signatures.proofs.signatures.read_functions.Goals as goal
@@ -16,6 +17,6 @@ loop-item-preserved g c =
     record {
       given = c.in_ok-add_function.ensures.held;
       are = stepped (signatures_with tree c.loop-item.functions.items) (signatures_with tree c.add_function.new.functions.items) _ _ _ _ v.are (functions_apart m items i x less is) c.in_ok-add_function.ensures.typed;
-      found = stepped (notes_of c.loop-item.found) (notes_of c.add_function.new.found) _ _ _ _ v.found (functions_found m items i x less is) c.in_ok-add_function.ensures.pushed;
-      kept = λ ty h. c.add_function.ensures.kept ty (v.kept ty h);
+      found = stepped (notes_of c.loop-item.checker.found.now) (notes_of c.add_function.new.checker.found.now) _ _ _ _ v.found (functions_found m items i x less is) c.in_ok-add_function.ensures.found;
+      goes_on = goes_further v.goes_on c.add_function.ensures.goes_on;
     }

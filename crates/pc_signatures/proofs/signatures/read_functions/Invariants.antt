@@ -1,17 +1,17 @@
 use Rattle.std.proofs.Common.{◌≡◌, ◌++◌, map, drop}
 use Rattle.pc_tree.specs.Tree.{item_of}
 use Rattle.pc_scope.specs.Bindings.{functions_in}
-use Rattle.pc_types.specs.Store.{KeepsTypes}
 use Rattle.pc_notes.specs.Notes.{notes_of}
 use Rattle.pc_rules.specs.Signatures.{signature_of}
 use Rattle.pc_rules.specs.SignaturesFound.{functions_findings}
+use Rattle.pc_expr.specs.Checkers.{GoesOn}
 use Rattle.pc_signatures.specs.Internal.SignaturesRead.{module_in, HasSignatures, signatures_with}
 use Rattle.pc_signatures.proofs.signatures.read_functions.Given as goal
 
 abbrev pub invariant-loop-item : goal.invariant-loop-item
 invariant-loop-item g l = record {
-  given : HasSignatures (g.S.TypeStore.has l.store) l.functions.items;
+  given : HasSignatures (g.S.TypeStore.has l.checker.store.now) l.functions.items;
   are : signatures_with g.S.TypeStore.tree l.functions.items ++ map (signature_of (module_in l.frame)) (functions_in (map item_of (drop l.item-index l.items))) ≡ map (signature_of (module_in l.frame)) (functions_in (map item_of l.items));
-  found : (notes_of l.found) ++ functions_findings (module_in l.frame) (map item_of (drop l.item-index l.items)) ≡ (notes_of l.fn.found) ++ functions_findings (module_in l.frame) (map item_of l.items);
-  kept : KeepsTypes g.S.TypeStore.has l.fn.store l.store;
+  found : (notes_of l.checker.found.now) ++ functions_findings (module_in l.frame) (map item_of (drop l.item-index l.items)) ≡ (notes_of l.fn.checker.found.now) ++ functions_findings (module_in l.frame) (map item_of l.items);
+  goes_on : GoesOn g.S.TypeStore l.fn.checker l.checker;
 }

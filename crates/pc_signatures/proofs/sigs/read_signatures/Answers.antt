@@ -8,12 +8,12 @@ pub read_items-requires : goal.read_items-requires
 read_items-requires g c =
     let has = g.S.TypeStore.has in
     let tree = g.S.TypeStore.tree in
-    let store = c.read_functions.new.store in
+    let store = c.read_functions.new.checker.store.now in
     let typed = c.in_ok-functions.ensures.typed in
     record {
       frame = record { scopes = c.requires.scopes; parents = c.requires.parents };
       classes = c.requires.classes;
-      entries = entries_kept has c.args.store.now store c.read_functions.ensures.kept _ c.requires.entries;
+      entries = entries_kept has c.args.checker.now.store.now store c.read_functions.ensures.goes_on.kept _ c.requires.entries;
       functions = record {
         given = subst (HasSignatures (has store)) (sym c.deref.ensures.value) typed.given;
         are = ap (signatures_with tree) c.deref.ensures.value ∙ typed.are;
@@ -23,11 +23,11 @@ read_items-requires g c =
 pub returns-clause-held : goal.returns-clause-held
 returns-clause-held g c =
     let has = g.S.TypeStore.has in
-    let store = c.read_items.new.store in
+    let store = c.read_items.new.checker.store.now in
     let walk = c.in_ok-walk.ensures.held in
     record {
       constants = walk.constants;
-      functions = signatures_kept has c.read_functions.new.store store c.read_items.ensures.kept c.in_ok-functions.functions.items c.in_ok-functions.ensures.typed.given;
+      functions = signatures_kept has c.read_functions.new.checker.store.now store c.read_items.ensures.goes_on.kept c.in_ok-functions.functions.items c.in_ok-functions.ensures.typed.given;
       methods = All-map (HasSignatures (has store)) (λ v. v.items) c.in_ok-walk.walk.methods.items walk.methods;
     }
 

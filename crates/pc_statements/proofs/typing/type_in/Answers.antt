@@ -1,4 +1,4 @@
-use Rattle.std.proofs.Common.{List, refl, subst}
+use Rattle.std.proofs.Common.{List, refl, subst, rules}
 use Rattle.std.specs.Prelude.{IfOk, OnOk, ◌≡◌, ◌++◌}
 use Rattle.std.specs.Option.{option_map}
 use Rattle.std.proofs.lemmas.Result.{IfOk-weaker}
@@ -33,11 +33,17 @@ returns-clause-labelled g c =
     let k = at (frame_with tree g.R.Resolver.meaning f) (env_of tree c.args.declared.now) (env_of tree c.args.env.now) in
     let want = option_map tree c.args.want.now in
     let e = expr_of c.args.e.now in
-    IfOk-weaker c.type_expr.result (λ l. IsMark g.S.TypeStore.has tree c.type_expr.new.store l (mark_in k want e)) (λ l. GivesLabel g.S.TypeStore.has tree f.parents.now c.type_expr.new.store l (mark_in k want e))
-    (λ l m. gives_label g.S.TypeStore.has tree f.parents.now c.type_expr.new.store l k want e refl c.requires.frame.context (table_well_formed f.parents.now (env_of tree c.args.declared.now) c.requires.declared.well_formed) c.requires.env.well_formed (want_well_formed g.S.TypeStore.has tree f.parents.now c.args.store.now c.args.want.now c.requires.want) m)
-    (subst (λ (ds : List Tree). IfOk c.type_expr.result (λ l. IsMark g.S.TypeStore.has tree c.type_expr.new.store l (mark_in (record { context = context_in tree g.R.Resolver.meaning f; declared = ds; env = env_of tree c.args.env.now }) want e))) (declared_is tree c.args.declared.now) c.type_expr.ensures.marked)
+    let store = c.type_expr.new.checker.store.now in
+    let labelled : IfOk c.type_expr.result (λ l. GivesLabel g.S.TypeStore.has tree f.parents.now store l (mark_in k want e)) =
+    IfOk-weaker c.type_expr.result (λ l. IsMark g.S.TypeStore.has tree store l (mark_in k want e)) (λ l. GivesLabel g.S.TypeStore.has tree f.parents.now store l (mark_in k want e))
+    (λ l m. gives_label g.S.TypeStore.has tree f.parents.now store l k want e refl c.requires.frame.context (table_well_formed f.parents.now (env_of tree c.args.declared.now) c.requires.declared.well_formed) c.requires.env.well_formed (want_well_formed g.S.TypeStore.has tree f.parents.now c.args.store.now c.args.want.now c.requires.want) m)
+    (subst (λ (ds : List Tree). IfOk c.type_expr.result (λ l. IsMark g.S.TypeStore.has tree store l (mark_in (record { context = context_in tree g.R.Resolver.meaning f; declared = ds; env = env_of tree c.args.env.now }) want e))) (declared_is tree c.args.declared.now) c.type_expr.ensures.marked) in
+    search (rules, labelled)
 
 pub returns-clause-pushed : goal.returns-clause-pushed
 returns-clause-pushed g c =
     let tree = g.S.TypeStore.tree in
-    subst (λ (ds : List Tree). OnOk c.type_expr.result ((notes_of c.type_expr.new.found) ≡ (notes_of c.args.found.now) ++ finds_in (record { context = context_in tree g.R.Resolver.meaning c.args.frame.now; declared = ds; env = env_of tree c.args.env.now }) (option_map tree c.args.want.now) (expr_of c.args.e.now))) (declared_is tree c.args.declared.now) c.type_expr.ensures.pushed
+    let k = at (frame_with tree g.R.Resolver.meaning c.args.frame.now) (env_of tree c.args.declared.now) (env_of tree c.args.env.now) in
+    let pushed : OnOk c.type_expr.result ((notes_of c.type_expr.new.checker.found.now) ≡ (notes_of c.args.found.now) ++ finds_in k (option_map tree c.args.want.now) (expr_of c.args.e.now)) =
+    subst (λ (ds : List Tree). OnOk c.type_expr.result ((notes_of c.type_expr.new.checker.found.now) ≡ (notes_of c.args.found.now) ++ finds_in (record { context = context_in tree g.R.Resolver.meaning c.args.frame.now; declared = ds; env = env_of tree c.args.env.now }) (option_map tree c.args.want.now) (expr_of c.args.e.now))) (declared_is tree c.args.declared.now) c.type_expr.ensures.found in
+    search (rules, pushed)

@@ -23,6 +23,7 @@ returns g c =
     record {
       found = exactly m of_scopes (c.in_ok-of_scopes.ensures.found c.requires.scopes) (notes_of c.put_all-2.new.self) all;
       flows = λ p. same_flows p (notes_of c.put_all-2.new.self) (module_finds m []) of_scopes (class_findings m ++ override_findings m) all;
+      kept = λ ty h. c.check_module.ensures.kept ty (c.override_findings.ensures.kept ty (c.class_table.ensures.kept ty h));
     }
 
 pub check_module-requires-clause-entries : goal.check_module-requires-clause-entries

@@ -1,8 +1,8 @@
-use Rattle.std.proofs.Common.{ℕ, List, subst}
+use Rattle.std.proofs.Common.{ℕ, ◌≤◌, List, length, subst}
 use Rattle.std.proofs.lemmas.Result.{err_from_is_err_and}
 use Rattle.pc_front.specs.Bytes.{IsRefusalOf}
 use Rattle.pc_top.specs.Headline.{Headline, OnCheckFault}
-use Rattle.pc_top.proofs.StreamBytes.{refused_stream, reported_stream, begun_stream}
+use Rattle.pc_top.proofs.StreamBytes.{refused_stream, reported_stream, begun_stream, within_stream}
 use Rattle.pc_top.proofs.stream.check_stream.Goals as goal
 
 pub returns-in_err-report-clause-refused : goal.returns-in_err-report-clause-refused
@@ -12,6 +12,14 @@ returns-in_err-report-clause-refused g c =
     let told = g.R.Read.remaining c.args.reader.now.device in
     rw (p.1, p.2) (refused_stream told _ c.in_ok-bytes.bytes.items read.given read.whole c.in_err-report.field-0.0
     (subst (λ (l : List ℕ). OnCheckFault (IsRefusalOf l) c.in_err-report.field-0.0) c.as_slice.ensures.value c.in_err-report.ensures.refused))
+
+pub returns-in_err-report-clause-within : goal.returns-in_err-report-clause-within
+returns-in_err-report-clause-within g c =
+    let p = err_from_is_err_and c.from_residual-in_err-report.result c.from_residual-in_err-report.ensures.1 in
+    let read = c.in_ok-bytes.ensures.read in
+    let told = g.R.Read.remaining c.args.reader.now.device in
+    rw (p.1, p.2) (within_stream told _ c.in_ok-bytes.bytes.items read.given read.whole read.short c.in_err-report.field-0.0
+    (subst (λ (l : List ℕ). OnCheckFault (λ r. r.byte ≤ length l) c.in_err-report.field-0.0) c.as_slice.ensures.value c.in_err-report.ensures.within))
 
 pub returns-in_err-write_report-clause-begun : goal.returns-in_err-write_report-clause-begun
 returns-in_err-write_report-clause-begun g c =
