@@ -1,6 +1,7 @@
 -- What a function is entered with: its receiver and its parameters, declared and assigned; and what is found in its body from there.
-use Rattle.std.proofs.Common.{◌≡◌, ◌∙◌, ◌++◌, ℕ, zero, suc, List, [], ◌∷◌, Option, Some, None, length, refl, sym, ap, subst, arith}
-use Rattle.std.specs.Prelude.{All, false, is_some, replicate, slice_set, slice_index_or}
+use Rattle.std.proofs.Common.{◌≡◌, ◌∙◌, ◌++◌, ℕ, zero, suc, List, [], ◌∷◌, Option, Some, None, length, refl, sym, ap}
+use Rattle.std.proofs.Common.{subst, arith}
+use Rattle.std.specs.Prelude.{All, true, false, is_some, replicate, slice_set, slice_index_or}
 use Rattle.std.specs.Borrow.{Bor}
 use Rattle.std.specs.Option.{option_map, option_copied}
 use Rattle.std.proofs.lemmas.List.Elements.{All-nil, All-head, All-tail, All-cons, All-replicate}
@@ -20,11 +21,12 @@ use Rattle.pc_class.specs.WellFormed.{ParametersWellFormed}
 use Rattle.pc_flow.specs.Environment.{Env, none_assigned}
 use Rattle.pc_flow.specs.WellFormed.{IsWellFormedEnv}
 use Rattle.pc_flow.specs.Stored.{HasOne, env_of}
+use Rattle.pc_flow.proofs.Assigned.{local_current}
 use Rattle.pc_notes.specs.Notes.{Note}
-use Rattle.pc_labels.specs.ComputedStatements.{BodyFrame, Table, Walk, enter_parameters, enter_local, enter_name, end_finds, body_frame_of, function_finds, walk_suite}
+use Rattle.pc_labels.specs.ComputedStatements.{BodyFrame, Table, Walk, enter_parameters, enter_local, enter_name}
+use Rattle.pc_labels.specs.ComputedStatements.{end_finds, body_frame_of, function_finds, walk_suite}
 use Rattle.pc_labels.specs.Modules.{entry_parameters, receiver_parameter}
 use Rattle.pc_frames.specs.StatementsHeld.{HoldsType, HoldsTypes}
-use Rattle.pc_check.specs.Internal.Entry.{HoldsParameter, GivesEntry}
 use Rattle.pc_frames.proofs.Bound.{set_gives, bound_is}
 
 -- what is borrowed is none where there is none
@@ -41,17 +43,58 @@ module _ {Ty : Type 0} (has : Ty → Type 0) (tree : Ty → Tree) (bases : Bases
   pub none_holds : (n : ℕ) → HoldsTypes has tree bases (replicate n None)
   none_holds n = record { given = All-replicate (HasOne has) n None tt; well_formed = none_well_formed n }
 
+  -- the type of a parameter is of the store and well-formed
+  abbrev HoldsParameter : RustParameter Ty → Type 0
+  HoldsParameter p = HoldsType has tree bases p.ty
+
   -- parameters of the store whose types are well-formed
-  pub parameters_hold : (ps : List (RustParameter Ty)) → All (HasParameter has) ps → ParametersWellFormed bases (parameters_with tree ps) → All (HoldsParameter has tree bases) ps
-  parameters_hold [] h k = All-nil (HoldsParameter has tree bases)
-  parameters_hold (p ∷ ps) h k = All-cons (HoldsParameter has tree bases) p ps (record { given = All-head (HasParameter has) p ps h; well_formed = k.0 }) (parameters_hold ps (All-tail (HasParameter has) p ps h) k.1)
+  pub parameters_hold : (ps : List (RustParameter Ty)) → All (HasParameter has) ps
+      → ParametersWellFormed bases (parameters_with tree ps) → All (λ p. HoldsType has tree bases p.ty) ps
+  parameters_hold [] h k = All-nil HoldsParameter
+  parameters_hold (p ∷ ps) h k = All-cons HoldsParameter p ps
+      (record { given = All-head (HasParameter has) p ps h; well_formed = k.0 })
+      (parameters_hold ps (All-tail (HasParameter has) p ps h) k.1)
 
 -- and they mean that none is assigned
 pub none_is : {Ty : Type 0} (tree : Ty → Tree) (n : ℕ) → env_of tree (replicate n None) ≡ none_assigned n
 none_is tree zero = refl
 none_is tree (suc n) = ap (λ l. None ∷ l) (none_is tree n)
 
+-- what a name comes to at the entry that means no local, or one that is bound already
+pub name_elsewhere : (table : Table) (env : Env) (r : Res) (t : Tree) → ((x : ℕ) → r ≡ res.Local x → ⊥)
+    → enter_name table env r t ≡ (table, env)
+name_elsewhere table env (res.Local x) t h = absurd (h x refl)
+name_elsewhere table env (res.Const i) t h = refl
+name_elsewhere table env (res.Func i) t h = refl
+name_elsewhere table env (res.Class i) t h = refl
+name_elsewhere table env (res.Builtin b) t h = refl
+name_elsewhere table env res.None t h = refl
+
+name_settled : (table : Table) (env : Env) (x : ℕ) (t : Tree) (o : Option Tree) → is_some o ≡ true
+    → enter_local o table env x t ≡ (table, env)
+name_settled table env x t (Some d) e = refl
+name_settled table env x t None e = absurd (grind (arith, e))
+
+some_copied : {Ty : Type 0} (tree : Ty → Tree) (o : Option (Bor Ty)) → is_some o ≡ true
+    → is_some (option_map tree (option_copied o)) ≡ true
+some_copied tree None e = absurd (grind (arith, e))
+some_copied tree (Some ty) e = refl
+
+pub name_bound : {Ty : Type 0} (tree : Ty → Tree) (declared : List (Option Ty)) (env : Env) (x : ℕ) (t : Tree)
+    (o : Option (Bor Ty)) → option_copied o ≡ slice_index_or declared x None → is_some o ≡ true
+    → enter_name (env_of tree declared) env (res.Local x) t ≡ (env_of tree declared, env)
+name_bound tree declared env x t o copied e =
+    ap (λ b. enter_local b (env_of tree declared) env x t)
+    (local_current tree declared x (slice_index_or declared x None) refl ∙ sym (ap (option_map tree) copied))
+    ∙ name_settled (env_of tree declared) env x t (option_map tree (option_copied o)) (some_copied tree o e)
+
 module _ {Store Ty : Type 0} (has : Store → Ty → Type 0) (tree : Ty → Tree) (bases : Bases) (store : Store) where
+  -- declared types and an environment of the store that mean these
+  pub record GivesEntry (declared env : List (Option Ty)) (e : Table × Env) : Type 0 where
+    pub declared_holds : HoldsTypes (has store) tree bases declared
+    pub env_holds : HoldsTypes (has store) tree bases env
+    pub is : (env_of tree declared, env_of tree env) ≡ e
+
   -- a local that has no declared type so far, declared and assigned
   pub local_entered : (declared env : List (Option Ty)) (x : ℕ) (ty first current : Ty) →
       HoldsTypes (has store) tree bases declared →
@@ -60,45 +103,60 @@ module _ {Store Ty : Type 0} (has : Store → Ty → Type 0) (tree : Ty → Tree
       Means has tree store first (tree ty) →
       Means has tree store current (tree ty) →
       slice_index_or declared x None ≡ None →
-      GivesEntry (has store) tree bases (slice_set declared x (Some first)) (slice_set env x (Some current)) (enter_name (env_of tree declared) (env_of tree env) (res.Local x) (tree ty))
+      GivesEntry (slice_set declared x (Some first)) (slice_set env x (Some current))
+      (enter_name (env_of tree declared) (env_of tree env) (res.Local x) (tree ty))
   local_entered declared env x ty first current hd he ht mf mc e =
-      let d = set_gives has tree bases store declared x first (record { given = mf.0; well_formed = subst (IsWellFormed bases) (sym mf.1) ht.well_formed }) hd in
-      let c = set_gives has tree bases store env x current (record { given = mc.0; well_formed = subst (IsWellFormed bases) (sym mc.1) ht.well_formed }) he in
+      let d = set_gives has tree bases store declared x first
+      (record { given = mf.0; well_formed = subst (IsWellFormed bases) (sym mf.1) ht.well_formed }) hd in
+      let c = set_gives has tree bases store env x current
+      (record { given = mc.0; well_formed = subst (IsWellFormed bases) (sym mc.1) ht.well_formed }) he in
       let table = d.is ∙ ap (λ t. slice_set (env_of tree declared) x (Some t)) mf.1 in
       let assigned = c.is ∙ ap (λ t. slice_set (env_of tree env) x (Some t)) mc.1 in
-      let both : (env_of tree (slice_set declared x (Some first)), env_of tree (slice_set env x (Some current))) ≡ enter_local None (env_of tree declared) (env_of tree env) x (tree ty) = λ i. (table i, assigned i) in
+      let both : (env_of tree (slice_set declared x (Some first)), env_of tree (slice_set env x (Some current)))
+      ≡ enter_local None (env_of tree declared) (env_of tree env) x (tree ty) = λ i. (table i, assigned i) in
       record {
         declared_holds = d.holds;
         env_holds = c.holds;
-        is = both ∙ sym (ap (λ o. enter_local o (env_of tree declared) (env_of tree env) x (tree ty)) (bound_is has tree bases store declared x ∙ ap (option_map tree) e));
+        is = both ∙ sym (ap (λ o. enter_local o (env_of tree declared) (env_of tree env) x (tree ty))
+            (bound_is has tree bases store declared x ∙ ap (option_map tree) e));
       }
 
 -- parameters one after another
-enter_both : (resolve : List ℕ → Res) (table : Table) (env : Env) (ps qs : List TypedParameter) → enter_parameters resolve table env (ps ++ qs) ≡ enter_parameters resolve (enter_parameters resolve table env ps).0 (enter_parameters resolve table env ps).1 qs
+enter_both : (resolve : List ℕ → Res) (table : Table) (env : Env) (ps qs : List TypedParameter)
+    → enter_parameters resolve table env (ps ++ qs) ≡ enter_parameters resolve
+    (enter_parameters resolve table env ps).0 (enter_parameters resolve table env ps).1 qs
 enter_both resolve table env [] qs = refl
-enter_both resolve table env (p ∷ ps) qs = let r = enter_name table env (resolve p.name) p.type in enter_both resolve r.0 r.1 ps qs
+enter_both resolve table env (p ∷ ps) qs = let r = enter_name table env
+    (resolve p.name) p.type in enter_both resolve r.0 r.1 ps qs
 
 -- a walk from this entry
 abbrev walk_from : BodyFrame → FuncDef → List Note → Table × Env → Walk
-walk_from frame f found start = walk_suite frame (record { table = start.0; env = Some start.1; broken = None; found = found }) f.body
+walk_from frame f found start = walk_suite frame (record
+    { table = start.0; env = Some start.1; broken = None; found = found }) f.body
 
 -- what is found in a function of so many locals that is entered with these parameters
 abbrev found_from : BodyFrame → FuncDef → List Note → ℕ → List TypedParameter → List Note
 found_from frame f found n ps =
-    let body = walk_from frame f found (enter_parameters frame.context.resolve (none_assigned n) (none_assigned n) ps) in
+    let body = walk_from frame f found (enter_parameters frame.context.resolve (none_assigned n) (none_assigned n) ps)
+    in
     body.found ++ end_finds frame.context.bases frame.returned f.name.place body.env
 
 -- what is found in a function, by what its receiver, its parameters and its body come to
-pub function_found : (m : Module) (constants : List Tree) (owner : Owner) (f : FuncDef) (frame : BodyFrame) (found : List Note) (n : ℕ) (middle start : Table × Env) (body : Walk) →
+pub function_found : (m : Module) (constants : List Tree) (owner : Owner) (f : FuncDef) (frame : BodyFrame)
+    (found : List Note) (n : ℕ) (middle start : Table × Env) (body : Walk) →
     frame ≡ body_frame_of m constants owner f →
     n ≡ length (locals owner f) →
     middle ≡ enter_parameters frame.context.resolve (none_assigned n) (none_assigned n) (receiver_parameter owner) →
     start ≡ enter_parameters frame.context.resolve middle.0 middle.1 (parameters_of m f.params) →
     body ≡ walk_from frame f found start →
-    body.found ++ end_finds frame.context.bases frame.returned f.name.place body.env ≡ function_finds m constants owner f found
+    body.found ++ end_finds frame.context.bases frame.returned f.name.place body.env
+    ≡ function_finds m constants owner f found
 function_found m constants owner f frame found n middle start body ef en em es eb =
     let resolve = frame.context.resolve in
-    let entered = es ∙ ap (λ (r : Table × Env). enter_parameters resolve r.0 r.1 (parameters_of m f.params)) em ∙ sym (enter_both resolve (none_assigned n) (none_assigned n) (receiver_parameter owner) (parameters_of m f.params)) in
-    ap (λ (w : Walk). w.found ++ end_finds frame.context.bases frame.returned f.name.place w.env) (eb ∙ ap (walk_from frame f found) entered)
+    let entered = es ∙ ap (λ (r : Table × Env). enter_parameters resolve r.0 r.1 (parameters_of m f.params)) em
+    ∙ sym (enter_both resolve (none_assigned n) (none_assigned n) (receiver_parameter owner)
+    (parameters_of m f.params)) in
+    ap (λ (w : Walk). w.found ++ end_finds frame.context.bases frame.returned f.name.place w.env)
+    (eb ∙ ap (walk_from frame f found) entered)
     ∙ ap (λ k. found_from frame f found k (entry_parameters m owner f)) en
     ∙ ap (λ k. found_from k f found (length (locals owner f)) (entry_parameters m owner f)) ef

@@ -1,21 +1,25 @@
 -- What a walk over statements comes to, put together from its parts.
-use Rattle.std.proofs.Common.{◌≡◌, ◌∙◌, ◌++◌, ◌≤◌, ℕ, List, Option, Some, None, length, drop, ap}
-use Rattle.std.specs.Prelude.{true, false}
+use Rattle.std.proofs.Common.{◌≡◌, ◌∙◌, ◌++◌, ◌≤◌, ℕ, List, Option, Some, None, length, drop, sym, ap, subst, append_assoc}
+use Rattle.std.specs.Prelude.{Bool as Test, true, false}
 use Rattle.std.specs.Option.{option_map}
 use Rattle.std.proofs.lemmas.List.{drop_all}
 use Rattle.pc_tree.specs.declared.tree.Stmt.{Stmt as RustStmt}
 use Rattle.pc_tree.specs.declared.tree.Branch.{Branch as RustBranch}
 use Rattle.pc_tree.specs.Tree.{Expr, Stmts, no_stmts, no_branches, more_branches, stmts_of_list}
 use Rattle.pc_tree.specs.Lists.{branches_of_list}
-use Rattle.pc_types.specs.Tree.{Tree}
-use Rattle.pc_types.specs.Below.{Bases}
+use Rattle.pc_types.specs.declared.store.TypeStore.{Ghosts as StoreOf}
 use Rattle.pc_flow.specs.Environment.{Env}
 use Rattle.pc_flow.specs.Stored.{env_of}
-use Rattle.pc_notes.specs.Notes.{Note}
-use Rattle.pc_rules.specs.Standing.{finds_in}
-use Rattle.pc_labels.specs.ComputedStatements.{BodyFrame, Table, Walk, BranchesResult, BindingResult, at, narrowed_at, with_way, behind_binding, behind_branches, walk_suite, walk_branches}
-use Rattle.pc_frames.specs.StatementsHeld.{HoldsTypesIfAny, GivesBound}
-use Rattle.pc_check.specs.Internal.StatementWalk.{GivesWalk}
+use Rattle.pc_flow.specs.declared.naming.Resolver.{Ghosts as NamesOf}
+use Rattle.pc_notes.specs.Notes.{Note, notes_of}
+use Rattle.pc_rules.specs.Standing.{Standing, finds_in}
+use Rattle.pc_labels.specs.ComputedStatements.{BodyFrame, Table, Walk as Reached, BranchesResult, at, narrowed_at}
+use Rattle.pc_labels.specs.ComputedStatements.{with_way, behind_branches, walk_suite, walk_branches}
+use Rattle.pc_frames.specs.StatementsHeld.{frame_with}
+use Rattle.pc_frames.specs.declared.walk.Walk.{Walk}
+use Rattle.pc_frames.specs.Walks.{HoldsEnv, HoldsWay, GoesOn, IsQuiet, Found, frame_in, standing_in}
+use Rattle.pc_frames.proofs.Walks.{frame_on, env_kept, way_kept}
+use Rattle.pc_check.specs.Internal.Walked.{StandsIn, Walked, reached}
 
 -- nothing is left of a suite, and of branches
 pub no_statement_left : (body : List RustStmt) (i : ℕ) → length body ≤ i → stmts_of_list (drop i body) ≡ no_stmts
@@ -24,38 +28,124 @@ no_statement_left body i h = ap stmts_of_list (drop_all i body h)
 pub no_branch_left : (bs : List RustBranch) (i : ℕ) → length bs ≤ i → branches_of_list (drop i bs) ≡ no_branches
 no_branch_left bs i h = ap branches_of_list (drop_all i bs h)
 
--- what a walk has come to, by what was found
-abbrev pub walk_by : Table → (env broken : Option Env) → List Note → Walk
-walk_by table env broken found = record { table = table; env = env; broken = broken; found = found }
+-- what is found in two parts was found in turn
+pub in_turn : (old first second new : List Note) → new ≡ old ++ (first ++ second) → new ≡ (old ++ first) ++ second
+in_turn old first second new e = e ∙ sym (append_assoc old first second)
 
-pub found_by : (table : Table) (env broken : Option Env) (a b : List Note) → a ≡ b → walk_by table env broken a ≡ walk_by table env broken b
-found_by table env broken a b e = ap (walk_by table env broken) e
+-- what a walk has come to, by what was found
+abbrev pub reached_by : Table → (env broken : Option Env) → List Note → Reached
+reached_by table env broken found = record { table = table; env = env; broken = broken; found = found }
 
 module _ (frame : BodyFrame) where
   -- one branch more
-  pub branch_walked : (table : Table) (last : Env) (ways broken : Option Env) (found : List Note) (c : Expr) (b : Stmts) (start body : Walk) (last' : Env) (ways' : Option Env) →
-      start ≡ record { table = table; env = Some (narrowed_at frame table true c last); broken = broken; found = found ++ finds_in (at frame table last) None c } →
-      body ≡ walk_suite frame start b →
-      last' ≡ narrowed_at frame table false c last →
-      ways' ≡ with_way frame.context.bases body.table ways body.env →
-      walk_branches frame (record { table = body.table; last = last'; ways = ways'; broken = body.broken; found = body.found }) no_branches ≡ walk_branches frame (record { table = table; last = last; ways = ways; broken = broken; found = found }) (more_branches c b no_branches)
+  pub branch_walked : (table : Table) (last : Env) (ways broken : Option Env) (found : List Note) (c : Expr) (b : Stmts)
+      (start body : Reached) (last' : Env) (ways' : Option Env)
+      → start ≡ record {
+        table = table;
+        env = Some (narrowed_at frame table true c last);
+        broken = broken;
+        found = found ++ finds_in (at frame table last) None c;
+      }
+      → body ≡ walk_suite frame start b
+      → last' ≡ narrowed_at frame table false c last
+      → ways' ≡ with_way frame.context.bases body.table ways body.env
+      → walk_branches frame
+      (record { table = body.table; last = last'; ways = ways'; broken = body.broken; found = body.found }) no_branches
+      ≡ walk_branches frame
+      (record { table = table; last = last; ways = ways; broken = broken; found = found }) (more_branches c b no_branches)
   branch_walked table last ways broken found c b start body last' ways' es eb el ew =
       let e = eb ∙ ap (λ w. walk_suite frame w b) es in
-      let joined = ew ∙ ap (λ (w : Walk). with_way frame.context.bases w.table ways w.env) e in
+      let joined = ew ∙ ap (λ (w : Reached). with_way frame.context.bases w.table ways w.env) e in
       λ i. record { table = (e i).table; last = el i; ways = joined i; broken = (e i).broken; found = (e i).found }
 
   -- behind an `if`, by what its branches come to
-  pub branches_from : (fork result : BranchesResult) (o : Stmts) → fork ≡ result →
-      behind_branches frame fork.ways (walk_suite frame (record { table = fork.table; env = Some fork.last; broken = fork.broken; found = fork.found }) o) ≡ behind_branches frame result.ways (walk_suite frame (record { table = result.table; env = Some result.last; broken = result.broken; found = result.found }) o)
-  branches_from fork result o e = λ i. behind_branches frame (e i).ways (walk_suite frame (record { table = (e i).table; env = Some (e i).last; broken = (e i).broken; found = (e i).found }) o)
+  pub branches_from : (fork result : BranchesResult) (o : Stmts) → fork ≡ result
+      → behind_branches frame fork.ways
+      (walk_suite frame (reached_by fork.table (Some fork.last) fork.broken fork.found) o)
+      ≡ behind_branches frame result.ways
+      (walk_suite frame (reached_by result.table (Some result.last) result.broken result.found) o)
+  branches_from fork result o e = λ i. behind_branches frame (e i).ways
+      (walk_suite frame (reached_by (e i).table (Some (e i).last) (e i).broken (e i).found) o)
 
   -- behind the suite of `else`
-  pub otherwise_walked : (ways : Option Env) (out result : Walk) (joined : Option Env) → out ≡ result → joined ≡ with_way frame.context.bases out.table ways out.env → walk_by out.table joined out.broken out.found ≡ behind_branches frame ways result
+  pub otherwise_walked : (ways : Option Env) (out result : Reached) (joined : Option Env) → out ≡ result
+      → joined ≡ with_way frame.context.bases out.table ways out.env
+      → reached_by out.table joined out.broken out.found ≡ behind_branches frame ways result
   otherwise_walked ways out result joined eo ej =
-      let first : walk_by out.table joined out.broken out.found ≡ behind_branches frame ways out = λ i. record { table = out.table; env = ej i; broken = out.broken; found = out.found } in
+      let first : reached_by out.table joined out.broken out.found ≡ behind_branches frame ways out =
+      λ i. record { table = out.table; env = ej i; broken = out.broken; found = out.found } in
       first ∙ ap (behind_branches frame ways) eo
 
-module _ {Store Ty : Type 0} (has : Store → Ty → Type 0) (tree : Ty → Tree) (bases : Bases) (store : Store) where
-  -- behind a name that is bound
-  pub binding_walked : (frame : BodyFrame) (declared env : List (Option Ty)) (broken : Option (List (Option Ty))) (found : List Note) (b : BindingResult) → GivesBound has tree bases store declared env found b → HoldsTypesIfAny (has store) tree bases broken → GivesWalk has tree bases store declared (Some env) broken found (behind_binding frame (option_map (env_of tree) broken) b)
-  binding_walked frame declared env broken found b g h = record { declared_holds = g.declared_holds; env_holds = g.env_holds; broken_holds = h; is = ap (behind_binding frame (option_map (env_of tree) broken)) g.is }
+module _ {Store R Ty : Type 0} (S : StoreOf Store Ty) (N : NamesOf R) where
+  module _ (old new : Walk Store R Ty) (env : List (Option Ty)) (finds : BodyFrame → Standing → List Note)
+      (g : GoesOn S old new) (a : Found S N old env new finds) where
+    -- what a walk has come to behind a step that found something
+    pub found_reached : (behind way : Option (List (Option Ty)))
+        → reached S new behind way
+        ≡ reached_by (env_of S.tree old.declared.now) (option_map (env_of S.tree) behind)
+        (option_map (env_of S.tree) way) (notes_of old.found.now ++ finds (frame_in S N old) (standing_in S N old env))
+    found_reached behind way = λ i. record {
+      table = env_of S.tree (a.declared i);
+      env = option_map (env_of S.tree) behind;
+      broken = option_map (env_of S.tree) way;
+      found = a.pushed i;
+    }
+
+    -- it stands there
+    pub found_stands : (behind way : Option (List (Option Ty))) → HoldsWay S new behind → HoldsWay S old way
+        → StandsIn S N new behind way
+    found_stands behind way h k = record {
+      frame = a.stands.frame;
+      declared = a.stands.declared;
+      current = h;
+      out = way_kept S N old new way g k;
+    }
+
+    -- what a condition tells there is what it told before
+    pub same_narrowed : (holds : Test) (c : Expr)
+        → narrowed_at (frame_in S N new) (env_of S.tree new.declared.now) holds c (env_of S.tree env)
+        ≡ narrowed_at (frame_in S N old) (env_of S.tree old.declared.now) holds c (env_of S.tree env)
+    same_narrowed holds c = λ i. narrowed_at (frame_with S.tree N.meaning (g.frame i))
+        (env_of S.tree (a.declared i)) holds c (env_of S.tree env)
+
+  module _ (old new : Walk Store R Ty) (g : GoesOn S old new) (q : IsQuiet S old new) where
+    -- behind a quiet step a walk stands as before it
+    pub quiet_stands : (env way : Option (List (Option Ty))) → StandsIn S N old env way → StandsIn S N new env way
+    quiet_stands env way h = record {
+      frame = frame_on S N old new h.frame g;
+      declared = subst (λ (ds : List (Option Ty)). HoldsEnv S new ds) (sym q.declared)
+          (env_kept S N old new old.declared.now g h.declared);
+      current = way_kept S N old new env g h.current;
+      out = way_kept S N old new way g h.out;
+    }
+
+    -- what it has come to
+    pub quiet_reached : (env way : Option (List (Option Ty))) → reached S new env way ≡ reached S old env way
+    quiet_reached env way = λ i. record {
+      table = env_of S.tree (q.declared i);
+      env = option_map (env_of S.tree) env;
+      broken = option_map (env_of S.tree) way;
+      found = q.found i;
+    }
+
+    -- what a condition tells in an environment that means this one
+    pub narrowed_from : (env : List (Option Ty)) (first : Env) → env_of S.tree env ≡ first → (holds : Test) (c : Expr)
+        → narrowed_at (frame_in S N new) (env_of S.tree new.declared.now) holds c (env_of S.tree env)
+        ≡ narrowed_at (frame_in S N old) (env_of S.tree old.declared.now) holds c first
+    narrowed_from env first e holds c = λ i. narrowed_at (frame_with S.tree N.meaning (g.frame i))
+        (env_of S.tree (q.declared i)) holds c (e i)
+
+    -- what is found in it
+    pub finds_from : (env : List (Option Ty)) (first : Env) → env_of S.tree env ≡ first → (c : Expr)
+        → notes_of new.found.now ++ finds_in (standing_in S N new env) None c
+        ≡ notes_of old.found.now ++ finds_in (at (frame_in S N old) (env_of S.tree old.declared.now) first) None c
+    finds_from env first e c = λ i. q.found i ++ finds_in (at (frame_with S.tree N.meaning (g.frame i))
+        (env_of S.tree (q.declared i)) (e i)) None c
+
+  -- what a walk comes to that began behind other steps
+  pub walks_on : (old mid new : Walk Store R Ty) (env way behind later : Option (List (Option Ty)))
+      (walks : BodyFrame → Reached → Reached)
+      → GoesOn S old mid → Walked S N mid env way new behind later walks
+      → reached S new behind later ≡ walks (frame_in S N old) (reached S mid env way)
+  walks_on old mid new env way behind later walks g w =
+      w.is ∙ (λ i. walks (frame_with S.tree N.meaning (g.frame i)) (reached S mid env way))

@@ -2,3 +2,4 @@
 pub mod Entry
 pub mod ModuleWalk
 pub mod StatementWalk
+pub mod Walked

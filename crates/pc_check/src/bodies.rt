@@ -6,9 +6,7 @@ ghost use Rattle.pc_tree.specs.Tree.{func_of};
 ghost use Rattle.pc_scope.specs.Resolution.{function_of};
 ghost use Rattle.pc_types.specs.Store.{KeepsTypes};
 ghost use Rattle.pc_notes.specs.Notes.{notes_of};
-ghost use Rattle.pc_rules.specs.Signatures.{signature_of};
 ghost use Rattle.pc_rules.specs.SignaturesFound.{constants_of};
-ghost use Rattle.pc_rules.specs.Standing.{HasSignature, signature_with};
 ghost use Rattle.pc_labels.specs.ComputedStatements.{function_finds};
 ghost use Rattle.pc_check.specs.Internal.ModuleWalk.{module_in, signature_for, IsModuleSetting};
 
@@ -48,54 +46,6 @@ fn signature_for<Ty: Drop>(signatures: &Sigs<Ty>, owner: Owner) -> Option<&Signa
     }
 }
 
-/// Finds what stands in the body of a function or method of this signature, and at its name.
-/// Language Reference 3.12, 8.7 "Function definitions".
-fn check_body<S: TypeStore>(
-    store: &mut S,
-    alloc: Global,
-    setting: &ModuleSetting<'_, S::Ty>,
-    owner: Owner,
-    signature: &Signature<S::Ty>,
-    def: &FuncDef,
-    found: &mut Notes,
-) -> Result<(), OutOfMemory>
-    requires setting { IsModuleSetting (S.has store.old) S.tree setting.now }
-    requires owner { function_of (module_in setting.now) owner ≡ Some (func_of def.now) }
-    requires given { HasSignature (S.has store.old) signature.now }
-    requires signature { signature_with S.tree signature.now ≡ signature_of (module_in setting.now) (func_of def.now) }
-    ensures pushed { OnOk result
-        (notes_of found.new ≡ function_finds (module_in setting.now) (constants_of (module_in setting.now)) owner
-        (func_of def.now) (notes_of found.old)) }
-    ensures kept { KeepsTypes S.has store.old store.new }
-{
-    let names = OwnerNames {
-        scopes: setting.scopes,
-        owner,
-    };
-    let frame = Frame {
-        parents: setting.parents,
-        classes: setting.classes,
-        functions: setting.signatures.functions(),
-        constants: setting.signatures.constants(),
-        known: setting.known,
-        names: &names,
-        tree: setting.tree,
-        scopes: setting.scopes,
-        returned: &signature.ret,
-    };
-    let count = setting.scopes.count_locals(owner);
-    check_function(
-        store,
-        alloc,
-        &frame,
-        owner,
-        count,
-        &signature.params,
-        def,
-        found,
-    )
-}
-
 /// Finds what stands in the body of a function or method of the module, and at its name.
 /// Language Reference 3.12, 8.7 "Function definitions".
 pub(crate) fn check_owned<S: TypeStore>(
@@ -115,6 +65,25 @@ pub(crate) fn check_owned<S: TypeStore>(
 {
     match signature_for(setting.signatures, owner) {
         None => Ok(()),
-        Some(signature) => check_body(store, alloc, setting, owner, signature, def, found),
+        Some(signature) => {
+            let names = OwnerNames {
+                scopes: setting.scopes,
+                owner,
+            };
+            let frame = Frame {
+                parents: setting.parents,
+                classes: setting.classes,
+                functions: setting.signatures.functions(),
+                constants: setting.signatures.constants(),
+                known: setting.known,
+                names: &names,
+                tree: setting.tree,
+                scopes: setting.scopes,
+                returned: &signature.ret,
+            };
+            let count = setting.scopes.count_locals(owner);
+            let params = &signature.params;
+            check_function(store, alloc, frame, owner, count, params, def, found)
+        }
     }
 }

@@ -23,13 +23,14 @@ use Rattle.pc_notes.specs.Notes.{Note, plain_note}
 use Rattle.pc_rules.specs.Operations.{Mark}
 use Rattle.pc_rules.specs.Context.{is_early}
 use Rattle.pc_rules.specs.Computed.{code_unless, flows_of}
-use Rattle.pc_rules.specs.Found.{brief, flows_at}
+use Rattle.pc_rules.specs.Found.{brief, flow_at, flow_then, flows_at}
 use Rattle.pc_rules.specs.Standing.{mark_with, mark_in, finds_in}
 use Rattle.pc_rules.specs.declared.label.Label.{Label}
+use Rattle.pc_rules.proofs.Flowing.{one_flow}
 use Rattle.pc_rules.proofs.Once.{once_early}
 use Rattle.pc_flow.specs.WellFormed.{IsWellFormedIfAny}
 use Rattle.pc_labels.specs.Statements.{only_code}
-use Rattle.pc_labels.specs.ComputedStatements.{BodyFrame, Table, BindingResult, with_declared, known_declared, at, bound_type, bound_name, bind_label, bind_value, declared_alone, annotation_finds}
+use Rattle.pc_labels.specs.ComputedStatements.{BodyFrame, Table, BindingResult, with_declared, known_declared, at, bound_type, bound_name, bind_label, bind_value, bind_item, declared_alone, annotation_finds}
 use Rattle.pc_frames.specs.StatementsHeld.{HoldsType, HoldsTypeIfAny, HoldsTypes, GivesTypes, GivesBound, bound_with}
 use Rattle.pc_frames.specs.AnnotatedNames.{annotation_unless, declared_by}
 use Rattle.pc_flow.specs.Stored.{GivesOne}
@@ -41,6 +42,20 @@ early_alike tree l m e = ap (λ (x : Mark). is_early x.codes) e ∙ once_early m
 -- the code of a flow of a label is that of its mark
 pub code_alike : {Ty : Type 0} (tree : Ty → Tree) (bases : Bases) (l : Label Ty) (m : Mark) (d : Tree) → mark_with tree l ≡ brief m → code_unless (static_test bases) (assignable_test bases) (is_early l.codes.items) (tree l.ty) d ≡ code_unless (static_test bases) (assignable_test bases) (is_early m.codes) m.type d
 code_alike tree bases l m d e = ap (λ (b : _). code_unless (static_test bases) (assignable_test bases) b (tree l.ty) d) (early_alike tree l m e) ∙ ap (λ (x : Mark). code_unless (static_test bases) (assignable_test bases) (is_early m.codes) x.type d) e
+
+-- what is found of a flow of a label is what is found of the flow of its mark
+pub flow_found : {Ty : Type 0} (tree : Ty → Tree) (bases : Bases) (p : Place) (l : Label Ty) (m : Mark) (into : Ty)
+    (code : Option Code) (old new : List Note)
+    → mark_with tree l ≡ brief m
+    → code ≡ code_unless (static_test bases) (assignable_test bases) (is_early l.codes.items) (tree l.ty) (tree into)
+    → new ≡ old ++ flow_at p (tree l.ty) (tree into) code
+    → new ≡ old ++ flows_at p (flows_of bases m (tree into ∷ []))
+flow_found tree bases p l m into code old new e ec en =
+    let types = ap (λ (x : Mark). x.type) e in
+    let codes = ec ∙ code_alike tree bases l m (tree into) e in
+    en ∙ ap (λ (ns : List Note). old ++ ns)
+    (one_flow p (tree l.ty) (tree into) code
+    ∙ (λ i. flow_then p [] (types i) (tree into) (codes i) (λ cs. [])))
 
 -- a local bound to a value of which this is expected
 abbrev bind_known : BodyFrame → Table → Env → ℕ → (want : Option Tree) → Expr → List Note → BindingResult
@@ -168,6 +183,17 @@ value_elsewhere frame table env (res.Func i) a e found h = refl
 value_elsewhere frame table env (res.Class i) a e found h = refl
 value_elsewhere frame table env (res.Builtin b) a e found h = refl
 value_elsewhere frame table env res.None a e found h = refl
+
+-- so the target of a `for`
+pub item_elsewhere : (frame : BodyFrame) (table : Table) (head : Env) (r : Res) (p : Place) (t : Tree) (found : List Note)
+    → ((x : ℕ) → r ≡ res.Local x → ⊥)
+    → bind_item frame table head r p t found ≡ record { table = table; env = head; found = found }
+item_elsewhere frame table head (res.Local x) p t found h = absurd (h x refl)
+item_elsewhere frame table head (res.Const i) p t found h = refl
+item_elsewhere frame table head (res.Func i) p t found h = refl
+item_elsewhere frame table head (res.Class i) p t found h = refl
+item_elsewhere frame table head (res.Builtin b) p t found h = refl
+item_elsewhere frame table head res.None p t found h = refl
 
 -- ---- names that are annotated alone
 

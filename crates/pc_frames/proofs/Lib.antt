@@ -4,3 +4,4 @@ pub mod Held
 pub mod KeptLocals
 pub mod Numbers
 pub mod Untouched
+pub mod Walks

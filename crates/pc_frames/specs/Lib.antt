@@ -3,3 +3,4 @@ pub mod Internal
 pub mod StatementsHeld
 pub mod Touched
 pub mod Untouched
+pub mod Walks

@@ -1,11 +1,13 @@
 //! Names that are bound: their declared types, the annotations of names, and a local bound to what has a label.
 
+#![tactic(auto, using(crate::proofs::Walks::goes_further))]
+
 ghost use Rattle.std.specs.Prelude.{◌≡◌, ◌++◌, IfOk, OnOk, None, slice_index_or, unwrap_or};
 ghost use Rattle.std.specs.Prelude.{is_some};
 ghost use Rattle.std.specs.Option.{option_map};
 ghost use Rattle.pc_tree.specs.Tree.{ann_of, name_of, module_of};
 ghost use Rattle.pc_types.specs.Tree.{Tree};
-ghost use Rattle.pc_types.specs.Store.{KeepsTypes, Means};
+ghost use Rattle.pc_types.specs.Store.{Means};
 ghost use Rattle.pc_ann.specs.Annotations.{read_ann};
 ghost use Rattle.pc_flow.specs.Stored.{env_of, HasOne, HasEach, GivesOne};
 ghost use Rattle.pc_notes.specs.Notes.{notes_of};
@@ -15,15 +17,13 @@ ghost use Rattle.pc_rules.specs.Standing.{mark_with};
 ghost use Rattle.pc_labels.specs.ComputedStatements.{BodyFrame as FrameOf, with_declared, known_declared, bound_type};
 ghost use Rattle.pc_labels.specs.ComputedStatements.{bound_name, bind_label, annotation_finds};
 ghost use Rattle.pc_frames.specs.AnnotatedNames.{annotation_unless, declared_by};
-ghost use Rattle.pc_frames.specs.StatementsHeld.{frame_with, HoldsFrame, HoldsTypes, HoldsTypeIfAny, HoldsType};
-ghost use Rattle.pc_frames.specs.StatementsHeld.{GivesBound};
+ghost use Rattle.pc_frames.specs.StatementsHeld.{HoldsFrame};
+ghost use Rattle.pc_frames.specs.Walks.{Stands, HoldsOne, HoldsWant, GoesOn, Bound, frame_in};
 
-use crate::frame::Frame;
-use crate::standing::flow_in;
+use crate::walk::Walk;
 use pc_ann::read_ann;
 use pc_flow::{DeclaredTypes, Env, Resolver, assigned_type};
-use pc_notes::Notes;
-use pc_rules::Label;
+use pc_rules::{Label, find_flow};
 use pc_scope::Res;
 use pc_source::{OutOfMemory, Place};
 use pc_tree::{Ann, Code, Name};
@@ -79,34 +79,31 @@ fn type_or<S: TypeStore>(
 
 /// Binds a local to what has this label, at this place. Where its declared type isn't known it is that of the label.
 pub fn bind_label<S: TypeStore, R: Resolver>(
-    store: &mut S,
-    alloc: Global,
-    frame: &Frame<'_, S::Ty, R>,
-    declared: &mut DeclaredTypes<S::Ty>,
+    walk: &mut Walk<'_, S, R>,
     env: Env<S::Ty>,
     local: usize,
     want: Option<S::Ty>,
     place: Place,
     label: &Label<S::Ty>,
-    found: &mut Notes,
 ) -> Result<Env<S::Ty>, OutOfMemory>
-    requires declared { HoldsTypes (S.has store.old) S.tree frame.now.parents.now declared.old }
-    requires env { HoldsTypes (S.has store.old) S.tree frame.now.parents.now env }
-    requires want { HoldsTypeIfAny (S.has store.old) S.tree frame.now.parents.now want }
-    requires label { HoldsType (S.has store.old) S.tree frame.now.parents.now label.now.ty }
+    requires stands { Stands S.TypeStore R.Resolver walk.old env }
+    requires want { HoldsWant S.TypeStore walk.old want }
+    requires label { HoldsOne S.TypeStore walk.old label.now.ty }
     ensures bound { (m : Mark) → mark_with S.tree label.now ≡ brief m
-        → IfOk result (λ e. GivesBound S.has S.tree frame.now.parents.now store.new declared.new e (notes_of found.new)
-        (bind_label (frame_with S.tree R.meaning frame.now) (env_of S.tree declared.old) (env_of S.tree env) local
-        (option_map S.tree want) place m (notes_of found.old))) }
-    ensures kept { KeepsTypes S.has store.old store.new }
+        → IfOk result (λ b. Bound S.TypeStore R.Resolver walk.old env walk.new b
+        (λ f t k. bind_label f t k local (option_map S.tree want) place m)) }
+    ensures goes_on { GoesOn S.TypeStore walk.old walk.new }
 {
-    let ty = type_or(store, alloc, want, &label.ty)?;
-    let code = flow_in(store, alloc, frame.parents, place, label, &ty, found)?;
-    let current = assigned_type(store, alloc, &ty, &label.ty, code)?;
-    settle(declared, local, ty);
-    let mut env = env;
-    env.assign(alloc, local, current)?;
-    Ok(env)
+    let parents = walk.frame.parents;
+    let ty = type_or(walk.store, walk.alloc, want, &label.ty)?;
+    let code = find_flow(
+        walk.store, walk.alloc, parents, place, label, &ty, walk.found,
+    )?;
+    let current = assigned_type(walk.store, walk.alloc, &ty, &label.ty, code)?;
+    settle(walk.declared, local, ty);
+    let mut behind = env;
+    behind.assign(walk.alloc, local, current)?;
+    Ok(behind)
 }
 
 /// Whether a name means a local whose declared type is settled.
@@ -122,43 +119,37 @@ fn is_bound<Ty: Drop>(declared: &DeclaredTypes<Ty>, meaning: Res) -> bool
 /// The type that the annotation of a name is read as, with what is found in it; none with E24 where the name means a
 /// local that is bound already.
 pub fn annotated_type<S: TypeStore, R: Resolver>(
-    store: &mut S,
-    alloc: Global,
-    frame: &Frame<'_, S::Ty, R>,
-    declared: &DeclaredTypes<S::Ty>,
+    walk: &mut Walk<'_, S, R>,
     meaning: Res,
     name: &Name,
     annotation: &Ann,
-    found: &mut Notes,
 ) -> Result<Option<S::Ty>, OutOfMemory>
-    requires frame { HoldsFrame (S.has store.old) S.tree R.meaning frame.now }
-    ensures typed { IfOk result
-        (λ t. HoldsTypeIfAny (S.has store.new) S.tree frame.now.parents.now t
-        × (option_map S.tree t ≡ annotation_unless
-        (bound_name (frame_with S.tree R.meaning frame.now) (env_of S.tree declared.now) meaning)
-        (read_ann (module_of frame.now.tree.now) frame.now.parents.now (ann_of annotation.now)))) }
-    ensures pushed { OnOk result
-        (notes_of found.new ≡ notes_of found.old
-        ++ annotation_finds (frame_with S.tree R.meaning frame.now)
-        (bound_name (frame_with S.tree R.meaning frame.now) (env_of S.tree declared.now) meaning) (name_of name.now)
-        (ann_of annotation.now)) }
-    ensures kept { KeepsTypes S.has store.old store.new }
+    requires { HoldsFrame (S.has walk.old.store.now) S.tree R.meaning walk.old.frame }
+    ensures typed { IfOk result (λ t. HoldsWant S.TypeStore walk.new t × (option_map S.tree t ≡ annotation_unless
+        (bound_name (frame_in S.TypeStore R.Resolver walk.old) (env_of S.tree walk.old.declared.now) meaning)
+        (read_ann (module_of walk.old.frame.tree.now) walk.old.frame.parents.now (ann_of annotation.now)))) }
+    ensures pushed { OnOk result (notes_of walk.new.found.now ≡ notes_of walk.old.found.now
+        ++ annotation_finds (frame_in S.TypeStore R.Resolver walk.old)
+        (bound_name (frame_in S.TypeStore R.Resolver walk.old) (env_of S.tree walk.old.declared.now) meaning)
+        (name_of name.now) (ann_of annotation.now)) }
+    ensures goes_on { GoesOn S.TypeStore walk.old walk.new }
+    ensures declared { OnOk result (walk.new.declared.now ≡ walk.old.declared.now) }
 {
-    if is_bound(declared, meaning) {
-        found.put(name.place, Code::E24)?;
+    if is_bound(walk.declared, meaning) {
+        walk.found.put(name.place, Code::E24)?;
         return Ok(None);
     }
-    let mut in_it = Vec::new(alloc);
+    let mut in_it = Vec::new(walk.alloc);
     let ty = read_ann(
-        store,
-        alloc,
-        frame.parents,
-        frame.tree,
-        frame.scopes,
+        walk.store,
+        walk.alloc,
+        walk.frame.parents,
+        walk.frame.tree,
+        walk.frame.scopes,
         &mut in_it,
         annotation,
     )?;
-    found.put_all(&in_it)?;
+    walk.found.put_all(&in_it)?;
     Ok(Some(ty))
 }
 

@@ -9,13 +9,15 @@ mod loops;
 mod standing;
 mod touched;
 mod unreached;
+mod walk;
 mod ways;
 
 pub use binding::{annotated_type, bind_label, declare_alone, known_type};
 pub use frame::Frame;
 pub use laws::suites_keep_untouched_locals;
 pub use loops::{bind_item, for_start, while_start};
-pub use standing::{flow_in, narrow_in};
+pub use standing::narrow_in;
 pub use touched::{touched_by, touched_by_for, touched_by_while};
 pub use unreached::declare_unreached;
+pub use walk::Walk;
 pub use ways::{break_out, meet};

@@ -1,127 +1,111 @@
 //! Heads of loops, and the targets of `for`.
 
-ghost use Rattle.std.specs.Prelude.{◌≡◌, ◌∷◌, List, IfOk};
+#![tactic(auto, using(crate::proofs::Walks::goes_further))]
+
+ghost use Rattle.std.specs.Prelude.{◌≡◌, ◌∷◌, List, IfOk, OnOk};
 ghost use Rattle.pc_tree.specs.Tree.{Name as NameOf, name_of, stmts_of_list};
 ghost use Rattle.pc_tree.specs.Stopping.{bound_by};
-ghost use Rattle.pc_types.specs.Store.{KeepsTypes};
 ghost use Rattle.pc_flow.specs.Stored.{env_of};
-ghost use Rattle.pc_notes.specs.Notes.{notes_of};
 ghost use Rattle.pc_labels.specs.ComputedStatements.{head_at, bind_item};
-ghost use Rattle.pc_frames.specs.StatementsHeld.{frame_with, HoldsType, HoldsTypes, GivesTypes, GivesBound};
 ghost use Rattle.pc_frames.specs.Touched.{numbers_of};
+ghost use Rattle.pc_frames.specs.Walks.{Stands, HoldsOne, HoldsEnv, IsEnv, IsQuiet, GoesOn, Bound, frame_in};
 
 use crate::binding::{bind_label, known_type};
-use crate::frame::Frame;
 use crate::locals::{add_bound, add_name, locals_of};
 use crate::standing::head_in;
-use pc_flow::{DeclaredTypes, Env, Resolver};
-use pc_notes::Notes;
+use crate::walk::Walk;
+use pc_flow::{Env, Resolver};
 use pc_rules::Label;
 use pc_scope::Res;
 use pc_source::{OutOfMemory, Place};
 use pc_tree::{Name, Stmt};
 use pc_types::TypeStore;
-use std::alloc::Global;
 
 /// The environment at the head of a loop that binds these locals, from the one before it: each of them that is assigned
 /// has its declared type there. Own rule of the profile.
 fn loop_start<S: TypeStore, R: Resolver>(
-    store: &mut S,
-    alloc: Global,
-    frame: &Frame<'_, S::Ty, R>,
-    declared: &DeclaredTypes<S::Ty>,
+    walk: &mut Walk<'_, S, R>,
     env: &Env<S::Ty>,
     locals: &[usize],
 ) -> Result<Env<S::Ty>, OutOfMemory>
-    requires declared { HoldsTypes (S.has store.old) S.tree frame.now.parents.now declared.now }
-    requires env { HoldsTypes (S.has store.old) S.tree frame.now.parents.now env.now }
-    ensures value { (names : List NameOf) → locals.now ≡ numbers_of (R.meaning frame.now.names.now) names
-        → IfOk result (λ e. GivesTypes S.has S.tree frame.now.parents.now store.new e
-        (head_at (frame_with S.tree R.meaning frame.now) (env_of S.tree declared.now) names (env_of S.tree env.now))) }
-    ensures kept { KeepsTypes S.has store.old store.new }
+    requires declared { HoldsEnv S.TypeStore walk.old walk.old.declared.now }
+    requires env { HoldsEnv S.TypeStore walk.old env.now }
+    ensures head { (names : List NameOf) → locals.now ≡ numbers_of (R.meaning walk.old.frame.names.now) names
+        → IfOk result (λ e. IsEnv S.TypeStore walk.new e (head_at (frame_in S.TypeStore R.Resolver walk.old)
+        (env_of S.tree walk.old.declared.now) names (env_of S.tree env.now))) }
+    ensures quiet { OnOk result (IsQuiet S.TypeStore walk.old walk.new) }
+    ensures goes_on { GoesOn S.TypeStore walk.old walk.new }
 {
-    head_in(store, alloc, frame, locals, declared, env)
+    let head = head_in(walk, locals, env)?;
+    Ok(head)
 }
 
 /// The environment at the head of a `while`.
 pub fn while_start<S: TypeStore, R: Resolver>(
-    store: &mut S,
-    alloc: Global,
-    frame: &Frame<'_, S::Ty, R>,
-    declared: &DeclaredTypes<S::Ty>,
+    walk: &mut Walk<'_, S, R>,
     env: &Env<S::Ty>,
     body: &[Stmt],
 ) -> Result<Env<S::Ty>, OutOfMemory>
-    requires declared { HoldsTypes (S.has store.old) S.tree frame.now.parents.now declared.now }
-    requires env { HoldsTypes (S.has store.old) S.tree frame.now.parents.now env.now }
-    ensures value { IfOk result
-        (λ e. GivesTypes S.has S.tree frame.now.parents.now store.new e
-        (head_at (frame_with S.tree R.meaning frame.now) (env_of S.tree declared.now)
-        (bound_by (stmts_of_list body.now)) (env_of S.tree env.now))) }
-    ensures kept { KeepsTypes S.has store.old store.new }
+    requires declared { HoldsEnv S.TypeStore walk.old walk.old.declared.now }
+    requires env { HoldsEnv S.TypeStore walk.old env.now }
+    ensures head { IfOk result (λ e. IsEnv S.TypeStore walk.new e (head_at (frame_in S.TypeStore R.Resolver walk.old)
+        (env_of S.tree walk.old.declared.now) (bound_by (stmts_of_list body.now)) (env_of S.tree env.now))) }
+    ensures quiet { OnOk result (IsQuiet S.TypeStore walk.old walk.new) }
+    ensures goes_on { GoesOn S.TypeStore walk.old walk.new }
 {
-    let mut bound = Vec::new(alloc);
+    let mut bound = Vec::new(walk.alloc);
     add_bound(&mut bound, body)?;
-    let locals = locals_of(alloc, frame.names, &bound)?;
-    loop_start(store, alloc, frame, declared, env, &locals)
+    let locals = locals_of(walk.alloc, walk.frame.names, &bound)?;
+    let head = loop_start(walk, env, &locals)?;
+    Ok(head)
 }
 
 /// The environment at the head of a `for`, which binds its target too.
 pub fn for_start<S: TypeStore, R: Resolver>(
-    store: &mut S,
-    alloc: Global,
-    frame: &Frame<'_, S::Ty, R>,
-    declared: &DeclaredTypes<S::Ty>,
+    walk: &mut Walk<'_, S, R>,
     env: &Env<S::Ty>,
     target: &Name,
     body: &[Stmt],
 ) -> Result<Env<S::Ty>, OutOfMemory>
-    requires declared { HoldsTypes (S.has store.old) S.tree frame.now.parents.now declared.now }
-    requires env { HoldsTypes (S.has store.old) S.tree frame.now.parents.now env.now }
-    ensures value { IfOk result
-        (λ e. GivesTypes S.has S.tree frame.now.parents.now store.new e
-        (head_at (frame_with S.tree R.meaning frame.now) (env_of S.tree declared.now)
-        (name_of target.now ∷ bound_by (stmts_of_list body.now)) (env_of S.tree env.now))) }
-    ensures kept { KeepsTypes S.has store.old store.new }
+    requires declared { HoldsEnv S.TypeStore walk.old walk.old.declared.now }
+    requires env { HoldsEnv S.TypeStore walk.old env.now }
+    ensures head { IfOk result (λ e. IsEnv S.TypeStore walk.new e (head_at (frame_in S.TypeStore R.Resolver walk.old)
+        (env_of S.tree walk.old.declared.now) (name_of target.now ∷ bound_by (stmts_of_list body.now))
+        (env_of S.tree env.now))) }
+    ensures quiet { OnOk result (IsQuiet S.TypeStore walk.old walk.new) }
+    ensures goes_on { GoesOn S.TypeStore walk.old walk.new }
 {
-    let mut bound = Vec::new(alloc);
+    let mut bound = Vec::new(walk.alloc);
     add_name(&mut bound, target)?;
     add_bound(&mut bound, body)?;
-    let locals = locals_of(alloc, frame.names, &bound)?;
-    loop_start(store, alloc, frame, declared, env, &locals)
+    let locals = locals_of(walk.alloc, walk.frame.names, &bound)?;
+    let head = loop_start(walk, env, &locals)?;
+    Ok(head)
 }
 
 /// Binds the target of a `for` to an item of this type, in the environment at the head. What is reserved binds nothing.
 pub fn bind_item<S: TypeStore, R: Resolver>(
-    store: &mut S,
-    alloc: Global,
-    frame: &Frame<'_, S::Ty, R>,
-    declared: &mut DeclaredTypes<S::Ty>,
+    walk: &mut Walk<'_, S, R>,
     head: Env<S::Ty>,
     target: &Name,
     place: Place,
     item: S::Ty,
-    found: &mut Notes,
 ) -> Result<Env<S::Ty>, OutOfMemory>
-    requires declared { HoldsTypes (S.has store.old) S.tree frame.now.parents.now declared.old }
-    requires head { HoldsTypes (S.has store.old) S.tree frame.now.parents.now head }
-    requires item { HoldsType (S.has store.old) S.tree frame.now.parents.now item }
-    ensures bound { IfOk result
-        (λ e. GivesBound S.has S.tree frame.now.parents.now store.new declared.new e (notes_of found.new)
-        (bind_item (frame_with S.tree R.meaning frame.now) (env_of S.tree declared.old) (env_of S.tree head)
-        (R.meaning frame.now.names.now (name_of target.now).text) place (S.tree item) (notes_of found.old))) }
-    ensures kept { KeepsTypes S.has store.old store.new }
+    requires stands { Stands S.TypeStore R.Resolver walk.old head }
+    requires item { HoldsOne S.TypeStore walk.old item }
+    ensures bound { IfOk result (λ b. Bound S.TypeStore R.Resolver walk.old head walk.new b
+        (λ f t k. bind_item f t k (f.context.resolve (name_of target.now).text) place (S.tree item))) }
+    ensures goes_on { GoesOn S.TypeStore walk.old walk.new }
 {
-    match frame.names.resolve(target.text.as_str()) {
+    match walk.frame.names.resolve(target.text.as_str()) {
         Res::Local(local) => {
-            let want = known_type(store, alloc, declared, local, None)?;
+            let want = known_type(walk.store, walk.alloc, walk.declared, local, None)?;
             let label = Label {
                 ty: item,
-                codes: Vec::new(alloc),
+                codes: Vec::new(walk.alloc),
             };
-            bind_label(
-                store, alloc, frame, declared, head, local, want, place, &label, found,
-            )
+            let inside = bind_label(walk, head, local, want, place, &label)?;
+            Ok(inside)
         }
         _ => Ok(head),
     }

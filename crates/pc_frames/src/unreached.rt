@@ -1,81 +1,74 @@
 //! Locals that are first bound where no run comes.
 
-ghost use Rattle.std.specs.Prelude.{OnOk};
+#![tactic(auto, using(crate::proofs::Walks::goes_further))]
+
+ghost use Rattle.std.specs.Prelude.{◌≡◌, OnOk};
 ghost use Rattle.pc_source.specs.declared.place.Place.{Place as PlaceOf};
 ghost use Rattle.pc_tree.specs.Tree.{stmt_of_kind};
 ghost use Rattle.pc_tree.specs.Stopping.{bound_by_stmt};
 ghost use Rattle.pc_types.specs.Tree.{Any};
-ghost use Rattle.pc_types.specs.Store.{KeepsTypes};
 ghost use Rattle.pc_flow.specs.Stored.{env_of};
+ghost use Rattle.pc_notes.specs.Notes.{notes_of};
 ghost use Rattle.pc_labels.specs.ComputedStatements.{bound_type, with_declared, unreached_names};
-ghost use Rattle.pc_frames.specs.StatementsHeld.{frame_with, HoldsTypes, GivesTypes};
 ghost use Rattle.pc_frames.specs.Internal.BoundNames.{unreached_numbers};
+ghost use Rattle.pc_frames.specs.Walks.{HoldsEnv, IsEnv, GoesOn, frame_in};
 
 use crate::binding::settle;
-use crate::frame::Frame;
 use crate::locals::{add_bound_by, locals_of};
-use pc_flow::{DeclaredTypes, Resolver};
+use crate::walk::Walk;
+use pc_flow::Resolver;
 use pc_source::OutOfMemory;
 use pc_tree::StmtKind;
-use pc_types::{Parents, TypeStore};
-use std::alloc::Global;
+use pc_types::TypeStore;
 
 /// Declares a local `Any`, unless its declared type is settled already.
-fn declare_any<S: TypeStore>(
-    store: &mut S,
-    alloc: Global,
-    parents: &Parents,
-    declared: &mut DeclaredTypes<S::Ty>,
+fn declare_any<S: TypeStore, R: Resolver>(
+    walk: &mut Walk<'_, S, R>,
     local: usize,
 ) -> Result<(), OutOfMemory>
-    requires { HoldsTypes (S.has store.old) S.tree parents.now declared.old }
-    ensures declared { OnOk result
-        (GivesTypes S.has S.tree parents.now store.new declared.new
-        (with_declared (bound_type (env_of S.tree declared.old) local) (env_of S.tree declared.old) local Any)) }
-    ensures kept { KeepsTypes S.has store.old store.new }
+    requires { HoldsEnv S.TypeStore walk.old walk.old.declared.now }
+    ensures declared { OnOk result (IsEnv S.TypeStore walk.new walk.new.declared.now (with_declared
+        (bound_type (env_of S.tree walk.old.declared.now) local) (env_of S.tree walk.old.declared.now) local Any)) }
+    ensures goes_on { GoesOn S.TypeStore walk.old walk.new }
+    ensures found { OnOk result (notes_of walk.new.found.now ≡ notes_of walk.old.found.now) }
 {
-    let any = store.any(alloc)?;
-    settle(declared, local, any);
+    let any = walk.store.any(walk.alloc)?;
+    settle(walk.declared, local, any);
     Ok(())
 }
 
 /// Declares `Any` each of these locals whose declared type isn't settled.
-fn declare_each<S: TypeStore>(
-    store: &mut S,
-    alloc: Global,
-    parents: &Parents,
-    declared: &mut DeclaredTypes<S::Ty>,
+fn declare_each<S: TypeStore, R: Resolver>(
+    walk: &mut Walk<'_, S, R>,
     locals: &[usize],
 ) -> Result<(), OutOfMemory>
-    requires { HoldsTypes (S.has store.old) S.tree parents.now declared.old }
-    ensures declared { OnOk result
-        (GivesTypes S.has S.tree parents.now store.new declared.new
-        (unreached_numbers (env_of S.tree declared.old) locals.now)) }
-    ensures kept { KeepsTypes S.has store.old store.new }
+    requires { HoldsEnv S.TypeStore walk.old walk.old.declared.now }
+    ensures declared { OnOk result (IsEnv S.TypeStore walk.new walk.new.declared.now
+        (unreached_numbers (env_of S.tree walk.old.declared.now) locals.now)) }
+    ensures goes_on { GoesOn S.TypeStore walk.old walk.new }
+    ensures found { OnOk result (notes_of walk.new.found.now ≡ notes_of walk.old.found.now) }
 {
     for local in locals {
-        declare_any(store, alloc, parents, declared, *local)?;
+        declare_any(walk, *local)?;
     }
     Ok(())
 }
 
 /// Declares `Any` each local that a statement to which no run comes binds first. Own rule of the profile.
 pub fn declare_unreached<S: TypeStore, R: Resolver>(
-    store: &mut S,
-    alloc: Global,
-    frame: &Frame<'_, S::Ty, R>,
-    declared: &mut DeclaredTypes<S::Ty>,
+    walk: &mut Walk<'_, S, R>,
     kind: &StmtKind,
 ) -> Result<(), OutOfMemory>
-    requires { HoldsTypes (S.has store.old) S.tree frame.now.parents.now declared.old }
-    ensures declared { (p : PlaceOf)
-        → OnOk result (GivesTypes S.has S.tree frame.now.parents.now store.new declared.new
-        (unreached_names (frame_with S.tree R.meaning frame.now) (env_of S.tree declared.old)
+    requires { HoldsEnv S.TypeStore walk.old walk.old.declared.now }
+    ensures declared { (p : PlaceOf) → OnOk result (IsEnv S.TypeStore walk.new walk.new.declared.now
+        (unreached_names (frame_in S.TypeStore R.Resolver walk.old) (env_of S.tree walk.old.declared.now)
         (bound_by_stmt (stmt_of_kind p kind.now)))) }
-    ensures kept { KeepsTypes S.has store.old store.new }
+    ensures goes_on { GoesOn S.TypeStore walk.old walk.new }
+    ensures found { OnOk result (notes_of walk.new.found.now ≡ notes_of walk.old.found.now) }
 {
-    let mut bound = Vec::new(alloc);
+    let mut bound = Vec::new(walk.alloc);
     add_bound_by(&mut bound, kind)?;
-    let locals = locals_of(alloc, frame.names, &bound)?;
-    declare_each(store, alloc, frame.parents, declared, &locals)
+    let locals = locals_of(walk.alloc, walk.frame.names, &bound)?;
+    declare_each(walk, &locals)?;
+    Ok(())
 }

@@ -1,65 +1,44 @@
 //! Names that are bound to the values of expressions, with an annotation or without one.
 
+#![tactic(auto, using(pc_frames::proofs::Walks::goes_further))]
+
 ghost use Rattle.std.specs.Prelude.{IfOk};
 ghost use Rattle.std.specs.Option.{option_map};
 ghost use Rattle.pc_tree.specs.Tree.{expr_of, ann_of, name_of, option_expr_of};
-ghost use Rattle.pc_types.specs.Store.{KeepsTypes};
-ghost use Rattle.pc_flow.specs.Stored.{env_of};
-ghost use Rattle.pc_notes.specs.Notes.{notes_of};
 ghost use Rattle.pc_labels.specs.ComputedStatements.{bind_value, bind_annotated};
-ghost use Rattle.pc_frames.specs.StatementsHeld.{frame_with, HoldsFrame, HoldsTypes, HoldsTypeIfAny, GivesBound};
+ghost use Rattle.pc_frames.specs.Walks.{Stands, HoldsWant, GoesOn, Bound};
 
 use crate::typing::type_in;
-use pc_flow::{DeclaredTypes, Env, Resolver};
-use pc_frames::{Frame, annotated_type, bind_label, declare_alone, known_type};
-use pc_notes::Notes;
+use pc_flow::{Env, Resolver};
+use pc_frames::{Walk, annotated_type, bind_label, declare_alone, known_type};
 use pc_scope::Res;
 use pc_source::OutOfMemory;
 use pc_tree::{Ann, Expr, Name};
 use pc_types::TypeStore;
-use std::alloc::Global;
 
 /// Binds a name to a value. What is reserved binds nothing.
 pub(crate) fn bind_value<S: TypeStore, R: Resolver>(
-    store: &mut S,
-    alloc: Global,
-    frame: &Frame<'_, S::Ty, R>,
-    declared: &mut DeclaredTypes<S::Ty>,
+    walk: &mut Walk<'_, S, R>,
     env: Env<S::Ty>,
     meaning: Res,
     annotation: Option<S::Ty>,
     e: &Expr,
-    found: &mut Notes,
 ) -> Result<Env<S::Ty>, OutOfMemory>
-    requires frame { HoldsFrame (S.has store.old) S.tree R.meaning frame.now }
-    requires declared { HoldsTypes (S.has store.old) S.tree frame.now.parents.now declared.old }
-    requires env { HoldsTypes (S.has store.old) S.tree frame.now.parents.now env }
-    requires annotation { HoldsTypeIfAny (S.has store.old) S.tree frame.now.parents.now annotation }
-    ensures bound { IfOk result
-        (λ b. GivesBound S.has S.tree frame.now.parents.now store.new declared.new b (notes_of found.new)
-        (bind_value (frame_with S.tree R.meaning frame.now) (env_of S.tree declared.old) (env_of S.tree env) meaning
-        (option_map S.tree annotation) (expr_of e.now) (notes_of found.old))) }
-    ensures kept { KeepsTypes S.has store.old store.new }
+    requires stands { Stands S.TypeStore R.Resolver walk.old env }
+    requires annotation { HoldsWant S.TypeStore walk.old annotation }
+    ensures bound { IfOk result (λ b. Bound S.TypeStore R.Resolver walk.old env walk.new b
+        (λ f t k. bind_value f t k meaning (option_map S.tree annotation) (expr_of e.now))) }
+    ensures goes_on { GoesOn S.TypeStore walk.old walk.new }
 {
     match meaning {
         Res::Local(local) => {
-            let want = known_type(store, alloc, declared, local, annotation)?;
-            let label = type_in(store, alloc, frame, declared, &env, &want, e, found)?;
-            bind_label(
-                store,
-                alloc,
-                frame,
-                declared,
-                env,
-                local,
-                want,
-                e.place(),
-                &label,
-                found,
-            )
+            let want = known_type(walk.store, walk.alloc, walk.declared, local, annotation)?;
+            let label = type_in(walk, &env, &want, e)?;
+            let behind = bind_label(walk, env, local, want, e.place(), &label)?;
+            Ok(behind)
         }
         _ => {
-            type_in(store, alloc, frame, declared, &env, &None, e, found)?;
+            type_in(walk, &env, &None, e)?;
             Ok(env)
         }
     }
@@ -70,34 +49,27 @@ pub(crate) fn bind_value<S: TypeStore, R: Resolver>(
 /// Language Reference 7.2.2 "Annotated assignment statements"; that a name that is bound already keeps its declared
 /// type is an own rule of the profile.
 pub fn bind_annotated<S: TypeStore, R: Resolver>(
-    store: &mut S,
-    alloc: Global,
-    frame: &Frame<'_, S::Ty, R>,
-    declared: &mut DeclaredTypes<S::Ty>,
+    walk: &mut Walk<'_, S, R>,
     env: Env<S::Ty>,
     name: &Name,
     annotation: &Ann,
     value: &Option<Box<Expr>>,
-    found: &mut Notes,
 ) -> Result<Env<S::Ty>, OutOfMemory>
-    requires frame { HoldsFrame (S.has store.old) S.tree R.meaning frame.now }
-    requires declared { HoldsTypes (S.has store.old) S.tree frame.now.parents.now declared.old }
-    requires env { HoldsTypes (S.has store.old) S.tree frame.now.parents.now env }
-    ensures bound { IfOk result
-        (λ b. GivesBound S.has S.tree frame.now.parents.now store.new declared.new b (notes_of found.new)
-        (bind_annotated (frame_with S.tree R.meaning frame.now) (env_of S.tree declared.old) (env_of S.tree env)
-        (name_of name.now) (ann_of annotation.now) (option_expr_of value.now) (notes_of found.old))) }
-    ensures kept { KeepsTypes S.has store.old store.new }
+    requires { Stands S.TypeStore R.Resolver walk.old env }
+    ensures bound { IfOk result (λ b. Bound S.TypeStore R.Resolver walk.old env walk.new b
+        (λ f t k. bind_annotated f t k (name_of name.now) (ann_of annotation.now) (option_expr_of value.now))) }
+    ensures goes_on { GoesOn S.TypeStore walk.old walk.new }
 {
-    let meaning = frame.names.resolve(name.text.as_str());
-    let ty = annotated_type(
-        store, alloc, frame, declared, meaning, name, annotation, found,
-    )?;
+    let meaning = walk.frame.names.resolve(name.text.as_str());
+    let ty = annotated_type(walk, meaning, name, annotation)?;
     match value {
         None => {
-            declare_alone(declared, meaning, ty);
+            declare_alone(walk.declared, meaning, ty);
             Ok(env)
         }
-        Some(e) => bind_value(store, alloc, frame, declared, env, meaning, ty, e, found),
+        Some(e) => {
+            let behind = bind_value(walk, env, meaning, ty, e)?;
+            Ok(behind)
+        }
     }
 }

@@ -1,31 +1,28 @@
 //! What a `for` goes over.
 
-ghost use Rattle.std.specs.Prelude.{◌≡◌, ◌++◌, IfOk, OnOk, MatchOption, None, true, false};
+#![tactic(auto, using(pc_frames::proofs::Walks::goes_further))]
+
+ghost use Rattle.std.specs.Prelude.{◌≡◌, ◌++◌, IfOk, MatchOption, None, true, false, OnOk};
 ghost use Rattle.pc_source.specs.declared.place.Place.{Place as PlaceOf};
-ghost use Rattle.pc_tree.specs.Tree.{Exprs, Keywords, expr_of, call};
+ghost use Rattle.pc_tree.specs.Tree.{Expr as ExprOf, Exprs, Keywords, expr_of, call};
 ghost use Rattle.pc_tree.specs.Lists.{exprs_of_list, keywords_of_list};
 ghost use Rattle.pc_tree.specs.Depth.{place_of};
-ghost use Rattle.pc_types.specs.Store.{KeepsTypes};
-ghost use Rattle.pc_flow.specs.Stored.{env_of};
-ghost use Rattle.pc_notes.specs.Notes.{notes_of};
 ghost use Rattle.pc_rules.specs.Found.{codes_at};
 ghost use Rattle.pc_rules.specs.Standing.{finds_in};
-ghost use Rattle.pc_labels.specs.ComputedStatements.{at, item_mark_of, values_item, iterable_finds};
+ghost use Rattle.pc_labels.specs.ComputedStatements.{item_mark_of, values_item, iterable_finds};
 ghost use Rattle.pc_statements.specs.Internal.Ranges.{over_range};
-ghost use Rattle.pc_frames.specs.StatementsHeld.{frame_with, HoldsFrame, HoldsType, HoldsTypes, GivesLabel};
+ghost use Rattle.pc_frames.specs.Walks.{Stands, IsLabel, IsType, GoesOn, Found, frame_in, standing_in};
 
 use crate::typing::type_in;
 use pc_call::is_range;
 use pc_expr::{Checker, RangeCall, type_range};
-use pc_flow::{DeclaredTypes, Env, Resolver};
-use pc_frames::Frame;
-use pc_notes::Notes;
+use pc_flow::{Env, Resolver};
+use pc_frames::Walk;
 use pc_operate::item_label;
 use pc_rules::{Label, Setting, find_codes};
 use pc_source::OutOfMemory;
 use pc_tree::Expr;
 use pc_types::TypeStore;
-use std::alloc::Global;
 
 /// Whether an expression is a name that means `range`.
 fn means_range<R: Resolver>(names: &R, e: &Expr) -> bool
@@ -61,140 +58,106 @@ fn range_call<'e, R: Resolver>(names: &R, e: &'e Expr) -> Option<RangeCall<'e>>
 
 /// The label of a turn's item of an iterable that is no call of `range`, with what is found in the iterable.
 fn label_values<S: TypeStore, R: Resolver>(
-    store: &mut S,
-    alloc: Global,
-    frame: &Frame<'_, S::Ty, R>,
-    declared: &DeclaredTypes<S::Ty>,
+    walk: &mut Walk<'_, S, R>,
     env: &Env<S::Ty>,
     iterable: &Expr,
-    found: &mut Notes,
 ) -> Result<Label<S::Ty>, OutOfMemory>
-    requires frame { HoldsFrame (S.has store.old) S.tree R.meaning frame.now }
-    requires declared { HoldsTypes (S.has store.old) S.tree frame.now.parents.now declared.now }
-    requires env { HoldsTypes (S.has store.old) S.tree frame.now.parents.now env.now }
+    requires { Stands S.TypeStore R.Resolver walk.old env.now }
     ensures labelled { IfOk result
-        (λ l. GivesLabel S.has S.tree frame.now.parents.now store.new l
-        (values_item (frame_with S.tree R.meaning frame.now)
-        (at (frame_with S.tree R.meaning frame.now) (env_of S.tree declared.now) (env_of S.tree env.now))
-        (expr_of iterable.now))) }
-    ensures pushed { OnOk result
-        (notes_of found.new ≡ notes_of found.old
-        ++ finds_in (at (frame_with S.tree R.meaning frame.now) (env_of S.tree declared.now) (env_of S.tree env.now))
-        None (expr_of iterable.now)) }
-    ensures kept { KeepsTypes S.has store.old store.new }
+        (λ l. IsLabel S.TypeStore walk.new l (values_item (frame_in S.TypeStore R.Resolver walk.old)
+        (standing_in S.TypeStore R.Resolver walk.old env.now) (expr_of iterable.now))) }
+    ensures finds { OnOk result (Found S.TypeStore R.Resolver walk.old env.now walk.new
+        (λ f k. finds_in k None (expr_of iterable.now))) }
+    ensures goes_on { GoesOn S.TypeStore walk.old walk.new }
 {
-    let label = type_in(store, alloc, frame, declared, env, &None, iterable, found)?;
-    item_label(store, alloc, frame.parents, frame.classes, &label.ty)
+    let label = type_in(walk, env, &None, iterable)?;
+    let parents = walk.frame.parents;
+    let item = item_label(
+        walk.store,
+        walk.alloc,
+        parents,
+        walk.frame.classes,
+        &label.ty,
+    )?;
+    Ok(item)
 }
 
 /// The label of a turn's item of a call of `range`, with what is found in the call.
 fn label_range<S: TypeStore, R: Resolver>(
-    store: &mut S,
-    alloc: Global,
-    frame: &Frame<'_, S::Ty, R>,
-    declared: &DeclaredTypes<S::Ty>,
+    walk: &mut Walk<'_, S, R>,
     env: &Env<S::Ty>,
     iterable: &RangeCall<'_>,
-    found: &mut Notes,
 ) -> Result<Label<S::Ty>, OutOfMemory>
-    requires frame { HoldsFrame (S.has store.old) S.tree R.meaning frame.now }
-    requires declared { HoldsTypes (S.has store.old) S.tree frame.now.parents.now declared.now }
-    requires env { HoldsTypes (S.has store.old) S.tree frame.now.parents.now env.now }
-    requires range { over_range (R.meaning frame.now.names.now)
+    requires stands { Stands S.TypeStore R.Resolver walk.old env.now }
+    requires range { over_range (R.meaning walk.old.frame.names.now)
         (call iterable.now.place (expr_of iterable.now.callee.now) (exprs_of_list iterable.now.arguments.now)
         (keywords_of_list iterable.now.by_name.now)) ≡ true }
     ensures labelled { IfOk result
-        (λ l. GivesLabel S.has S.tree frame.now.parents.now store.new l
-        (item_mark_of (frame_with S.tree R.meaning frame.now)
-        (at (frame_with S.tree R.meaning frame.now) (env_of S.tree declared.now) (env_of S.tree env.now))
+        (λ l. IsLabel S.TypeStore walk.new l (item_mark_of (frame_in S.TypeStore R.Resolver walk.old)
+        (standing_in S.TypeStore R.Resolver walk.old env.now)
         (call iterable.now.place (expr_of iterable.now.callee.now) (exprs_of_list iterable.now.arguments.now)
         (keywords_of_list iterable.now.by_name.now)))) }
-    ensures pushed { OnOk result
-        (notes_of found.new ≡ notes_of found.old
-        ++ iterable_finds (frame_with S.tree R.meaning frame.now)
-        (at (frame_with S.tree R.meaning frame.now) (env_of S.tree declared.now) (env_of S.tree env.now))
+    ensures finds { OnOk result (Found S.TypeStore R.Resolver walk.old env.now walk.new
+        (λ f k. iterable_finds f k
         (call iterable.now.place (expr_of iterable.now.callee.now) (exprs_of_list iterable.now.arguments.now)
-        (keywords_of_list iterable.now.by_name.now))) }
-    ensures kept { KeepsTypes S.has store.old store.new }
+        (keywords_of_list iterable.now.by_name.now)))) }
+    ensures goes_on { GoesOn S.TypeStore walk.old walk.new }
 {
     let setting = Setting {
-        parents: frame.parents,
-        classes: frame.classes,
-        functions: frame.functions,
-        constants: frame.constants,
-        known: frame.known,
+        parents: walk.frame.parents,
+        classes: walk.frame.classes,
+        functions: walk.frame.functions,
+        constants: walk.frame.constants,
+        known: walk.frame.known,
         in_body: true,
-        names: frame.names,
-        declared,
+        names: walk.frame.names,
+        declared: walk.declared,
     };
     let mut checker = Checker {
-        store,
-        alloc,
-        found,
+        store: walk.store,
+        alloc: walk.alloc,
+        found: walk.found,
     };
-    type_range(&mut checker, &setting, env, iterable)
+    let item = type_range(&mut checker, &setting, env, iterable)?;
+    Ok(item)
 }
 
 /// The label of a turn's item, with what is found in the iterable.
 fn label_item<S: TypeStore, R: Resolver>(
-    store: &mut S,
-    alloc: Global,
-    frame: &Frame<'_, S::Ty, R>,
-    declared: &DeclaredTypes<S::Ty>,
+    walk: &mut Walk<'_, S, R>,
     env: &Env<S::Ty>,
     iterable: &Expr,
-    found: &mut Notes,
 ) -> Result<Label<S::Ty>, OutOfMemory>
-    requires frame { HoldsFrame (S.has store.old) S.tree R.meaning frame.now }
-    requires declared { HoldsTypes (S.has store.old) S.tree frame.now.parents.now declared.now }
-    requires env { HoldsTypes (S.has store.old) S.tree frame.now.parents.now env.now }
+    requires { Stands S.TypeStore R.Resolver walk.old env.now }
     ensures labelled { IfOk result
-        (λ l. GivesLabel S.has S.tree frame.now.parents.now store.new l
-        (item_mark_of (frame_with S.tree R.meaning frame.now)
-        (at (frame_with S.tree R.meaning frame.now) (env_of S.tree declared.now) (env_of S.tree env.now))
-        (expr_of iterable.now))) }
-    ensures pushed { OnOk result
-        (notes_of found.new ≡ notes_of found.old
-        ++ iterable_finds (frame_with S.tree R.meaning frame.now)
-        (at (frame_with S.tree R.meaning frame.now) (env_of S.tree declared.now) (env_of S.tree env.now))
-        (expr_of iterable.now)) }
-    ensures kept { KeepsTypes S.has store.old store.new }
+        (λ l. IsLabel S.TypeStore walk.new l (item_mark_of (frame_in S.TypeStore R.Resolver walk.old)
+        (standing_in S.TypeStore R.Resolver walk.old env.now) (expr_of iterable.now))) }
+    ensures finds { OnOk result (Found S.TypeStore R.Resolver walk.old env.now walk.new
+        (λ f k. iterable_finds f k (expr_of iterable.now))) }
+    ensures goes_on { GoesOn S.TypeStore walk.old walk.new }
 {
-    match range_call(frame.names, iterable) {
-        Some(range) => label_range(store, alloc, frame, declared, env, &range, found),
-        None => label_values(store, alloc, frame, declared, env, iterable, found),
+    match range_call(walk.frame.names, iterable) {
+        Some(range) => label_range(walk, env, &range),
+        None => label_values(walk, env, iterable),
     }
 }
 
 /// The type of a turn's item, with what is found in the iterable and at it. Language Reference 8.3 "The for statement".
 pub fn item_type<S: TypeStore, R: Resolver>(
-    store: &mut S,
-    alloc: Global,
-    frame: &Frame<'_, S::Ty, R>,
-    declared: &DeclaredTypes<S::Ty>,
+    walk: &mut Walk<'_, S, R>,
     env: &Env<S::Ty>,
     iterable: &Expr,
-    found: &mut Notes,
 ) -> Result<S::Ty, OutOfMemory>
-    requires frame { HoldsFrame (S.has store.old) S.tree R.meaning frame.now }
-    requires declared { HoldsTypes (S.has store.old) S.tree frame.now.parents.now declared.now }
-    requires env { HoldsTypes (S.has store.old) S.tree frame.now.parents.now env.now }
+    requires { Stands S.TypeStore R.Resolver walk.old env.now }
     ensures typed { IfOk result
-        (λ t. HoldsType (S.has store.new) S.tree frame.now.parents.now t
-        × (S.tree t ≡ (item_mark_of (frame_with S.tree R.meaning frame.now)
-        (at (frame_with S.tree R.meaning frame.now) (env_of S.tree declared.now) (env_of S.tree env.now))
-        (expr_of iterable.now)).type)) }
-    ensures pushed { OnOk result
-        (notes_of found.new ≡ (notes_of found.old
-        ++ iterable_finds (frame_with S.tree R.meaning frame.now)
-        (at (frame_with S.tree R.meaning frame.now) (env_of S.tree declared.now) (env_of S.tree env.now))
-        (expr_of iterable.now)) ++ codes_at (place_of (expr_of iterable.now))
-        (item_mark_of (frame_with S.tree R.meaning frame.now)
-        (at (frame_with S.tree R.meaning frame.now) (env_of S.tree declared.now) (env_of S.tree env.now))
-        (expr_of iterable.now)).codes) }
-    ensures kept { KeepsTypes S.has store.old store.new }
+        (λ t. IsType S.TypeStore walk.new t (item_mark_of (frame_in S.TypeStore R.Resolver walk.old)
+        (standing_in S.TypeStore R.Resolver walk.old env.now) (expr_of iterable.now)).type) }
+    ensures finds { OnOk result (Found S.TypeStore R.Resolver walk.old env.now walk.new
+        (λ f k. iterable_finds f k (expr_of iterable.now)
+        ++ codes_at (place_of (expr_of iterable.now)) (item_mark_of f k (expr_of iterable.now)).codes)) }
+    ensures goes_on { GoesOn S.TypeStore walk.old walk.new }
 {
-    let label = label_item(store, alloc, frame, declared, env, iterable, found)?;
-    find_codes(iterable.place(), &label.codes, found)?;
+    let label = label_item(walk, env, iterable)?;
+    find_codes(iterable.place(), &label.codes, walk.found)?;
     Ok(label.ty)
 }

@@ -1,105 +1,81 @@
 //! What stands in a `return` and in an `assert`.
 
-ghost use Rattle.std.specs.Prelude.{◌≡◌, ◌++◌, IfOk, OnOk, true, false, None};
-ghost use Rattle.pc_tree.specs.Tree.{expr_of, option_expr_of};
-ghost use Rattle.pc_types.specs.Store.{KeepsTypes};
-ghost use Rattle.pc_flow.specs.Stored.{env_of};
-ghost use Rattle.pc_notes.specs.Notes.{notes_of};
-ghost use Rattle.pc_rules.specs.Standing.{finds_in};
-ghost use Rattle.pc_labels.specs.ComputedStatements.{at, narrowed_at, return_finds, option_finds};
-ghost use Rattle.pc_frames.specs.StatementsHeld.{frame_with, HoldsFrame, HoldsTypes, GivesTypes};
+#![tactic(auto, using(pc_frames::proofs::Walks::goes_further))]
 
-use crate::typing::type_in;
-use pc_flow::{BothWays, DeclaredTypes, Env, Resolver};
-use pc_frames::{Frame, flow_in, narrow_in};
-use pc_notes::Notes;
-use pc_rules::Label;
+ghost use Rattle.std.specs.Prelude.{◌++◌, IfOk, true, false, None, OnOk};
+ghost use Rattle.pc_tree.specs.Tree.{expr_of, option_expr_of};
+ghost use Rattle.pc_flow.specs.Stored.{env_of};
+ghost use Rattle.pc_rules.specs.Standing.{finds_in, narrowed_standing};
+ghost use Rattle.pc_labels.specs.ComputedStatements.{narrowed_at, return_finds, option_finds};
+ghost use Rattle.pc_frames.specs.Walks.{Stands, IsEnv, GoesOn, Found, frame_in};
+
+use crate::typing::{type_condition, type_in};
+use pc_flow::{BothWays, Env, Resolver};
+use pc_frames::Walk;
+use pc_rules::{Label, find_flow};
 use pc_source::{OutOfMemory, Place};
 use pc_tree::Expr;
 use pc_types::TypeStore;
-use std::alloc::Global;
 
 /// Finds what stands in a `return`: in its value, and of the flow into the return type. Without a value `None` flows.
 /// Language Reference 7.6 "The return statement".
 pub fn find_return<S: TypeStore, R: Resolver>(
-    store: &mut S,
-    alloc: Global,
-    frame: &Frame<'_, S::Ty, R>,
-    declared: &DeclaredTypes<S::Ty>,
+    walk: &mut Walk<'_, S, R>,
     env: &Env<S::Ty>,
     first: Place,
     value: &Option<Box<Expr>>,
-    found: &mut Notes,
 ) -> Result<(), OutOfMemory>
-    requires frame { HoldsFrame (S.has store.old) S.tree R.meaning frame.now }
-    requires declared { HoldsTypes (S.has store.old) S.tree frame.now.parents.now declared.now }
-    requires env { HoldsTypes (S.has store.old) S.tree frame.now.parents.now env.now }
-    ensures pushed { OnOk result
-        (notes_of found.new ≡ notes_of found.old
-        ++ return_finds (frame_with S.tree R.meaning frame.now)
-        (at (frame_with S.tree R.meaning frame.now) (env_of S.tree declared.now) (env_of S.tree env.now)) first
-        (option_expr_of value.now)) }
-    ensures kept { KeepsTypes S.has store.old store.new }
+    requires { Stands S.TypeStore R.Resolver walk.old env.now }
+    ensures finds { OnOk result (Found S.TypeStore R.Resolver walk.old env.now walk.new
+        (λ f k. return_finds f k first (option_expr_of value.now))) }
+    ensures goes_on { GoesOn S.TypeStore walk.old walk.new }
 {
+    let parents = walk.frame.parents;
+    let returned = walk.frame.returned;
     match value {
         None => {
-            let none = store.none(alloc)?;
+            let none = walk.store.none(walk.alloc)?;
             let label = Label {
                 ty: none,
-                codes: Vec::new(alloc),
+                codes: Vec::new(walk.alloc),
             };
-            flow_in(
-                store,
-                alloc,
-                frame.parents,
-                first,
-                &label,
-                frame.returned,
-                found,
+            find_flow(
+                walk.store, walk.alloc, parents, first, &label, returned, walk.found,
             )?;
             Ok(())
         }
         Some(e) => {
-            let want = Some(store.copy(alloc, frame.returned)?);
-            let label = type_in(store, alloc, frame, declared, env, &want, e, found)?;
-            flow_in(
-                store,
-                alloc,
-                frame.parents,
+            let want = Some(walk.store.copy(walk.alloc, returned)?);
+            let label = type_in(walk, env, &want, e)?;
+            find_flow(
+                walk.store,
+                walk.alloc,
+                parents,
                 e.place(),
                 &label,
-                frame.returned,
-                found,
+                returned,
+                walk.found,
             )?;
             Ok(())
         }
     }
 }
 
-/// Finds what stands in an expression that may be missing, with nothing expected of it.
+/// Finds what stands in an expression that may be missing.
 fn find_option<S: TypeStore, R: Resolver>(
-    store: &mut S,
-    alloc: Global,
-    frame: &Frame<'_, S::Ty, R>,
-    declared: &DeclaredTypes<S::Ty>,
+    walk: &mut Walk<'_, S, R>,
     env: &Env<S::Ty>,
     e: &Option<Box<Expr>>,
-    found: &mut Notes,
 ) -> Result<(), OutOfMemory>
-    requires frame { HoldsFrame (S.has store.old) S.tree R.meaning frame.now }
-    requires declared { HoldsTypes (S.has store.old) S.tree frame.now.parents.now declared.now }
-    requires env { HoldsTypes (S.has store.old) S.tree frame.now.parents.now env.now }
-    ensures pushed { OnOk result
-        (notes_of found.new ≡ notes_of found.old
-        ++ option_finds (frame_with S.tree R.meaning frame.now)
-        (at (frame_with S.tree R.meaning frame.now) (env_of S.tree declared.now) (env_of S.tree env.now)) None
-        (option_expr_of e.now)) }
-    ensures kept { KeepsTypes S.has store.old store.new }
+    requires { Stands S.TypeStore R.Resolver walk.old env.now }
+    ensures finds { OnOk result (Found S.TypeStore R.Resolver walk.old env.now walk.new
+        (λ f k. option_finds f k None (option_expr_of e.now))) }
+    ensures goes_on { GoesOn S.TypeStore walk.old walk.new }
 {
     match e {
         None => Ok(()),
         Some(e) => {
-            type_in(store, alloc, frame, declared, env, &None, e, found)?;
+            type_in(walk, env, &None, e)?;
             Ok(())
         }
     }
@@ -108,37 +84,24 @@ fn find_option<S: TypeStore, R: Resolver>(
 /// The environment behind an `assert`, with what is found in its condition and in its message, which is checked where
 /// the condition is false. Language Reference 7.3 "The assert statement".
 pub fn check_assert<S: TypeStore, R: Resolver>(
-    store: &mut S,
-    alloc: Global,
-    frame: &Frame<'_, S::Ty, R>,
-    declared: &DeclaredTypes<S::Ty>,
+    walk: &mut Walk<'_, S, R>,
     env: Env<S::Ty>,
     condition: &Expr,
     message: &Option<Box<Expr>>,
-    found: &mut Notes,
 ) -> Result<Env<S::Ty>, OutOfMemory>
-    requires frame { HoldsFrame (S.has store.old) S.tree R.meaning frame.now }
-    requires declared { HoldsTypes (S.has store.old) S.tree frame.now.parents.now declared.now }
-    requires env { HoldsTypes (S.has store.old) S.tree frame.now.parents.now env }
-    ensures behind { IfOk result
-        (λ e. GivesTypes S.has S.tree frame.now.parents.now store.new e
-        (narrowed_at (frame_with S.tree R.meaning frame.now) (env_of S.tree declared.now) true (expr_of condition.now)
-        (env_of S.tree env))) }
-    ensures pushed { OnOk result
-        (notes_of found.new ≡ (notes_of found.old
-        ++ finds_in (at (frame_with S.tree R.meaning frame.now) (env_of S.tree declared.now) (env_of S.tree env)) None
-        (expr_of condition.now))
-        ++ option_finds (frame_with S.tree R.meaning frame.now)
-        (at (frame_with S.tree R.meaning frame.now) (env_of S.tree declared.now)
-        (narrowed_at (frame_with S.tree R.meaning frame.now) (env_of S.tree declared.now) false (expr_of condition.now)
-        (env_of S.tree env))) None (option_expr_of message.now)) }
-    ensures kept { KeepsTypes S.has store.old store.new }
+    requires { Stands S.TypeStore R.Resolver walk.old env }
+    ensures behind { IfOk result (λ e. IsEnv S.TypeStore walk.new e
+        (narrowed_at (frame_in S.TypeStore R.Resolver walk.old) (env_of S.tree walk.old.declared.now) true
+        (expr_of condition.now) (env_of S.tree env))) }
+    ensures finds { OnOk result (Found S.TypeStore R.Resolver walk.old env walk.new
+        (λ f k. finds_in k None (expr_of condition.now)
+        ++ option_finds f (narrowed_standing k false (expr_of condition.now)) None (option_expr_of message.now))) }
+    ensures goes_on { GoesOn S.TypeStore walk.old walk.new }
 {
-    type_in(store, alloc, frame, declared, &env, &None, condition, found)?;
     let BothWays {
         where_true,
         where_false,
-    } = narrow_in(store, alloc, frame, declared, condition, env)?;
-    find_option(store, alloc, frame, declared, &where_false, message, found)?;
+    } = type_condition(walk, env, condition)?;
+    find_option(walk, &where_false, message)?;
     Ok(where_true)
 }

@@ -12,4 +12,4 @@ pub use binding::bind_annotated;
 pub use iterables::item_type;
 pub use leaving::{check_assert, find_return};
 pub use targets::assign_target;
-pub use typing::type_in;
+pub use typing::{type_condition, type_in};

@@ -1,64 +1,86 @@
-//! Expressions where a walk over statements stands.
+//! Expressions and conditions where a walk over statements stands.
 
-ghost use Rattle.std.specs.Prelude.{◌≡◌, ◌++◌, IfOk, OnOk};
+#![tactic(auto, using(pc_frames::proofs::Walks::goes_further))]
+
+ghost use Rattle.std.specs.Prelude.{IfOk, OnOk, None, true, false};
 ghost use Rattle.std.specs.Option.{option_map};
 ghost use Rattle.pc_tree.specs.Tree.{expr_of};
-ghost use Rattle.pc_types.specs.Store.{KeepsTypes};
 ghost use Rattle.pc_flow.specs.Stored.{env_of};
-ghost use Rattle.pc_notes.specs.Notes.{notes_of};
 ghost use Rattle.pc_rules.specs.Standing.{mark_in, finds_in};
-ghost use Rattle.pc_labels.specs.ComputedStatements.{at};
-ghost use Rattle.pc_frames.specs.StatementsHeld.{frame_with, HoldsFrame, HoldsTypes, HoldsTypeIfAny, GivesLabel};
+ghost use Rattle.pc_labels.specs.ComputedStatements.{narrowed_at};
+ghost use Rattle.pc_frames.specs.Walks.{Stands, HoldsWant, IsLabel, IsEnv, GoesOn, Found, frame_in, standing_in};
 
 use pc_expr::{Checker, type_expr};
-use pc_flow::{DeclaredTypes, Env, Resolver};
-use pc_frames::Frame;
-use pc_notes::Notes;
+use pc_flow::{BothWays, Env, Resolver};
+use pc_frames::{Walk, narrow_in};
 use pc_rules::{Label, Setting};
 use pc_source::OutOfMemory;
 use pc_tree::Expr;
 use pc_types::TypeStore;
-use std::alloc::Global;
 
 /// The label of an expression in the body of a function, with what is found in it.
 pub fn type_in<S: TypeStore, R: Resolver>(
-    store: &mut S,
-    alloc: Global,
-    frame: &Frame<'_, S::Ty, R>,
-    declared: &DeclaredTypes<S::Ty>,
+    walk: &mut Walk<'_, S, R>,
     env: &Env<S::Ty>,
     want: &Option<S::Ty>,
     e: &Expr,
-    found: &mut Notes,
 ) -> Result<Label<S::Ty>, OutOfMemory>
-    requires frame { HoldsFrame (S.has store.old) S.tree R.meaning frame.now }
-    requires declared { HoldsTypes (S.has store.old) S.tree frame.now.parents.now declared.now }
-    requires env { HoldsTypes (S.has store.old) S.tree frame.now.parents.now env.now }
-    requires want { HoldsTypeIfAny (S.has store.old) S.tree frame.now.parents.now want.now }
+    requires stands { Stands S.TypeStore R.Resolver walk.old env.now }
+    requires want { HoldsWant S.TypeStore walk.old want.now }
     ensures labelled { IfOk result
-        (λ l. GivesLabel S.has S.tree frame.now.parents.now store.new l
-        (mark_in (at (frame_with S.tree R.meaning frame.now) (env_of S.tree declared.now) (env_of S.tree env.now))
-        (option_map S.tree want.now) (expr_of e.now))) }
-    ensures pushed { OnOk result
-        (notes_of found.new ≡ notes_of found.old
-        ++ finds_in (at (frame_with S.tree R.meaning frame.now) (env_of S.tree declared.now) (env_of S.tree env.now))
-        (option_map S.tree want.now) (expr_of e.now)) }
-    ensures kept { KeepsTypes S.has store.old store.new }
+        (λ l. IsLabel S.TypeStore walk.new l
+        (mark_in (standing_in S.TypeStore R.Resolver walk.old env.now) (option_map S.tree want.now) (expr_of e.now))) }
+    ensures finds { OnOk result (Found S.TypeStore R.Resolver walk.old env.now walk.new
+        (λ f k. finds_in k (option_map S.tree want.now) (expr_of e.now))) }
+    ensures goes_on { GoesOn S.TypeStore walk.old walk.new }
 {
     let setting = Setting {
-        parents: frame.parents,
-        classes: frame.classes,
-        functions: frame.functions,
-        constants: frame.constants,
-        known: frame.known,
+        parents: walk.frame.parents,
+        classes: walk.frame.classes,
+        functions: walk.frame.functions,
+        constants: walk.frame.constants,
+        known: walk.frame.known,
         in_body: true,
-        names: frame.names,
-        declared,
+        names: walk.frame.names,
+        declared: walk.declared,
     };
     let mut checker = Checker {
-        store,
-        alloc,
-        found,
+        store: walk.store,
+        alloc: walk.alloc,
+        found: walk.found,
     };
-    type_expr(&mut checker, &setting, env, want, e)
+    let label = type_expr(&mut checker, &setting, env, want, e)?;
+    Ok(label)
+}
+
+/// The environments where a condition is true and where it is false, with what is found in it: so each condition is
+/// asked, of an `if`, an `elif`, a `while` and an `assert`.
+///
+/// Typing specification, "Type narrowing"; own rule of the profile.
+pub fn type_condition<S: TypeStore, R: Resolver>(
+    walk: &mut Walk<'_, S, R>,
+    env: Env<S::Ty>,
+    condition: &Expr,
+) -> Result<BothWays<S::Ty>, OutOfMemory>
+    requires { Stands S.TypeStore R.Resolver walk.old env }
+    ensures where_true { IfOk result (λ n. IsEnv S.TypeStore walk.new n.where_true
+        (narrowed_at (frame_in S.TypeStore R.Resolver walk.old) (env_of S.tree walk.old.declared.now) true
+        (expr_of condition.now) (env_of S.tree env))) }
+    ensures where_false { IfOk result (λ n. IsEnv S.TypeStore walk.new n.where_false
+        (narrowed_at (frame_in S.TypeStore R.Resolver walk.old) (env_of S.tree walk.old.declared.now) false
+        (expr_of condition.now) (env_of S.tree env))) }
+    ensures finds { OnOk result (Found S.TypeStore R.Resolver walk.old env walk.new
+        (λ f k. finds_in k None (expr_of condition.now))) }
+    ensures goes_on { GoesOn S.TypeStore walk.old walk.new }
+{
+    type_in(walk, &env, &None, condition)?;
+    let ways = narrow_in(
+        walk.store,
+        walk.alloc,
+        &walk.frame,
+        walk.declared,
+        condition,
+        env,
+    )?;
+    Ok(ways)
 }

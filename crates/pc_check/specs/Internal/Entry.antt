@@ -1,21 +1,18 @@
 -- What the program is given and answers at the entry of a function, in terms of the definitions.
 -- Own rule of the profile.
-use Rattle.std.specs.Prelude.{◌≡◌, List, Option}
-use Rattle.pc_types.specs.Tree.{Tree}
-use Rattle.pc_types.specs.Below.{Bases}
+use Rattle.std.specs.Prelude.{List, All}
+use Rattle.pc_types.specs.declared.store.TypeStore.{Ghosts as StoreOf}
 use Rattle.pc_class.specs.declared.table.Parameter.{Parameter}
 use Rattle.pc_flow.specs.Environment.{Env}
-use Rattle.pc_flow.specs.Stored.{env_of}
-use Rattle.pc_labels.specs.ComputedStatements.{Table}
-use Rattle.pc_frames.specs.StatementsHeld.{HoldsType, HoldsTypes}
+use Rattle.pc_notes.specs.Notes.{Note}
+use Rattle.pc_labels.specs.ComputedStatements.{BindingResult, Table}
+use Rattle.pc_frames.specs.declared.walk.Walk.{Walk}
+use Rattle.pc_frames.specs.Walks.{HoldsOne}
 
--- the type of a parameter is of the store and well-formed
-abbrev pub HoldsParameter : {Ty : Type 0} (has : Ty → Type 0) (tree : Ty → Tree) (bases : Bases) → Parameter Ty → Type 0
-HoldsParameter has tree bases p = HoldsType has tree bases p.ty
+-- the types of parameters are types of the walk
+abbrev pub HoldsParameters : {Store R Ty : Type 0} (S : StoreOf Store Ty) → Walk Store R Ty → List (Parameter Ty) → Type 0
+HoldsParameters S w params = All (λ p. HoldsOne S w p.ty) params
 
--- declared types and an environment that mean these
-pub record GivesEntry {Ty : Type 0} (has : Ty → Type 0) (tree : Ty → Tree) (bases : Bases)
-    (declared env : List (Option Ty)) (e : Table × Env) : Type 0 where
-  pub declared_holds : HoldsTypes has tree bases declared
-  pub env_holds : HoldsTypes has tree bases env
-  pub is : (env_of tree declared, env_of tree env) ≡ e
+-- the declared types and the environment that parameters come to, where nothing is found
+abbrev pub entered : Table × Env → List Note → BindingResult
+entered e found = record { table = e.0; env = e.1; found = found }

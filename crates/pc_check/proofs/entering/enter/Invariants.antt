@@ -1,12 +1,22 @@
 use Rattle.std.proofs.Common.{◌≡◌, drop}
 use Rattle.pc_class.specs.Tables.{parameters_with}
 use Rattle.pc_flow.specs.Stored.{env_of}
+use Rattle.pc_notes.specs.Notes.{notes_of}
 use Rattle.pc_labels.specs.ComputedStatements.{enter_parameters}
-use Rattle.pc_frames.specs.StatementsHeld.{HoldsTypes}
+use Rattle.pc_frames.specs.Walks.{GoesOn, Stands}
 use Rattle.pc_check.proofs.entering.enter.Given as goal
 
 abbrev pub invariant-loop-param : goal.invariant-loop-param
 invariant-loop-param g l =
-    HoldsTypes (g.S.TypeStore.has l.store) g.S.TypeStore.tree l.parents l.declared
-    × HoldsTypes (g.S.TypeStore.has l.store) g.S.TypeStore.tree l.parents l.env
-    × (enter_parameters (g.R.Resolver.meaning l.names) (env_of g.S.TypeStore.tree l.declared) (env_of g.S.TypeStore.tree l.env) (parameters_with g.S.TypeStore.tree (drop l.param-index l.params)) ≡ enter_parameters (g.R.Resolver.meaning l.names) (env_of g.S.TypeStore.tree l.fn.declared) (env_of g.S.TypeStore.tree l.fn.env) (parameters_with g.S.TypeStore.tree l.params))
+    let tree = g.S.TypeStore.tree in
+    let resolve = g.R.Resolver.meaning l.walk.frame.names.now in
+    let first = g.R.Resolver.meaning l.fn.walk.frame.names.now in
+    let rest = parameters_with tree (drop l.param-index l.params) in
+    let all = parameters_with tree l.params in
+    record {
+      goes_on : GoesOn g.S.TypeStore l.fn.walk l.walk;
+      stands : Stands g.S.TypeStore g.R.Resolver l.walk l.env;
+      is : enter_parameters resolve (env_of tree l.walk.declared.now) (env_of tree l.env) rest
+          ≡ enter_parameters first (env_of tree l.fn.walk.declared.now) (env_of tree l.fn.env) all;
+      found : notes_of l.walk.found.now ≡ notes_of l.fn.walk.found.now;
+    }

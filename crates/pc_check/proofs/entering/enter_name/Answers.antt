@@ -1,15 +1,29 @@
-use Rattle.std.proofs.Common.{◌∙◌, sym, subst}
+use Rattle.std.proofs.Common.{◌∙◌, sym, ap}
 use Rattle.std.specs.Prelude.{Some, slice_set}
+use Rattle.pc_scope.specs.declared.resolution.Res.{Res}
 use Rattle.pc_flow.specs.Stored.{env_of}
+use Rattle.pc_notes.specs.Notes.{notes_of}
 use Rattle.pc_labels.specs.ComputedStatements.{enter_name}
-use Rattle.pc_check.specs.Internal.Entry.{GivesEntry}
+use Rattle.pc_check.specs.Internal.Entry.{entered}
 use Rattle.pc_check.proofs.Entered.{local_entered, none_copied}
 use Rattle.pc_check.proofs.entering.enter_name.Goals as goal
 
-pub returns : goal.returns
-returns g c =
-    let tree = g.S.TypeStore.tree in
+pub returns-clause-bound : goal.returns-clause-bound
+returns-clause-bound g c =
+    let S = g.S.TypeStore in
+    let tree = S.tree in
+    let w = c.args.walk.now in
+    let h = c.requires.stands in
     let x = c.in-Local.local in
-    rw c.declare.ensures (rw c.in_ok-assign.ensures.assigned (subst (λ r. GivesEntry (g.S.TypeStore.has c.args.store.now) tree c.args.parents.now (slice_set c.args.declared.now x (Some c.in_ok-first.first)) (slice_set c.args.env.now x (Some c.in_ok-current.current)) (enter_name (env_of tree c.args.declared.now) (env_of tree c.args.env.now) r (tree c.args.ty.now))) (sym c.in-Local.is ∙ c.resolve.ensures)
-    (local_entered g.S.TypeStore.has tree c.args.parents.now c.args.store.now c.args.declared.now c.args.env.now x c.args.ty.now c.in_ok-first.first c.in_ok-current.current c.requires.declared c.requires.env c.requires.ty c.in_ok-first.ensures c.in_ok-current.ensures
-    (sym c.declared.ensures ∙ none_copied c.declared.result (sym c.is_some.ensures ∙ c.if-is_some.false)))))
+    let found = notes_of w.found.now in
+    let table = env_of tree w.declared.now in
+    let env = env_of tree c.args.env.now in
+    let none = sym c.declared.ensures ∙ none_copied c.declared.result (sym c.is_some.ensures ∙ c.if-is_some.false) in
+    let entry = local_entered S.has tree w.frame.parents.now w.store.now w.declared.now c.args.env.now x c.args.ty.now
+    c.in_ok-first.first c.in_ok-current.current h.declared h.current c.requires.ty c.in_ok-first.ensures
+    c.in_ok-current.ensures none in
+    let is = entry.is ∙ ap (λ (r : Res). enter_name table env r (tree c.args.ty.now)) (sym c.in-Local.is ∙ c.resolve.ensures) in
+    rw (c.declare.ensures, c.in_ok-assign.ensures.assigned) (record {
+      is = ap (λ e. entered e found) is;
+      stands = record { frame = h.frame; declared = entry.declared_holds; current = entry.env_holds };
+    })

@@ -5,10 +5,12 @@ use Rattle.pc_notes.specs.Notes.{notes_of}
 use Rattle.pc_rules.specs.SignaturesFound.{constants_of}
 use Rattle.pc_check.specs.Internal.ModuleWalk.{module_in, IsModuleSetting}
 use Rattle.pc_labels.specs.ComputedModules.{bodies_find}
-use Rattle.pc_check.proofs.CheckedModules.{ItemsAt, items_next, class_here, def_here, constant_passed, class_passed, def_passed}
+use Rattle.pc_check.proofs.CheckedModules.{ItemsAt, items_next, class_here, def_here, constant_passed, class_passed}
+use Rattle.pc_check.proofs.CheckedModules.{def_passed}
 use Rattle.pc_check.proofs.ModuleSettings.{setting_kept}
 use Rattle.pc_check.proofs.modules.check_bodies.Goals as goal
-use Rattle.pc_check.proofs.modules.check_bodies.Goals.{in-Constant, in-Class+in_ok-check_methods-in-Class, in-Def+in_ok-check_owned-in-Def}
+use Rattle.pc_check.proofs.modules.check_bodies.Goals.{in-Constant, in-Class+in_ok-check_methods-in-Class}
+use Rattle.pc_check.proofs.modules.check_bodies.Goals.{in-Def+in_ok-check_owned-in-Def}
 
 pub check_methods-requires-clause-class : goal.check_methods-requires-clause-class
 check_methods-requires-clause-class g c =
@@ -17,8 +19,10 @@ check_methods-requires-clause-class g c =
     let i = c.loop-item.item-index in
     let x = c.item-item.result in
     let rest = map item_of (drop (i + 1) items) in
-    let next = items_next items i x c.loop-item-test.true c.item-item.is ∙ ap (λ k. item_of_kind x.first k ∷ rest) c.in-Class.is in
-    class_here (classes_in m.items) (map item_of (drop i items)) rest c.loop-item.classes x.first (class_of c.in-Class.class) c.loop-item.invariant.classes_stand next
+    let next = items_next items i x c.loop-item-test.true c.item-item.is
+    ∙ ap (λ k. item_of_kind x.first k ∷ rest) c.in-Class.is in
+    class_here (classes_in m.items) (map item_of (drop i items)) rest c.loop-item.classes x.first
+    (class_of c.in-Class.class) c.loop-item.invariant.classes_stand next
 
 pub check_owned-requires-clause-owner : goal.check_owned-requires-clause-owner
 check_owned-requires-clause-owner g c =
@@ -27,8 +31,10 @@ check_owned-requires-clause-owner g c =
     let i = c.loop-item.item-index in
     let x = c.item-item.result in
     let rest = map item_of (drop (i + 1) items) in
-    let next = items_next items i x c.loop-item-test.true c.item-item.is ∙ ap (λ k. item_of_kind x.first k ∷ rest) c.in-Def.is in
-    def_here (functions_in m.items) (map item_of (drop i items)) rest c.loop-item.functions x.first (func_of c.in-Def.def) c.loop-item.invariant.functions_stand next
+    let next = items_next items i x c.loop-item-test.true c.item-item.is
+    ∙ ap (λ k. item_of_kind x.first k ∷ rest) c.in-Def.is in
+    def_here (functions_in m.items) (map item_of (drop i items)) rest c.loop-item.functions x.first
+    (func_of c.in-Def.def) c.loop-item.invariant.functions_stand next
 
 pub loop-item-preserved : goal.loop-item-preserved
 loop-item-preserved g c =
@@ -50,19 +56,31 @@ loop-item-preserved g c =
     let old = (notes_of c.loop-item.found) in
     let new = (notes_of c.match-item.found) in
     let total = bodies_find m cs 0 0 (map item_of items) (notes_of c.args.found.now) in
-    let here : ItemsAt m cs classes functions total before rest n k c.match-item.classes c.match-item.functions old new = elim c.match-item.branch [
-      | in-Constant w ↦ constant_passed m cs classes functions total before rest n k c.match-item.classes c.match-item.functions old new v.classes_stand v.functions_stand v.found
-          x.first (constant_of w.in-Constant.field-0) (step ∙ ap (λ q. item_of_kind x.first q ∷ rest) w.in-Constant.is) w.classes-is w.functions-is (λ j. notes_of (w.found-is j))
-      | in-Class+in_ok-check_methods-in-Class w ↦ class_passed m cs classes functions total before rest n k c.match-item.classes c.match-item.functions old new v.classes_stand v.functions_stand v.found
-          x.first (class_of w.in-Class.class) (step ∙ ap (λ q. item_of_kind x.first q ∷ rest) w.in-Class.is) w.classes-is w.functions-is ((λ j. notes_of (w.found-is j)) ∙ w.in_ok-check_methods-in-Class.ensures.pushed)
-      | in-Def+in_ok-check_owned-in-Def w ↦ def_passed m cs classes functions total before rest n k c.match-item.classes c.match-item.functions old new v.classes_stand v.functions_stand v.found
-          x.first (func_of w.in-Def.def) (step ∙ ap (λ q. item_of_kind x.first q ∷ rest) w.in-Def.is) w.classes-is w.functions-is ((λ j. notes_of (w.found-is j)) ∙ w.in_ok-check_owned-in-Def.ensures.pushed)
+    let here : ItemsAt m cs classes functions total before rest n k c.match-item.classes c.match-item.functions old
+    new = elim c.match-item.branch [
+      | in-Constant w ↦ constant_passed m cs classes functions total before rest n k c.match-item.classes
+          c.match-item.functions old new v.classes_stand v.functions_stand v.found
+          x.first (constant_of w.in-Constant.field-0)
+          (step ∙ ap (λ q. item_of_kind x.first q ∷ rest) w.in-Constant.is) w.classes-is w.functions-is
+          (λ j. notes_of (w.found-is j))
+      | in-Class+in_ok-check_methods-in-Class w ↦ class_passed m cs classes functions total before rest n k
+          c.match-item.classes c.match-item.functions old new v.classes_stand v.functions_stand v.found
+          x.first (class_of w.in-Class.class) (step ∙ ap (λ q. item_of_kind x.first q ∷ rest) w.in-Class.is)
+          w.classes-is w.functions-is ((λ j. notes_of (w.found-is j)) ∙ w.in_ok-check_methods-in-Class.ensures.pushed)
+      | in-Def+in_ok-check_owned-in-Def w ↦ def_passed m cs classes functions total before rest n k
+          c.match-item.classes c.match-item.functions old new v.classes_stand v.functions_stand v.found
+          x.first (func_of w.in-Def.def) (step ∙ ap (λ q. item_of_kind x.first q ∷ rest) w.in-Def.is) w.classes-is
+          w.functions-is ((λ j. notes_of (w.found-is j)) ∙ w.in_ok-check_owned-in-Def.ensures.pushed)
     ] in
     record {
       setting = elim c.match-item.branch [
         | in-Constant w ↦ subst (λ s. IsModuleSetting (has s) tree c.args.setting.now) (sym w.store-is) v.setting
-        | in-Class+in_ok-check_methods-in-Class w ↦ subst (λ s. IsModuleSetting (has s) tree c.args.setting.now) (sym w.store-is) (setting_kept has tree c.loop-item.store w.check_methods.new.store w.check_methods.ensures.kept c.args.setting.now v.setting)
-        | in-Def+in_ok-check_owned-in-Def w ↦ subst (λ s. IsModuleSetting (has s) tree c.args.setting.now) (sym w.store-is) (setting_kept has tree c.loop-item.store w.check_owned.new.store w.check_owned.ensures.kept c.args.setting.now v.setting)
+        | in-Class+in_ok-check_methods-in-Class w ↦ subst (λ s. IsModuleSetting (has s) tree c.args.setting.now)
+            (sym w.store-is) (setting_kept has tree c.loop-item.store w.check_methods.new.store
+            w.check_methods.ensures.kept c.args.setting.now v.setting)
+        | in-Def+in_ok-check_owned-in-Def w ↦ subst (λ s. IsModuleSetting (has s) tree c.args.setting.now)
+            (sym w.store-is) (setting_kept has tree c.loop-item.store w.check_owned.new.store
+            w.check_owned.ensures.kept c.args.setting.now v.setting)
       ];
       classes_counted = let h = v.classes_counted in elim c.match-item.branch [
         | in-Constant w ↦ let e = w.classes-is in omega arith
@@ -79,7 +97,9 @@ loop-item-preserved g c =
       found = here.found;
       kept = elim c.match-item.branch [
         | in-Constant w ↦ λ ty h. subst (λ s. has s ty) (sym w.store-is) (v.kept ty h)
-        | in-Class+in_ok-check_methods-in-Class w ↦ λ ty h. subst (λ s. has s ty) (sym w.store-is) (w.check_methods.ensures.kept ty (v.kept ty h))
-        | in-Def+in_ok-check_owned-in-Def w ↦ λ ty h. subst (λ s. has s ty) (sym w.store-is) (w.check_owned.ensures.kept ty (v.kept ty h))
+        | in-Class+in_ok-check_methods-in-Class w ↦ λ ty h. subst (λ s. has s ty) (sym w.store-is)
+            (w.check_methods.ensures.kept ty (v.kept ty h))
+        | in-Def+in_ok-check_owned-in-Def w ↦ λ ty h. subst (λ s. has s ty) (sym w.store-is)
+            (w.check_owned.ensures.kept ty (v.kept ty h))
       ];
     }

@@ -14,8 +14,12 @@ invariant-loop-item g l = record {
   setting : IsModuleSetting (g.S.TypeStore.has l.store) g.S.TypeStore.tree l.setting;
   classes_counted : l.classes ≤ l.item-index;
   functions_counted : l.functions ≤ l.item-index;
-  classes_stand : StandsFrom (classes_in (module_in l.setting).items) l.classes (classes_in (map item_of (drop l.item-index l.items)));
-  functions_stand : StandsFrom (functions_in (module_in l.setting).items) l.functions (functions_in (map item_of (drop l.item-index l.items)));
-  found : bodies_find (module_in l.setting) (constants_of (module_in l.setting)) l.classes l.functions (map item_of (drop l.item-index l.items)) (notes_of l.found) ≡ bodies_find (module_in l.setting) (constants_of (module_in l.setting)) 0 0 (map item_of l.items) (notes_of l.fn.found);
+  classes_stand : StandsFrom (classes_in (module_in l.setting).items) l.classes
+      (classes_in (map item_of (drop l.item-index l.items)));
+  functions_stand : StandsFrom (functions_in (module_in l.setting).items) l.functions
+      (functions_in (map item_of (drop l.item-index l.items)));
+  found : bodies_find (module_in l.setting) (constants_of (module_in l.setting)) l.classes l.functions
+      (map item_of (drop l.item-index l.items)) (notes_of l.found) ≡ bodies_find (module_in l.setting)
+      (constants_of (module_in l.setting)) 0 0 (map item_of l.items) (notes_of l.fn.found);
   kept : KeepsTypes g.S.TypeStore.has l.fn.store l.store;
 }

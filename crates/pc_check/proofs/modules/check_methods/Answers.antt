@@ -16,9 +16,11 @@ check_owned-requires-clause-owner g c =
     let ms = c.as_slice-members.result.now in
     let i = c.loop-member.member-index in
     let rest = map member_of (drop (i + 1) ms) in
-    let next = members_next ms i c.member-item.result c.loop-member-test.true c.member-item.is ∙ ap (λ y. member_of y ∷ rest) c.in-Method.is in
+    let next = members_next ms i c.member-item.result c.loop-member-test.true c.member-item.is
+    ∙ ap (λ y. member_of y ∷ rest) c.in-Method.is in
     ap (λ o. method_at o c.loop-member.methods) c.requires.class
-    ∙ method_here (methods_in (class_of c.args.def.now).members) (map member_of (drop i ms)) rest c.loop-member.methods (func_of c.in-Method.method) c.loop-member.invariant.stand next
+    ∙ method_here (methods_in (class_of c.args.def.now).members) (map member_of (drop i ms)) rest
+    c.loop-member.methods (func_of c.in-Method.method) c.loop-member.invariant.stand next
 
 pub loop-member-preserved : goal.loop-member-preserved
 loop-member-preserved g c =
@@ -34,16 +36,23 @@ loop-member-preserved g c =
     let rest = map member_of (drop (i + 1) ms) in
     let step = members_next ms i c.member-item.result c.loop-member-test.true c.member-item.is in
     let total = methods_find m (constants_of m) c.args.class 0 (map member_of ms) (notes_of c.args.found.now) in
-    let here : MembersAt m (constants_of m) c.args.class all total before rest n c.match-member.methods (notes_of c.loop-member.found) (notes_of c.match-member.found) = elim c.match-member.branch [
-      | in-Field w ↦ field_passed m (constants_of m) c.args.class all total before rest n c.match-member.methods (notes_of c.loop-member.found) (notes_of c.match-member.found) v.stand v.found
-          (field_of w.in-Field.field-0) (step ∙ ap (λ y. member_of y ∷ rest) w.in-Field.is) w.methods-is (λ j. notes_of (w.found-is j))
-      | in-Method+in_ok-check_owned-in-Method w ↦ method_passed m (constants_of m) c.args.class all total before rest n c.match-member.methods (notes_of c.loop-member.found) (notes_of c.match-member.found) v.stand v.found
-          (func_of w.in-Method.method) (step ∙ ap (λ y. member_of y ∷ rest) w.in-Method.is) w.methods-is ((λ j. notes_of (w.found-is j)) ∙ w.in_ok-check_owned-in-Method.ensures.pushed)
+    let here : MembersAt m (constants_of m) c.args.class all total before rest n c.match-member.methods
+    (notes_of c.loop-member.found) (notes_of c.match-member.found) = elim c.match-member.branch [
+      | in-Field w ↦ field_passed m (constants_of m) c.args.class all total before rest n c.match-member.methods
+          (notes_of c.loop-member.found) (notes_of c.match-member.found) v.stand v.found
+          (field_of w.in-Field.field-0) (step ∙ ap (λ y. member_of y ∷ rest) w.in-Field.is) w.methods-is
+          (λ j. notes_of (w.found-is j))
+      | in-Method+in_ok-check_owned-in-Method w ↦ method_passed m (constants_of m) c.args.class all total before rest
+          n c.match-member.methods (notes_of c.loop-member.found) (notes_of c.match-member.found) v.stand v.found
+          (func_of w.in-Method.method) (step ∙ ap (λ y. member_of y ∷ rest) w.in-Method.is) w.methods-is
+          ((λ j. notes_of (w.found-is j)) ∙ w.in_ok-check_owned-in-Method.ensures.pushed)
     ] in
     record {
       setting = elim c.match-member.branch [
         | in-Field w ↦ subst (λ s. IsModuleSetting (has s) tree c.args.setting.now) (sym w.store-is) v.setting
-        | in-Method+in_ok-check_owned-in-Method w ↦ subst (λ s. IsModuleSetting (has s) tree c.args.setting.now) (sym w.store-is) (setting_kept has tree c.loop-member.store w.check_owned.new.store w.check_owned.ensures.kept c.args.setting.now v.setting)
+        | in-Method+in_ok-check_owned-in-Method w ↦ subst (λ s. IsModuleSetting (has s) tree c.args.setting.now)
+            (sym w.store-is) (setting_kept has tree c.loop-member.store w.check_owned.new.store
+            w.check_owned.ensures.kept c.args.setting.now v.setting)
       ];
       counted = let h = v.counted in elim c.match-member.branch [
         | in-Field w ↦ let e = w.methods-is in omega arith
@@ -53,6 +62,7 @@ loop-member-preserved g c =
       found = here.found;
       kept = elim c.match-member.branch [
         | in-Field w ↦ λ ty h. subst (λ s. has s ty) (sym w.store-is) (v.kept ty h)
-        | in-Method+in_ok-check_owned-in-Method w ↦ λ ty h. subst (λ s. has s ty) (sym w.store-is) (w.check_owned.ensures.kept ty (v.kept ty h))
+        | in-Method+in_ok-check_owned-in-Method w ↦ λ ty h. subst (λ s. has s ty) (sym w.store-is)
+            (w.check_owned.ensures.kept ty (v.kept ty h))
       ];
     }

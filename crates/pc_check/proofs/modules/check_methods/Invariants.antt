@@ -13,7 +13,10 @@ abbrev pub invariant-loop-member : goal.invariant-loop-member
 invariant-loop-member g l = record {
   setting : IsModuleSetting (g.S.TypeStore.has l.store) g.S.TypeStore.tree l.setting;
   counted : l.methods ≤ l.member-index;
-  stand : StandsFrom (methods_in (class_of l.def).members) l.methods (methods_in (map member_of (drop l.member-index l.members)));
-  found : methods_find (module_in l.setting) (constants_of (module_in l.setting)) l.class l.methods (map member_of (drop l.member-index l.members)) (notes_of l.found) ≡ methods_find (module_in l.setting) (constants_of (module_in l.setting)) l.class 0 (map member_of l.members) (notes_of l.fn.found);
+  stand : StandsFrom (methods_in (class_of l.def).members) l.methods
+      (methods_in (map member_of (drop l.member-index l.members)));
+  found : methods_find (module_in l.setting) (constants_of (module_in l.setting)) l.class l.methods
+      (map member_of (drop l.member-index l.members)) (notes_of l.found) ≡ methods_find (module_in l.setting)
+      (constants_of (module_in l.setting)) l.class 0 (map member_of l.members) (notes_of l.fn.found);
   kept : KeepsTypes g.S.TypeStore.has l.fn.store l.store;
 }

@@ -3,4 +3,10 @@ use Rattle.pc_frames.proofs.Bound.{settled_any}
 use Rattle.pc_frames.proofs.unreached.declare_any.Goals as goal
 
 pub returns-clause-declared : goal.returns-clause-declared
-returns-clause-declared g c = rw c.settle.ensures (settled_any g.S.TypeStore.has g.S.TypeStore.tree c.args.parents.now c.any.new.self c.args.declared.now c.args.local c.in_ok-any.any c.in_ok-any.ensures.value.0 c.in_ok-any.ensures.value.1 (types_kept g.S.TypeStore.has g.S.TypeStore.tree c.args.parents.now _ _ c.any.ensures.kept c.args.declared.now c.requires))
+returns-clause-declared g c =
+    let S = g.S.TypeStore in
+    let w = c.args.walk.now in
+    let bases = w.frame.parents.now in
+    let any = c.in_ok-any.ensures.value in
+    rw c.settle.ensures (settled_any S.has S.tree bases c.any.new.self w.declared.now c.args.local c.in_ok-any.any any.0 any.1
+    (types_kept S.has S.tree bases _ _ c.any.ensures.kept w.declared.now c.requires))

@@ -1,42 +1,105 @@
-use Rattle.std.proofs.Common.{◌≡◌, ◌∙◌, ◌++◌, ap, subst}
+use Rattle.std.proofs.Common.{◌≡◌, ◌∙◌, ◌++◌, List, Option, Some, sym, ap, subst}
+use Rattle.std.specs.Option.{option_map}
 use Rattle.pc_scope.specs.declared.resolution.Res.{Res}
-use Rattle.pc_tree.specs.Tree.{ann_of, name_of, module_of}
+use Rattle.pc_tree.specs.Tree.{ann_of, expr_of, name_of, module_of, option_expr_of}
+use Rattle.pc_types.specs.Tree.{Tree}
 use Rattle.pc_ann.specs.Annotations.{read_ann}
 use Rattle.pc_flow.specs.Stored.{env_of}
-use Rattle.pc_notes.specs.Notes.{notes_of}
-use Rattle.pc_labels.specs.ComputedStatements.{annotation_finds, bound_name, declared_alone}
-use Rattle.pc_frames.specs.StatementsHeld.{frame_with, GivesBound}
+use Rattle.pc_notes.specs.Notes.{Note, notes_of}
+use Rattle.pc_labels.specs.ComputedStatements.{BindingResult, annotation_finds, bound_name, declared_alone}
+use Rattle.pc_labels.specs.ComputedStatements.{bind_annotated, bind_value}
 use Rattle.pc_frames.specs.AnnotatedNames.{declared_by}
-use Rattle.pc_frames.proofs.Bound.{alone_gives}
-use Rattle.pc_frames.proofs.Held.{types_kept, frame_kept}
+use Rattle.pc_frames.specs.declared.frame.Frame.{Frame as RustFrame}
+use Rattle.pc_frames.specs.StatementsHeld.{HoldsTypeIfAny, HoldsTypes, frame_with}
+use Rattle.pc_frames.specs.Walks.{HoldsEnv, frame_in}
+use Rattle.pc_frames.proofs.Bound.{alone_gives, value_unless}
+use Rattle.pc_frames.proofs.Held.{types_kept}
+use Rattle.pc_frames.proofs.Walks.{stands_on}
 use Rattle.pc_statements.proofs.binding.bind_annotated.Goals as goal
 
-pub bind_value-requires-clause-frame : goal.bind_value-requires-clause-frame
-bind_value-requires-clause-frame g c = frame_kept g.S.TypeStore.has _ _ c.annotated_type.ensures.kept g.S.TypeStore.tree g.R.Resolver.meaning c.args.frame.now c.requires.frame
-
-pub bind_value-requires-clause-declared : goal.bind_value-requires-clause-declared
-bind_value-requires-clause-declared g c = types_kept g.S.TypeStore.has g.S.TypeStore.tree c.args.frame.now.parents.now _ _ c.annotated_type.ensures.kept c.args.declared.now c.requires.declared
-
-pub bind_value-requires-clause-env : goal.bind_value-requires-clause-env
-bind_value-requires-clause-env g c = types_kept g.S.TypeStore.has g.S.TypeStore.tree c.args.frame.now.parents.now _ _ c.annotated_type.ensures.kept c.args.env c.requires.env
+pub bind_value-requires-clause-stands : goal.bind_value-requires-clause-stands
+bind_value-requires-clause-stands g c =
+    let a = c.in_ok-ty.ensures in
+    stands_on g.S.TypeStore g.R.Resolver c.args.walk.now c.annotated_type.new.walk c.args.env c.requires a.goes_on
+    a.declared
 
 pub returns-in-None-clause-bound : goal.returns-in-None-clause-bound
 returns-in-None-clause-bound g c =
-    let tree = g.S.TypeStore.tree in
-    let frame = c.args.frame.now in
-    let bases = frame.parents.now in
-    let k = c.annotated_type.ensures.kept in
-    let alone = alone_gives g.S.TypeStore.has tree bases c.annotated_type.new.store (frame_with tree g.R.Resolver.meaning frame) c.args.declared.now c.resolve-meaning.result c.in_ok-ty.ty (read_ann (module_of frame.tree.now) bases (ann_of c.args.annotation.now)) c.in_ok-ty.ensures.typed.1 c.in_ok-ty.ensures.typed.0 (types_kept g.S.TypeStore.has tree bases _ _ k c.args.declared.now c.requires.declared) in
-    let table = env_of tree c.args.declared.now in
-    let t = read_ann (module_of frame.tree.now) bases (ann_of c.args.annotation.now) in
-    let e : c.resolve-meaning.result ≡ g.R.Resolver.meaning frame.names.now (name_of c.args.name.now).text = c.resolve-meaning.ensures ∙ ap (g.R.Resolver.meaning frame.names.now) c.as_str.ensures.value in
-    rw (c.in-None.is, c.declare_alone.ensures)
-    (subst (λ (r : Res). GivesBound g.S.TypeStore.has tree bases c.annotated_type.new.store (declared_by c.args.declared.now c.resolve-meaning.result c.in_ok-ty.ty) c.args.env (notes_of c.annotated_type.new.found) (record {
-      table = declared_alone (frame_with tree g.R.Resolver.meaning frame) table r t;
-      env = env_of tree c.args.env;
-      found = (notes_of c.args.found.now) ++ annotation_finds (frame_with tree g.R.Resolver.meaning frame) (bound_name (frame_with tree g.R.Resolver.meaning frame) table r) (name_of c.args.name.now) (ann_of c.args.annotation.now);
-    })) e (record {
-      declared_holds = alone.holds;
-      env_holds = types_kept g.S.TypeStore.has tree bases _ _ k c.args.env c.requires.env;
-      is = λ i. record { table = alone.is i; env = env_of tree c.args.env; found = c.in_ok-ty.ensures.pushed i };
-    }))
+    let S = g.S.TypeStore in
+    let N = g.R.Resolver in
+    let tree = S.tree in
+    let old = c.args.walk.now in
+    let mid = c.annotated_type.new.walk in
+    let a = c.in_ok-ty.ensures in
+    let bases = old.frame.parents.now in
+    let F = frame_in S N old in
+    let T = env_of tree old.declared.now in
+    let E = env_of tree c.args.env in
+    let name = name_of c.args.name.now in
+    let annotation = ann_of c.args.annotation.now in
+    let found = notes_of old.found.now in
+    let t = read_ann (module_of old.frame.tree.now) bases annotation in
+    let meaning = c.resolve-meaning.result in
+    let ty = c.in_ok-ty.ty in
+    let declared = declared_by old.declared.now meaning ty in
+    let held = subst (λ (f : RustFrame _ _). HoldsTypeIfAny (S.has mid.store.now) tree f.parents.now ty)
+    c.annotated_type.ensures.goes_on.frame a.typed.0 in
+    let alone = alone_gives S.has tree bases mid.store.now F old.declared.now meaning ty t a.typed.1 held
+    (types_kept S.has tree bases old.store.now mid.store.now c.annotated_type.ensures.goes_on.kept old.declared.now c.requires.declared) in
+    let made : Res → BindingResult = λ r. record {
+      table = declared_alone F T r t;
+      env = E;
+      found = found ++ annotation_finds F (bound_name F T r) name annotation;
+    } in
+    let declared_is : c.declare_alone.new.declared ≡ declared =
+    c.declare_alone.ensures ∙ ap (λ (ds : List (Option _)). declared_by ds meaning ty) a.declared in
+    let meaning_is = c.resolve-meaning.ensures ∙ ap (N.meaning old.frame.names.now) c.as_str.ensures.value in
+    let table_is = ap (env_of tree) declared_is ∙ alone.is in
+    let stood = stands_on S N old mid c.args.env c.requires c.annotated_type.ensures.goes_on a.declared in
+    let later = subst (λ (f : RustFrame _ _). HoldsTypes (S.has mid.store.now) tree f.parents.now declared)
+    (sym c.annotated_type.ensures.goes_on.frame) alone.holds in
+    rw c.in-None.is (record {
+      is = (λ i. record { table = table_is i; env = E; found = a.pushed i }) ∙ ap made meaning_is;
+      stands = record {
+        frame = stood.frame;
+        declared = subst (λ (ds : List (Option _)). HoldsEnv S mid ds) (sym declared_is) later;
+        current = stood.current;
+      };
+    })
+
+pub returns-in_ok-behind-in-Some-clause-bound : goal.returns-in_ok-behind-in-Some-clause-bound
+returns-in_ok-behind-in-Some-clause-bound g c =
+    let S = g.S.TypeStore in
+    let N = g.R.Resolver in
+    let tree = S.tree in
+    let old = c.args.walk.now in
+    let mid = c.annotated_type.new.walk in
+    let a = c.in_ok-ty.ensures in
+    let b = c.in_ok-behind-in-Some.ensures.bound in
+    let F = frame_in S N old in
+    let T = env_of tree old.declared.now in
+    let E = env_of tree c.args.env in
+    let name = name_of c.args.name.now in
+    let annotation = ann_of c.args.annotation.now in
+    let found = notes_of old.found.now in
+    let after = notes_of mid.found.now in
+    let t = read_ann (module_of old.frame.tree.now) old.frame.parents.now annotation in
+    let meaning = c.resolve-meaning.result in
+    let ty = option_map tree c.in_ok-ty.ty in
+    let e = expr_of c.deref.result.now in
+    let inside : Res → List Note = λ r. found ++ annotation_finds F (bound_name F T r) name annotation in
+    let meaning_is = c.resolve-meaning.ensures ∙ ap (N.meaning old.frame.names.now) c.as_str.ensures.value in
+    record {
+      is = b.is
+          ∙ ap (λ (f : RustFrame _ _). bind_value (frame_with tree N.meaning f)
+          (env_of tree mid.declared.now) E meaning ty e
+          after) c.annotated_type.ensures.goes_on.frame
+          ∙ ap (λ (ds : List (Option _)). bind_value F (env_of tree ds) E meaning ty e after) a.declared
+          ∙ ap (λ (ns : List Note). bind_value F T E meaning ty e ns) a.pushed
+          ∙ ap (λ (o : Option Tree). bind_value F T E meaning o e (inside meaning)) a.typed.1
+          ∙ value_unless F T E meaning t e (inside meaning)
+          ∙ ap (λ (r : Res). bind_value F T E r (Some t) e (inside r)) meaning_is
+          ∙ ap (λ x. bind_annotated F T E name annotation (Some (expr_of x)) found) c.deref.ensures
+          ∙ ap (λ v. bind_annotated F T E name annotation (option_expr_of v) found) (sym c.in-Some.is);
+      stands = b.stands;
+    }

@@ -1,42 +1,66 @@
-use Rattle.std.proofs.Common.{List, ap}
+use Rattle.std.proofs.Common.{◌∙◌, ◌++◌, Option, sym, ap}
 use Rattle.std.specs.Option.{option_map}
+use Rattle.pc_source.specs.declared.place.Place.{Place}
+use Rattle.pc_scope.specs.declared.resolution.Res.{Res}
 use Rattle.pc_tree.specs.Tree.{expr_of}
+use Rattle.pc_tree.specs.Depth.{place_of}
+use Rattle.pc_types.specs.Tree.{Tree}
 use Rattle.pc_flow.specs.Stored.{env_of}
-use Rattle.pc_notes.specs.Notes.{Note, notes_of}
-use Rattle.pc_labels.specs.ComputedStatements.{BindingResult}
-use Rattle.pc_frames.specs.StatementsHeld.{frame_with}
-use Rattle.pc_frames.proofs.Bound.{known_holds, value_elsewhere}
-use Rattle.pc_frames.proofs.Held.{types_kept, type_kept_if_any, want_well_formed}
+use Rattle.pc_notes.specs.Notes.{notes_of}
+use Rattle.pc_rules.specs.Standing.{mark_in, finds_in}
+use Rattle.pc_labels.specs.ComputedStatements.{bind_label, bind_value}
+use Rattle.pc_frames.specs.Walks.{frame_in, standing_in}
+use Rattle.pc_frames.proofs.Bound.{known_holds}
+use Rattle.pc_frames.proofs.Held.{want_well_formed}
+use Rattle.pc_frames.proofs.Walks.{want_kept, bound_then}
 use Rattle.pc_statements.proofs.binding.bind_value.Goals as goal
 
 pub type_in-requires-clause-want : goal.type_in-requires-clause-want
 type_in-requires-clause-want g c =
-    let bases = c.args.frame.now.parents.now in
-    known_holds g.S.TypeStore.has g.S.TypeStore.tree bases c.args.store.now c.args.declared.now c.in-Local.local (option_map g.S.TypeStore.tree c.args.annotation) c.in_ok-want-in-Local.want c.requires.declared (want_well_formed g.S.TypeStore.has g.S.TypeStore.tree bases c.args.store.now c.args.annotation c.requires.annotation) c.in_ok-want-in-Local.ensures
-
-pub bind_label-requires-clause-declared : goal.bind_label-requires-clause-declared
-bind_label-requires-clause-declared g c = types_kept g.S.TypeStore.has g.S.TypeStore.tree c.args.frame.now.parents.now _ _ c.type_in.ensures.kept c.args.declared.now c.requires.declared
-
-pub bind_label-requires-clause-env : goal.bind_label-requires-clause-env
-bind_label-requires-clause-env g c = types_kept g.S.TypeStore.has g.S.TypeStore.tree c.args.frame.now.parents.now _ _ c.type_in.ensures.kept c.args.env c.requires.env
+    let S = g.S.TypeStore in
+    let w = c.args.walk.now in
+    let bases = w.frame.parents.now in
+    known_holds S.has S.tree bases w.store.now w.declared.now c.in-Local.local (option_map S.tree c.args.annotation)
+    c.in_ok-want-in-Local.want c.requires.stands.declared
+    (want_well_formed S.has S.tree bases w.store.now c.args.annotation c.requires.annotation)
+    c.in_ok-want-in-Local.ensures
 
 pub bind_label-requires-clause-want : goal.bind_label-requires-clause-want
 bind_label-requires-clause-want g c =
-    let bases = c.args.frame.now.parents.now in
-    type_kept_if_any g.S.TypeStore.has g.S.TypeStore.tree bases _ _ c.type_in.ensures.kept c.in_ok-want-in-Local.want
-    (known_holds g.S.TypeStore.has g.S.TypeStore.tree bases c.args.store.now c.args.declared.now c.in-Local.local (option_map g.S.TypeStore.tree c.args.annotation) c.in_ok-want-in-Local.want c.requires.declared (want_well_formed g.S.TypeStore.has g.S.TypeStore.tree bases c.args.store.now c.args.annotation c.requires.annotation) c.in_ok-want-in-Local.ensures)
+    let S = g.S.TypeStore in
+    let w = c.args.walk.now in
+    let bases = w.frame.parents.now in
+    let want = c.in_ok-want-in-Local.want in
+    want_kept S g.R.Resolver w c.type_in.new.walk want c.type_in.ensures.goes_on
+    (known_holds S.has S.tree bases w.store.now w.declared.now c.in-Local.local (option_map S.tree c.args.annotation)
+    want c.requires.stands.declared
+    (want_well_formed S.has S.tree bases w.store.now c.args.annotation c.requires.annotation)
+    c.in_ok-want-in-Local.ensures)
 
-pub returns-in_ok-type_in-in_default : goal.returns-in_ok-type_in-in_default
-returns-in_ok-type_in-in_default g c =
-    let tree = g.S.TypeStore.tree in
-    let bases = c.args.frame.now.parents.now in
-    let k = c.type_in-in_default.ensures.kept in
-    let made : List Note → BindingResult = λ fs. record { table = env_of tree c.args.declared.now; env = env_of tree c.args.env; found = fs } in
+pub returns-in_ok-behind-in-Local-clause-bound : goal.returns-in_ok-behind-in-Local-clause-bound
+returns-in_ok-behind-in-Local-clause-bound g c =
+    let S = g.S.TypeStore in
+    let N = g.R.Resolver in
+    let old = c.args.walk.now in
+    let F = frame_in S N old in
+    let T = env_of S.tree old.declared.now in
+    let K = standing_in S N old c.args.env in
+    let E = env_of S.tree c.args.env in
+    let e = expr_of c.args.e.now in
+    let x = c.in-Local.local in
+    let want = option_map S.tree c.in_ok-want-in-Local.want in
+    let annotation = option_map S.tree c.args.annotation in
+    let m = mark_in K want e in
+    let found = notes_of old.found.now in
+    let typed = c.in_ok-label-in-Local.ensures in
+    let bound = bound_then S N old c.type_in.new.walk c.bind_label.new.walk c.args.env c.in_ok-behind-in-Local.behind
+    (λ f k. finds_in k want e) (λ f t k. bind_label f t k x want c.place.result m) c.type_in.ensures.goes_on typed.finds
+    (c.in_ok-behind-in-Local.ensures.bound m typed.labelled.mark.is) in
     record {
-      bound = rw (value_elsewhere (frame_with tree g.R.Resolver.meaning c.args.frame.now) (env_of tree c.args.declared.now) (env_of tree c.args.env) c.args.meaning (option_map tree c.args.annotation) (expr_of c.args.e.now) (notes_of c.args.found.now) (λ x i. c.in_default.not-Local x i)) (record {
-        declared_holds = types_kept g.S.TypeStore.has tree bases _ _ k c.args.declared.now c.requires.declared;
-        env_holds = types_kept g.S.TypeStore.has tree bases _ _ k c.args.env c.requires.env;
-        is = ap made c.in_ok-type_in-in_default.ensures.pushed;
-      });
-      kept = k;
+      is = bound.is
+          ∙ ap (λ (p : Place). bind_label F T E x want p m (found ++ finds_in K want e)) c.place.ensures
+          ∙ ap (λ (w : Option Tree). bind_label F T E x w (place_of e) (mark_in K w e) (found ++ finds_in K w e))
+          c.in_ok-want-in-Local.ensures.is
+          ∙ ap (λ (r : Res). bind_value F T E r annotation e found) (sym c.in-Local.is);
+      stands = bound.stands;
     }

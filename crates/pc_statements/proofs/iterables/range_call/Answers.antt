@@ -14,8 +14,14 @@ returns g c =
     let keywords = keywords_of_list c.deref-4.result.now in
     let is : expr_of c.args.e.now ≡ call place (expr_of c.deref-2.result.now) arguments keywords =
     ap expr_of c.in-Call.is ∙ call_tree place c.in-Call.callee c.in-Call.arguments c.in-Call.by_name
-    ∙ ap (λ x. call place (expr_of x) (exprs_of_list c.in-Call.arguments.items) (keywords_of_list c.in-Call.by_name.items)) (sym c.deref-2.ensures)
-    ∙ ap (λ xs. call place (expr_of c.deref-2.result.now) (exprs_of_list xs) (keywords_of_list c.in-Call.by_name.items)) (sym c.deref-3.ensures.value)
-    ∙ ap (λ xs. call place (expr_of c.deref-2.result.now) arguments (keywords_of_list xs)) (sym c.deref-4.ensures.value) in
-    let means : c.means_range.result ≡ true = search rules in
-    (ap (over_range resolve) is ∙ ap (λ x. over_range resolve (call place (expr_of x) arguments keywords)) (c.deref-2.ensures ∙ sym c.deref.ensures) ∙ sym (c.means_range.ensures place arguments keywords) ∙ means, is)
+    ∙ ap (λ x. call place (expr_of x) (exprs_of_list c.in-Call.arguments.items)
+    (keywords_of_list c.in-Call.by_name.items)) (sym c.deref-2.ensures)
+    ∙ ap (λ xs. call place (expr_of c.deref-2.result.now) (exprs_of_list xs)
+    (keywords_of_list c.in-Call.by_name.items)) (sym c.deref-3.ensures.value)
+    ∙ ap (λ xs. call place (expr_of c.deref-2.result.now) arguments (keywords_of_list xs))
+    (sym c.deref-4.ensures.value) in
+    let means : c.means_range.result ≡ true = search rules in (
+      ap (over_range resolve) is ∙ ap (λ x. over_range resolve (call place (expr_of x) arguments keywords))
+          (c.deref-2.ensures ∙ sym c.deref.ensures) ∙ sym (c.means_range.ensures place arguments keywords) ∙ means,
+      is,
+    )

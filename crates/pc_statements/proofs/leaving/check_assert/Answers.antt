@@ -1,21 +1,24 @@
-use Rattle.pc_frames.proofs.Held.{types_kept, frame_kept, gives_types_kept}
-use Rattle.pc_flow.proofs.Given.{keeps_both}
+use Rattle.std.proofs.Common.{◌++◌, None, ap}
+use Rattle.pc_tree.specs.Tree.{expr_of, option_expr_of}
+use Rattle.pc_flow.specs.Environment.{Env}
+use Rattle.pc_rules.specs.Standing.{finds_in}
+use Rattle.pc_labels.specs.ComputedStatements.{option_finds}
+use Rattle.pc_frames.specs.Walks.{frame_in, standing_in}
+use Rattle.pc_frames.proofs.Walks.{env_given, found_then}
 use Rattle.pc_statements.proofs.leaving.check_assert.Goals as goal
 
-pub narrow_in-requires-clause-declared : goal.narrow_in-requires-clause-declared
-narrow_in-requires-clause-declared g c = types_kept g.S.TypeStore.has g.S.TypeStore.tree c.args.frame.now.parents.now _ _ c.type_in.ensures.kept c.args.declared.now c.requires.declared
-
-pub narrow_in-requires-clause-env : goal.narrow_in-requires-clause-env
-narrow_in-requires-clause-env g c = types_kept g.S.TypeStore.has g.S.TypeStore.tree c.args.frame.now.parents.now _ _ c.type_in.ensures.kept c.args.env c.requires.env
-
-pub find_option-requires-clause-frame : goal.find_option-requires-clause-frame
-find_option-requires-clause-frame g c = frame_kept g.S.TypeStore.has _ _ (keeps_both g.S.TypeStore.has _ _ _ c.type_in.ensures.kept c.narrow_in.ensures.kept) g.S.TypeStore.tree g.R.Resolver.meaning c.args.frame.now c.requires.frame
-
-pub find_option-requires-clause-declared : goal.find_option-requires-clause-declared
-find_option-requires-clause-declared g c = types_kept g.S.TypeStore.has g.S.TypeStore.tree c.args.frame.now.parents.now _ _ (keeps_both g.S.TypeStore.has _ _ _ c.type_in.ensures.kept c.narrow_in.ensures.kept) c.args.declared.now c.requires.declared
-
 pub returns-clause-behind : goal.returns-clause-behind
-returns-clause-behind g c = gives_types_kept g.S.TypeStore.has g.S.TypeStore.tree c.args.frame.now.parents.now _ _ c.find_option.ensures.kept _ _ c.in_ok-where_true.ensures.where_true
+returns-clause-behind g c = env_given g.S.TypeStore g.R.Resolver c.type_condition.new.walk c.find_option.new.walk _ _
+    c.find_option.ensures.goes_on c.in_ok-where_true.ensures.where_true
 
-pub returns-clause-kept : goal.returns-clause-kept
-returns-clause-kept g c = keeps_both g.S.TypeStore.has _ _ _ c.type_in.ensures.kept (keeps_both g.S.TypeStore.has _ _ _ c.narrow_in.ensures.kept c.find_option.ensures.kept)
+pub returns-clause-finds : goal.returns-clause-finds
+returns-clause-finds g c =
+    let S = g.S.TypeStore in
+    let N = g.R.Resolver in
+    let old = c.args.walk.now in
+    let K = standing_in S N old c.args.env in
+    found_then S N old c.type_condition.new.walk c.find_option.new.walk _ _ _ _ _ c.type_condition.ensures.goes_on
+    c.find_option.ensures.goes_on c.in_ok-where_true.ensures.finds c.in_ok-find_option.ensures.finds
+    (ap (λ (x : Env). finds_in K None (expr_of c.args.condition.now) ++ option_finds (frame_in S N old)
+    (record { context = K.context; declared = K.declared; env = x }) None (option_expr_of c.args.message.now))
+    c.in_ok-where_true.ensures.where_false.is)

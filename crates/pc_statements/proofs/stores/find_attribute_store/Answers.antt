@@ -1,54 +1,62 @@
-use Rattle.std.proofs.Common.{◌≡◌, ◌∙◌, ◌++◌, List, map, None, sym, ap, subst, append_assoc}
-use Rattle.std.specs.Prelude.{All, OnOk, string_bytes}
+use Rattle.std.proofs.Common.{◌≡◌, ◌∙◌, ◌++◌, List, map, None, refl, sym, ap, subst}
+use Rattle.std.specs.Prelude.{All, string_bytes}
 use Rattle.pc_tree.specs.Tree.{expr_of}
 use Rattle.pc_class.specs.Tables.{classes_with}
 use Rattle.pc_flow.specs.WellFormed.{AreWellFormed}
-use Rattle.pc_flow.specs.Stored.{env_of}
-use Rattle.pc_flow.proofs.Given.{keeps_both}
-use Rattle.pc_notes.specs.Notes.{Note, notes_of}
+use Rattle.pc_notes.specs.Notes.{Note}
 use Rattle.pc_rules.specs.Operations.{Mark, StoreOffer, stored_types}
-use Rattle.pc_rules.specs.Standing.{mark_in, finds_in}
+use Rattle.pc_rules.specs.Standing.{Standing, mark_in, finds_in}
 use Rattle.pc_operate.specs.Storing.{HasStoreOffer, store_offer_with}
-use Rattle.pc_operate.proofs.Offering.{entries_kept}
-use Rattle.pc_labels.specs.ComputedStatements.{at, stored_finds, attribute_stores}
-use Rattle.pc_frames.specs.StatementsHeld.{frame_with}
-use Rattle.pc_frames.proofs.Held.{types_kept, frame_kept}
+use Rattle.pc_labels.specs.ComputedStatements.{BodyFrame, stored_finds, attribute_stores}
 use Rattle.pc_labels.proofs.StoredTypes.{fields_stored}
+use Rattle.pc_frames.specs.declared.frame.Frame.{Frame as RustFrame}
+use Rattle.pc_frames.specs.StatementsHeld.{frame_with}
+use Rattle.pc_frames.specs.Walks.{GoesOn, frame_in, standing_in}
+use Rattle.pc_frames.proofs.Walks.{grown, goes_further, found_quiet, found_then}
 use Rattle.pc_statements.proofs.stores.find_attribute_store.Goals as goal
 
-pub store_offers-requires-clause-classes : goal.store_offers-requires-clause-classes
-store_offers-requires-clause-classes g c = entries_kept g.S.TypeStore.has _ _ c.type_in.ensures.kept c.args.frame.now.classes.now c.requires.frame.classes
-
-pub find_stored-requires-clause-frame : goal.find_stored-requires-clause-frame
-find_stored-requires-clause-frame g c = frame_kept g.S.TypeStore.has _ _ (keeps_both g.S.TypeStore.has _ _ _ c.type_in.ensures.kept c.store_offers.ensures.kept) g.S.TypeStore.tree g.R.Resolver.meaning c.args.frame.now c.requires.frame
-
-pub find_stored-requires-clause-declared : goal.find_stored-requires-clause-declared
-find_stored-requires-clause-declared g c = types_kept g.S.TypeStore.has g.S.TypeStore.tree c.args.frame.now.parents.now _ _ (keeps_both g.S.TypeStore.has _ _ _ c.type_in.ensures.kept c.store_offers.ensures.kept) c.args.declared.now c.requires.declared
-
-pub find_stored-requires-clause-env : goal.find_stored-requires-clause-env
-find_stored-requires-clause-env g c = types_kept g.S.TypeStore.has g.S.TypeStore.tree c.args.frame.now.parents.now _ _ (keeps_both g.S.TypeStore.has _ _ _ c.type_in.ensures.kept c.store_offers.ensures.kept) c.args.env.now c.requires.env
+pub find_stored-requires-clause-stands : goal.find_stored-requires-clause-stands
+find_stored-requires-clause-stands g c = (found_quiet g.S.TypeStore g.R.Resolver c.args.walk.now c.type_in.new.walk _
+    c.args.env.now _ c.in_ok-label.ensures.finds (grown c.store_offers.ensures.kept) refl refl).stands
 
 pub find_stored-requires-clause-offers : goal.find_stored-requires-clause-offers
-find_stored-requires-clause-offers g c = subst (All (HasStoreOffer (g.S.TypeStore.has c.store_offers.new.store))) (sym c.deref.ensures.value) c.in_ok-offers.ensures.held
+find_stored-requires-clause-offers g c = subst (All (HasStoreOffer (g.S.TypeStore.has c.store_offers.new.store)))
+    (sym c.deref.ensures.value) c.in_ok-offers.ensures.held
 
 pub find_stored-requires-clause-well_formed : goal.find_stored-requires-clause-well_formed
 find_stored-requires-clause-well_formed g c =
     let tree = g.S.TypeStore.tree in
-    let bases = c.args.frame.now.parents.now in
-    subst (λ (os : List StoreOffer). AreWellFormed bases (stored_types os)) (sym (ap (map (store_offer_with tree)) c.deref.ensures.value ∙ c.in_ok-offers.ensures.value)) (fields_stored bases (classes_with tree c.args.frame.now.classes.now) c.requires.frame.context.classes c.as_str.result.now (tree c.in_ok-label.label.ty) c.in_ok-label.ensures.labelled.well_formed)
+    let frame = c.type_in.new.walk.frame in
+    subst (λ (os : List StoreOffer). AreWellFormed frame.parents.now (stored_types os))
+    (sym (ap (map (store_offer_with tree)) c.deref.ensures.value ∙ c.in_ok-offers.ensures.value))
+    (fields_stored frame.parents.now (classes_with tree frame.classes.now)
+    c.in_ok-label.ensures.finds.stands.frame.context.classes c.as_str.result.now
+    (tree c.in_ok-label.label.ty) c.in_ok-label.ensures.labelled.well_formed)
 
-pub returns-clause-pushed : goal.returns-clause-pushed
-returns-clause-pushed g c =
-    let tree = g.S.TypeStore.tree in
-    let frame = frame_with tree g.R.Resolver.meaning c.args.frame.now in
-    let k = at frame (env_of tree c.args.declared.now) (env_of tree c.args.env.now) in
-    let old = (notes_of c.args.found.now) in
-    let first = finds_in k None (expr_of c.args.object.now) in
-    let stored : List StoreOffer → List Note = λ os. stored_finds frame k os c.args.place (expr_of c.args.value.now) in
-    let object = mark_in k None (expr_of c.args.object.now) in
+pub returns-clause-finds : goal.returns-clause-finds
+returns-clause-finds g c =
+    let S = g.S.TypeStore in
+    let N = g.R.Resolver in
+    let old = c.args.walk.now in
+    let mid = c.type_in.new.walk in
+    let env = c.args.env.now in
+    let F = frame_in S N old in
+    let K = standing_in S N old env in
+    let o = expr_of c.args.object.now in
+    let v = expr_of c.args.value.now in
     let field = string_bytes c.args.field.now.text in
-    let is : map (store_offer_with tree) c.deref.result.now ≡ attribute_stores frame field object.type =
-    ap (map (store_offer_with tree)) c.deref.ensures.value ∙ c.in_ok-offers.ensures.value ∙ ap (λ w. attribute_stores frame w (tree c.in_ok-label.label.ty)) c.as_str.ensures.value ∙ ap (λ (m : Mark). attribute_stores frame field m.type) c.in_ok-label.ensures.labelled.mark.is in
-    subst (λ (fs : List Note). OnOk c.find_stored.result ((notes_of c.find_stored.new.found) ≡ fs))
-    (ap (λ fs. fs ++ stored (map (store_offer_with tree) c.deref.result.now)) c.in_ok-label.ensures.pushed ∙ append_assoc old first (stored (map (store_offer_with tree) c.deref.result.now)) ∙ ap (λ os. old ++ (first ++ stored os)) is)
-    c.find_stored.ensures.pushed
+    let ty = S.tree c.in_ok-label.label.ty in
+    let offers = map (store_offer_with S.tree) c.deref.result.now in
+    let stored : BodyFrame → Standing → List Note = λ f k. stored_finds f k offers c.args.place v in
+    let is : offers ≡ attribute_stores F field (mark_in K None o).type =
+    ap (map (store_offer_with S.tree)) c.deref.ensures.value ∙ c.in_ok-offers.ensures.value
+    ∙ ap (λ w. attribute_stores (frame_in S N mid) w ty) c.as_str.ensures.value
+    ∙ ap (λ (x : RustFrame _ _). attribute_stores (frame_with S.tree N.meaning x) field ty)
+    c.type_in.ensures.goes_on.frame
+    ∙ ap (λ (m : Mark). attribute_stores F field m.type) c.in_ok-label.ensures.labelled.mark.is in
+    let offered = record mid { store = record mid.store { now = c.store_offers.new.store } } in
+    let on : GoesOn S mid offered = grown c.store_offers.ensures.kept in
+    found_then S N old offered c.find_stored.new.walk env env _ stored _ (goes_further c.type_in.ensures.goes_on on)
+    c.find_stored.ensures.goes_on (found_quiet S N old mid offered env _ c.in_ok-label.ensures.finds on refl refl)
+    c.in_ok-find_stored.ensures.finds
+    (ap (λ (os : List StoreOffer). finds_in K None o ++ stored_finds F K os c.args.place v) is)

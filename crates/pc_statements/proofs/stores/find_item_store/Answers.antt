@@ -1,81 +1,131 @@
-use Rattle.std.proofs.Common.{◌≡◌, ◌∙◌, ◌++◌, List, map, None, sym, ap, subst}
-use Rattle.std.specs.Prelude.{All, OnOk}
-use Rattle.pc_tree.specs.Tree.{expr_of}
+use Rattle.std.proofs.Common.{◌≡◌, ◌∙◌, ◌++◌, List, map, None, refl, sym, ap, subst, append_assoc}
+use Rattle.std.specs.Prelude.{All}
+use Rattle.pc_source.specs.declared.place.Place.{Place}
+use Rattle.pc_tree.specs.Tree.{Expr, expr_of, to_index}
 use Rattle.pc_tree.specs.Depth.{place_of}
+use Rattle.pc_types.specs.Tree.{Tree}
 use Rattle.pc_flow.specs.WellFormed.{AreWellFormed}
-use Rattle.pc_flow.specs.Stored.{env_of}
 use Rattle.pc_flow.proofs.Given.{keeps_both}
-use Rattle.pc_notes.specs.Notes.{Note, notes_of}
+use Rattle.pc_notes.specs.Notes.{Note}
 use Rattle.pc_rules.specs.Operations.{Mark, StoreOffer, stored_types, store_index_types}
 use Rattle.pc_rules.specs.Found.{flows_at}
 use Rattle.pc_rules.specs.Computed.{flows_of}
-use Rattle.pc_rules.specs.Standing.{mark_in, finds_in}
+use Rattle.pc_rules.specs.Standing.{Standing, mark_in, finds_in}
 use Rattle.pc_operate.specs.Storing.{HasStoreOffer, store_offer_with}
-use Rattle.pc_operate.proofs.Offering.{entries_kept}
 use Rattle.pc_operate.proofs.Storing.{all_stores_kept}
-use Rattle.pc_labels.specs.ComputedStatements.{at, stored_finds, index_stores}
-use Rattle.pc_frames.specs.StatementsHeld.{frame_with}
-use Rattle.pc_frames.proofs.Held.{types_kept, frame_kept}
+use Rattle.pc_labels.specs.ComputedStatements.{BodyFrame, stored_finds, store_finds, index_stores}
 use Rattle.pc_labels.proofs.StoredTypes.{items_stored}
-use Rattle.pc_statements.proofs.FoundStores.{pushed_along}
+use Rattle.pc_frames.specs.declared.frame.Frame.{Frame as RustFrame}
+use Rattle.pc_frames.specs.Walks.{GoesOn, frame_in, standing_in}
+use Rattle.pc_frames.proofs.Walks.{grown, goes_further, same_standing, stands_on, found_by, found_quiet, found_then}
 use Rattle.pc_statements.proofs.stores.find_item_store.Goals as goal
 
-pub store_offers-requires-clause-classes : goal.store_offers-requires-clause-classes
-store_offers-requires-clause-classes g c = entries_kept g.S.TypeStore.has _ _ c.type_in.ensures.kept c.args.frame.now.classes.now c.requires.frame.classes
-
-pub find_stored-requires-clause-frame : goal.find_stored-requires-clause-frame
-find_stored-requires-clause-frame g c = frame_kept g.S.TypeStore.has _ _ (keeps_both g.S.TypeStore.has _ _ _ (keeps_both g.S.TypeStore.has _ _ _ c.type_in.ensures.kept c.store_offers.ensures.kept) (keeps_both g.S.TypeStore.has _ _ _ c.type_in-2.ensures.kept c.find_flows.ensures.kept)) g.S.TypeStore.tree g.R.Resolver.meaning c.args.frame.now c.requires.frame
-
-pub find_stored-requires-clause-declared : goal.find_stored-requires-clause-declared
-find_stored-requires-clause-declared g c = types_kept g.S.TypeStore.has g.S.TypeStore.tree c.args.frame.now.parents.now _ _ (keeps_both g.S.TypeStore.has _ _ _ (keeps_both g.S.TypeStore.has _ _ _ c.type_in.ensures.kept c.store_offers.ensures.kept) (keeps_both g.S.TypeStore.has _ _ _ c.type_in-2.ensures.kept c.find_flows.ensures.kept)) c.args.declared.now c.requires.declared
-
-pub find_stored-requires-clause-env : goal.find_stored-requires-clause-env
-find_stored-requires-clause-env g c = types_kept g.S.TypeStore.has g.S.TypeStore.tree c.args.frame.now.parents.now _ _ (keeps_both g.S.TypeStore.has _ _ _ (keeps_both g.S.TypeStore.has _ _ _ c.type_in.ensures.kept c.store_offers.ensures.kept) (keeps_both g.S.TypeStore.has _ _ _ c.type_in-2.ensures.kept c.find_flows.ensures.kept)) c.args.env.now c.requires.env
-
-pub type_in-requires-2-clause-frame : goal.type_in-requires-2-clause-frame
-type_in-requires-2-clause-frame g c = frame_kept g.S.TypeStore.has _ _ (keeps_both g.S.TypeStore.has _ _ _ c.type_in.ensures.kept c.store_offers.ensures.kept) g.S.TypeStore.tree g.R.Resolver.meaning c.args.frame.now c.requires.frame
-
-pub type_in-requires-2-clause-declared : goal.type_in-requires-2-clause-declared
-type_in-requires-2-clause-declared g c = types_kept g.S.TypeStore.has g.S.TypeStore.tree c.args.frame.now.parents.now _ _ (keeps_both g.S.TypeStore.has _ _ _ c.type_in.ensures.kept c.store_offers.ensures.kept) c.args.declared.now c.requires.declared
-
-pub type_in-requires-2-clause-env : goal.type_in-requires-2-clause-env
-type_in-requires-2-clause-env g c = types_kept g.S.TypeStore.has g.S.TypeStore.tree c.args.frame.now.parents.now _ _ (keeps_both g.S.TypeStore.has _ _ _ c.type_in.ensures.kept c.store_offers.ensures.kept) c.args.env.now c.requires.env
+pub type_in-requires-2-clause-stands : goal.type_in-requires-2-clause-stands
+type_in-requires-2-clause-stands g c = stands_on g.S.TypeStore g.R.Resolver c.type_in.new.walk _ c.args.env.now
+    c.in_ok-label.ensures.finds.stands (grown c.store_offers.ensures.kept) refl
 
 pub store_index_types-requires : goal.store_index_types-requires
-store_index_types-requires g c = all_stores_kept g.S.TypeStore.has _ _ c.type_in-2.ensures.kept c.deref.result.now (subst (All (HasStoreOffer (g.S.TypeStore.has c.store_offers.new.store))) (sym c.deref.ensures.value) c.in_ok-offers.ensures.held)
+store_index_types-requires g c = all_stores_kept g.S.TypeStore.has _ _ c.type_in-2.ensures.goes_on.kept
+    c.deref.result.now (subst (All (HasStoreOffer (g.S.TypeStore.has c.store_offers.new.store)))
+    (sym c.deref.ensures.value) c.in_ok-offers.ensures.held)
+
+pub find_flows-requires-clause-into : goal.find_flows-requires-clause-into
+find_flows-requires-clause-into g c = subst (All (g.S.TypeStore.has c.type_in-2.new.walk.store.now))
+    (sym c.deref-2.ensures.value) c.in_ok-types.ensures.held
+
+pub find_stored-requires-clause-stands : goal.find_stored-requires-clause-stands
+find_stored-requires-clause-stands g c = stands_on g.S.TypeStore g.R.Resolver c.type_in-2.new.walk _ c.args.env.now
+    c.in_ok-at.ensures.finds.stands (grown c.find_flows.ensures.kept) refl
 
 pub find_stored-requires-clause-offers : goal.find_stored-requires-clause-offers
-find_stored-requires-clause-offers g c = all_stores_kept g.S.TypeStore.has _ _ (keeps_both g.S.TypeStore.has _ _ _ c.type_in-2.ensures.kept c.find_flows.ensures.kept) c.deref-3.result.now (subst (All (HasStoreOffer (g.S.TypeStore.has c.store_offers.new.store))) (sym c.deref-3.ensures.value) c.in_ok-offers.ensures.held)
+find_stored-requires-clause-offers g c = all_stores_kept g.S.TypeStore.has _ _
+    (keeps_both g.S.TypeStore.has _ _ _ c.type_in-2.ensures.goes_on.kept c.find_flows.ensures.kept)
+    c.deref-3.result.now (subst (All (HasStoreOffer (g.S.TypeStore.has c.store_offers.new.store)))
+    (sym c.deref-3.ensures.value) c.in_ok-offers.ensures.held)
 
 pub find_stored-requires-clause-well_formed : goal.find_stored-requires-clause-well_formed
 find_stored-requires-clause-well_formed g c =
     let tree = g.S.TypeStore.tree in
-    let bases = c.args.frame.now.parents.now in
-    subst (λ (os : List StoreOffer). AreWellFormed bases (stored_types os)) (sym (ap (map (store_offer_with tree)) c.deref-3.ensures.value ∙ c.in_ok-offers.ensures.value)) (items_stored bases (tree c.in_ok-label.label.ty) c.in_ok-label.ensures.labelled.well_formed)
+    let ty = tree c.in_ok-label.label.ty in
+    subst (λ (os : List StoreOffer). AreWellFormed c.type_in-2.new.walk.frame.parents.now (stored_types os))
+    (sym (ap (map (store_offer_with tree)) c.deref-3.ensures.value ∙ c.in_ok-offers.ensures.value))
+    (subst (λ (f : RustFrame _ _). AreWellFormed f.parents.now
+    (stored_types (index_stores (frame_in g.S.TypeStore g.R.Resolver c.type_in.new.walk) ty)))
+    (sym c.type_in-2.ensures.goes_on.frame) (items_stored c.type_in.new.walk.frame.parents.now ty
+    c.in_ok-label.ensures.labelled.well_formed))
 
-pub returns-clause-pushed : goal.returns-clause-pushed
-returns-clause-pushed g c =
-    let tree = g.S.TypeStore.tree in
-    let bases = c.args.frame.now.parents.now in
-    let frame = frame_with tree g.R.Resolver.meaning c.args.frame.now in
-    let k = at frame (env_of tree c.args.declared.now) (env_of tree c.args.env.now) in
-    let old = (notes_of c.args.found.now) in
-    let first = finds_in k None (expr_of c.args.object.now) in
-    let second = finds_in k None (expr_of c.args.index.now) in
-    let key = mark_in k None (expr_of c.args.index.now) in
-    let object = mark_in k None (expr_of c.args.object.now) in
-    let third : List StoreOffer → List Note = λ os. flows_at (place_of (expr_of c.args.index.now)) (flows_of bases key (store_index_types os)) in
-    let stored : List StoreOffer → List Note = λ os. stored_finds frame k os c.args.place (expr_of c.args.value.now) in
-    let offers = map (store_offer_with tree) c.in_ok-offers.offers.items in
-    let is : offers ≡ index_stores frame object.type = c.in_ok-offers.ensures.value ∙ ap (λ (m : Mark). index_stores frame m.type) c.in_ok-label.ensures.labelled.mark.is in
-    let types : map tree c.deref-2.result.now ≡ store_index_types offers = ap (map tree) c.deref-2.ensures.value ∙ c.in_ok-types.ensures.value ∙ ap (λ os. store_index_types (map (store_offer_with tree) os)) c.deref.ensures.value in
-    let flowed : (notes_of c.find_flows.new.found) ≡ (notes_of c.type_in-2.new.found) ++ third offers =
-    c.in_ok-find_flows.ensures.found key c.in_ok-at.ensures.labelled.mark.is ∙ ap (λ p. (notes_of c.type_in-2.new.found) ++ flows_at p (flows_of bases key (map tree c.deref-2.result.now))) c.place.ensures ∙ ap (λ ts. (notes_of c.type_in-2.new.found) ++ flows_at (place_of (expr_of c.args.index.now)) (flows_of bases key ts)) types in
-    subst (λ (fs : List Note). OnOk c.find_stored.result ((notes_of c.find_stored.new.found) ≡ fs))
-    (ap (λ os. (notes_of c.find_flows.new.found) ++ stored (map (store_offer_with tree) os)) c.deref-3.ensures.value
-    ∙ pushed_along old first second (third offers) (stored offers) (notes_of c.type_in.new.found) (notes_of c.type_in-2.new.found) (notes_of c.find_flows.new.found) c.in_ok-label.ensures.pushed c.in_ok-at.ensures.pushed flowed
-    ∙ ap (λ os. old ++ (first ++ (second ++ (third os ++ stored os)))) is)
-    c.find_stored.ensures.pushed
+-- what is found in a store to an item
+item_as : (f : BodyFrame) (k : Standing) (place p : Place) (o i v : Expr) (m : Mark) (types : List Tree)
+    (offers : List StoreOffer) → m ≡ mark_in k None i → types ≡ store_index_types offers
+    → offers ≡ index_stores f (mark_in k None o).type → p ≡ place_of i →
+    ((finds_in k None o ++ finds_in k None i) ++ flows_at p (flows_of f.context.bases m types))
+    ++ stored_finds f k offers place v ≡ store_finds f k (to_index place o i) v
+item_as f k place p o i v m types offers mi ti oi pi =
+    ap (λ (l : List Note). l ++ stored_finds f k offers place v)
+    (append_assoc (finds_in k None o) (finds_in k None i) (flows_at p (flows_of f.context.bases m types)))
+    ∙ append_assoc (finds_in k None o) (finds_in k None i ++ flows_at p (flows_of f.context.bases m types))
+    (stored_finds f k offers place v)
+    ∙ ap (λ (l : List Note). finds_in k None o ++ l)
+    (append_assoc (finds_in k None i) (flows_at p (flows_of f.context.bases m types)) (stored_finds f k offers place v))
+    ∙ ap (λ (x : Mark). finds_in k None o ++ (finds_in k None i ++
+    (flows_at p (flows_of f.context.bases x types) ++ stored_finds f k offers place v))) mi
+    ∙ ap (λ (ts : List Tree). finds_in k None o ++ (finds_in k None i ++
+    (flows_at p (flows_of f.context.bases (mark_in k None i) ts) ++ stored_finds f k offers place v))) ti
+    ∙ ap (λ (x : Place). finds_in k None o ++ (finds_in k None i ++
+    (flows_at x (flows_of f.context.bases (mark_in k None i) (store_index_types offers))
+    ++ stored_finds f k offers place v))) pi
+    ∙ ap (λ (os : List StoreOffer). finds_in k None o ++
+    (finds_in k None i ++ (flows_at (place_of i) (flows_of f.context.bases (mark_in k None i) (store_index_types os))
+    ++ stored_finds f k os place v))) oi
 
-pub returns-clause-kept : goal.returns-clause-kept
-returns-clause-kept g c = keeps_both g.S.TypeStore.has _ _ _ (keeps_both g.S.TypeStore.has _ _ _ (keeps_both g.S.TypeStore.has _ _ _ c.type_in.ensures.kept c.store_offers.ensures.kept) (keeps_both g.S.TypeStore.has _ _ _ c.type_in-2.ensures.kept c.find_flows.ensures.kept)) c.find_stored.ensures.kept
+pub returns-clause-finds : goal.returns-clause-finds
+returns-clause-finds g c =
+    let S = g.S.TypeStore in
+    let N = g.R.Resolver in
+    let old = c.args.walk.now in
+    let first = c.type_in.new.walk in
+    let second = c.type_in-2.new.walk in
+    let env = c.args.env.now in
+    let F = frame_in S N old in
+    let K = standing_in S N old env in
+    let o = expr_of c.args.object.now in
+    let i = expr_of c.args.index.now in
+    let v = expr_of c.args.value.now in
+    let offers = map (store_offer_with S.tree) c.deref-3.result.now in
+    let types = map S.tree c.deref-2.result.now in
+    let m = mark_in (standing_in S N first env) None i in
+    let flows = flows_at c.place.result (flows_of old.frame.parents.now m types) in
+    let of_object : BodyFrame → Standing → List Note = λ f k. finds_in k None o in
+    let of_index : BodyFrame → Standing → List Note = λ f k. finds_in k None i in
+    let of_both : BodyFrame → Standing → List Note = λ f k. finds_in k None o ++ finds_in k None i in
+    let flowed : BodyFrame → Standing → List Note = λ f k. flows in
+    let before : BodyFrame → Standing → List Note = λ f k. (finds_in k None o ++ finds_in k None i) ++ flows in
+    let stored : BodyFrame → Standing → List Note = λ f k. stored_finds f k offers c.args.place v in
+    let typed = c.in_ok-label.ensures.finds in
+    let is_same : c.deref.result.now ≡ c.deref-3.result.now = c.deref.ensures.value ∙ sym c.deref-3.ensures.value in
+    let offered = record first { store = record first.store { now = c.store_offers.new.store } } in
+    let flown = record second {
+      store = record second.store { now = c.find_flows.new.store };
+      found = record second.found { now = c.find_flows.new.found };
+    } in
+    let to_first = c.type_in.ensures.goes_on in
+    let first_on : GoesOn S first offered = grown c.store_offers.ensures.kept in
+    let to_offered = goes_further to_first first_on in
+    let to_second = goes_further to_offered c.type_in-2.ensures.goes_on in
+    let second_on : GoesOn S second flown = grown c.find_flows.ensures.kept in
+    found_then S N old flown c.find_stored.new.walk env env before stored _ (goes_further to_second second_on)
+    c.find_stored.ensures.goes_on
+    (found_then S N old second flown env env of_both flowed before to_second second_on
+    (found_then S N old offered second env env of_object of_index of_both to_offered c.type_in-2.ensures.goes_on
+    (found_quiet S N old first offered env of_object typed first_on refl refl) c.in_ok-at.ensures.finds refl)
+    (found_by S N second flown env flowed c.in_ok-at.ensures.finds.stands second_on refl
+    (c.in_ok-find_flows.ensures.found m c.in_ok-at.ensures.labelled.mark.is))
+    refl)
+    c.in_ok-find_stored.ensures.finds
+    (item_as F K c.args.place c.place.result o i v m types offers
+    (same_standing S N old first env (λ (f : BodyFrame) (k : Standing). mark_in k None i) to_first typed.declared)
+    (ap (map S.tree) c.deref-2.ensures.value ∙ c.in_ok-types.ensures.value
+    ∙ ap (λ os. store_index_types (map (store_offer_with S.tree) os)) is_same)
+    (ap (map (store_offer_with S.tree)) c.deref-3.ensures.value ∙ c.in_ok-offers.ensures.value
+    ∙ ap (λ (x : Mark). index_stores F x.type) c.in_ok-label.ensures.labelled.mark.is)
+    c.place.ensures)

@@ -1,49 +1,70 @@
-use Rattle.std.proofs.Common.{List, refl, subst, rules}
-use Rattle.std.specs.Prelude.{IfOk, OnOk, ◌≡◌, ◌++◌}
+use Rattle.std.proofs.Common.{◌≡◌, ◌++◌, List, refl, subst, rules}
 use Rattle.std.specs.Option.{option_map}
-use Rattle.std.proofs.lemmas.Result.{IfOk-weaker}
 use Rattle.pc_tree.specs.Tree.{expr_of}
 use Rattle.pc_types.specs.Tree.{Tree}
 use Rattle.pc_flow.specs.Stored.{env_of}
 use Rattle.pc_notes.specs.Notes.{notes_of}
 use Rattle.pc_rules.specs.Standing.{IsMark, mark_in, finds_in}
-use Rattle.pc_labels.specs.ComputedStatements.{at}
-use Rattle.pc_frames.specs.StatementsHeld.{frame_with, context_in, GivesLabel}
-use Rattle.pc_frames.proofs.Held.{declared_is, declared_well_formed, table_well_formed, gives_label, want_well_formed, want_given}
+use Rattle.pc_frames.specs.StatementsHeld.{context_in}
+use Rattle.pc_frames.specs.Walks.{Found, IsLabel, standing_in}
+use Rattle.pc_frames.proofs.Held.{declared_is, declared_well_formed, table_well_formed, gives_label, want_well_formed}
+use Rattle.pc_frames.proofs.Held.{want_given}
+use Rattle.pc_frames.proofs.Walks.{grown, found_by}
 use Rattle.pc_statements.proofs.typing.type_in.Goals as goal
 
 pub type_expr-requires-clause-given : goal.type_expr-requires-clause-given
-type_expr-requires-clause-given g c = record {
-  classes = c.requires.frame.classes;
-  functions = c.requires.frame.functions;
-  constants = c.requires.frame.constants;
-  declared = c.requires.declared.given;
-  env = c.requires.env.given;
-  declared_well_formed = declared_well_formed g.S.TypeStore.tree c.args.frame.now.parents.now c.args.declared.now c.requires.declared.well_formed;
-  env_well_formed = c.requires.env.well_formed;
-}
+type_expr-requires-clause-given g c =
+    let w = c.args.walk.now in
+    let h = c.requires.stands in
+    record {
+      classes = h.frame.classes;
+      functions = h.frame.functions;
+      constants = h.frame.constants;
+      declared = h.declared.given;
+      env = h.current.given;
+      declared_well_formed = declared_well_formed g.S.TypeStore.tree w.frame.parents.now w.declared.now
+          h.declared.well_formed;
+      env_well_formed = h.current.well_formed;
+    }
 
 pub type_expr-requires-clause-want : goal.type_expr-requires-clause-want
-type_expr-requires-clause-want g c = want_given _ g.S.TypeStore.tree c.args.frame.now.parents.now c.args.want.now c.requires.want
+type_expr-requires-clause-want g c = want_given _ g.S.TypeStore.tree c.args.walk.now.frame.parents.now c.args.want.now
+    c.requires.want
 
 pub returns-clause-labelled : goal.returns-clause-labelled
 returns-clause-labelled g c =
-    let tree = g.S.TypeStore.tree in
-    let f = c.args.frame.now in
-    let k = at (frame_with tree g.R.Resolver.meaning f) (env_of tree c.args.declared.now) (env_of tree c.args.env.now) in
+    let S = g.S.TypeStore in
+    let tree = S.tree in
+    let w = c.args.walk.now in
+    let h = c.requires.stands in
+    let bases = w.frame.parents.now in
+    let k = standing_in S g.R.Resolver w c.args.env.now in
     let want = option_map tree c.args.want.now in
     let e = expr_of c.args.e.now in
     let store = c.type_expr.new.checker.store.now in
-    let labelled : IfOk c.type_expr.result (λ l. GivesLabel g.S.TypeStore.has tree f.parents.now store l (mark_in k want e)) =
-    IfOk-weaker c.type_expr.result (λ l. IsMark g.S.TypeStore.has tree store l (mark_in k want e)) (λ l. GivesLabel g.S.TypeStore.has tree f.parents.now store l (mark_in k want e))
-    (λ l m. gives_label g.S.TypeStore.has tree f.parents.now store l k want e refl c.requires.frame.context (table_well_formed f.parents.now (env_of tree c.args.declared.now) c.requires.declared.well_formed) c.requires.env.well_formed (want_well_formed g.S.TypeStore.has tree f.parents.now c.args.store.now c.args.want.now c.requires.want) m)
-    (subst (λ (ds : List Tree). IfOk c.type_expr.result (λ l. IsMark g.S.TypeStore.has tree store l (mark_in (record { context = context_in tree g.R.Resolver.meaning f; declared = ds; env = env_of tree c.args.env.now }) want e))) (declared_is tree c.args.declared.now) c.type_expr.ensures.marked) in
+    let l = c.in_ok-label.label in
+    let new = record w { store = record w.store { now = store } } in
+    let mark = subst (λ (ds : List Tree). IsMark S.has tree store l (mark_in
+    (record { context = context_in tree g.R.Resolver.meaning w.frame; declared = ds; env = env_of tree c.args.env.now })
+    want e)) (declared_is tree w.declared.now) c.in_ok-label.ensures.marked in
+    let labelled : IsLabel S new l (mark_in k want e) = gives_label S.has tree bases store l k want e refl h.frame.context
+    (table_well_formed bases (env_of tree w.declared.now) h.declared.well_formed) h.current.well_formed
+    (want_well_formed S.has tree bases w.store.now c.args.want.now c.requires.want) mark in
     search (rules, labelled)
 
-pub returns-clause-pushed : goal.returns-clause-pushed
-returns-clause-pushed g c =
-    let tree = g.S.TypeStore.tree in
-    let k = at (frame_with tree g.R.Resolver.meaning c.args.frame.now) (env_of tree c.args.declared.now) (env_of tree c.args.env.now) in
-    let pushed : OnOk c.type_expr.result ((notes_of c.type_expr.new.checker.found.now) ≡ (notes_of c.args.found.now) ++ finds_in k (option_map tree c.args.want.now) (expr_of c.args.e.now)) =
-    subst (λ (ds : List Tree). OnOk c.type_expr.result ((notes_of c.type_expr.new.checker.found.now) ≡ (notes_of c.args.found.now) ++ finds_in (record { context = context_in tree g.R.Resolver.meaning c.args.frame.now; declared = ds; env = env_of tree c.args.env.now }) (option_map tree c.args.want.now) (expr_of c.args.e.now))) (declared_is tree c.args.declared.now) c.type_expr.ensures.found in
-    search (rules, pushed)
+pub returns-clause-finds : goal.returns-clause-finds
+returns-clause-finds g c =
+    let S = g.S.TypeStore in
+    let tree = S.tree in
+    let w = c.args.walk.now in
+    let want = option_map tree c.args.want.now in
+    let e = expr_of c.args.e.now in
+    let store = c.type_expr.new.checker.store.now in
+    let found = c.type_expr.new.checker.found.now in
+    let new = record w { store = record w.store { now = store }; found = record w.found { now = found } } in
+    let pushed = subst (λ (ds : List Tree). notes_of found ≡ notes_of w.found.now ++ finds_in
+    (record { context = context_in tree g.R.Resolver.meaning w.frame; declared = ds; env = env_of tree c.args.env.now })
+    want e) (declared_is tree w.declared.now) c.in_ok-label.ensures.found in
+    let all : Found S g.R.Resolver w c.args.env.now new (λ f k. finds_in k want e) =
+    found_by S g.R.Resolver w new c.args.env.now _ c.requires.stands (grown c.type_expr.ensures.goes_on.kept) refl pushed in
+    search (rules, all)
