@@ -15,8 +15,8 @@ done
 echo "{last}"
 exit {status}
 """
-SLOW_STEPS = ("tools/check_definitions", "tools/check_edits", "tools/check_tested", "tests/tools/run", "tools/check_codes",
-              "tools/compare_rows", "tools/generated", "tests/memory/run", "tests/mypy/run")
+SLOW_STEPS = ("tools/check_definitions", "tools/check_help", "tools/check_edits", "tools/check_tested",
+              "tests/tools/run", "tools/check_codes", "tools/compare_rows", "tools/generated", "tests/memory/run", "tests/mypy/run")
 
 
 class Gate(RoomCase):
@@ -75,10 +75,11 @@ class Gate(RoomCase):
         self.assertIn("tools/release writes the shipped programs anew", done.stderr)
 
     def test_each_step_that_fails_is_told(self) -> None:
-        commands = {"tools/check_definitions": "definitions", "tools/check_edits": "edits", "tools/check_tested": "tested",
-                    "tests/tools/run": "tools", "tools/check_codes": "pages", "tools/compare_rows": "examples left_out",
-                    "tools/generated": "generated", "tests/memory/run": "memory", "tests/mypy/run": "mypy",
-                    "tests/release/run": "release", "tests/reports/run": "reports"}
+        commands = {"tools/check_definitions": "definitions", "tools/check_edits": "edits",
+                    "tools/check_tested": "tested", "tests/tools/run": "tools", "tools/check_codes": "pages",
+                    "tools/compare_rows": "examples left_out", "tools/generated": "generated",
+                    "tests/memory/run": "memory", "tests/mypy/run": "mypy", "tests/release/run": "release",
+                    "tests/reports/run": "reports"}
         for step, names in commands.items():
             with self.subTest(step):
                 kept = (self.clone / step).read_text(encoding="utf-8").splitlines()[1]
