@@ -15,8 +15,8 @@ done
 echo "{last}"
 exit {status}
 """
-SLOW_STEPS = ("tools/check_definitions", "tools/check_help", "tools/check_edits", "tools/check_tested",
-              "tests/tools/run", "tools/check_codes", "tools/compare_rows", "tools/generated", "tests/memory/run", "tests/mypy/run")
+SLOW_STEPS = ("tools/check_definitions", "tools/check_edits", "tools/check_tested", "tests/tools/run",
+              "tools/check_codes", "tools/compare_rows", "tools/generated", "tests/memory/run", "tests/mypy/run")
 
 
 class Gate(RoomCase):
