@@ -10,10 +10,11 @@ ghost use Rattle.pc_flow.specs.Tests.{option_tested};
 ghost use Rattle.pc_rules.specs.Calls.{test_codes, test_mark};
 ghost use Rattle.pc_rules.specs.Standing.{context_with, IsMark};
 ghost use Rattle.pc_call.specs.JudgedCalls.{rule_of, second_code_of};
+ghost use Rattle.pc_flow.specs.Naming.{meanings};
 
 use crate::call_offers::CallRule;
 use crate::calling::has_object_or_any;
-use pc_flow::{Env, Resolver, Test, local_named, test_of};
+use pc_flow::{Env, OwnerNames, Test, local_named, test_of};
 use pc_rules::{Label, Setting};
 use pc_source::OutOfMemory;
 use pc_tree::{Code, Expr};
@@ -21,9 +22,9 @@ use pc_types::TypeStore;
 use std::alloc::Global;
 
 /// What the second argument of a test of an instance tests for.
-fn tested<R: Resolver>(names: &R, arguments: &[Expr]) -> Option<Test>
+fn tested(names: &OwnerNames, arguments: &[Expr]) -> Option<Test>
     ensures { option_tested result
-        ≡ test_of_argument (R.meaning names.now) (second_argument (exprs_of_list arguments.now)) }
+        ≡ test_of_argument (meanings names.now) (second_argument (exprs_of_list arguments.now)) }
 {
     match arguments {
         [] => None,
@@ -33,8 +34,8 @@ fn tested<R: Resolver>(names: &R, arguments: &[Expr]) -> Option<Test>
 }
 
 /// The local that the first argument names, if it is a name of one.
-fn first_local<R: Resolver>(names: &R, arguments: &[Expr]) -> Option<usize>
-    ensures { result ≡ local_of_argument (R.meaning names.now) (first_argument (exprs_of_list arguments.now)) }
+fn first_local(names: &OwnerNames, arguments: &[Expr]) -> Option<usize>
+    ensures { result ≡ local_of_argument (meanings names.now) (first_argument (exprs_of_list arguments.now)) }
 {
     match arguments {
         [] => None,
@@ -43,18 +44,18 @@ fn first_local<R: Resolver>(names: &R, arguments: &[Expr]) -> Option<usize>
 }
 
 /// Whether a local of current type `Any` or `object` is tested for a list: A7. Own rule of the profile.
-fn is_unsure_test<S: TypeStore, R: Resolver>(
+fn is_unsure_test<S: TypeStore>(
     store: &S,
     alloc: Global,
-    names: &R,
+    names: &OwnerNames,
     env: &Env<S::Ty>,
     arguments: &[Expr],
 ) -> Result<bool, OutOfMemory>
     requires { HasEach (S.has store.now) env.now }
     ensures { IfOk result (λ b. (if b then A7 ∷ [] else [])
         ≡ test_codes (env_of S.tree env.now)
-        (local_of_argument (R.meaning names.now) (first_argument (exprs_of_list arguments.now)))
-        (test_of_argument (R.meaning names.now) (second_argument (exprs_of_list arguments.now)))) }
+        (local_of_argument (meanings names.now) (first_argument (exprs_of_list arguments.now)))
+        (test_of_argument (meanings names.now) (second_argument (exprs_of_list arguments.now)))) }
 {
     match tested(names, arguments) {
         Some(Test::List) => {}
@@ -70,17 +71,17 @@ fn is_unsure_test<S: TypeStore, R: Resolver>(
 }
 
 /// The label of a test of an instance: `bool`. Library reference, "Built-in Functions".
-pub fn test_label<S: TypeStore, R: Resolver>(
+pub fn test_label<S: TypeStore>(
     store: &mut S,
     alloc: Global,
-    setting: &Setting<'_, S::Ty, R>,
+    setting: &Setting<'_, S::Ty>,
     env: &Env<S::Ty>,
     arguments: &[Expr],
 ) -> Result<Label<S::Ty>, OutOfMemory>
     requires { HasEach (S.has store.old) env.now }
     ensures label { IfOk result
         (λ l. IsMark S.has S.tree store.new l
-        (test_mark (context_with S.tree R.meaning setting.now) (env_of S.tree env.now) (exprs_of_list arguments.now))) }
+        (test_mark (context_with S.tree setting.now) (env_of S.tree env.now) (exprs_of_list arguments.now))) }
     ensures kept { KeepsTypes S.has store.old store.new }
 {
     let mut codes = Vec::new(alloc);
@@ -93,13 +94,13 @@ pub fn test_label<S: TypeStore, R: Resolver>(
 
 /// The code at the second argument of a call, which only a test of an instance has: E25 where it tests for nothing,
 /// none where E03 stands there. Own rule of the profile.
-pub fn second_code<R: Resolver>(
-    names: &R,
+pub fn second_code(
+    names: &OwnerNames,
     rule: CallRule,
     arguments: &[Expr],
     early: bool,
 ) -> Option<Code>
-    ensures { result ≡ second_code_of (R.meaning names.now) (rule_of rule) (exprs_of_list arguments.now) early }
+    ensures { result ≡ second_code_of (meanings names.now) (rule_of rule) (exprs_of_list arguments.now) early }
 {
     match rule {
         CallRule::Member | CallRule::Length => None,

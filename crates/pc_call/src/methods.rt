@@ -19,12 +19,19 @@ use crate::callee::Callee;
 use crate::calling::codes_at_callee;
 use crate::params::copies;
 use pc_class::{ClassTable, Method};
-use pc_flow::{Resolver, join_or_object};
+use pc_flow::join_or_object;
 use pc_rules::{Label, Setting};
 use pc_source::OutOfMemory;
 use pc_tree::{Code, Name};
 use pc_types::{Head, Parents, TypeStore};
 use std::alloc::Global;
+
+/// A call of a method: its name, and what its arguments give.
+#[derive(Drop)]
+struct MethodCall<'c> {
+    name: &'c str,
+    given: &'c Given<'c>,
+}
 
 /// A call of a method of a class: its parameters without `self`, and its return type.
 fn method_offer<'t, S: TypeStore>(
@@ -81,8 +88,7 @@ fn push_class_offers<'t, S: TypeStore>(
     store: &mut S,
     alloc: Global,
     classes: &'t ClassTable<S::Ty>,
-    given: &Given,
-    word: &str,
+    call: &MethodCall,
     class: usize,
     offers: &mut Vec<CallOffer<'t, S::Ty>>,
 ) -> Result<(), OutOfMemory>
@@ -91,19 +97,19 @@ fn push_class_offers<'t, S: TypeStore>(
     ensures offers { OnOk result
         (AreCallOffers S.has S.tree store.new offers.new.items
         (map (offer_called S.tree) offers.old.items
-        ++ class_offers (given_with given.now)
-        (method_by_name (class_facts_at (classes_with S.tree classes.now) class).methods word.now)
-        (field_by_name (class_facts_at (classes_with S.tree classes.now) class).fields word.now))) }
+        ++ class_offers (given_with call.now.given.now)
+        (method_by_name (class_facts_at (classes_with S.tree classes.now) class).methods call.now.name.now)
+        (field_by_name (class_facts_at (classes_with S.tree classes.now) class).fields call.now.name.now))) }
     ensures kept { KeepsTypes S.has store.old store.new }
 {
-    match classes.method(class, word) {
+    match classes.method(class, call.name) {
         Some(method) => {
-            let offer = method_offer(store, alloc, given, method)?;
+            let offer = method_offer(store, alloc, call.given, method)?;
             push_offer(offers, offer)?;
             Ok(())
         }
         None => {
-            push_field_offers(store, alloc, classes, word, class, offers)?;
+            push_field_offers(store, alloc, classes, call.name, class, offers)?;
             Ok(())
         }
     }
@@ -113,23 +119,22 @@ fn push_class_offers<'t, S: TypeStore>(
 fn list_offer<'t, S: TypeStore>(
     store: &mut S,
     alloc: Global,
-    given: &Given,
-    word: &str,
+    call: &MethodCall,
     item: S::Ty,
 ) -> Result<CallOffer<'t, S::Ty>, OutOfMemory>
     requires { S.has store.old item }
     ensures offer { IfOk result
-        (λ o. IsOnlyOffer S.has S.tree store.new o (list_offers (given_with given.now) word.now (S.tree item))) }
+        (λ o. IsOnlyOffer S.has S.tree store.new o (list_offers (given_with call.now.given.now) call.now.name.now (S.tree item))) }
     ensures kept { KeepsTypes S.has store.old store.new }
 {
     let mut types = Vec::new(alloc);
-    if word == "append" {
+    if call.name == "append" {
         types.push(item)?;
         let none = store.none(alloc)?;
-        return call_of_builtin(store, alloc, given, types, none);
+        return call_of_builtin(store, alloc, call.given, types, none);
     }
-    if word == "pop" {
-        return call_of_builtin(store, alloc, given, types, item);
+    if call.name == "pop" {
+        return call_of_builtin(store, alloc, call.given, types, item);
     }
     fails_at_callee(store, alloc, Code::E15)
 }
@@ -140,8 +145,7 @@ fn dict_offer<'t, S: TypeStore>(
     store: &mut S,
     alloc: Global,
     parents: &Parents,
-    given: &Given,
-    word: &str,
+    call: &MethodCall,
     key: S::Ty,
     value: S::Ty,
 ) -> Result<CallOffer<'t, S::Ty>, OutOfMemory>
@@ -149,17 +153,17 @@ fn dict_offer<'t, S: TypeStore>(
     requires value { S.has store.old value }
     ensures offer { IfOk result
         (λ o. IsOnlyOffer S.has S.tree store.new o
-        (dict_offers parents.now (given_with given.now) word.now (S.tree key) (S.tree value))) }
+        (dict_offers parents.now (given_with call.now.given.now) call.now.name.now (S.tree key) (S.tree value))) }
     ensures kept { KeepsTypes S.has store.old store.new }
 {
-    if word != "get" {
+    if call.name != "get" {
         return fails_at_callee(store, alloc, Code::E15);
     }
     let mut types = Vec::new(alloc);
     types.push(key)?;
     let none = store.none(alloc)?;
     let returns = join_or_object(store, alloc, parents, &value, &none)?;
-    call_of_builtin(store, alloc, given, types, returns)
+    call_of_builtin(store, alloc, call.given, types, returns)
 }
 
 /// A call of a method of what is no instance of a class.
@@ -167,25 +171,24 @@ fn other_offer<'t, S: TypeStore>(
     store: &mut S,
     alloc: Global,
     parents: &Parents,
-    given: &Given,
-    word: &str,
+    call: &MethodCall,
     member: &S::Ty,
 ) -> Result<CallOffer<'t, S::Ty>, OutOfMemory>
     requires member { S.has store.old member.now }
     ensures offer { IfOk result
         (λ o. IsOnlyOffer S.has S.tree store.new o
-        (other_offers parents.now (given_with given.now) word.now (S.tree member.now))) }
+        (other_offers parents.now (given_with call.now.given.now) call.now.name.now (S.tree member.now))) }
     ensures kept { KeepsTypes S.has store.old store.new }
 {
     match store.head(member) {
         Head::List => {
             let item = store.part(alloc, member, 0)?;
-            list_offer(store, alloc, given, word, item)
+            list_offer(store, alloc, call, item)
         }
         Head::Dict => {
             let key = store.part(alloc, member, 0)?;
             let value = store.part(alloc, member, 1)?;
-            dict_offer(store, alloc, parents, given, word, key, value)
+            dict_offer(store, alloc, parents, call, key, value)
         }
         Head::Any => fails_at_callee(store, alloc, Code::A4),
         _ => fails_at_callee(store, alloc, Code::E15),
@@ -203,12 +206,11 @@ fn class_of(head: Head) -> Option<usize>
 }
 
 /// Adds a method call on one member.
-pub fn push_method_offers<'t, S: TypeStore, R: Resolver>(
+fn push_method_offers<'t, S: TypeStore>(
     store: &mut S,
     alloc: Global,
-    setting: &Setting<'t, S::Ty, R>,
-    given: &Given,
-    word: &str,
+    setting: &Setting<'t, S::Ty>,
+    call: &MethodCall,
     member: &S::Ty,
     offers: &mut Vec<CallOffer<'t, S::Ty>>,
 ) -> Result<(), OutOfMemory>
@@ -218,17 +220,17 @@ pub fn push_method_offers<'t, S: TypeStore, R: Resolver>(
     ensures offers { OnOk result
         (AreCallOffers S.has S.tree store.new offers.new.items
         (map (offer_called S.tree) offers.old.items
-        ++ method_offers (context_with S.tree R.meaning setting.now) (given_with given.now) word.now
+        ++ method_offers (context_with S.tree setting.now) (given_with call.now.given.now) call.now.name.now
         (S.tree member.now))) }
     ensures kept { KeepsTypes S.has store.old store.new }
 {
     match class_of(store.head(member)) {
         Some(class) => {
-            push_class_offers(store, alloc, setting.classes, given, word, class, offers)?;
+            push_class_offers(store, alloc, setting.classes, call, class, offers)?;
             Ok(())
         }
         None => {
-            let offer = other_offer(store, alloc, setting.parents, given, word, member)?;
+            let offer = other_offer(store, alloc, setting.parents, call, member)?;
             push_offer(offers, offer)?;
             Ok(())
         }
@@ -236,10 +238,10 @@ pub fn push_method_offers<'t, S: TypeStore, R: Resolver>(
 }
 
 /// What is called by `e.m`, where `e` has this type. Language Reference 6.3.4 "Calls".
-pub fn callee_of_method<'t, S: TypeStore, R: Resolver>(
+pub fn callee_of_method<'t, S: TypeStore>(
     store: &mut S,
     alloc: Global,
-    setting: &Setting<'t, S::Ty, R>,
+    setting: &Setting<'t, S::Ty>,
     given: &Given,
     field: &Name,
     object: &S::Ty,
@@ -248,15 +250,16 @@ pub fn callee_of_method<'t, S: TypeStore, R: Resolver>(
     requires object { S.has store.old object.now }
     ensures callee { IfOk result
         (λ c. IsCallee S.has S.tree store.new c
-        (method_callee (context_with S.tree R.meaning setting.now) (given_with given.now) (name_of field.now).text
+        (method_callee (context_with S.tree setting.now) (given_with given.now) (name_of field.now).text
         (S.tree object.now))) }
     ensures kept { KeepsTypes S.has store.old store.new }
 {
     let members = store.members(alloc, object)?;
     let word = field.text.as_str();
+    let call = MethodCall { name: word, given };
     let mut offers = Vec::new(alloc);
     for i in 0..members.len() {
-        push_method_offers(store, alloc, setting, given, word, &members[i], &mut offers)?;
+        push_method_offers(store, alloc, setting, &call, &members[i], &mut offers)?;
     }
     let ty = store.any(alloc)?;
     let codes = codes_at_callee(alloc, &offers)?;

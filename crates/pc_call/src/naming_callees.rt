@@ -7,11 +7,12 @@ ghost use Rattle.pc_flow.specs.Stored.{env_of};
 ghost use Rattle.pc_rules.specs.Calls.{name_callee};
 ghost use Rattle.pc_rules.specs.Standing.{context_with, HasGivenAll};
 ghost use Rattle.pc_call.specs.JudgedCalls.{given_with, IsCallee};
+ghost use Rattle.pc_flow.specs.Naming.{meanings};
 
 use crate::arguments::Given;
 use crate::callee::{Callee, callee_in_error, callee_of_builtin, callee_of_value, good_callee};
 use crate::functions::{class_offer, function_offer};
-use pc_flow::{Env, Resolver};
+use pc_flow::Env;
 use pc_rules::{Setting, name_label};
 use pc_scope::Res;
 use pc_source::OutOfMemory;
@@ -21,10 +22,10 @@ use std::alloc::Global;
 
 /// A name as a callee: a function, a class or a built-in, and else what it is as a value. Language Reference 6.3.4
 /// "Calls".
-pub fn callee_of_name<'t, S: TypeStore, R: Resolver>(
+pub fn callee_of_name<'t, S: TypeStore>(
     store: &mut S,
     alloc: Global,
-    setting: &Setting<'t, S::Ty, R>,
+    setting: &Setting<'t, S::Ty>,
     env: &Env<S::Ty>,
     given: &Given,
     name: &Name,
@@ -32,8 +33,8 @@ pub fn callee_of_name<'t, S: TypeStore, R: Resolver>(
     requires { HasGivenAll (S.has store.old) S.tree setting.now env.now }
     ensures callee { IfOk result
         (λ c. IsCallee S.has S.tree store.new c
-        (name_callee (context_with S.tree R.meaning setting.now) (env_of S.tree env.now) (given_with given.now)
-        (R.meaning setting.now.names.now (name_of name.now).text))) }
+        (name_callee (context_with S.tree setting.now) (env_of S.tree env.now) (given_with given.now)
+        (meanings setting.now.names.now (name_of name.now).text))) }
     ensures kept { KeepsTypes S.has store.old store.new }
 {
     match setting.names.resolve(name.text.as_str()) {

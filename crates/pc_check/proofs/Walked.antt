@@ -10,7 +10,6 @@ use Rattle.pc_tree.specs.Lists.{branches_of_list}
 use Rattle.pc_types.specs.declared.store.TypeStore.{Ghosts as StoreOf}
 use Rattle.pc_flow.specs.Environment.{Env}
 use Rattle.pc_flow.specs.Stored.{env_of}
-use Rattle.pc_flow.specs.declared.naming.Resolver.{Ghosts as NamesOf}
 use Rattle.pc_notes.specs.Notes.{Note, notes_of}
 use Rattle.pc_rules.specs.Standing.{Standing, finds_in}
 use Rattle.pc_labels.specs.ComputedStatements.{BodyFrame, Table, Walk as Reached, BranchesResult, at, narrowed_at}
@@ -76,14 +75,14 @@ module _ (frame : BodyFrame) where
       λ i. record { table = out.table; env = ej i; broken = out.broken; found = out.found } in
       first ∙ ap (behind_branches frame ways) eo
 
-module _ {Store R Ty : Type 0} (S : StoreOf Store Ty) (N : NamesOf R) where
-  module _ (old new : Walk Store R Ty) (env : List (Option Ty)) (finds : BodyFrame → Standing → List Note)
-      (g : GoesOn S old new) (a : Found S N old env new finds) where
+module _ {Store Ty : Type 0} (S : StoreOf Store Ty) where
+  module _ (old new : Walk Store Ty) (env : List (Option Ty)) (finds : BodyFrame → Standing → List Note)
+      (g : GoesOn S old new) (a : Found S old env new finds) where
     -- what a walk has come to behind a step that found something
     pub found_reached : (behind way : Option (List (Option Ty)))
         → reached S new behind way
         ≡ reached_by (env_of S.tree old.declared.now) (option_map (env_of S.tree) behind)
-        (option_map (env_of S.tree) way) (notes_of old.found.now ++ finds (frame_in S N old) (standing_in S N old env))
+        (option_map (env_of S.tree) way) (notes_of old.found.now ++ finds (frame_in S old) (standing_in S old env))
     found_reached behind way = λ i. record {
       table = env_of S.tree (a.declared i);
       env = option_map (env_of S.tree) behind;
@@ -93,30 +92,30 @@ module _ {Store R Ty : Type 0} (S : StoreOf Store Ty) (N : NamesOf R) where
 
     -- it stands there
     pub found_stands : (behind way : Option (List (Option Ty))) → HoldsWay S new behind → HoldsWay S old way
-        → StandsIn S N new behind way
+        → StandsIn S new behind way
     found_stands behind way h k = record {
       frame = a.stands.frame;
       declared = a.stands.declared;
       current = h;
-      out = way_kept S N old new way g k;
+      out = way_kept S old new way g k;
     }
 
     -- what a condition tells there is what it told before
     pub same_narrowed : (holds : Test) (c : Expr)
-        → narrowed_at (frame_in S N new) (env_of S.tree new.declared.now) holds c (env_of S.tree env)
-        ≡ narrowed_at (frame_in S N old) (env_of S.tree old.declared.now) holds c (env_of S.tree env)
-    same_narrowed holds c = λ i. narrowed_at (frame_with S.tree N.meaning (g.frame i))
+        → narrowed_at (frame_in S new) (env_of S.tree new.declared.now) holds c (env_of S.tree env)
+        ≡ narrowed_at (frame_in S old) (env_of S.tree old.declared.now) holds c (env_of S.tree env)
+    same_narrowed holds c = λ i. narrowed_at (frame_with S.tree (g.frame i))
         (env_of S.tree (a.declared i)) holds c (env_of S.tree env)
 
-  module _ (old new : Walk Store R Ty) (g : GoesOn S old new) (q : IsQuiet S old new) where
+  module _ (old new : Walk Store Ty) (g : GoesOn S old new) (q : IsQuiet S old new) where
     -- behind a quiet step a walk stands as before it
-    pub quiet_stands : (env way : Option (List (Option Ty))) → StandsIn S N old env way → StandsIn S N new env way
+    pub quiet_stands : (env way : Option (List (Option Ty))) → StandsIn S old env way → StandsIn S new env way
     quiet_stands env way h = record {
-      frame = frame_on S N old new h.frame g;
+      frame = frame_on S old new h.frame g;
       declared = subst (λ (ds : List (Option Ty)). HoldsEnv S new ds) (sym q.declared)
-          (env_kept S N old new old.declared.now g h.declared);
-      current = way_kept S N old new env g h.current;
-      out = way_kept S N old new way g h.out;
+          (env_kept S old new old.declared.now g h.declared);
+      current = way_kept S old new env g h.current;
+      out = way_kept S old new way g h.out;
     }
 
     -- what it has come to
@@ -130,22 +129,22 @@ module _ {Store R Ty : Type 0} (S : StoreOf Store Ty) (N : NamesOf R) where
 
     -- what a condition tells in an environment that means this one
     pub narrowed_from : (env : List (Option Ty)) (first : Env) → env_of S.tree env ≡ first → (holds : Test) (c : Expr)
-        → narrowed_at (frame_in S N new) (env_of S.tree new.declared.now) holds c (env_of S.tree env)
-        ≡ narrowed_at (frame_in S N old) (env_of S.tree old.declared.now) holds c first
-    narrowed_from env first e holds c = λ i. narrowed_at (frame_with S.tree N.meaning (g.frame i))
+        → narrowed_at (frame_in S new) (env_of S.tree new.declared.now) holds c (env_of S.tree env)
+        ≡ narrowed_at (frame_in S old) (env_of S.tree old.declared.now) holds c first
+    narrowed_from env first e holds c = λ i. narrowed_at (frame_with S.tree (g.frame i))
         (env_of S.tree (q.declared i)) holds c (e i)
 
     -- what is found in it
     pub finds_from : (env : List (Option Ty)) (first : Env) → env_of S.tree env ≡ first → (c : Expr)
-        → notes_of new.found.now ++ finds_in (standing_in S N new env) None c
-        ≡ notes_of old.found.now ++ finds_in (at (frame_in S N old) (env_of S.tree old.declared.now) first) None c
-    finds_from env first e c = λ i. q.found i ++ finds_in (at (frame_with S.tree N.meaning (g.frame i))
+        → notes_of new.found.now ++ finds_in (standing_in S new env) None c
+        ≡ notes_of old.found.now ++ finds_in (at (frame_in S old) (env_of S.tree old.declared.now) first) None c
+    finds_from env first e c = λ i. q.found i ++ finds_in (at (frame_with S.tree (g.frame i))
         (env_of S.tree (q.declared i)) (e i)) None c
 
   -- what a walk comes to that began behind other steps
-  pub walks_on : (old mid new : Walk Store R Ty) (env way behind later : Option (List (Option Ty)))
+  pub walks_on : (old mid new : Walk Store Ty) (env way behind later : Option (List (Option Ty)))
       (walks : BodyFrame → Reached → Reached)
-      → GoesOn S old mid → Walked S N mid env way new behind later walks
-      → reached S new behind later ≡ walks (frame_in S N old) (reached S mid env way)
+      → GoesOn S old mid → Walked S mid env way new behind later walks
+      → reached S new behind later ≡ walks (frame_in S old) (reached S mid env way)
   walks_on old mid new env way behind later walks g w =
-      w.is ∙ (λ i. walks (frame_with S.tree N.meaning (g.frame i)) (reached S mid env way))
+      w.is ∙ (λ i. walks (frame_with S.tree (g.frame i)) (reached S mid env way))

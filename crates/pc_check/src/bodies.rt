@@ -1,11 +1,12 @@
 //! The bodies of the functions and methods of a module.
+#![tactic(auto, using(pc_rules::proofs::Checkers::goes_further))]
 
 ghost use Rattle.std.specs.Prelude.{◌≡◌, OnOk, Some};
 ghost use Rattle.std.specs.Option.{option_copied};
 ghost use Rattle.pc_tree.specs.Tree.{func_of};
 ghost use Rattle.pc_scope.specs.Resolution.{function_of};
-ghost use Rattle.pc_types.specs.Store.{KeepsTypes};
 ghost use Rattle.pc_notes.specs.Notes.{notes_of};
+ghost use Rattle.pc_rules.specs.Checkers.{GoesOn};
 ghost use Rattle.pc_rules.specs.SignaturesFound.{constants_of};
 ghost use Rattle.pc_labels.specs.ComputedStatements.{function_finds};
 ghost use Rattle.pc_check.specs.Internal.ModuleWalk.{module_in, signature_for, IsModuleSetting};
@@ -14,14 +15,12 @@ use crate::entering::check_function;
 use pc_class::ClassTable;
 use pc_flow::OwnerNames;
 use pc_frames::Frame;
-use pc_notes::Notes;
-use pc_rules::Signature;
+use pc_rules::{Checker, Signature};
 use pc_scope::{Owner, Scopes};
 use pc_signatures::Sigs;
 use pc_source::OutOfMemory;
 use pc_tree::{FuncDef, Module};
 use pc_types::{Parents, TypeStore};
-use std::alloc::Global;
 
 /// What the bodies of a module stand in: the module with its scopes, the bases of its classes, its classes and how many
 /// they are, the types of its constants, and what its functions and methods take and return.
@@ -49,19 +48,17 @@ fn signature_for<Ty: Drop>(signatures: &Sigs<Ty>, owner: Owner) -> Option<&Signa
 /// Finds what stands in the body of a function or method of the module, and at its name.
 /// Language Reference 3.12, 8.7 "Function definitions".
 pub(crate) fn check_owned<S: TypeStore>(
-    store: &mut S,
-    alloc: Global,
+    checker: &mut Checker<'_, S>,
     setting: &ModuleSetting<'_, S::Ty>,
     owner: Owner,
     def: &FuncDef,
-    found: &mut Notes,
 ) -> Result<(), OutOfMemory>
-    requires setting { IsModuleSetting (S.has store.old) S.tree setting.now }
+    requires setting { IsModuleSetting (S.has checker.old.store.now) S.tree setting.now }
     requires owner { function_of (module_in setting.now) owner ≡ Some (func_of def.now) }
-    ensures pushed { OnOk result
-        (notes_of found.new ≡ function_finds (module_in setting.now) (constants_of (module_in setting.now)) owner
-        (func_of def.now) (notes_of found.old)) }
-    ensures kept { KeepsTypes S.has store.old store.new }
+    ensures found { OnOk result
+        (notes_of checker.new.found.now ≡ function_finds (module_in setting.now) (constants_of (module_in setting.now)) owner
+        (func_of def.now) (notes_of checker.old.found.now)) }
+    ensures goes_on { GoesOn S.TypeStore checker.old checker.new }
 {
     match signature_for(setting.signatures, owner) {
         None => Ok(()),
@@ -83,7 +80,7 @@ pub(crate) fn check_owned<S: TypeStore>(
             };
             let count = setting.scopes.count_locals(owner);
             let params = &signature.params;
-            check_function(store, alloc, frame, owner, count, params, def, found)
+            check_function(checker, frame, owner, count, params, def)
         }
     }
 }

@@ -6,11 +6,11 @@ ghost use Rattle.std.specs.Prelude.{◌≡◌, ◌++◌, All, None, map, length,
 ghost use Rattle.std.specs.Option.{option_map};
 ghost use Rattle.pc_tree.specs.Tree.{module_of, func_of};
 ghost use Rattle.pc_scope.specs.Resolution.{locals};
-ghost use Rattle.pc_types.specs.Store.{KeepsTypes};
 ghost use Rattle.pc_class.specs.Tables.{HasParameter, parameters_with};
 ghost use Rattle.pc_class.specs.Facts.{parameters_of};
 ghost use Rattle.pc_flow.specs.Stored.{env_of};
 ghost use Rattle.pc_notes.specs.Notes.{notes_of};
+ghost use Rattle.pc_rules.specs.Checkers.{GoesOn as CheckerGoesOn};
 ghost use Rattle.pc_labels.specs.Modules.{receiver_parameter};
 ghost use Rattle.pc_labels.specs.ComputedStatements.{body_frame_of, function_finds, enter_parameters, enter_name};
 ghost use Rattle.pc_labels.specs.ComputedStatements.{end_finds};
@@ -20,26 +20,25 @@ ghost use Rattle.pc_check.specs.Internal.Entry.{HoldsParameters, entered};
 
 use crate::statements::check_suite;
 use pc_class::Parameter;
-use pc_flow::{DeclaredTypes, Env, Resolver};
+use pc_flow::{DeclaredTypes, Env};
 use pc_frames::{Frame, Walk};
-use pc_notes::Notes;
+use pc_rules::Checker;
 use pc_scope::{Owner, Res};
 use pc_source::{OutOfMemory, Place};
 use pc_tree::{Code, FuncDef};
 use pc_types::TypeStore;
-use std::alloc::Global;
 
 /// Declares and assigns what a name means at the entry of a function, with this type. A name that is bound already, or
 /// reserved, binds nothing.
-fn enter_name<S: TypeStore, R: Resolver>(
-    walk: &mut Walk<'_, S, R>,
+fn enter_name<S: TypeStore>(
+    walk: &mut Walk<'_, S>,
     env: &mut Env<S::Ty>,
     name: &str,
     ty: &S::Ty,
 ) -> Result<(), OutOfMemory>
-    requires stands { Stands S.TypeStore R.Resolver walk.old env.old }
+    requires stands { Stands S.TypeStore walk.old env.old }
     requires ty { HoldsOne S.TypeStore walk.old ty.now }
-    ensures bound { OnOk result (Bound S.TypeStore R.Resolver walk.old env.old walk.new env.new
+    ensures bound { OnOk result (Bound S.TypeStore walk.old env.old walk.new env.new
         (λ f t k. entered (enter_name t k (f.context.resolve name.now) (S.tree ty.now)))) }
     ensures goes_on { GoesOn S.TypeStore walk.old walk.new }
 {
@@ -57,14 +56,14 @@ fn enter_name<S: TypeStore, R: Resolver>(
 }
 
 /// Declares and assigns the parameters of a function. Language Reference 8.7 "Function definitions".
-fn enter<S: TypeStore, R: Resolver>(
-    walk: &mut Walk<'_, S, R>,
+fn enter<S: TypeStore>(
+    walk: &mut Walk<'_, S>,
     env: &mut Env<S::Ty>,
     params: &[Parameter<S::Ty>],
 ) -> Result<(), OutOfMemory>
-    requires stands { Stands S.TypeStore R.Resolver walk.old env.old }
+    requires stands { Stands S.TypeStore walk.old env.old }
     requires params { HoldsParameters S.TypeStore walk.old params.now }
-    ensures bound { OnOk result (Bound S.TypeStore R.Resolver walk.old env.old walk.new env.new
+    ensures bound { OnOk result (Bound S.TypeStore walk.old env.old walk.new env.new
         (λ f t k. entered (enter_parameters f.context.resolve t k (parameters_with S.tree params.now)))) }
     ensures goes_on { GoesOn S.TypeStore walk.old walk.new }
 {
@@ -75,13 +74,13 @@ fn enter<S: TypeStore, R: Resolver>(
 }
 
 /// Declares and assigns `self` in a method, of its class. Language Reference 3.2.8.2 "Instance methods".
-fn enter_receiver<S: TypeStore, R: Resolver>(
-    walk: &mut Walk<'_, S, R>,
+fn enter_receiver<S: TypeStore>(
+    walk: &mut Walk<'_, S>,
     env: &mut Env<S::Ty>,
     owner: Owner,
 ) -> Result<(), OutOfMemory>
-    requires { Stands S.TypeStore R.Resolver walk.old env.old }
-    ensures bound { OnOk result (Bound S.TypeStore R.Resolver walk.old env.old walk.new env.new
+    requires { Stands S.TypeStore walk.old env.old }
+    ensures bound { OnOk result (Bound S.TypeStore walk.old env.old walk.new env.new
         (λ f t k. entered (enter_parameters f.context.resolve t k (receiver_parameter owner)))) }
     ensures goes_on { GoesOn S.TypeStore walk.old walk.new }
 {
@@ -98,8 +97,8 @@ fn enter_receiver<S: TypeStore, R: Resolver>(
 
 /// Finds that the end of a function's body can be reached where it doesn't return `None`.
 /// Typing specification, "Return types of functions whose end is reached"; own rule of the profile.
-fn find_end<S: TypeStore, R: Resolver>(
-    walk: &mut Walk<'_, S, R>,
+fn find_end<S: TypeStore>(
+    walk: &mut Walk<'_, S>,
     name: Place,
     out: &Option<Env<S::Ty>>,
 ) -> Result<(), OutOfMemory>
@@ -123,15 +122,15 @@ fn find_end<S: TypeStore, R: Resolver>(
 
 /// Walks over the body of a function, which has so many locals, none of them declared so far, and finds that its end can
 /// be reached where it doesn't return `None`. Language Reference 8.7 "Function definitions"; own rules of the profile.
-fn walk_function<S: TypeStore, R: Resolver>(
-    walk: &mut Walk<'_, S, R>,
+fn walk_function<S: TypeStore>(
+    walk: &mut Walk<'_, S>,
     owner: Owner,
     count: usize,
     params: &[Parameter<S::Ty>],
     def: &FuncDef,
 ) -> Result<(), OutOfMemory>
-    requires frame { HoldsFrame (S.has walk.old.store.now) S.tree R.meaning walk.old.frame }
-    requires body { frame_in S.TypeStore R.Resolver walk.old ≡ body_frame_of (module_of walk.old.frame.tree.now)
+    requires frame { HoldsFrame (S.has walk.old.store.now) S.tree walk.old.frame }
+    requires body { frame_in S.TypeStore walk.old ≡ body_frame_of (module_of walk.old.frame.tree.now)
         (map S.tree walk.old.frame.constants.now) owner (func_of def.now) }
     requires count { count ≡ length (locals owner (func_of def.now)) }
     requires declared { walk.old.declared.now ≡ replicate count None }
@@ -154,35 +153,33 @@ fn walk_function<S: TypeStore, R: Resolver>(
 
 /// Finds what stands in the body of a function, which has so many locals, and that its end can be reached where it
 /// doesn't return `None`: a walk of its own. Language Reference 8.7 "Function definitions"; own rules of the profile.
-pub(crate) fn check_function<S: TypeStore, R: Resolver>(
-    store: &mut S,
-    alloc: Global,
-    frame: Frame<'_, S::Ty, R>,
+pub(crate) fn check_function<S: TypeStore>(
+    checker: &mut Checker<'_, S>,
+    frame: Frame<'_, S::Ty>,
     owner: Owner,
     count: usize,
     params: &[Parameter<S::Ty>],
     def: &FuncDef,
-    found: &mut Notes,
 ) -> Result<(), OutOfMemory>
-    requires frame { HoldsFrame (S.has store.old) S.tree R.meaning frame }
-    requires body { frame_with S.tree R.meaning frame
+    requires frame { HoldsFrame (S.has checker.old.store.now) S.tree frame }
+    requires body { frame_with S.tree frame
         ≡ body_frame_of (module_of frame.tree.now) (map S.tree frame.constants.now) owner (func_of def.now) }
     requires count { count ≡ length (locals owner (func_of def.now)) }
-    requires given { All (HasParameter (S.has store.old)) params.now }
+    requires given { All (HasParameter (S.has checker.old.store.now)) params.now }
     requires params { parameters_with S.tree params.now
         ≡ parameters_of (module_of frame.tree.now) (func_of def.now).params }
-    ensures pushed { OnOk result
-        (notes_of found.new ≡ function_finds (module_of frame.entry.tree.now) (map S.tree frame.entry.constants.now) owner
-        (func_of def.now) (notes_of found.old)) }
-    ensures kept { KeepsTypes S.has store.old store.new }
+    ensures found { OnOk result
+        (notes_of checker.new.found.now ≡ function_finds (module_of frame.entry.tree.now) (map S.tree frame.entry.constants.now) owner
+        (func_of def.now) (notes_of checker.old.found.now)) }
+    ensures goes_on { CheckerGoesOn S.TypeStore checker.old checker.new }
 {
-    let mut declared = DeclaredTypes::new(alloc, count)?;
+    let mut declared = DeclaredTypes::new(checker.alloc, count)?;
     let mut walk = Walk {
-        store,
-        alloc,
+        store: checker.store,
+        alloc: checker.alloc,
         frame,
         declared: &mut declared,
-        found,
+        found: checker.found,
     };
     walk_function(&mut walk, owner, count, params, def)
 }

@@ -4,7 +4,6 @@ ghost use Rattle.std.specs.Prelude.{◌≡◌, IfOk};
 ghost use Rattle.pc_tree.specs.Tree.{module_of};
 ghost use Rattle.pc_scope.specs.ModuleScopes.{AreScopes};
 ghost use Rattle.pc_types.specs.Store.{KeepsTypes};
-ghost use Rattle.pc_class.specs.Bases.{bases_of};
 ghost use Rattle.pc_class.specs.Facts.{classes_of};
 ghost use Rattle.pc_class.specs.Tables.{HasEntries, classes_with};
 ghost use Rattle.pc_notes.specs.Notes.{ExplainsFlow};
@@ -16,7 +15,7 @@ use pc_notes::Notes;
 use pc_scope::Scopes;
 use pc_source::{OutOfMemory, Place};
 use pc_tree::Module;
-use pc_types::{Parents, TypeStore};
+use pc_types::TypeStore;
 use std::alloc::Global;
 
 /// The two types of the dynamic flow at a place of a module: the type that flows, and the one that it flows into. Where
@@ -30,14 +29,12 @@ use std::alloc::Global;
 pub fn explain_flow<S: TypeStore>(
     store: &mut S,
     alloc: Global,
-    parents: &Parents,
     tree: &Module,
     scopes: &Scopes,
     classes: &ClassTable<S::Ty>,
     place: Place,
 ) -> Result<Option<(S::Ty, S::Ty)>, OutOfMemory>
     requires scopes { AreScopes (module_of tree.now) scopes.now }
-    requires parents { parents.now ≡ bases_of (module_of tree.now) }
     requires classes { classes_with S.tree classes.now ≡ classes_of (module_of tree.now) }
     requires entries { HasEntries (S.has store.old) classes.now }
     ensures explained { IfOk result
@@ -45,6 +42,6 @@ pub fn explain_flow<S: TypeStore>(
     ensures kept { KeepsTypes S.has store.old store.new }
 {
     let mut found = Notes::new(alloc);
-    check_module(store, alloc, parents, tree, scopes, classes, &mut found)?;
+    check_module(store, alloc, tree, scopes, classes, &mut found)?;
     Ok(found.explain(store, alloc, place)?)
 }

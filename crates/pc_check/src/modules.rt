@@ -1,27 +1,28 @@
 //! The check of a module.
+#![tactic(auto, using(pc_rules::proofs::Checkers::goes_further))]
 
 ghost use Rattle.std.specs.Prelude.{◌≡◌, length, map, slice_get, OnOk, Some};
 ghost use Rattle.pc_tree.specs.Tree.{class_of, item_of, module_of};
 ghost use Rattle.pc_scope.specs.Bindings.{classes_in};
 ghost use Rattle.pc_scope.specs.ModuleScopes.{AreScopes};
 ghost use Rattle.pc_types.specs.Store.{KeepsTypes};
-ghost use Rattle.pc_class.specs.Bases.{bases_of};
 ghost use Rattle.pc_class.specs.Facts.{classes_of};
 ghost use Rattle.pc_class.specs.Tables.{HasEntries, classes_with};
 ghost use Rattle.pc_notes.specs.Notes.{notes_of};
+ghost use Rattle.pc_rules.specs.Checkers.{GoesOn};
 ghost use Rattle.pc_rules.specs.SignaturesFound.{constants_of};
 ghost use Rattle.pc_labels.specs.ComputedModules.{methods_find, bodies_find, module_finds};
 ghost use Rattle.pc_check.specs.Internal.ModuleWalk.{module_in, IsModuleSetting};
 
 use crate::bodies::{ModuleSetting, check_owned};
 use pc_class::ClassTable;
-use pc_expr::Checker;
 use pc_notes::Notes;
+use pc_rules::Checker;
 use pc_scope::{Owner, Scopes};
 use pc_signatures::read_signatures;
 use pc_source::OutOfMemory;
 use pc_tree::{ClassDef, Item, ItemKind, Member, Module};
-use pc_types::{Parents, TypeStore};
+use pc_types::TypeStore;
 use std::alloc::Global;
 
 /// How many of these items are classes.
@@ -42,19 +43,17 @@ fn count_classes(items: &[Item]) -> usize
 /// Finds what stands in the bodies of the methods of the class of this number.
 /// Language Reference 3.12, 8.8 "Class definitions".
 fn check_methods<S: TypeStore>(
-    store: &mut S,
-    alloc: Global,
+    checker: &mut Checker<'_, S>,
     setting: &ModuleSetting<'_, S::Ty>,
     class: usize,
     def: &ClassDef,
-    found: &mut Notes,
 ) -> Result<(), OutOfMemory>
-    requires setting { IsModuleSetting (S.has store.old) S.tree setting.now }
+    requires setting { IsModuleSetting (S.has checker.old.store.now) S.tree setting.now }
     requires class { slice_get (classes_in (module_in setting.now).items) class ≡ Some (class_of def.now) }
-    ensures pushed { OnOk result
-        (notes_of found.new ≡ methods_find (module_in setting.now) (constants_of (module_in setting.now)) class 0
-        (class_of def.now).members (notes_of found.old)) }
-    ensures kept { KeepsTypes S.has store.old store.new }
+    ensures found { OnOk result
+        (notes_of checker.new.found.now ≡ methods_find (module_in setting.now) (constants_of (module_in setting.now)) class 0
+        (class_of def.now).members (notes_of checker.old.found.now)) }
+    ensures goes_on { GoesOn S.TypeStore checker.old checker.new }
 {
     let mut methods = 0;
     let members = def.members.as_slice();
@@ -63,7 +62,7 @@ fn check_methods<S: TypeStore>(
             Member::Field(_) => {}
             Member::Method(method) => {
                 let owner = Owner::Method(class, methods);
-                check_owned(store, alloc, setting, owner, method, found)?;
+                check_owned(checker, setting, owner, method)?;
                 methods += 1;
             }
         }
@@ -73,16 +72,14 @@ fn check_methods<S: TypeStore>(
 
 /// Finds what stands in the bodies of the functions and methods of a module, in text order.
 fn check_bodies<S: TypeStore>(
-    store: &mut S,
-    alloc: Global,
+    checker: &mut Checker<'_, S>,
     setting: &ModuleSetting<'_, S::Ty>,
-    found: &mut Notes,
 ) -> Result<(), OutOfMemory>
-    requires { IsModuleSetting (S.has store.old) S.tree setting.now }
-    ensures pushed { OnOk result
-        (notes_of found.new ≡ bodies_find (module_in setting.now) (constants_of (module_in setting.now)) 0 0
-        (module_in setting.now).items (notes_of found.old)) }
-    ensures kept { KeepsTypes S.has store.old store.new }
+    requires { IsModuleSetting (S.has checker.old.store.now) S.tree setting.now }
+    ensures found { OnOk result
+        (notes_of checker.new.found.now ≡ bodies_find (module_in setting.now) (constants_of (module_in setting.now)) 0 0
+        (module_in setting.now).items (notes_of checker.old.found.now)) }
+    ensures goes_on { GoesOn S.TypeStore checker.old checker.new }
 {
     let mut classes = 0;
     let mut functions = 0;
@@ -91,11 +88,11 @@ fn check_bodies<S: TypeStore>(
         match &item.kind {
             ItemKind::Constant(_) => {}
             ItemKind::Class(class) => {
-                check_methods(store, alloc, setting, classes, class, found)?;
+                check_methods(checker, setting, classes, class)?;
                 classes += 1;
             }
             ItemKind::Def(def) => {
-                check_owned(store, alloc, setting, Owner::Func(functions), def, found)?;
+                check_owned(checker, setting, Owner::Func(functions), def)?;
                 functions += 1;
             }
         }
@@ -111,14 +108,12 @@ fn check_bodies<S: TypeStore>(
 pub fn check_module<S: TypeStore>(
     store: &mut S,
     alloc: Global,
-    parents: &Parents,
     tree: &Module,
     scopes: &Scopes,
     classes: &ClassTable<S::Ty>,
     found: &mut Notes,
 ) -> Result<(), OutOfMemory>
     requires scopes { AreScopes (module_of tree.now) scopes.now }
-    requires parents { parents.now ≡ bases_of (module_of tree.now) }
     requires classes { classes_with S.tree classes.now ≡ classes_of (module_of tree.now) }
     requires entries { HasEntries (S.has store.old) classes.now }
     ensures found { OnOk result (notes_of found.new ≡ module_finds (module_of tree.now) (notes_of found.old)) }
@@ -129,6 +124,7 @@ pub fn check_module<S: TypeStore>(
         alloc,
         found,
     };
+    let parents = classes.parents();
     let signatures = read_signatures(&mut checker, parents, tree, scopes, classes)?;
     let known = count_classes(tree.items.as_slice());
     let setting = ModuleSetting {
@@ -139,5 +135,5 @@ pub fn check_module<S: TypeStore>(
         signatures: &signatures,
         known,
     };
-    check_bodies(store, alloc, &setting, found)
+    check_bodies(&mut checker, &setting)
 }

@@ -14,8 +14,9 @@ ghost use Rattle.pc_frames.specs.Untouched.{AreAmong};
 ghost use Rattle.pc_frames.specs.Walks.{Stands, HoldsWay, GoesOn};
 ghost use Rattle.pc_check.specs.Internal.StatementWalk.{IsLong, IsAsLong, ForkAgrees};
 ghost use Rattle.pc_check.specs.Internal.Walked.{StandsIn, Breaks, Walked, Forked, reached, forked};
+ghost use Rattle.pc_flow.specs.Naming.{meanings};
 
-use pc_flow::{BothWays, Env, Resolver, copy_env};
+use pc_flow::{BothWays, Env, copy_env};
 use pc_frames::{
     Walk, bind_item, break_out, declare_unreached, for_start, meet, touched_by, touched_by_for,
     touched_by_while, while_start,
@@ -38,18 +39,18 @@ struct Fork<Ty: Drop> {
 /// Walks over statements, one after another, and answers the environment behind them, if a run comes there. At a `break`
 /// only the locals that the loop around them touches are joined onto the way out of it, since it agrees on every other one.
 #[cycle(statements)]
-pub(crate) fn check_suite<S: TypeStore, R: Resolver>(
-    walk: &mut Walk<'_, S, R>,
+pub(crate) fn check_suite<S: TypeStore>(
+    walk: &mut Walk<'_, S>,
     env: Option<Env<S::Ty>>,
     breaking: &[usize],
     broken: &mut Option<Env<S::Ty>>,
     body: &[Stmt],
 ) -> Result<Option<Env<S::Ty>>, OutOfMemory>
-    requires stands { StandsIn S.TypeStore R.Resolver walk.old env broken.old }
+    requires stands { StandsIn S.TypeStore walk.old env broken.old }
     requires long { IsLong (reached S.TypeStore walk.old env broken.old) }
-    requires breaks { Breaks S.TypeStore R.Resolver walk.old breaking.now env broken.old
+    requires breaks { Breaks S.TypeStore walk.old breaking.now env broken.old
         (λ resolve. touched_by resolve (stmts_of_list body.now)) }
-    ensures walked { IfOk result (λ out. Walked S.TypeStore R.Resolver walk.old env broken.old walk.new out broken.new
+    ensures walked { IfOk result (λ out. Walked S.TypeStore walk.old env broken.old walk.new out broken.new
         (λ f w. walk_suite f w (stmts_of_list body.now))) }
     ensures goes_on { GoesOn S.TypeStore walk.old walk.new }
 {
@@ -62,18 +63,18 @@ pub(crate) fn check_suite<S: TypeStore, R: Resolver>(
 
 /// Walks over a statement, to which a run may come or not.
 #[cycle(statements)]
-fn check_next<S: TypeStore, R: Resolver>(
-    walk: &mut Walk<'_, S, R>,
+fn check_next<S: TypeStore>(
+    walk: &mut Walk<'_, S>,
     env: Option<Env<S::Ty>>,
     breaking: &[usize],
     broken: &mut Option<Env<S::Ty>>,
     statement: &Stmt,
 ) -> Result<Option<Env<S::Ty>>, OutOfMemory>
-    requires stands { StandsIn S.TypeStore R.Resolver walk.old env broken.old }
+    requires stands { StandsIn S.TypeStore walk.old env broken.old }
     requires long { IsLong (reached S.TypeStore walk.old env broken.old) }
-    requires breaks { Breaks S.TypeStore R.Resolver walk.old breaking.now env broken.old
+    requires breaks { Breaks S.TypeStore walk.old breaking.now env broken.old
         (λ resolve. touched_by_stmt resolve (stmt_of statement.now)) }
-    ensures walked { IfOk result (λ out. Walked S.TypeStore R.Resolver walk.old env broken.old walk.new out broken.new
+    ensures walked { IfOk result (λ out. Walked S.TypeStore walk.old env broken.old walk.new out broken.new
         (λ f w. step f w.table w.env w.broken w.found (stmt_of statement.now))) }
     ensures goes_on { GoesOn S.TypeStore walk.old walk.new }
 {
@@ -92,19 +93,19 @@ fn check_next<S: TypeStore, R: Resolver>(
 
 /// Walks over a statement to which a run comes, in this environment.
 #[cycle(statements)]
-fn check_stmt<S: TypeStore, R: Resolver>(
-    walk: &mut Walk<'_, S, R>,
+fn check_stmt<S: TypeStore>(
+    walk: &mut Walk<'_, S>,
     env: Env<S::Ty>,
     breaking: &[usize],
     broken: &mut Option<Env<S::Ty>>,
     first: Place,
     kind: &StmtKind,
 ) -> Result<Option<Env<S::Ty>>, OutOfMemory>
-    requires stands { StandsIn S.TypeStore R.Resolver walk.old (Some env) broken.old }
+    requires stands { StandsIn S.TypeStore walk.old (Some env) broken.old }
     requires long { IsLong (reached S.TypeStore walk.old (Some env) broken.old) }
-    requires breaks { Breaks S.TypeStore R.Resolver walk.old breaking.now (Some env) broken.old
+    requires breaks { Breaks S.TypeStore walk.old breaking.now (Some env) broken.old
         (λ resolve. touched_by_stmt resolve (stmt_of_kind first kind.now)) }
-    ensures walked { IfOk result (λ out. Walked S.TypeStore R.Resolver walk.old (Some env) broken.old walk.new out broken.new
+    ensures walked { IfOk result (λ out. Walked S.TypeStore walk.old (Some env) broken.old walk.new out broken.new
         (λ f w. step f w.table w.env w.broken w.found (stmt_of_kind first kind.now))) }
     ensures goes_on { GoesOn S.TypeStore walk.old walk.new }
 {
@@ -155,16 +156,16 @@ fn check_stmt<S: TypeStore, R: Resolver>(
 /// Walks over a `while`: the condition is checked at the head, and the body where it is true.
 /// Language Reference 8.2 "The while statement".
 #[cycle(statements)]
-fn check_while<S: TypeStore, R: Resolver>(
-    walk: &mut Walk<'_, S, R>,
+fn check_while<S: TypeStore>(
+    walk: &mut Walk<'_, S>,
     env: &Env<S::Ty>,
     body: &[Stmt],
     condition: &Expr,
 ) -> Result<Option<Env<S::Ty>>, OutOfMemory>
-    requires stands { Stands S.TypeStore R.Resolver walk.old env.now }
+    requires stands { Stands S.TypeStore walk.old env.now }
     requires long { IsAsLong (env_of S.tree walk.old.declared.now) (env_of S.tree env.now) }
     ensures walked { (p : PlaceOf) (way : Option (List (Option S.Ty))) → HoldsWay S.TypeStore walk.old way → IfOk result
-        (λ out. Walked S.TypeStore R.Resolver walk.old (Some env.now) way walk.new out way
+        (λ out. Walked S.TypeStore walk.old (Some env.now) way walk.new out way
         (λ f w. step f w.table w.env w.broken w.found (while_loop p (expr_of condition.now) (stmts_of_list body.now)))) }
     ensures goes_on { GoesOn S.TypeStore walk.old walk.new }
 {
@@ -172,7 +173,7 @@ fn check_while<S: TypeStore, R: Resolver>(
     let BothWays {
         where_true,
         where_false,
-    } = type_condition(walk, head, condition)?;
+    } = type_condition(walk, &head, condition)?;
     let breaking = touched_by_while(walk.alloc, walk.frame.names, condition, body)?;
     let mut way = Some(where_false);
     check_suite(walk, Some(where_true), &breaking, &mut way, body)?;
@@ -182,17 +183,17 @@ fn check_while<S: TypeStore, R: Resolver>(
 /// Walks over a `for`: its iterable is checked before the loop, and its target is bound at the head.
 /// Language Reference 8.3 "The for statement".
 #[cycle(statements)]
-fn check_for<S: TypeStore, R: Resolver>(
-    walk: &mut Walk<'_, S, R>,
+fn check_for<S: TypeStore>(
+    walk: &mut Walk<'_, S>,
     env: &Env<S::Ty>,
     body: &[Stmt],
     name: &Name,
     iterable: &Expr,
 ) -> Result<Option<Env<S::Ty>>, OutOfMemory>
-    requires stands { Stands S.TypeStore R.Resolver walk.old env.now }
+    requires stands { Stands S.TypeStore walk.old env.now }
     requires long { IsAsLong (env_of S.tree walk.old.declared.now) (env_of S.tree env.now) }
     ensures walked { (p : PlaceOf) (way : Option (List (Option S.Ty))) → HoldsWay S.TypeStore walk.old way → IfOk result
-        (λ out. Walked S.TypeStore R.Resolver walk.old (Some env.now) way walk.new out way
+        (λ out. Walked S.TypeStore walk.old (Some env.now) way walk.new out way
         (λ f w. step f w.table w.env w.broken w.found
         (for_loop p (name_of name.now) (expr_of iterable.now) (stmts_of_list body.now)))) }
     ensures goes_on { GoesOn S.TypeStore walk.old walk.new }
@@ -209,21 +210,21 @@ fn check_for<S: TypeStore, R: Resolver>(
 /// Walks over the suite of `else`, where all conditions are false, and answers where the ways out of the `if` meet:
 /// only these locals are joined, since they agree on every other one. Language Reference 8.1 "The if statement".
 #[cycle(statements)]
-fn check_otherwise<S: TypeStore, R: Resolver>(
-    walk: &mut Walk<'_, S, R>,
+fn check_otherwise<S: TypeStore>(
+    walk: &mut Walk<'_, S>,
     locals: &[usize],
     fork: Fork<S::Ty>,
     breaking: &[usize],
     broken: &mut Option<Env<S::Ty>>,
     otherwise: &[Stmt],
 ) -> Result<Option<Env<S::Ty>>, OutOfMemory>
-    requires stands { StandsIn S.TypeStore R.Resolver walk.old (Some fork.last) broken.old }
+    requires stands { StandsIn S.TypeStore walk.old (Some fork.last) broken.old }
     requires ways { HoldsWay S.TypeStore walk.old fork.ways }
     requires agree { ForkAgrees locals.now (forked S.TypeStore walk.old fork.last fork.ways broken.old) }
-    requires breaks { Breaks S.TypeStore R.Resolver walk.old breaking.now (Some fork.last) broken.old
+    requires breaks { Breaks S.TypeStore walk.old breaking.now (Some fork.last) broken.old
         (λ resolve. touched_by resolve (stmts_of_list otherwise.now)) }
-    requires touched { AreAmong locals.now (touched_by (R.meaning walk.old.frame.names.now) (stmts_of_list otherwise.now)) }
-    ensures walked { IfOk result (λ out. Walked S.TypeStore R.Resolver walk.old (Some fork.last) broken.old walk.new out broken.new
+    requires touched { AreAmong locals.now (touched_by (meanings walk.old.frame.names.now) (stmts_of_list otherwise.now)) }
+    ensures walked { IfOk result (λ out. Walked S.TypeStore walk.old (Some fork.last) broken.old walk.new out broken.new
         (λ f w. behind_branches f (forked S.TypeStore walk.old fork.last fork.ways broken.old).ways
         (walk_suite f w (stmts_of_list otherwise.now)))) }
     ensures goes_on { GoesOn S.TypeStore walk.old walk.new }
@@ -237,21 +238,21 @@ fn check_otherwise<S: TypeStore, R: Resolver>(
 /// Walks over the branches of an `if`, which touch these locals alone, from the environment where no condition was
 /// checked yet.
 #[cycle(statements)]
-fn check_branches<S: TypeStore, R: Resolver>(
-    walk: &mut Walk<'_, S, R>,
+fn check_branches<S: TypeStore>(
+    walk: &mut Walk<'_, S>,
     locals: &[usize],
     env: Env<S::Ty>,
     breaking: &[usize],
     broken: &mut Option<Env<S::Ty>>,
     branches: &[Branch],
 ) -> Result<Fork<S::Ty>, OutOfMemory>
-    requires stands { StandsIn S.TypeStore R.Resolver walk.old (Some env) broken.old }
+    requires stands { StandsIn S.TypeStore walk.old (Some env) broken.old }
     requires long { IsLong (reached S.TypeStore walk.old (Some env) broken.old) }
-    requires breaks { Breaks S.TypeStore R.Resolver walk.old breaking.now (Some env) broken.old
+    requires breaks { Breaks S.TypeStore walk.old breaking.now (Some env) broken.old
         (λ resolve. touched_by_branches resolve (branches_of_list branches.now)) }
-    requires touched { AreAmong locals.now (touched_by_branches (R.meaning walk.old.frame.names.now)
+    requires touched { AreAmong locals.now (touched_by_branches (meanings walk.old.frame.names.now)
         (branches_of_list branches.now)) }
-    ensures walked { IfOk result (λ k. Forked S.TypeStore R.Resolver walk.old env None broken.old walk.new k.last k.ways broken.new
+    ensures walked { IfOk result (λ k. Forked S.TypeStore walk.old env None broken.old walk.new k.last k.ways broken.new
         (λ f b. walk_branches f b (branches_of_list branches.now))) }
     ensures goes_on { GoesOn S.TypeStore walk.old walk.new }
 {
@@ -267,22 +268,22 @@ fn check_branches<S: TypeStore, R: Resolver>(
 
 /// Walks over one branch: its condition, where those before it are false, and its suite.
 #[cycle(statements)]
-fn check_branch<S: TypeStore, R: Resolver>(
-    walk: &mut Walk<'_, S, R>,
+fn check_branch<S: TypeStore>(
+    walk: &mut Walk<'_, S>,
     locals: &[usize],
     fork: Fork<S::Ty>,
     breaking: &[usize],
     broken: &mut Option<Env<S::Ty>>,
     branch: &Branch,
 ) -> Result<Fork<S::Ty>, OutOfMemory>
-    requires stands { StandsIn S.TypeStore R.Resolver walk.old (Some fork.last) broken.old }
+    requires stands { StandsIn S.TypeStore walk.old (Some fork.last) broken.old }
     requires ways { HoldsWay S.TypeStore walk.old fork.ways }
     requires agree { ForkAgrees locals.now (forked S.TypeStore walk.old fork.last fork.ways broken.old) }
-    requires breaks { Breaks S.TypeStore R.Resolver walk.old breaking.now (Some fork.last) broken.old
+    requires breaks { Breaks S.TypeStore walk.old breaking.now (Some fork.last) broken.old
         (λ resolve. touched_by_branches resolve (with_branch branch.now no_branches)) }
-    requires touched { AreAmong locals.now (touched_by_branches (R.meaning walk.old.frame.names.now)
+    requires touched { AreAmong locals.now (touched_by_branches (meanings walk.old.frame.names.now)
         (with_branch branch.now no_branches)) }
-    ensures walked { IfOk result (λ k. Forked S.TypeStore R.Resolver walk.old fork.last fork.ways broken.old walk.new k.last
+    ensures walked { IfOk result (λ k. Forked S.TypeStore walk.old fork.last fork.ways broken.old walk.new k.last
         k.ways broken.new (λ f b. walk_branches f b (with_branch branch.now no_branches))) }
     ensures goes_on { GoesOn S.TypeStore walk.old walk.new }
 {
@@ -290,7 +291,7 @@ fn check_branch<S: TypeStore, R: Resolver>(
     let BothWays {
         where_true,
         where_false,
-    } = type_condition(walk, last, &branch.condition)?;
+    } = type_condition(walk, &last, &branch.condition)?;
     let out = check_suite(walk, Some(where_true), breaking, broken, &branch.body)?;
     let ways = meet(walk, locals, ways, out)?;
     Ok(Fork {

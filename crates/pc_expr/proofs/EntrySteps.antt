@@ -17,7 +17,7 @@ use Rattle.pc_rules.specs.Computed.{flows_of}
 use Rattle.pc_rules.specs.Found.{brief, flows_at}
 use Rattle.pc_rules.specs.declared.label.Label.{Label}
 use Rattle.pc_rules.specs.Standing.{Standing, mark_with, mark_in, finds_in, keys_in, values_in, entries_find, keywords_find}
-use Rattle.pc_expr.proofs.Checkers.{in_turn}
+use Rattle.pc_rules.proofs.Checkers.{in_turn}
 use Rattle.pc_expr.proofs.Forms.{keys_none, keys_more, values_none, values_more, entries_none, entries_more, keywords_none, keywords_more}
 use Rattle.pc_expr.proofs.Typed.{type_is, two_found}
 

@@ -1,6 +1,5 @@
 pub mod CallForms
 pub mod CalleesTyped
-pub mod Checkers
 pub mod ConditionsTyped
 pub mod EntrySteps
 pub mod Forms
@@ -9,3 +8,4 @@ pub mod RangeForms
 pub mod SeatsKept
 pub mod Steps
 pub mod Typed
+pub mod WaysGiven

@@ -16,7 +16,7 @@ use Rattle.pc_rules.specs.Calls.{Seat}
 use Rattle.pc_rules.specs.Computed.{flows_of}
 use Rattle.pc_rules.specs.Found.{brief, once, flows_at}
 use Rattle.pc_rules.specs.declared.label.Label.{Label}
-use Rattle.pc_expr.proofs.Checkers.{in_turn}
+use Rattle.pc_rules.proofs.Checkers.{in_turn}
 use Rattle.pc_expr.proofs.Typed.{type_is}
 use Rattle.pc_rules.specs.Standing.{Standing, mark_with, mark_in, finds_in, types_in, items_find}
 use Rattle.pc_expr.specs.Typing.{early_in}

@@ -1,3 +1,3 @@
-pub mod Checkers
 pub mod Internal
 pub mod Typing
+pub mod Ways

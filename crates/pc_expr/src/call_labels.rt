@@ -1,5 +1,5 @@
 //! The label of a call, and what a callee is that is no function, class or method.
-#![tactic(auto, using(crate::proofs::Checkers::goes_further))]
+#![tactic(auto, using(pc_rules::proofs::Checkers::goes_further))]
 
 ghost use Rattle.std.specs.Prelude.{◌≡◌, ◌++◌, true, length, map, All, IfOk, OnOk};
 ghost use Rattle.pc_source.specs.declared.place.Place.{Place};
@@ -17,15 +17,15 @@ ghost use Rattle.pc_rules.specs.Found.{brief, notes_of_code};
 ghost use Rattle.pc_rules.specs.Standing.{mark_with, context_with, HasGivenAll};
 ghost use Rattle.pc_call.specs.JudgedCalls.{offer_called, rule_of, second_code_of, HasCallOffer, IsCallee};
 ghost use Rattle.pc_expr.specs.Typing.{unnamed_callee};
-ghost use Rattle.pc_expr.specs.Checkers.{Finds, GoesOn, IsLabel};
+ghost use Rattle.pc_rules.specs.Checkers.{Finds, GoesOn, IsLabel};
+ghost use Rattle.pc_flow.specs.Naming.{meanings};
 
-use crate::checker::Checker;
 use crate::items::Typed;
 use crate::whole::call_label;
 use pc_call::{CallOffer, Callee, callee_in_error, callee_of_value, second_code};
-use pc_flow::{Env, Resolver};
+use pc_flow::Env;
 use pc_notes::Notes;
-use pc_rules::{Label, Setting, find_codes};
+use pc_rules::{Checker, Label, Setting, find_codes};
 use pc_scope::is_instance_test;
 use pc_source::{OutOfMemory, Place};
 use pc_tree::{Code, Expr, KeywordArgument};
@@ -34,10 +34,10 @@ use std::alloc::Global;
 
 /// A callee that is neither a name nor, in a body, an attribute: a value with this label, and in an initializer in
 /// error.
-pub(crate) fn callee_of_other<'t, S: TypeStore, R: Resolver>(
+pub(crate) fn callee_of_other<'t, S: TypeStore>(
     store: &mut S,
     alloc: Global,
-    setting: &Setting<'t, S::Ty, R>,
+    setting: &Setting<'t, S::Ty>,
     label: Label<S::Ty>,
 ) -> Result<Callee<'t, S::Ty>, OutOfMemory>
     requires { S.has store.old label.ty }
@@ -73,9 +73,9 @@ fn find_code(place: Place, code: Option<Code>, found: &mut Notes) -> Result<(), 
 
 /// The label of a call over the types of its arguments, with what is found at its second argument.
 /// Language Reference 6.3.4 "Calls".
-pub(crate) fn label_call<S: TypeStore, R: Resolver>(
+pub(crate) fn label_call<S: TypeStore>(
     checker: &mut Checker<'_, S>,
-    setting: &Setting<'_, S::Ty, R>,
+    setting: &Setting<'_, S::Ty>,
     env: &Env<S::Ty>,
     place: Place,
     callee: &Callee<'_, S::Ty>,
@@ -88,26 +88,18 @@ pub(crate) fn label_call<S: TypeStore, R: Resolver>(
     requires types { All (S.has checker.old.store.now) typed.now.types.items }
     ensures value { IfOk result
         (λ l. IsLabel S.TypeStore checker.new l
-        (whole_call_mark (context_with S.tree R.meaning setting.now) (env_of S.tree env.now) (rule_of callee.now.rule)
+        (whole_call_mark (context_with S.tree setting.now) (env_of S.tree env.now) (rule_of callee.now.rule)
         (map (offer_called S.tree) callee.now.offers.items) (exprs_of_list arguments.now)
         (map S.tree typed.now.types.items))) }
     ensures found { OnOk result (Finds checker.old checker.new
         (notes_of_code (second_place (exprs_of_list arguments.now) place)
-        (second_code_of (R.meaning setting.now.names.now) (rule_of callee.now.rule)
+        (second_code_of (meanings setting.now.names.now) (rule_of callee.now.rule)
         (exprs_of_list arguments.now) typed.now.early))) }
     ensures goes_on { GoesOn S.TypeStore checker.old checker.new }
 {
     let code = second_code(setting.names, callee.rule, arguments, typed.early);
     find_code(second_place(arguments, place), code, checker.found)?;
-    call_label(
-        checker.store,
-        checker.alloc,
-        setting,
-        env,
-        callee,
-        arguments,
-        &typed.types,
-    )
+    call_label(checker, setting, env, callee, arguments, &typed.types)
 }
 
 /// Whether a call is a test of an instance; then it has two arguments by position.
@@ -121,9 +113,9 @@ pub(crate) fn is_test(callee: &Expr, arguments: &[Expr], by_name: &[KeywordArgum
 
 /// Does nothing: it says again that a setting, an environment and offers hold types of the store, for a call that needs
 /// it next.
-pub(crate) fn still_called<S: TypeStore, R: Resolver>(
+pub(crate) fn still_called<S: TypeStore>(
     _store: &S,
-    _setting: &Setting<'_, S::Ty, R>,
+    _setting: &Setting<'_, S::Ty>,
     _env: &Env<S::Ty>,
     _offers: &[CallOffer<'_, S::Ty>],
 )

@@ -1,5 +1,5 @@
 //! The labels of calls, with what is found in their callees and arguments.
-#![tactic(auto, using(pc_rules::proofs::Kept::stands_further, crate::proofs::Checkers::goes_further))]
+#![tactic(auto, using(pc_rules::proofs::Kept::stands_further, pc_rules::proofs::Checkers::goes_further))]
 
 ghost use Rattle.std.specs.Prelude.{◌≡◌, IfOk, OnOk, None, [], true, map, length, All, Option};
 ghost use Rattle.pc_tree.specs.Tree.{expr_of};
@@ -11,10 +11,9 @@ ghost use Rattle.pc_call.specs.JudgedCalls.{given_with, offer_called, HasCallOff
 ghost use Rattle.pc_expr.specs.Typing.{callee_in};
 ghost use Rattle.pc_expr.specs.Internal.Seats.{AreTyped};
 ghost use Rattle.pc_expr.specs.Internal.Forms.{IsCall};
-ghost use Rattle.pc_expr.specs.Checkers.{Finds, GoesOn, IsLabel, Stands};
+ghost use Rattle.pc_rules.specs.Checkers.{Finds, GoesOn, IsLabel, Stands};
 
 use crate::call_labels::{callee_of_other, is_test, label_call, still_called};
-use crate::checker::Checker;
 use crate::items::{Typed, early_at};
 use crate::typing::{label_expr, type_expr, type_seated};
 use indexmap::IndexSet;
@@ -22,19 +21,19 @@ use pc_call::given::given;
 use pc_call::{
     CallOffer, Callee, Given, callee_of_method, callee_of_name, keyword_seat, positional_seat,
 };
-use pc_flow::{Env, Resolver};
+use pc_flow::Env;
 use pc_notes::Notes;
 use pc_operate::still_stands;
-use pc_rules::{Label, Setting, find_codes, is_early};
+use pc_rules::{Checker, Label, Setting, find_codes, is_early};
 use pc_source::OutOfMemory;
 use pc_tree::{Expr, KeywordArgument};
 use pc_types::TypeStore;
 
 /// The label of a call, with what is found in its callee and its arguments. Language Reference 6.3.4 "Calls".
 #[cycle(typing)]
-pub(crate) fn label_called<S: TypeStore, R: Resolver>(
+pub(crate) fn label_called<S: TypeStore>(
     checker: &mut Checker<'_, S>,
-    setting: &Setting<'_, S::Ty, R>,
+    setting: &Setting<'_, S::Ty>,
     env: &Env<S::Ty>,
     e: &Expr,
 ) -> Result<Label<S::Ty>, OutOfMemory>
@@ -42,9 +41,9 @@ pub(crate) fn label_called<S: TypeStore, R: Resolver>(
     requires form { IsCall e.now }
     ensures marked { (expected : Option Tree) → IfOk result
         (λ l. IsLabel S.TypeStore checker.new l
-        (mark_in (standing_of S.tree R.meaning setting.now env.now) expected (expr_of e.now))) }
+        (mark_in (standing_of S.tree setting.now env.now) expected (expr_of e.now))) }
     ensures found { (expected : Option Tree) → OnOk result (Finds checker.old checker.new
-        (parts_find (standing_of S.tree R.meaning setting.now env.now) expected (expr_of e.now))) }
+        (parts_find (standing_of S.tree setting.now env.now) expected (expr_of e.now))) }
     ensures goes_on { GoesOn S.TypeStore checker.old checker.new }
 {
     match e {
@@ -66,9 +65,9 @@ pub(crate) fn label_called<S: TypeStore, R: Resolver>(
 /// What the callee of a call is, with what is found in its parts. In an initializer a callee that is no name is in
 /// error.
 #[cycle(typing)]
-fn label_callee<'t, S: TypeStore, R: Resolver>(
+fn label_callee<'t, S: TypeStore>(
     checker: &mut Checker<'_, S>,
-    setting: &Setting<'t, S::Ty, R>,
+    setting: &Setting<'t, S::Ty>,
     env: &Env<S::Ty>,
     given: &Given,
     callee: &Expr,
@@ -76,9 +75,9 @@ fn label_callee<'t, S: TypeStore, R: Resolver>(
     requires given { Stands S.TypeStore checker.old setting.now env.now }
     ensures called { IfOk result
         (λ c. IsCallee S.has S.tree checker.new.store.now c
-        (callee_in (standing_of S.tree R.meaning setting.now env.now) (given_with given.now) (expr_of callee.now))) }
+        (callee_in (standing_of S.tree setting.now env.now) (given_with given.now) (expr_of callee.now))) }
     ensures found { OnOk result (Finds checker.old checker.new
-        (parts_find (standing_of S.tree R.meaning setting.now env.now) None (expr_of callee.now))) }
+        (parts_find (standing_of S.tree setting.now env.now) None (expr_of callee.now))) }
     ensures goes_on { GoesOn S.TypeStore checker.old checker.new }
 {
     match callee {
@@ -125,9 +124,9 @@ fn label_callee<'t, S: TypeStore, R: Resolver>(
 /// The types of the two arguments of a test of an instance, with what is found in the first; and whether the second is
 /// named too early.
 #[cycle(typing)]
-fn type_tested<S: TypeStore, R: Resolver>(
+fn type_tested<S: TypeStore>(
     checker: &mut Checker<'_, S>,
-    setting: &Setting<'_, S::Ty, R>,
+    setting: &Setting<'_, S::Ty>,
     env: &Env<S::Ty>,
     offers: &[CallOffer<'_, S::Ty>],
     arguments: &[Expr],
@@ -136,10 +135,10 @@ fn type_tested<S: TypeStore, R: Resolver>(
     requires offers { All (HasCallOffer (S.has checker.old.store.now)) offers.now }
     requires two { length arguments.now ≡ 2 }
     ensures typed { IfOk result
-        (λ t. AreTyped S.has S.tree checker.new.store.now (standing_of S.tree R.meaning setting.now env.now) t
+        (λ t. AreTyped S.has S.tree checker.new.store.now (standing_of S.tree setting.now env.now) t
         (positional_seat (map (offer_called S.tree) offers.now)) (exprs_of_list arguments.now)) }
     ensures found { OnOk result (Finds checker.old checker.new
-        (arguments_find (standing_of S.tree R.meaning setting.now env.now) true
+        (arguments_find (standing_of S.tree setting.now env.now) true
         (positional_seat (map (offer_called S.tree) offers.now)) (exprs_of_list arguments.now))) }
     ensures goes_on { GoesOn S.TypeStore checker.old checker.new }
 {
@@ -164,9 +163,9 @@ fn type_tested<S: TypeStore, R: Resolver>(
 /// The types of the arguments by position of a call with these offers, with what is found in them and where they flow;
 /// and whether the second is named too early. Of a test of an instance the first alone is looked at.
 #[cycle(typing)]
-pub(crate) fn type_arguments<S: TypeStore, R: Resolver>(
+pub(crate) fn type_arguments<S: TypeStore>(
     checker: &mut Checker<'_, S>,
-    setting: &Setting<'_, S::Ty, R>,
+    setting: &Setting<'_, S::Ty>,
     env: &Env<S::Ty>,
     is_test: bool,
     offers: &[CallOffer<'_, S::Ty>],
@@ -176,10 +175,10 @@ pub(crate) fn type_arguments<S: TypeStore, R: Resolver>(
     requires offers { All (HasCallOffer (S.has checker.old.store.now)) offers.now }
     requires two { is_test ≡ true → length arguments.now ≡ 2 }
     ensures typed { IfOk result
-        (λ t. AreTyped S.has S.tree checker.new.store.now (standing_of S.tree R.meaning setting.now env.now) t
+        (λ t. AreTyped S.has S.tree checker.new.store.now (standing_of S.tree setting.now env.now) t
         (positional_seat (map (offer_called S.tree) offers.now)) (exprs_of_list arguments.now)) }
     ensures found { OnOk result (Finds checker.old checker.new
-        (arguments_find (standing_of S.tree R.meaning setting.now env.now) is_test
+        (arguments_find (standing_of S.tree setting.now env.now) is_test
         (positional_seat (map (offer_called S.tree) offers.now)) (exprs_of_list arguments.now))) }
     ensures goes_on { GoesOn S.TypeStore checker.old checker.new }
 {
@@ -199,9 +198,9 @@ pub(crate) fn type_arguments<S: TypeStore, R: Resolver>(
 
 /// Adds what is found in the arguments by name of a call with these offers, and where they flow.
 #[cycle(typing)]
-pub(crate) fn type_keywords<S: TypeStore, R: Resolver>(
+pub(crate) fn type_keywords<S: TypeStore>(
     checker: &mut Checker<'_, S>,
-    setting: &Setting<'_, S::Ty, R>,
+    setting: &Setting<'_, S::Ty>,
     env: &Env<S::Ty>,
     offers: &[CallOffer<'_, S::Ty>],
     by_name: &[KeywordArgument],
@@ -209,7 +208,7 @@ pub(crate) fn type_keywords<S: TypeStore, R: Resolver>(
     requires given { Stands S.TypeStore checker.old setting.now env.now }
     requires offers { All (HasCallOffer (S.has checker.old.store.now)) offers.now }
     ensures found { OnOk result (Finds checker.old checker.new
-        (keywords_find (standing_of S.tree R.meaning setting.now env.now)
+        (keywords_find (standing_of S.tree setting.now env.now)
         (named_seat (map (offer_called S.tree) offers.now)) [] (keywords_of_list by_name.now))) }
     ensures goes_on { GoesOn S.TypeStore checker.old checker.new }
 {

@@ -1,5 +1,5 @@
 //! The labels of displays, with what is found in their items and entries.
-#![tactic(auto, using(pc_rules::proofs::Kept::stands_further, crate::proofs::Checkers::goes_further))]
+#![tactic(auto, using(pc_rules::proofs::Kept::stands_further, pc_rules::proofs::Checkers::goes_further))]
 
 ghost use Rattle.std.specs.Prelude.{◌≡◌, IfOk, OnOk, map, All};
 ghost use Rattle.std.specs.Option.{option_map};
@@ -9,24 +9,23 @@ ghost use Rattle.pc_rules.specs.Standing.{standing_of, mark_in, parts_find, type
 ghost use Rattle.pc_rules.specs.Standing.{entries_find};
 ghost use Rattle.pc_expr.specs.Internal.Seats.{seats_of, seat_with, HasSeats, HasEntrySeats, AreEntryTypes};
 ghost use Rattle.pc_expr.specs.Internal.Forms.{IsDisplay};
-ghost use Rattle.pc_expr.specs.Checkers.{Finds, GoesOn, HoldsIfAny, IsLabel, Stands};
+ghost use Rattle.pc_rules.specs.Checkers.{Finds, GoesOn, HoldsIfAny, IsLabel, Stands};
 
-use crate::checker::Checker;
 use crate::entries::{EntrySeats, EntryTypes, dict_seats, label_dict};
 use crate::items::{Seats, label_list, list_seats, seat_at, tuple_seats};
 use crate::typing::type_seated;
-use pc_flow::{Env, Resolver};
+use pc_flow::Env;
 use pc_operate::{still_stands, tuple_label};
-use pc_rules::{Label, Setting};
+use pc_rules::{Checker, Label, Setting};
 use pc_source::OutOfMemory;
 use pc_tree::{Entry, Expr};
 use pc_types::TypeStore;
 
 /// The label of a display, with what is found in its items. Language Reference 6.2 "Atoms".
 #[cycle(typing)]
-pub(crate) fn label_display<S: TypeStore, R: Resolver>(
+pub(crate) fn label_display<S: TypeStore>(
     checker: &mut Checker<'_, S>,
-    setting: &Setting<'_, S::Ty, R>,
+    setting: &Setting<'_, S::Ty>,
     env: &Env<S::Ty>,
     want: &Option<S::Ty>,
     e: &Expr,
@@ -36,9 +35,9 @@ pub(crate) fn label_display<S: TypeStore, R: Resolver>(
     requires form { IsDisplay e.now }
     ensures marked { IfOk result
         (λ l. IsLabel S.TypeStore checker.new l
-        (mark_in (standing_of S.tree R.meaning setting.now env.now) (option_map S.tree want.now) (expr_of e.now))) }
+        (mark_in (standing_of S.tree setting.now env.now) (option_map S.tree want.now) (expr_of e.now))) }
     ensures found { OnOk result (Finds checker.old checker.new
-        (parts_find (standing_of S.tree R.meaning setting.now env.now) (option_map S.tree want.now) (expr_of e.now))) }
+        (parts_find (standing_of S.tree setting.now env.now) (option_map S.tree want.now) (expr_of e.now))) }
     ensures goes_on { GoesOn S.TypeStore checker.old checker.new }
 {
     match e {
@@ -63,9 +62,9 @@ pub(crate) fn label_display<S: TypeStore, R: Resolver>(
 
 /// The types of the items of a display, each for its seat, with what is found in them and where they flow.
 #[cycle(typing)]
-fn type_items<S: TypeStore, R: Resolver>(
+fn type_items<S: TypeStore>(
     checker: &mut Checker<'_, S>,
-    setting: &Setting<'_, S::Ty, R>,
+    setting: &Setting<'_, S::Ty>,
     env: &Env<S::Ty>,
     seats: &Seats<S::Ty>,
     items: &[Expr],
@@ -75,10 +74,10 @@ fn type_items<S: TypeStore, R: Resolver>(
     ensures held { IfOk result (λ ts. All (S.has checker.new.store.now) ts.items) }
     ensures typed { IfOk result
         (λ ts. map S.tree ts.items
-        ≡ types_in (standing_of S.tree R.meaning setting.now env.now) (seats_of S.tree seats.now)
+        ≡ types_in (standing_of S.tree setting.now env.now) (seats_of S.tree seats.now)
         (exprs_of_list items.now)) }
     ensures found { OnOk result (Finds checker.old checker.new
-        (items_find (standing_of S.tree R.meaning setting.now env.now) (seats_of S.tree seats.now)
+        (items_find (standing_of S.tree setting.now env.now) (seats_of S.tree seats.now)
         (exprs_of_list items.now))) }
     ensures goes_on { GoesOn S.TypeStore checker.old checker.new }
 {
@@ -93,9 +92,9 @@ fn type_items<S: TypeStore, R: Resolver>(
 
 /// The types of the keys and of the values of a dict display, with what is found in them and where they flow.
 #[cycle(typing)]
-fn type_entries<S: TypeStore, R: Resolver>(
+fn type_entries<S: TypeStore>(
     checker: &mut Checker<'_, S>,
-    setting: &Setting<'_, S::Ty, R>,
+    setting: &Setting<'_, S::Ty>,
     env: &Env<S::Ty>,
     seats: &EntrySeats<S::Ty>,
     entries: &[Entry],
@@ -103,10 +102,10 @@ fn type_entries<S: TypeStore, R: Resolver>(
     requires given { Stands S.TypeStore checker.old setting.now env.now }
     requires seats { HasEntrySeats (S.has checker.old.store.now) seats.now }
     ensures typed { IfOk result
-        (λ t. AreEntryTypes S.has S.tree checker.new.store.now (standing_of S.tree R.meaning setting.now env.now) t
+        (λ t. AreEntryTypes S.has S.tree checker.new.store.now (standing_of S.tree setting.now env.now) t
         (seat_with S.tree seats.now.key) (seat_with S.tree seats.now.value) (entries_of_list entries.now)) }
     ensures found { OnOk result (Finds checker.old checker.new
-        (entries_find (standing_of S.tree R.meaning setting.now env.now) (seat_with S.tree seats.now.key)
+        (entries_find (standing_of S.tree setting.now env.now) (seat_with S.tree seats.now.key)
         (seat_with S.tree seats.now.value) (entries_of_list entries.now))) }
     ensures goes_on { GoesOn S.TypeStore checker.old checker.new }
 {

@@ -13,7 +13,6 @@ ghost use Rattle.pc_expr.specs.Internal.Seats.{AreEntrySeats};
 
 use crate::items::{nowhere, seat_of_type};
 use pc_call::Seat;
-use pc_flow::Resolver;
 use pc_operate::{dict_label, dict_parts};
 use pc_rules::{Label, Setting};
 use pc_source::OutOfMemory;
@@ -59,10 +58,10 @@ pub(crate) fn dict_seats<S: TypeStore>(
 }
 
 /// The label of a dict display of which a type is expected, over the types of its keys and values.
-pub(crate) fn label_dict<S: TypeStore, R: Resolver>(
+pub(crate) fn label_dict<S: TypeStore>(
     store: &mut S,
     alloc: Global,
-    setting: &Setting<'_, S::Ty, R>,
+    setting: &Setting<'_, S::Ty>,
     want: &Option<S::Ty>,
     types: &EntryTypes<S::Ty>,
 ) -> Result<Label<S::Ty>, OutOfMemory>
@@ -71,7 +70,7 @@ pub(crate) fn label_dict<S: TypeStore, R: Resolver>(
     requires values { All (S.has store.old) types.now.values.items }
     ensures value { IfOk result
         (λ l. IsMark S.has S.tree store.new l
-        (dict_mark (context_with S.tree R.meaning setting.now) (declared_of S.tree setting.now.declared.now)
+        (dict_mark (context_with S.tree setting.now) (declared_of S.tree setting.now.declared.now)
         (static_test setting.now.parents.now) (assignable_test setting.now.parents.now)
         (dict_parts (members_of_expected (option_map S.tree want.now))) (map S.tree types.now.keys.items)
         (map S.tree types.now.values.items))) }

@@ -3,7 +3,6 @@
 
 mod call_labels;
 mod calls;
-mod checker;
 mod conditions;
 mod displays;
 mod entries;
@@ -12,7 +11,6 @@ mod range_typing;
 mod typing;
 mod whole;
 
-pub use checker::Checker;
 pub use conditions::{Condition, type_condition};
 pub use range_typing::{RangeCall, type_range};
 pub use typing::type_expr;

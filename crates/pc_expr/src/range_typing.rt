@@ -1,5 +1,5 @@
 //! What is found in a call of `range` as what a `for` goes over.
-#![tactic(auto, using(crate::proofs::Checkers::goes_further))]
+#![tactic(auto, using(pc_rules::proofs::Checkers::goes_further))]
 
 ghost use Rattle.std.specs.Prelude.{IfOk, OnOk};
 ghost use Rattle.pc_tree.specs.Tree.{expr_of};
@@ -7,14 +7,13 @@ ghost use Rattle.pc_tree.specs.Lists.{exprs_of_list, keywords_of_list};
 ghost use Rattle.pc_rules.specs.Calls.{arguments_given, range_item};
 ghost use Rattle.pc_rules.specs.Standing.{standing_of};
 ghost use Rattle.pc_rules.specs.RangesFound.{range_finds};
-ghost use Rattle.pc_expr.specs.Checkers.{Finds, GoesOn, IsLabel, Stands};
+ghost use Rattle.pc_rules.specs.Checkers.{Finds, GoesOn, IsLabel, Stands};
 
 use crate::calls::{type_arguments, type_keywords};
-use crate::checker::Checker;
 use pc_call::given::given;
 use pc_call::{call_codes, range_item, range_offers};
-use pc_flow::{Env, Resolver};
-use pc_rules::{Label, Setting, find_codes};
+use pc_flow::Env;
+use pc_rules::{Checker, Label, Setting, find_codes};
 use pc_scope::is_instance_test;
 use pc_source::{OutOfMemory, Place};
 use pc_tree::{Expr, KeywordArgument};
@@ -31,15 +30,15 @@ pub struct RangeCall<'e> {
 
 /// Adds what is found in a call of `range` as what a `for` goes over: in its arguments, which flow into
 /// `int`, and at the call.
-fn find_range<S: TypeStore, R: Resolver>(
+fn find_range<S: TypeStore>(
     checker: &mut Checker<'_, S>,
-    setting: &Setting<'_, S::Ty, R>,
+    setting: &Setting<'_, S::Ty>,
     env: &Env<S::Ty>,
     range: &RangeCall<'_>,
 ) -> Result<(), OutOfMemory>
     requires { Stands S.TypeStore checker.old setting.now env.now }
     ensures found { OnOk result (Finds checker.old checker.new
-        (range_finds (standing_of S.tree R.meaning setting.now env.now) range.now.place
+        (range_finds (standing_of S.tree setting.now env.now) range.now.place
         (expr_of range.now.callee.now) (exprs_of_list range.now.arguments.now) (keywords_of_list range.now.by_name.now))) }
     ensures goes_on { GoesOn S.TypeStore checker.old checker.new }
 {
@@ -55,9 +54,9 @@ fn find_range<S: TypeStore, R: Resolver>(
 /// The label of a turn's item where a `for` goes over a call of `range`, with what is found in the call:
 /// in its arguments, which flow into `int`, and at the call. Library reference, "Built-in Functions"; own rule of the
 /// profile.
-pub fn type_range<S: TypeStore, R: Resolver>(
+pub fn type_range<S: TypeStore>(
     checker: &mut Checker<'_, S>,
-    setting: &Setting<'_, S::Ty, R>,
+    setting: &Setting<'_, S::Ty>,
     env: &Env<S::Ty>,
     range: &RangeCall<'_>,
 ) -> Result<Label<S::Ty>, OutOfMemory>
@@ -66,7 +65,7 @@ pub fn type_range<S: TypeStore, R: Resolver>(
         (λ l. IsLabel S.TypeStore checker.new l
         (range_item (arguments_given (exprs_of_list range.now.arguments.now) (keywords_of_list range.now.by_name.now)))) }
     ensures found { OnOk result (Finds checker.old checker.new
-        (range_finds (standing_of S.tree R.meaning setting.now env.now) range.now.place
+        (range_finds (standing_of S.tree setting.now env.now) range.now.place
         (expr_of range.now.callee.now) (exprs_of_list range.now.arguments.now) (keywords_of_list range.now.by_name.now))) }
     ensures goes_on { GoesOn S.TypeStore checker.old checker.new }
 {

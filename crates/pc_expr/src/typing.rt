@@ -1,5 +1,5 @@
 //! The labels of expressions, with what is found in them.
-#![tactic(auto, using(pc_rules::proofs::Kept::stands_further, crate::proofs::Checkers::goes_further))]
+#![tactic(auto, using(pc_rules::proofs::Kept::stands_further, pc_rules::proofs::Checkers::goes_further))]
 
 ghost use Rattle.std.specs.Prelude.{◌++◌, IfOk, OnOk, None, map, All, Option};
 ghost use Rattle.std.specs.Option.{option_map};
@@ -10,19 +10,18 @@ ghost use Rattle.pc_rules.specs.Computed.{flows_of};
 ghost use Rattle.pc_rules.specs.Found.{flows_at};
 ghost use Rattle.pc_rules.specs.Standing.{standing_of, mark_in, finds_in, parts_find};
 ghost use Rattle.pc_expr.specs.Internal.Forms.{IsUnary, IsBinary, IsConnective};
-ghost use Rattle.pc_expr.specs.Checkers.{Finds, GoesOn, HoldsIfAny, IsLabel, Stands};
+ghost use Rattle.pc_rules.specs.Checkers.{Finds, GoesOn, HoldsIfAny, IsLabel, Stands};
 
 use crate::calls::label_called;
-use crate::checker::Checker;
 use crate::conditions::type_condition;
 use crate::displays::label_display;
 use pc_call::Seat;
-use pc_flow::{Env, Resolver};
+use pc_flow::Env;
 use pc_operate::{
     binary_label, label_attribute, label_bool, label_comparison, label_index, label_int,
     label_junction, label_negative, label_none, label_str, still_stands,
 };
-use pc_rules::{Label, Setting, find_codes, find_flows, name_label};
+use pc_rules::{Checker, Label, Setting, find_codes, find_flows, name_label};
 use pc_source::OutOfMemory;
 use pc_tree::Expr;
 use pc_types::TypeStore;
@@ -30,9 +29,9 @@ use pc_types::TypeStore;
 /// The label of an expression, with what is found in it and in its parts.
 /// Language Reference 6 "Expressions"; own rules of the profile.
 #[cycle(typing)]
-pub fn type_expr<S: TypeStore, R: Resolver>(
+pub fn type_expr<S: TypeStore>(
     checker: &mut Checker<'_, S>,
-    setting: &Setting<'_, S::Ty, R>,
+    setting: &Setting<'_, S::Ty>,
     env: &Env<S::Ty>,
     want: &Option<S::Ty>,
     e: &Expr,
@@ -41,9 +40,9 @@ pub fn type_expr<S: TypeStore, R: Resolver>(
     requires want { HoldsIfAny S.TypeStore checker.old want.now }
     ensures marked { IfOk result
         (λ l. IsLabel S.TypeStore checker.new l
-        (mark_in (standing_of S.tree R.meaning setting.now env.now) (option_map S.tree want.now) (expr_of e.now))) }
+        (mark_in (standing_of S.tree setting.now env.now) (option_map S.tree want.now) (expr_of e.now))) }
     ensures found { OnOk result (Finds checker.old checker.new
-        (finds_in (standing_of S.tree R.meaning setting.now env.now) (option_map S.tree want.now) (expr_of e.now))) }
+        (finds_in (standing_of S.tree setting.now env.now) (option_map S.tree want.now) (expr_of e.now))) }
     ensures goes_on { GoesOn S.TypeStore checker.old checker.new }
 {
     let label = label_expr(checker, setting, env, want, e)?;
@@ -53,9 +52,9 @@ pub fn type_expr<S: TypeStore, R: Resolver>(
 
 /// The label of an expression for its seat, with what is found in it and where it flows.
 #[cycle(typing)]
-pub(crate) fn type_seated<S: TypeStore, R: Resolver>(
+pub(crate) fn type_seated<S: TypeStore>(
     checker: &mut Checker<'_, S>,
-    setting: &Setting<'_, S::Ty, R>,
+    setting: &Setting<'_, S::Ty>,
     env: &Env<S::Ty>,
     seat: &Seat<S::Ty>,
     e: &Expr,
@@ -65,33 +64,25 @@ pub(crate) fn type_seated<S: TypeStore, R: Resolver>(
     requires into { All (S.has checker.old.store.now) seat.now.into.items }
     ensures marked { IfOk result
         (λ l. IsLabel S.TypeStore checker.new l
-        (mark_in (standing_of S.tree R.meaning setting.now env.now) (option_map S.tree seat.now.want)
+        (mark_in (standing_of S.tree setting.now env.now) (option_map S.tree seat.now.want)
         (expr_of e.now))) }
     ensures found { OnOk result (Finds checker.old checker.new
-        (finds_in (standing_of S.tree R.meaning setting.now env.now) (option_map S.tree seat.now.want) (expr_of e.now)
+        (finds_in (standing_of S.tree setting.now env.now) (option_map S.tree seat.now.want) (expr_of e.now)
         ++ flows_at (place_of (expr_of e.now))
-        (flows_of setting.now.parents.now (mark_in (standing_of S.tree R.meaning setting.now env.now)
+        (flows_of setting.now.parents.now (mark_in (standing_of S.tree setting.now env.now)
         (option_map S.tree seat.now.want) (expr_of e.now)) (map S.tree seat.now.into.items)))) }
     ensures goes_on { GoesOn S.TypeStore checker.old checker.new }
 {
     let label = type_expr(checker, setting, env, &seat.want, e)?;
-    find_flows(
-        checker.store,
-        checker.alloc,
-        setting.parents,
-        e.place(),
-        &label,
-        &seat.into,
-        checker.found,
-    )?;
+    find_flows(checker, setting.parents, e.place(), &label, &seat.into)?;
     Ok(label)
 }
 
 /// The label of an expression, with what is found in its parts.
 #[cycle(typing)]
-pub(crate) fn label_expr<S: TypeStore, R: Resolver>(
+pub(crate) fn label_expr<S: TypeStore>(
     checker: &mut Checker<'_, S>,
-    setting: &Setting<'_, S::Ty, R>,
+    setting: &Setting<'_, S::Ty>,
     env: &Env<S::Ty>,
     want: &Option<S::Ty>,
     e: &Expr,
@@ -100,9 +91,9 @@ pub(crate) fn label_expr<S: TypeStore, R: Resolver>(
     requires want { HoldsIfAny S.TypeStore checker.old want.now }
     ensures marked { IfOk result
         (λ l. IsLabel S.TypeStore checker.new l
-        (mark_in (standing_of S.tree R.meaning setting.now env.now) (option_map S.tree want.now) (expr_of e.now))) }
+        (mark_in (standing_of S.tree setting.now env.now) (option_map S.tree want.now) (expr_of e.now))) }
     ensures found { OnOk result (Finds checker.old checker.new
-        (parts_find (standing_of S.tree R.meaning setting.now env.now) (option_map S.tree want.now) (expr_of e.now))) }
+        (parts_find (standing_of S.tree setting.now env.now) (option_map S.tree want.now) (expr_of e.now))) }
     ensures goes_on { GoesOn S.TypeStore checker.old checker.new }
 {
     match e {
@@ -130,9 +121,9 @@ pub(crate) fn label_expr<S: TypeStore, R: Resolver>(
 
 /// The label of an operation on one operand, with what is found in it.
 #[cycle(typing)]
-fn label_unary<S: TypeStore, R: Resolver>(
+fn label_unary<S: TypeStore>(
     checker: &mut Checker<'_, S>,
-    setting: &Setting<'_, S::Ty, R>,
+    setting: &Setting<'_, S::Ty>,
     env: &Env<S::Ty>,
     e: &Expr,
 ) -> Result<Label<S::Ty>, OutOfMemory>
@@ -140,9 +131,9 @@ fn label_unary<S: TypeStore, R: Resolver>(
     requires form { IsUnary e.now }
     ensures marked { (expected : Option Tree) → IfOk result
         (λ l. IsLabel S.TypeStore checker.new l
-        (mark_in (standing_of S.tree R.meaning setting.now env.now) expected (expr_of e.now))) }
+        (mark_in (standing_of S.tree setting.now env.now) expected (expr_of e.now))) }
     ensures found { (expected : Option Tree) → OnOk result (Finds checker.old checker.new
-        (parts_find (standing_of S.tree R.meaning setting.now env.now) expected (expr_of e.now))) }
+        (parts_find (standing_of S.tree setting.now env.now) expected (expr_of e.now))) }
     ensures goes_on { GoesOn S.TypeStore checker.old checker.new }
 {
     match e {
@@ -172,9 +163,9 @@ fn label_unary<S: TypeStore, R: Resolver>(
 
 /// The label of an operation on two operands that are both evaluated, with what is found in them.
 #[cycle(typing)]
-fn label_binary<S: TypeStore, R: Resolver>(
+fn label_binary<S: TypeStore>(
     checker: &mut Checker<'_, S>,
-    setting: &Setting<'_, S::Ty, R>,
+    setting: &Setting<'_, S::Ty>,
     env: &Env<S::Ty>,
     e: &Expr,
 ) -> Result<Label<S::Ty>, OutOfMemory>
@@ -182,9 +173,9 @@ fn label_binary<S: TypeStore, R: Resolver>(
     requires form { IsBinary e.now }
     ensures marked { (expected : Option Tree) → IfOk result
         (λ l. IsLabel S.TypeStore checker.new l
-        (mark_in (standing_of S.tree R.meaning setting.now env.now) expected (expr_of e.now))) }
+        (mark_in (standing_of S.tree setting.now env.now) expected (expr_of e.now))) }
     ensures found { (expected : Option Tree) → OnOk result (Finds checker.old checker.new
-        (parts_find (standing_of S.tree R.meaning setting.now env.now) expected (expr_of e.now))) }
+        (parts_find (standing_of S.tree setting.now env.now) expected (expr_of e.now))) }
     ensures goes_on { GoesOn S.TypeStore checker.old checker.new }
 {
     match e {
@@ -206,29 +197,19 @@ fn label_binary<S: TypeStore, R: Resolver>(
             still_stands(checker.store, setting, env);
             let second = type_expr(checker, setting, env, &None, right)?;
             label_comparison(
-                checker.store,
-                checker.alloc,
+                checker,
                 setting.parents,
                 *operator,
                 left,
                 &first,
                 &second.ty,
-                checker.found,
             )
         }
         Expr::Index(_, object, key) => {
             let object = type_expr(checker, setting, env, &None, object)?;
             still_stands(checker.store, setting, env);
             let index = type_expr(checker, setting, env, &None, key)?;
-            label_index(
-                checker.store,
-                checker.alloc,
-                setting,
-                &object.ty,
-                key,
-                &index,
-                checker.found,
-            )
+            label_index(checker, setting, &object.ty, key, &index)
         }
         _ => unreachable!(),
     }
@@ -236,9 +217,9 @@ fn label_binary<S: TypeStore, R: Resolver>(
 
 /// The label of `and` and of `or`, with what is found in their operands. Language Reference 6.11 "Boolean operations".
 #[cycle(typing)]
-fn label_connective<S: TypeStore, R: Resolver>(
+fn label_connective<S: TypeStore>(
     checker: &mut Checker<'_, S>,
-    setting: &Setting<'_, S::Ty, R>,
+    setting: &Setting<'_, S::Ty>,
     env: &Env<S::Ty>,
     e: &Expr,
 ) -> Result<Label<S::Ty>, OutOfMemory>
@@ -246,9 +227,9 @@ fn label_connective<S: TypeStore, R: Resolver>(
     requires form { IsConnective e.now }
     ensures marked { (expected : Option Tree) → IfOk result
         (λ l. IsLabel S.TypeStore checker.new l
-        (mark_in (standing_of S.tree R.meaning setting.now env.now) expected (expr_of e.now))) }
+        (mark_in (standing_of S.tree setting.now env.now) expected (expr_of e.now))) }
     ensures found { (expected : Option Tree) → OnOk result (Finds checker.old checker.new
-        (parts_find (standing_of S.tree R.meaning setting.now env.now) expected (expr_of e.now))) }
+        (parts_find (standing_of S.tree setting.now env.now) expected (expr_of e.now))) }
     ensures goes_on { GoesOn S.TypeStore checker.old checker.new }
 {
     match e {

@@ -1,19 +1,20 @@
 //! The label of a call, by the rule of its callee.
 
-ghost use Rattle.std.specs.Prelude.{map, All, IfOk};
+ghost use Rattle.std.specs.Prelude.{◌≡◌, map, All, IfOk};
 ghost use Rattle.pc_tree.specs.Lists.{exprs_of_list};
 ghost use Rattle.pc_types.specs.Store.{KeepsTypes, Means};
 ghost use Rattle.pc_class.specs.Tables.{HasEntries};
 ghost use Rattle.pc_flow.specs.Stored.{HasEach, env_of};
 ghost use Rattle.pc_rules.specs.Calls.{first_type, length_mark};
+ghost use Rattle.pc_rules.specs.Checkers.{GoesOn, IsLabel};
 ghost use Rattle.pc_rules.specs.Lawful.{whole_call_mark};
 ghost use Rattle.pc_rules.specs.Standing.{context_with, IsMark};
 ghost use Rattle.pc_call.specs.JudgedCalls.{offer_called, rule_of, HasCallOffer};
 
 use pc_call::{CallRule, Callee, members_label, test_label};
-use pc_flow::{Env, Resolver};
+use pc_flow::Env;
 use pc_operate::{Operation, member_offers, offers_label};
-use pc_rules::{Label, Setting};
+use pc_rules::{Checker, Label, Setting};
 use pc_source::OutOfMemory;
 use pc_tree::Expr;
 use pc_types::TypeStore;
@@ -36,10 +37,10 @@ fn first_type<S: TypeStore>(
 }
 
 /// The label of a call of `len`, by the type of its one argument. Library reference, "Built-in Functions".
-fn length_label<S: TypeStore, R: Resolver>(
+fn length_label<S: TypeStore>(
     store: &mut S,
     alloc: Global,
-    setting: &Setting<'_, S::Ty, R>,
+    setting: &Setting<'_, S::Ty>,
     types: &[S::Ty],
 ) -> Result<Label<S::Ty>, OutOfMemory>
     requires classes { HasEntries (S.has store.old) setting.now.classes.now }
@@ -61,28 +62,35 @@ fn length_label<S: TypeStore, R: Resolver>(
 }
 
 /// The label of a call, by the rule of its callee. Language Reference 6.3.4 "Calls".
-pub fn call_label<S: TypeStore, R: Resolver>(
-    store: &mut S,
-    alloc: Global,
-    setting: &Setting<'_, S::Ty, R>,
+pub(crate) fn call_label<S: TypeStore>(
+    checker: &mut Checker<'_, S>,
+    setting: &Setting<'_, S::Ty>,
     env: &Env<S::Ty>,
     callee: &Callee<'_, S::Ty>,
     arguments: &[Expr],
     types: &[S::Ty],
 ) -> Result<Label<S::Ty>, OutOfMemory>
-    requires classes { HasEntries (S.has store.old) setting.now.classes.now }
-    requires env { HasEach (S.has store.old) env.now }
-    requires offers { All (HasCallOffer (S.has store.old)) callee.now.offers.items }
-    requires types { All (S.has store.old) types.now }
+    requires classes { HasEntries (S.has checker.old.store.now) setting.now.classes.now }
+    requires env { HasEach (S.has checker.old.store.now) env.now }
+    requires offers { All (HasCallOffer (S.has checker.old.store.now)) callee.now.offers.items }
+    requires types { All (S.has checker.old.store.now) types.now }
     ensures label { IfOk result
-        (λ l. IsMark S.has S.tree store.new l
-        (whole_call_mark (context_with S.tree R.meaning setting.now) (env_of S.tree env.now) (rule_of callee.now.rule)
+        (λ l. IsLabel S.TypeStore checker.new l
+        (whole_call_mark (context_with S.tree setting.now) (env_of S.tree env.now) (rule_of callee.now.rule)
         (map (offer_called S.tree) callee.now.offers.items) (exprs_of_list arguments.now) (map S.tree types.now))) }
-    ensures kept { KeepsTypes S.has store.old store.new }
+    ensures found { checker.new.found.now ≡ checker.old.found.now }
+    ensures goes_on { GoesOn S.TypeStore checker.old checker.new }
 {
     match callee.rule {
-        CallRule::Member => members_label(store, alloc, setting.parents, &callee.offers),
-        CallRule::Length => length_label(store, alloc, setting, types),
-        CallRule::Test => test_label(store, alloc, setting, env, arguments),
+        CallRule::Member => {
+            members_label(
+                checker.store,
+                checker.alloc,
+                setting.parents,
+                &callee.offers,
+            )
+        }
+        CallRule::Length => length_label(checker.store, checker.alloc, setting, types),
+        CallRule::Test => { test_label(checker.store, checker.alloc, setting, env, arguments) }
     }
 }

@@ -1,6 +1,6 @@
 -- What is given of the parts of a condition is given of the whole.
-use Rattle.std.proofs.Common.{◌≡◌, ℕ, Bool as Test, true, false, not, List, ◌++◌, ◌∙◌, length, Option, Result, sym, subst}
-use Rattle.std.specs.Prelude.{IfOk, if◌then◌else◌}
+use Rattle.std.proofs.Common.{◌≡◌, ℕ, Bool as Test, true, false, not, List, ◌++◌, length, Option, Result, sym, subst}
+use Rattle.std.specs.Prelude.{IfOk}
 use Rattle.std.proofs.lemmas.Result.{IfOk-weaker}
 use Rattle.pc_source.specs.declared.place.Place.{Place}
 use Rattle.pc_tree.specs.Tree.{Expr, conjunction, disjunction}
@@ -8,7 +8,7 @@ use Rattle.pc_scope.specs.declared.resolution.Res.{Res}
 use Rattle.pc_types.specs.Tree.{Tree}
 use Rattle.pc_types.specs.Below.{Bases, AreSmaller}
 use Rattle.pc_types.specs.Store.{KeepsTypes}
-use Rattle.pc_flow.specs.Agreement.{is_among, AgreeBelow}
+use Rattle.pc_flow.specs.Agreement.{AgreeBelow}
 use Rattle.pc_flow.specs.Environment.{Env, join_env}
 use Rattle.pc_flow.specs.Narrowing.{narrow, tested_locals}
 use Rattle.pc_flow.specs.WellFormed.{IsWellFormedEnv, AreWellFormed}
@@ -27,50 +27,6 @@ module _ {Store Ty : Type 0} (has : Store → Ty → Type 0) (tree : Ty → Tree
     where_false = subst (λ (types : List (Option Ty)). GivesEnv has tree store types (env true)) (sym f) g.where_true;
   }
 
-  -- the second part of a condition, where the first part has this way on and that way out
-  module _ (two three : Store) (b : Expr) (on out : Env) (second : BothWays Ty) (met : List (Option Ty)) (k : KeepsTypes has two three) (s : GivesBoth has tree two second (λ holds. narrow bases ds resolve holds b on)) where
-    pub second_holds : GivesEnv has tree three met (join_env bases ds out (env_of tree second.where_false)) → GivesBoth has tree three (record { where_true = second.where_true; where_false = met }) (λ holds. if holds then narrow bases ds resolve true b on else join_env bases ds out (narrow bases ds resolve false b on))
-    second_holds j = record {
-      where_true = env_kept has two three k tree second.where_true _ s.where_true;
-      where_false = rw s.where_false.is at j;
-    }
-
-    pub second_fails : GivesEnv has tree three met (join_env bases ds out (env_of tree second.where_true)) → GivesBoth has tree three (record { where_true = met; where_false = second.where_false }) (λ holds. if holds then join_env bases ds out (narrow bases ds resolve true b on) else narrow bases ds resolve false b on)
-    second_fails j = record {
-      where_true = rw s.where_true.is at j;
-      where_false = env_kept has two three k tree second.where_false _ s.where_false;
-    }
-
-  -- the whole condition, from its first part
-  module _ (one three : Store) (p : Place) (a b : Expr) (env : Env) (first : BothWays Ty) (f : GivesBoth has tree one first (λ holds. narrow bases ds resolve holds a env)) {E : Type 0} (r : Result (BothWays Ty) E) where
-    -- a conjunction
-    pub both_hold : IfOk r (λ n. GivesBoth has tree three n (λ holds. if holds then narrow bases ds resolve true b (env_of tree first.where_true) else join_env bases ds (env_of tree first.where_false) (narrow bases ds resolve false b (env_of tree first.where_true)))) → IfOk r (λ n. GivesBoth has tree three n (λ holds. narrow bases ds resolve holds (conjunction p a b) env))
-    both_hold = IfOk-weaker r
-        (λ n. GivesBoth has tree three n (λ holds. if holds then narrow bases ds resolve true b (env_of tree first.where_true) else join_env bases ds (env_of tree first.where_false) (narrow bases ds resolve false b (env_of tree first.where_true))))
-        (λ n. GivesBoth has tree three n (λ holds. narrow bases ds resolve holds (conjunction p a b) env))
-        (λ n g. record {
-          where_true = rw f.where_true.is at g.where_true;
-          where_false = rw (f.where_true.is, f.where_false.is) at g.where_false;
-        })
-
-    -- a disjunction
-    pub either_holds : IfOk r (λ n. GivesBoth has tree three n (λ holds. if holds then join_env bases ds (env_of tree first.where_true) (narrow bases ds resolve true b (env_of tree first.where_false)) else narrow bases ds resolve false b (env_of tree first.where_false))) → IfOk r (λ n. GivesBoth has tree three n (λ holds. narrow bases ds resolve holds (disjunction p a b) env))
-    either_holds = IfOk-weaker r
-        (λ n. GivesBoth has tree three n (λ holds. if holds then join_env bases ds (env_of tree first.where_true) (narrow bases ds resolve true b (env_of tree first.where_false)) else narrow bases ds resolve false b (env_of tree first.where_false)))
-        (λ n. GivesBoth has tree three n (λ holds. narrow bases ds resolve holds (disjunction p a b) env))
-        (λ n g. record {
-          where_true = rw (f.where_true.is, f.where_false.is) at g.where_true;
-          where_false = rw f.where_false.is at g.where_false;
-        })
-
-  -- the ways that meet agree at the locals that the condition does not test
-  module _ (o : AreSmaller bases) (w : AreWellFormed bases ds) (one : Store) (a b : Expr) (env : Env) (k : IsWellFormedEnv bases env) (first : BothWays Ty) (f : GivesBoth has tree one first (λ holds. narrow bases ds resolve holds a env)) (n : ℕ) (l : n ≡ length ds) (tested : List ℕ) (e : (x : ℕ) → is_among tested x ≡ is_among (tested_locals resolve a ++ tested_locals resolve b) x) where
-    pub both_ready : AgreeBelow n tested (env_of tree first.where_false) (narrow bases ds resolve false b (env_of tree first.where_true))
-    both_ready = rw (f.where_true.is, f.where_false.is, l) (λ x m h. both_agree bases ds resolve o w a b env k x m (sym (e x) ∙ h))
-
-    pub either_ready : AgreeBelow n tested (env_of tree first.where_true) (narrow bases ds resolve true b (env_of tree first.where_false))
-    either_ready = rw (f.where_true.is, f.where_false.is, l) (λ x m h. either_agrees bases ds resolve o w a b env k x m (sym (e x) ∙ h))
-
   -- and it is well-formed, where the environment before was
   module _ (o : AreSmaller bases) (w : AreWellFormed bases ds) (store : Store) (e : Expr) (env : Env) (k : IsWellFormedEnv bases env) where
     pub well_formed : (n : BothWays Ty) → GivesBoth has tree store n (λ holds. narrow bases ds resolve holds e env) → GivesWellFormed has tree bases store n (λ holds. narrow bases ds resolve holds e env)
@@ -83,29 +39,26 @@ module _ {Store Ty : Type 0} (has : Store → Ty → Type 0) (tree : Ty → Tree
     pub well_formed_result : {E : Type 0} (r : Result (BothWays Ty) E) → IfOk r (λ n. GivesBoth has tree store n (λ holds. narrow bases ds resolve holds e env)) → IfOk r (λ n. GivesWellFormed has tree bases store n (λ holds. narrow bases ds resolve holds e env))
     well_formed_result r g = IfOk-weaker r (λ n. GivesBoth has tree store n (λ holds. narrow bases ds resolve holds e env)) (λ n. GivesWellFormed has tree bases store n (λ holds. narrow bases ds resolve holds e env)) well_formed g
 
-  -- both ways of a condition of two parts, from both ways of its parts
-  module _ (o : AreSmaller bases) (w : AreWellFormed bases ds) (a b : Expr) (env : Env) (k : IsWellFormedEnv bases env) (one : Store) (first second : BothWays Ty) (f : GivesBoth has tree one first (λ holds. narrow bases ds resolve holds a env)) where
-    pub first_well_formed : (holds : Test) (types : List (Option Ty)) → env_of tree types ≡ narrow bases ds resolve holds a env → IsWellFormedEnv bases (env_of tree types)
-    first_well_formed holds types e = subst (IsWellFormedEnv bases) (sym e) (conditions_well_formed bases ds resolve holds a env o w k)
-
+  -- both ways of a condition of two parts: `on` is where the second part is asked, and `out` where the first settles it
+  module _ (o : AreSmaller bases) (w : AreWellFormed bases ds) (a b : Expr) (env : Env) (k : IsWellFormedEnv bases env) (one : Store) (on out : List (Option Ty)) (second : BothWays Ty) where
     -- a conjunction
-    module _ (s : GivesBoth has tree one second (λ holds. narrow bases ds resolve holds b (narrow bases ds resolve true a env))) where
-      pub and_agree : (n : ℕ) → n ≡ length ds → (tested : List ℕ) → ((x : ℕ) → is_among tested x ≡ is_among (tested_locals resolve a ++ tested_locals resolve b) x) → AgreeBelow n tested (env_of tree first.where_false) (env_of tree second.where_false)
-      and_agree n l tested e = rw (f.where_false.is, s.where_false.is, l) (λ x m h. both_agree bases ds resolve o w a b env k x m (sym (e x) ∙ h))
+    module _ (f : env_of tree on ≡ narrow bases ds resolve true a env) (h : env_of tree out ≡ narrow bases ds resolve false a env) (s : GivesBoth has tree one second (λ holds. narrow bases ds resolve holds b (env_of tree on))) where
+      pub and_agree : (n : ℕ) → n ≡ length ds → AgreeBelow n (tested_locals resolve a ++ tested_locals resolve b) (env_of tree out) (env_of tree second.where_false)
+      and_agree n l = rw (h, s.where_false.is, f, l) (both_agree bases ds resolve o w a b env k)
 
-      pub and_gives : (p : Place) (three : Store) (met : List (Option Ty)) → KeepsTypes has one three → GivesEnv has tree three met (join_env bases ds (env_of tree first.where_false) (env_of tree second.where_false)) → GivesWellFormed has tree bases three (record { where_true = second.where_true; where_false = met }) (λ holds. narrow bases ds resolve holds (conjunction p a b) env)
-      and_gives p three met kept j = well_formed o w three (conjunction p a b) env k _ (record {
-        where_true = env_kept has one three kept tree second.where_true _ s.where_true;
-        where_false = rw (f.where_false.is, s.where_false.is) at j;
+      pub and_gives : (p : Place) (three : Store) (n : BothWays Ty) → KeepsTypes has one three → n.where_true ≡ second.where_true → GivesEnv has tree three n.where_false (join_env bases ds (env_of tree out) (env_of tree second.where_false)) → GivesWellFormed has tree bases three n (λ holds. narrow bases ds resolve holds (conjunction p a b) env)
+      and_gives p three n kept e j = well_formed o w three (conjunction p a b) env k n (record {
+        where_true = subst (λ (types : List (Option Ty)). GivesEnv has tree three types (narrow bases ds resolve true (conjunction p a b) env)) (sym e) (rw f at (env_kept has one three kept tree second.where_true _ s.where_true));
+        where_false = rw (h, s.where_false.is, f) at j;
       })
 
     -- a disjunction
-    module _ (s : GivesBoth has tree one second (λ holds. narrow bases ds resolve holds b (narrow bases ds resolve false a env))) where
-      pub or_agree : (n : ℕ) → n ≡ length ds → (tested : List ℕ) → ((x : ℕ) → is_among tested x ≡ is_among (tested_locals resolve a ++ tested_locals resolve b) x) → AgreeBelow n tested (env_of tree first.where_true) (env_of tree second.where_true)
-      or_agree n l tested e = rw (f.where_true.is, s.where_true.is, l) (λ x m h. either_agrees bases ds resolve o w a b env k x m (sym (e x) ∙ h))
+    module _ (f : env_of tree on ≡ narrow bases ds resolve false a env) (h : env_of tree out ≡ narrow bases ds resolve true a env) (s : GivesBoth has tree one second (λ holds. narrow bases ds resolve holds b (env_of tree on))) where
+      pub or_agree : (n : ℕ) → n ≡ length ds → AgreeBelow n (tested_locals resolve a ++ tested_locals resolve b) (env_of tree out) (env_of tree second.where_true)
+      or_agree n l = rw (h, s.where_true.is, f, l) (either_agrees bases ds resolve o w a b env k)
 
-      pub or_gives : (p : Place) (three : Store) (met : List (Option Ty)) → KeepsTypes has one three → GivesEnv has tree three met (join_env bases ds (env_of tree first.where_true) (env_of tree second.where_true)) → GivesWellFormed has tree bases three (record { where_true = met; where_false = second.where_false }) (λ holds. narrow bases ds resolve holds (disjunction p a b) env)
-      or_gives p three met kept j = well_formed o w three (disjunction p a b) env k _ (record {
-        where_true = rw (f.where_true.is, s.where_true.is) at j;
-        where_false = env_kept has one three kept tree second.where_false _ s.where_false;
+      pub or_gives : (p : Place) (three : Store) (n : BothWays Ty) → KeepsTypes has one three → n.where_false ≡ second.where_false → GivesEnv has tree three n.where_true (join_env bases ds (env_of tree out) (env_of tree second.where_true)) → GivesWellFormed has tree bases three n (λ holds. narrow bases ds resolve holds (disjunction p a b) env)
+      or_gives p three n kept e j = well_formed o w three (disjunction p a b) env k n (record {
+        where_true = rw (h, s.where_true.is, f) at j;
+        where_false = subst (λ (types : List (Option Ty)). GivesEnv has tree three types (narrow bases ds resolve false (disjunction p a b) env)) (sym e) (rw f at (env_kept has one three kept tree second.where_false _ s.where_false));
       })

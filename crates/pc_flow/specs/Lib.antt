@@ -1,6 +1,8 @@
 pub mod Agreement
 pub mod Chunks
+pub mod Declarations
 pub mod Environment
+pub mod Naming
 pub mod Narrowing
 pub mod Stored
 pub mod Tests

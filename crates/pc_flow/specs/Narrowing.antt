@@ -159,3 +159,10 @@ module _ (bases : Bases) (declared : List Tree) (resolve : List ℕ → Res) whe
       (local_of_argument resolve (first_argument arguments))
       (test_of_argument resolve (second_argument arguments)) env
   narrow holds _ env = env
+
+-- a condition that is no `not`, `and` or `or`: it tests one local at most
+abbrev pub IsSimple : Expr → Type 0
+IsSimple (negation p e) = ⊥
+IsSimple (conjunction p a b) = ⊥
+IsSimple (disjunction p a b) = ⊥
+IsSimple _ = Unit {0}

@@ -4,11 +4,12 @@ ghost use Rattle.std.specs.Prelude.{Some, IfOk, OnOk, length, slice_set};
 ghost use Rattle.std.specs.Option.{option_copied, option_map};
 ghost use Rattle.pc_types.specs.Store.{Means, KeepsTypes};
 ghost use Rattle.pc_flow.specs.Agreement.{AgreeOutside, AgreeBelow};
-ghost use Rattle.pc_flow.specs.Environment.{current, declared_type, join_or_object, join_local, join_env};
+ghost use Rattle.pc_flow.specs.Environment.{current, declared_type, join_or_object, join_local};
+ghost use Rattle.pc_flow.specs.Declarations.{join_with};
 ghost use Rattle.pc_flow.specs.WellFormed.{IsWellFormedEnv};
 ghost use Rattle.pc_flow.specs.Stored.{env_of, declared_one, declared_of, HasOne, HasEach, GivesOne, GivesEnv};
 
-use crate::{DeclaredTypes, Env};
+use crate::{Declarations, Env};
 use pc_source::OutOfMemory;
 use pc_types::{Parents, TypeStore};
 use std::alloc::Global;
@@ -104,25 +105,25 @@ fn join_local<S: TypeStore>(
 fn set_joined<S: TypeStore>(
     store: &mut S,
     alloc: Global,
-    parents: &Parents,
-    declared: &DeclaredTypes<S::Ty>,
+    declarations: &Declarations<'_, S::Ty>,
     local: usize,
     a: &Env<S::Ty>,
     b: &Env<S::Ty>,
     met: &mut Env<S::Ty>,
 ) -> Result<(), OutOfMemory>
-    requires declared { HasEach (S.has store.old) declared.now }
+    requires declared { HasEach (S.has store.old) declarations.now.declared.now }
     requires left { HasEach (S.has store.old) a.now }
     requires right { HasEach (S.has store.old) b.now }
     requires met { HasEach (S.has store.old) met.old }
     ensures value { OnOk result
         (GivesEnv S.has S.tree store.new met.new
         (slice_set (env_of S.tree met.old) local
-        (join_local parents.now (declared_type (declared_of S.tree declared.now) local)
+        (join_local declarations.now.parents.now (declared_type (declared_of S.tree declarations.now.declared.now) local)
         (current (env_of S.tree a.now) local) (current (env_of S.tree b.now) local)))) }
     ensures kept { KeepsTypes S.has store.old store.new }
 {
-    let declared = declared.declared(local);
+    let parents = declarations.parents;
+    let declared = declarations.declared.declared(local);
     let joined = join_local(
         store,
         alloc,
@@ -140,23 +141,22 @@ fn set_joined<S: TypeStore>(
 pub fn join_env<S: TypeStore>(
     store: &mut S,
     alloc: Global,
-    parents: &Parents,
-    declared: &DeclaredTypes<S::Ty>,
+    declarations: &Declarations<'_, S::Ty>,
     a: &Env<S::Ty>,
     b: &Env<S::Ty>,
 ) -> Result<Env<S::Ty>, OutOfMemory>
-    requires declared { HasEach (S.has store.old) declared.now }
+    requires declared { HasEach (S.has store.old) declarations.now.declared.now }
     requires left { HasEach (S.has store.old) a.now }
     requires right { HasEach (S.has store.old) b.now }
     ensures value { IfOk result
         (λ e. GivesEnv S.has S.tree store.new e
-        (join_env parents.now (declared_of S.tree declared.now) (env_of S.tree a.now) (env_of S.tree b.now))) }
+        (join_with S.tree declarations.now (env_of S.tree a.now) (env_of S.tree b.now))) }
     ensures kept { KeepsTypes S.has store.old store.new }
 {
-    let locals = declared.types().len().min(b.len());
+    let locals = declarations.declared.types().len().min(b.len());
     let mut met = a.copied(alloc)?.first(locals);
     for local in 0..locals {
-        set_joined(store, alloc, parents, declared, local, a, b, &mut met)?;
+        set_joined(store, alloc, declarations, local, a, b, &mut met)?;
     }
     Ok(met)
 }
@@ -165,28 +165,25 @@ pub fn join_env<S: TypeStore>(
 pub(crate) fn join_some<S: TypeStore>(
     store: &mut S,
     alloc: Global,
-    parents: &Parents,
-    declared: &DeclaredTypes<S::Ty>,
+    declarations: &Declarations<'_, S::Ty>,
     locals: &[usize],
     a: Env<S::Ty>,
     b: &Env<S::Ty>,
 ) -> Result<Env<S::Ty>, OutOfMemory>
-    requires declared { HasEach (S.has store.old) declared.now }
+    requires declared { HasEach (S.has store.old) declarations.now.declared.now }
     requires left { HasEach (S.has store.old) a }
     requires right { HasEach (S.has store.old) b.now }
-    requires well_formed { IsWellFormedEnv parents.now (env_of S.tree a) }
-    requires agree { AgreeBelow (length declared.now) locals.now (env_of S.tree a) (env_of S.tree b.now) }
+    requires well_formed { IsWellFormedEnv declarations.now.parents.now (env_of S.tree a) }
+    requires agree { AgreeBelow (length declarations.now.declared.now) locals.now (env_of S.tree a) (env_of S.tree b.now) }
     ensures value { IfOk result
         (λ e. GivesEnv S.has S.tree store.new e
-        (join_env parents.now (declared_of S.tree declared.now) (env_of S.tree a) (env_of S.tree b.now))) }
+        (join_with S.tree declarations.now (env_of S.tree a) (env_of S.tree b.now))) }
     ensures kept { KeepsTypes S.has store.old store.new }
 {
     let before = a.copied(alloc)?;
-    let mut met = a.first(declared.types().len().min(b.len()));
+    let mut met = a.first(declarations.declared.types().len().min(b.len()));
     for local in locals {
-        set_joined(
-            store, alloc, parents, declared, *local, &before, b, &mut met,
-        )?;
+        set_joined(store, alloc, declarations, *local, &before, b, &mut met)?;
     }
     Ok(met)
 }
@@ -196,21 +193,20 @@ pub(crate) fn join_some<S: TypeStore>(
 pub fn join_env_at<S: TypeStore>(
     store: &mut S,
     alloc: Global,
-    parents: &Parents,
-    declared: &DeclaredTypes<S::Ty>,
+    declarations: &Declarations<'_, S::Ty>,
     locals: &[usize],
     a: Env<S::Ty>,
     b: &Env<S::Ty>,
 ) -> Result<Env<S::Ty>, OutOfMemory>
-    requires declared { HasEach (S.has store.old) declared.now }
+    requires declared { HasEach (S.has store.old) declarations.now.declared.now }
     requires left { HasEach (S.has store.old) a }
     requires right { HasEach (S.has store.old) b.now }
-    requires well_formed { IsWellFormedEnv parents.now (env_of S.tree a) }
+    requires well_formed { IsWellFormedEnv declarations.now.parents.now (env_of S.tree a) }
     requires agree { AgreeOutside locals.now (env_of S.tree a) (env_of S.tree b.now) }
     ensures value { IfOk result
         (λ e. GivesEnv S.has S.tree store.new e
-        (join_env parents.now (declared_of S.tree declared.now) (env_of S.tree a) (env_of S.tree b.now))) }
+        (join_with S.tree declarations.now (env_of S.tree a) (env_of S.tree b.now))) }
     ensures kept { KeepsTypes S.has store.old store.new }
 {
-    join_some(store, alloc, parents, declared, locals, a, b)
+    join_some(store, alloc, declarations, locals, a, b)
 }

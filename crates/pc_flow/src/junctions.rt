@@ -1,117 +1,90 @@
 //! What a conjunction or a disjunction tells of locals, from what its parts tell.
 
-ghost use Rattle.std.specs.Prelude.{IfOk, true, false};
-ghost use Rattle.pc_source.specs.declared.place.Place.{Place as PlaceOf};
-ghost use Rattle.pc_tree.specs.Tree.{expr_of, conjunction, disjunction};
+ghost use Rattle.std.specs.Prelude.{◌≡◌, ◌++◌, IfOk, length};
+ghost use Rattle.pc_tree.specs.Tree.{expr_of};
 ghost use Rattle.pc_types.specs.Store.{KeepsTypes};
-ghost use Rattle.pc_flow.specs.Narrowing.{narrow};
-ghost use Rattle.pc_flow.specs.WellFormed.{IsWellFormedEnv, AreWellFormed};
-ghost use Rattle.pc_flow.specs.Stored.{env_of, declared_of, HasEach};
-ghost use Rattle.pc_flow.specs.Ways.{GivesBoth, GivesWellFormed};
+ghost use Rattle.pc_flow.specs.Agreement.{AgreeBelow};
+ghost use Rattle.pc_flow.specs.Declarations.{join_with};
+ghost use Rattle.pc_flow.specs.Naming.{meanings};
+ghost use Rattle.pc_flow.specs.Narrowing.{tested_locals};
+ghost use Rattle.pc_flow.specs.WellFormed.{IsWellFormedEnv};
+ghost use Rattle.pc_flow.specs.Stored.{env_of, HasEach, GivesEnv};
+ghost use Rattle.pc_flow.specs.Ways.{way_on, way_out};
 
 use crate::joining::join_some;
-use crate::naming::Resolver;
 use crate::narrowing::BothWays;
 use crate::tested::tested_by_both;
-use crate::{DeclaredTypes, Env};
+use crate::{Declarations, Env};
 use pc_source::OutOfMemory;
 use pc_tree::Expr;
-use pc_types::{Parents, TypeStore};
+use pc_types::TypeStore;
 use std::alloc::Global;
 
-/// What a conjunction tells of an environment, from what its first part tells of it, and its second part of where the
-/// first is true: as `narrow` gives it, with no second walk over the parts. Language Reference 6.11 "Boolean operations".
-pub fn narrow_and<S: TypeStore, R: Resolver>(
-    store: &mut S,
-    alloc: Global,
-    parents: &Parents,
-    declared: &DeclaredTypes<S::Ty>,
-    names: &R,
-    left: &Expr,
-    right: &Expr,
-    env: &Env<S::Ty>,
-    first: BothWays<S::Ty>,
-    second: BothWays<S::Ty>,
-) -> Result<BothWays<S::Ty>, OutOfMemory>
-    requires declared { HasEach (S.has store.old) declared.now }
-    requires declared_well_formed { AreWellFormed parents.now (declared_of S.tree declared.now) }
-    requires env_well_formed { IsWellFormedEnv parents.now (env_of S.tree env.now) }
-    requires first { GivesBoth S.has S.tree store.old first
-        (λ holds. narrow parents.now (declared_of S.tree declared.now) (R.meaning names.now) holds
-        (expr_of left.now) (env_of S.tree env.now)) }
-    requires second { GivesBoth S.has S.tree store.old second
-        (λ holds. narrow parents.now (declared_of S.tree declared.now) (R.meaning names.now) holds
-        (expr_of right.now) (narrow parents.now (declared_of S.tree declared.now) (R.meaning names.now) true
-        (expr_of left.now) (env_of S.tree env.now))) }
-    ensures value { (p : PlaceOf) → IfOk result
-        (λ n. GivesWellFormed S.has S.tree parents.now store.new n
-        (λ holds. narrow parents.now (declared_of S.tree declared.now) (R.meaning names.now) holds
-        (conjunction p (expr_of left.now) (expr_of right.now)) (env_of S.tree env.now))) }
-    ensures kept { KeepsTypes S.has store.old store.new }
-{
-    parents.ordered();
-    let tested = tested_by_both(alloc, names, left, right)?;
-    let late = second.where_false;
-    let not_both = join_some(
-        store,
-        alloc,
-        parents,
-        declared,
-        &tested,
-        first.where_false,
-        &late,
-    )?;
-    Ok(BothWays {
-        where_true: second.where_true,
-        where_false: not_both,
-    })
+/// What connects two conditions.
+#[derive(Drop)]
+pub enum Connective {
+    And,
+    Or,
 }
 
-/// What a disjunction tells of an environment, from what its first part tells of it, and its second part of where the
-/// first is false: as `narrow` gives it, with no second walk over the parts. Language Reference 6.11 "Boolean
-/// operations".
-pub fn narrow_or<S: TypeStore, R: Resolver>(
+/// A conjunction or a disjunction: its second part is asked where the first is true of `and`, and where it is false of
+/// `or`. Language Reference 6.11 "Boolean operations".
+#[derive(Drop)]
+pub struct Junction<'e> {
+    pub connective: Connective,
+    pub left: &'e Expr,
+    pub right: &'e Expr,
+}
+
+/// What a junction tells of an environment, from the environment where its first part settles it, and from what its
+/// second part tells where it is asked. Where either part settles it two ways meet; they are joined at the locals that
+/// the parts test, since they agree at all others. Language Reference 6.11 "Boolean operations".
+pub fn narrow_junction<S: TypeStore>(
     store: &mut S,
     alloc: Global,
-    parents: &Parents,
-    declared: &DeclaredTypes<S::Ty>,
-    names: &R,
-    left: &Expr,
-    right: &Expr,
-    env: &Env<S::Ty>,
-    first: BothWays<S::Ty>,
+    declarations: &Declarations<'_, S::Ty>,
+    junction: &Junction,
+    settled: Env<S::Ty>,
     second: BothWays<S::Ty>,
 ) -> Result<BothWays<S::Ty>, OutOfMemory>
-    requires declared { HasEach (S.has store.old) declared.now }
-    requires declared_well_formed { AreWellFormed parents.now (declared_of S.tree declared.now) }
-    requires env_well_formed { IsWellFormedEnv parents.now (env_of S.tree env.now) }
-    requires first { GivesBoth S.has S.tree store.old first
-        (λ holds. narrow parents.now (declared_of S.tree declared.now) (R.meaning names.now) holds
-        (expr_of left.now) (env_of S.tree env.now)) }
-    requires second { GivesBoth S.has S.tree store.old second
-        (λ holds. narrow parents.now (declared_of S.tree declared.now) (R.meaning names.now) holds
-        (expr_of right.now) (narrow parents.now (declared_of S.tree declared.now) (R.meaning names.now) false
-        (expr_of left.now) (env_of S.tree env.now))) }
-    ensures value { (p : PlaceOf) → IfOk result
-        (λ n. GivesWellFormed S.has S.tree parents.now store.new n
-        (λ holds. narrow parents.now (declared_of S.tree declared.now) (R.meaning names.now) holds
-        (disjunction p (expr_of left.now) (expr_of right.now)) (env_of S.tree env.now))) }
+    requires declared { HasEach (S.has store.old) declarations.now.declared.now }
+    requires settled { HasEach (S.has store.old) settled }
+    requires second { HasEach (S.has store.old) (way_out junction.now.connective second) }
+    requires well_formed { IsWellFormedEnv declarations.now.parents.now (env_of S.tree settled) }
+    requires agree { AgreeBelow (length declarations.now.declared.now)
+        (tested_locals (meanings declarations.now.names.now) (expr_of junction.now.left.now)
+        ++ tested_locals (meanings declarations.now.names.now) (expr_of junction.now.right.now))
+        (env_of S.tree settled) (env_of S.tree (way_out junction.now.connective second)) }
+    ensures asked { IfOk result
+        (λ n. way_on junction.now.connective n ≡ way_on junction.now.connective second) }
+    ensures met { IfOk result
+        (λ n. GivesEnv S.has S.tree store.new (way_out junction.now.connective n)
+        (join_with S.tree declarations.now (env_of S.tree settled)
+        (env_of S.tree (way_out junction.now.connective second)))) }
     ensures kept { KeepsTypes S.has store.old store.new }
 {
-    parents.ordered();
-    let tested = tested_by_both(alloc, names, left, right)?;
-    let late = second.where_true;
-    let either = join_some(
-        store,
-        alloc,
-        parents,
-        declared,
-        &tested,
-        first.where_true,
-        &late,
-    )?;
-    Ok(BothWays {
-        where_true: either,
-        where_false: second.where_false,
-    })
+    let Junction {
+        connective,
+        left,
+        right,
+    } = junction;
+    let tested = tested_by_both(alloc, declarations.names, left, right)?;
+    match connective {
+        Connective::And => {
+            let late = &second.where_false;
+            let met = join_some(store, alloc, declarations, &tested, settled, late)?;
+            Ok(BothWays {
+                where_true: second.where_true,
+                where_false: met,
+            })
+        }
+        Connective::Or => {
+            let late = &second.where_true;
+            let met = join_some(store, alloc, declarations, &tested, settled, late)?;
+            Ok(BothWays {
+                where_true: met,
+                where_false: second.where_false,
+            })
+        }
+    }
 }

@@ -4,6 +4,7 @@
 mod assigning;
 mod chunk;
 mod copying;
+mod declarations;
 mod declared;
 mod env;
 mod heading;
@@ -18,16 +19,17 @@ mod testing;
 
 pub use assigning::assigned_type;
 pub use copying::copy_env;
+pub use declarations::Declarations;
 pub use declared::DeclaredTypes;
 pub use env::Env;
 pub use heading::loop_head;
 pub use joining::{join_env, join_env_at, join_or_object};
-pub use junctions::{narrow_and, narrow_or};
+pub use junctions::{Connective, Junction, narrow_junction};
 pub use laws::{
     conditions_keep_untested_locals, environments_stay_well_formed, joins_keep_agreed_locals,
     joins_keep_locals, loops_begin_with_declared_types, tests_keep_types_well_formed,
 };
-pub use naming::{OwnerNames, Resolver, local_named, test_of};
-pub use narrowing::{BothWays, narrow};
+pub use naming::{OwnerNames, local_named, test_of};
+pub use narrowing::{BothWays, narrow_false, narrow_simple, narrow_true};
 pub use tested::add_tested;
 pub use testing::Test;

@@ -8,17 +8,18 @@ ghost use Rattle.pc_scope.specs.Expressions.{is_instance_test};
 ghost use Rattle.pc_flow.specs.Agreement.{is_among};
 ghost use Rattle.pc_flow.specs.Narrowing.{first_argument, local_named, local_of_argument};
 ghost use Rattle.pc_flow.specs.Narrowing.{tested_by_call, tested_locals};
+ghost use Rattle.pc_flow.specs.Naming.{meanings};
 
-use crate::naming::{Resolver, local_named};
+use crate::naming::{OwnerNames, local_named};
 use pc_scope::is_instance_test;
 use pc_source::OutOfMemory;
 use pc_tree::{Expr, KeywordArgument};
 use std::alloc::Global;
 
 /// Adds the local that an expression names, if it is a name of one.
-fn add_named<R: Resolver>(names: &R, e: &Expr, tested: &mut Vec<usize>) -> Result<(), OutOfMemory>
+fn add_named(names: &OwnerNames, e: &Expr, tested: &mut Vec<usize>) -> Result<(), OutOfMemory>
     ensures { OnOk result
-        (tested.new.items ≡ tested.old.items ++ option_to_list (local_named (R.meaning names.now) (expr_of e.now))) }
+        (tested.new.items ≡ tested.old.items ++ option_to_list (local_named (meanings names.now) (expr_of e.now))) }
 {
     match local_named(names, e) {
         None => Ok(()),
@@ -30,8 +31,8 @@ fn add_named<R: Resolver>(names: &R, e: &Expr, tested: &mut Vec<usize>) -> Resul
 }
 
 /// Adds the local that a call tests, if it is a test of an instance.
-fn add_tested_by_call<R: Resolver>(
-    names: &R,
+fn add_tested_by_call(
+    names: &OwnerNames,
     callee: &Expr,
     arguments: &[Expr],
     by_name: &[KeywordArgument],
@@ -40,7 +41,7 @@ fn add_tested_by_call<R: Resolver>(
     ensures { OnOk result
         (tested.new.items ≡ tested.old.items
         ++ tested_by_call (is_instance_test (expr_of callee.now) (exprs_of_list arguments.now) (keywords_of_list by_name.now))
-        (local_of_argument (R.meaning names.now) (first_argument (exprs_of_list arguments.now)))) }
+        (local_of_argument (meanings names.now) (first_argument (exprs_of_list arguments.now)))) }
 {
     if !is_instance_test(callee, arguments, by_name) {
         return Ok(());
@@ -53,13 +54,13 @@ fn add_tested_by_call<R: Resolver>(
 
 /// Adds the locals that a condition tests, against `None` or by `isinstance`, in text order; one that it tests more than
 /// once comes as often. Typing specification, "Type narrowing".
-pub fn add_tested<R: Resolver>(
-    names: &R,
+pub fn add_tested(
+    names: &OwnerNames,
     condition: &Expr,
     tested: &mut Vec<usize>,
 ) -> Result<(), OutOfMemory>
     ensures { OnOk result
-        (tested.new.items ≡ tested.old.items ++ tested_locals (R.meaning names.now) (expr_of condition.now)) }
+        (tested.new.items ≡ tested.old.items ++ tested_locals (meanings names.now) (expr_of condition.now)) }
 {
     match condition {
         Expr::IsNone(_, e) => add_named(names, e, tested),
@@ -94,15 +95,15 @@ pub fn add_tested<R: Resolver>(
 }
 
 /// The locals that one of two conditions tests, each once and in order.
-pub(crate) fn tested_by_both<R: Resolver>(
+pub(crate) fn tested_by_both(
     alloc: Global,
-    names: &R,
+    names: &OwnerNames,
     left: &Expr,
     right: &Expr,
 ) -> Result<Vec<usize>, OutOfMemory>
     ensures { (x : ℕ) → IfOk result (λ tested. is_among tested.items x
-        ≡ is_among (tested_locals (R.meaning names.now) (expr_of left.now)
-        ++ tested_locals (R.meaning names.now) (expr_of right.now)) x) }
+        ≡ is_among (tested_locals (meanings names.now) (expr_of left.now)
+        ++ tested_locals (meanings names.now) (expr_of right.now)) x) }
 {
     let mut tested = Vec::new(alloc);
     add_tested(names, left, &mut tested)?;

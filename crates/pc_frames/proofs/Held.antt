@@ -1,10 +1,9 @@
 -- What the store gave stays given, well-formed types stay well-formed, and what environments and tables of the program mean.
-use Rattle.std.proofs.Common.{◌≡◌, ◌++◌, ℕ, List, [], ◌∷◌, Option, Some, None, refl, sym, ap, subst, arith}
+use Rattle.std.proofs.Common.{◌≡◌, ◌++◌, List, [], ◌∷◌, Option, Some, None, refl, sym, ap, subst, arith}
 use Rattle.std.specs.Prelude.{All, unwrap_or}
 use Rattle.std.specs.Option.{option_map}
 use Rattle.std.proofs.lemmas.List.Elements.{All-weaker}
 use Rattle.pc_tree.specs.Tree.{Expr}
-use Rattle.pc_scope.specs.declared.resolution.Res.{Res}
 use Rattle.pc_types.specs.Tree.{Tree, Any}
 use Rattle.pc_types.specs.Below.{Bases}
 use Rattle.pc_types.specs.Store.{KeepsTypes}
@@ -100,8 +99,8 @@ module _ {Store Ty : Type 0} (has : Store → Ty → Type 0) (a b : Store) (k : 
   signature_kept : (s : RustSignature Ty) → HasSignature (has a) s → HasSignature (has b) s
   signature_kept s h = record { params = params_kept s.params.items h.params; ret = k s.ret h.ret }
 
-  pub frame_kept : {R : Type 0} (tree : Ty → Tree) (meaning : R → List ℕ → Res) (f : RustFrame Ty R) → HoldsFrame (has a) tree meaning f → HoldsFrame (has b) tree meaning f
-  frame_kept tree meaning f h = record {
+  pub frame_kept : (tree : Ty → Tree) (f : RustFrame Ty) → HoldsFrame (has a) tree f → HoldsFrame (has b) tree f
+  frame_kept tree f h = record {
     classes = All-weaker (HasEntry (has a)) (HasEntry (has b)) entry_kept f.classes.now h.classes;
     functions = All-weaker (HasSignature (has a)) (HasSignature (has b)) signature_kept f.functions.now h.functions;
     constants = All-weaker (has a) (has b) k f.constants.now h.constants;

@@ -4,7 +4,6 @@ use Rattle.pc_types.specs.Store.{KeepsTypes}
 use Rattle.pc_types.specs.declared.store.TypeStore.{Ghosts as StoreOf}
 use Rattle.pc_flow.specs.Environment.{Env}
 use Rattle.pc_flow.specs.Stored.{env_of}
-use Rattle.pc_flow.specs.declared.naming.Resolver.{Ghosts as NamesOf}
 use Rattle.pc_flow.proofs.Given.{keeps_both}
 use Rattle.pc_notes.specs.declared.notes.Entry.{Entry}
 use Rattle.pc_notes.specs.Notes.{Note, notes_of}
@@ -18,9 +17,9 @@ use Rattle.pc_frames.specs.Walks.{HoldsOne, HoldsWant, HoldsEnv, HoldsWay, IsEnv
 use Rattle.pc_frames.specs.Walks.{Bound, frame_in, standing_in}
 use Rattle.pc_frames.proofs.Held.{type_kept, type_kept_if_any, types_kept, types_kept_if_any, frame_kept}
 
-module _ {Store R Ty : Type 0} {S : StoreOf Store Ty} where
+module _ {Store Ty : Type 0} {S : StoreOf Store Ty} where
   -- a step that keeps what the store gave, whatever it declares and finds
-  pub grown : {w : Walk Store R Ty} {store : Store} {declared : List (Option Ty)} {found : List Entry}
+  pub grown : {w : Walk Store Ty} {store : Store} {declared : List (Option Ty)} {found : List Entry}
       → KeepsTypes S.has w.store.now store
       → GoesOn S w (record w {
         store = record w.store { now = store };
@@ -30,11 +29,11 @@ module _ {Store R Ty : Type 0} {S : StoreOf Store Ty} where
   grown k = record { kept = k; frame = refl; same_store = refl; same_declared = refl; same_notes = refl }
 
   -- no step
-  pub same_walk : {w : Walk Store R Ty} → GoesOn S w w
+  pub same_walk : {w : Walk Store Ty} → GoesOn S w w
   same_walk = record { kept = λ ty h. h; frame = refl; same_store = refl; same_declared = refl; same_notes = refl }
 
   -- one step after another
-  pub goes_further : {a b c : Walk Store R Ty} → GoesOn S a b → GoesOn S b c → GoesOn S a c
+  pub goes_further : {a b c : Walk Store Ty} → GoesOn S a b → GoesOn S b c → GoesOn S a c
   goes_further {a = a} {b = b} {c = c} g h = record {
     kept = keeps_both S.has a.store.now b.store.now c.store.now g.kept h.kept;
     frame = h.frame ∙ g.frame;
@@ -44,35 +43,35 @@ module _ {Store R Ty : Type 0} {S : StoreOf Store Ty} where
   }
 
   -- so where neither declared and found something
-  pub quiet_further : {a b c : Walk Store R Ty} → IsQuiet S a b → IsQuiet S b c → IsQuiet S a c
+  pub quiet_further : {a b c : Walk Store Ty} → IsQuiet S a b → IsQuiet S b c → IsQuiet S a c
   quiet_further g h = record {
     declared = h.declared ∙ g.declared;
     found = h.found ∙ g.found;
   }
 
-module _ {Store R Ty : Type 0} (S : StoreOf Store Ty) (N : NamesOf R) (old new : Walk Store R Ty) where
+module _ {Store Ty : Type 0} (S : StoreOf Store Ty) (old new : Walk Store Ty) where
   -- what is said of the frame is said of it later
-  pub in_frame : (P : RustFrame Ty R → Type 0) → GoesOn S old new → P old.frame → P new.frame
+  pub in_frame : (P : RustFrame Ty → Type 0) → GoesOn S old new → P old.frame → P new.frame
   in_frame P g h = subst P (sym g.frame) h
 
   -- a type that the walk held it holds later
   pub one_kept : (ty : Ty) → GoesOn S old new → HoldsOne S old ty → HoldsOne S new ty
-  one_kept ty g h = in_frame (λ (f : RustFrame Ty R). HoldsType (S.has new.store.now) S.tree f.parents.now ty) g
+  one_kept ty g h = in_frame (λ (f : RustFrame Ty). HoldsType (S.has new.store.now) S.tree f.parents.now ty) g
       (type_kept S.has S.tree old.frame.parents.now old.store.now new.store.now g.kept ty h)
 
   -- so an environment
   pub env_kept : (env : List (Option Ty)) → GoesOn S old new → HoldsEnv S old env → HoldsEnv S new env
-  env_kept env g h = in_frame (λ (f : RustFrame Ty R). HoldsTypes (S.has new.store.now) S.tree f.parents.now env) g
+  env_kept env g h = in_frame (λ (f : RustFrame Ty). HoldsTypes (S.has new.store.now) S.tree f.parents.now env) g
       (types_kept S.has S.tree old.frame.parents.now old.store.now new.store.now g.kept env h)
 
   -- so one that there may be
   pub way_kept : (way : Option (List (Option Ty))) → GoesOn S old new → HoldsWay S old way → HoldsWay S new way
-  way_kept way g h = in_frame (λ (f : RustFrame Ty R). HoldsTypesIfAny (S.has new.store.now) S.tree f.parents.now way) g
+  way_kept way g h = in_frame (λ (f : RustFrame Ty). HoldsTypesIfAny (S.has new.store.now) S.tree f.parents.now way) g
       (types_kept_if_any S.has S.tree old.frame.parents.now old.store.now new.store.now g.kept way h)
 
   -- so a type that there may be
   pub want_kept : (want : Option Ty) → GoesOn S old new → HoldsWant S old want → HoldsWant S new want
-  want_kept want g h = in_frame (λ (f : RustFrame Ty R). HoldsTypeIfAny (S.has new.store.now) S.tree f.parents.now want) g
+  want_kept want g h = in_frame (λ (f : RustFrame Ty). HoldsTypeIfAny (S.has new.store.now) S.tree f.parents.now want) g
       (type_kept_if_any S.has S.tree old.frame.parents.now old.store.now new.store.now g.kept want h)
 
   -- what an environment means, later
@@ -81,14 +80,14 @@ module _ {Store R Ty : Type 0} (S : StoreOf Store Ty) (N : NamesOf R) (old new :
   env_given types env g h = record { holds = env_kept types g h.holds; is = h.is }
 
   -- what its statements stand in holds later
-  pub frame_on : HoldsFrame (S.has old.store.now) S.tree N.meaning old.frame → GoesOn S old new
-      → HoldsFrame (S.has new.store.now) S.tree N.meaning new.frame
-  frame_on h g = in_frame (λ (f : RustFrame Ty R). HoldsFrame (S.has new.store.now) S.tree N.meaning f) g
-      (frame_kept S.has old.store.now new.store.now g.kept S.tree N.meaning old.frame h)
+  pub frame_on : HoldsFrame (S.has old.store.now) S.tree old.frame → GoesOn S old new
+      → HoldsFrame (S.has new.store.now) S.tree new.frame
+  frame_on h g = in_frame (λ (f : RustFrame Ty). HoldsFrame (S.has new.store.now) S.tree f) g
+      (frame_kept S.has old.store.now new.store.now g.kept S.tree old.frame h)
 
   -- a walk that stood stands later, where it declared nothing
-  pub stands_on : (env : List (Option Ty)) → Stands S N old env → GoesOn S old new
-      → new.declared.now ≡ old.declared.now → Stands S N new env
+  pub stands_on : (env : List (Option Ty)) → Stands S old env → GoesOn S old new
+      → new.declared.now ≡ old.declared.now → Stands S new env
   stands_on env h g d = record {
     frame = frame_on h.frame g;
     declared = subst (λ (ds : List (Option Ty)). HoldsEnv S new ds) (sym d) (env_kept old.declared.now g h.declared);
@@ -97,81 +96,81 @@ module _ {Store R Ty : Type 0} (S : StoreOf Store Ty) (N : NamesOf R) (old new :
 
   -- what a step found
   pub found_by : (env : List (Option Ty)) (finds : BodyFrame → Standing → List Note)
-      → Stands S N old env → GoesOn S old new → new.declared.now ≡ old.declared.now
-      → notes_of new.found.now ≡ notes_of old.found.now ++ finds (frame_in S N old) (standing_in S N old env)
-      → Found S N old env new finds
+      → Stands S old env → GoesOn S old new → new.declared.now ≡ old.declared.now
+      → notes_of new.found.now ≡ notes_of old.found.now ++ finds (frame_in S old) (standing_in S old env)
+      → Found S old env new finds
   found_by env finds h g d e = record { pushed = e; declared = d; stands = stands_on env h g d }
 
   -- a later walk stands in the same
   pub same_standing : {A : Type 0} (env : List (Option Ty)) (f : BodyFrame → Standing → A)
       → GoesOn S old new → new.declared.now ≡ old.declared.now
-      → f (frame_in S N new) (standing_in S N new env) ≡ f (frame_in S N old) (standing_in S N old env)
+      → f (frame_in S new) (standing_in S new env) ≡ f (frame_in S old) (standing_in S old env)
   same_standing env f g d =
-      ap (λ (x : RustFrame Ty R). let k = frame_with S.tree N.meaning x in
+      ap (λ (x : RustFrame Ty). let k = frame_with S.tree x in
       f k (at k (env_of S.tree new.declared.now) (env_of S.tree env))) g.frame
-      ∙ ap (λ (ds : List (Option Ty)). f (frame_in S N old) (at (frame_in S N old) (env_of S.tree ds) (env_of S.tree env))) d
+      ∙ ap (λ (ds : List (Option Ty)). f (frame_in S old) (at (frame_in S old) (env_of S.tree ds) (env_of S.tree env))) d
 
 -- two steps
-module _ {Store R Ty : Type 0} (S : StoreOf Store Ty) (N : NamesOf R) (old mid new : Walk Store R Ty) where
+module _ {Store Ty : Type 0} (S : StoreOf Store Ty) (old mid new : Walk Store Ty) where
   -- what a step found, where the next one finds nothing
   pub found_quiet : (env : List (Option Ty)) (finds : BodyFrame → Standing → List Note)
-      → Found S N old env mid finds → GoesOn S mid new → new.declared.now ≡ mid.declared.now
-      → notes_of new.found.now ≡ notes_of mid.found.now → Found S N old env new finds
+      → Found S old env mid finds → GoesOn S mid new → new.declared.now ≡ mid.declared.now
+      → notes_of new.found.now ≡ notes_of mid.found.now → Found S old env new finds
   found_quiet env finds a g d e = record {
     pushed = e ∙ a.pushed;
     declared = d ∙ a.declared;
-    stands = stands_on S N mid new env a.stands g d;
+    stands = stands_on S mid new env a.stands g d;
   }
 
   -- what two steps found, the second maybe in another environment
   pub found_then : (env other : List (Option Ty)) (first second finds : BodyFrame → Standing → List Note)
-      → GoesOn S old mid → GoesOn S mid new → Found S N old env mid first → Found S N mid other new second
-      → first (frame_in S N old) (standing_in S N old env) ++ second (frame_in S N old) (standing_in S N old other)
-      ≡ finds (frame_in S N old) (standing_in S N old env)
-      → Found S N old env new finds
+      → GoesOn S old mid → GoesOn S mid new → Found S old env mid first → Found S mid other new second
+      → first (frame_in S old) (standing_in S old env) ++ second (frame_in S old) (standing_in S old other)
+      ≡ finds (frame_in S old) (standing_in S old env)
+      → Found S old env new finds
   found_then env other first second finds g h a b e =
       let before = notes_of old.found.now in
-      let one = first (frame_in S N old) (standing_in S N old env) in
-      let two = second (frame_in S N old) (standing_in S N old other) in
-      let same = same_standing S N old mid other second g a.declared in
+      let one = first (frame_in S old) (standing_in S old env) in
+      let two = second (frame_in S old) (standing_in S old other) in
+      let same = same_standing S old mid other second g a.declared in
       record {
         pushed = b.pushed
-            ∙ ap (λ (ns : List Note). ns ++ second (frame_in S N mid) (standing_in S N mid other)) a.pushed
+            ∙ ap (λ (ns : List Note). ns ++ second (frame_in S mid) (standing_in S mid other)) a.pushed
             ∙ ap (λ (ns : List Note). (before ++ one) ++ ns) same
             ∙ append_assoc before one two
             ∙ ap (λ (ns : List Note). before ++ ns) e;
         declared = b.declared ∙ a.declared;
-        stands = stands_on S N mid new env a.stands h b.declared;
+        stands = stands_on S mid new env a.stands h b.declared;
       }
 
   -- what a name bound comes to, where a step before it found something
   pub bound_then : (env behind : List (Option Ty)) (finds : BodyFrame → Standing → List Note)
       (binds : BodyFrame → Table → Env → List Note → BindingResult)
-      → GoesOn S old mid → Found S N old env mid finds → Bound S N mid env new behind binds
-      → Bound S N old env new behind (λ f t k ns. binds f t k (ns ++ finds f (at f t k)))
+      → GoesOn S old mid → Found S old env mid finds → Bound S mid env new behind binds
+      → Bound S old env new behind (λ f t k ns. binds f t k (ns ++ finds f (at f t k)))
   bound_then env behind finds binds g a b =
       let E = env_of S.tree env in
       record {
         is = b.is
-            ∙ ap (λ (f : RustFrame Ty R). binds (frame_with S.tree N.meaning f) (env_of S.tree mid.declared.now) E
+            ∙ ap (λ (f : RustFrame Ty). binds (frame_with S.tree f) (env_of S.tree mid.declared.now) E
             (notes_of mid.found.now)) g.frame
-            ∙ ap (λ (ds : List (Option Ty)). binds (frame_in S N old) (env_of S.tree ds) E (notes_of mid.found.now))
+            ∙ ap (λ (ds : List (Option Ty)). binds (frame_in S old) (env_of S.tree ds) E (notes_of mid.found.now))
             a.declared
-            ∙ ap (λ (ns : List Note). binds (frame_in S N old) (env_of S.tree old.declared.now) E ns) a.pushed;
+            ∙ ap (λ (ns : List Note). binds (frame_in S old) (env_of S.tree old.declared.now) E ns) a.pushed;
         stands = b.stands;
       }
 
   -- what two names bound come to
   pub bound_further : (env between behind : List (Option Ty))
       (first second : BodyFrame → Table → Env → List Note → BindingResult)
-      → GoesOn S old mid → Bound S N old env mid between first → Bound S N mid between new behind second
-      → Bound S N old env new behind (λ f t k ns. let b = first f t k ns in second f b.table b.env b.found)
+      → GoesOn S old mid → Bound S old env mid between first → Bound S mid between new behind second
+      → Bound S old env new behind (λ f t k ns. let b = first f t k ns in second f b.table b.env b.found)
   bound_further env between behind first second g a b =
       let E = env_of S.tree between in
-      let before = second (frame_in S N old) in
+      let before = second (frame_in S old) in
       record {
         is = b.is
-            ∙ ap (λ (f : RustFrame Ty R). second (frame_with S.tree N.meaning f) (env_of S.tree mid.declared.now) E
+            ∙ ap (λ (f : RustFrame Ty). second (frame_with S.tree f) (env_of S.tree mid.declared.now) E
             (notes_of mid.found.now)) g.frame
             ∙ ap (λ (r : BindingResult). before r.table r.env r.found) a.is;
         stands = b.stands;

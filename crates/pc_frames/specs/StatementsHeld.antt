@@ -1,14 +1,14 @@
 -- What statements stand in, as the program holds it, and what it answers of expressions, environments and names that
 -- are bound, in terms of the definitions. Own rule of the profile.
-use Rattle.std.specs.Prelude.{◌≡◌, ℕ, List, All, map, true, Option, Some, None}
+use Rattle.std.specs.Prelude.{◌≡◌, List, All, map, true, Option, Some, None}
 use Rattle.std.specs.Option.{option_map}
 use Rattle.pc_tree.specs.Tree.{module_of}
-use Rattle.pc_scope.specs.declared.resolution.Res.{Res}
 use Rattle.pc_scope.specs.ModuleScopes.{AreScopes}
 use Rattle.pc_types.specs.Tree.{Tree}
 use Rattle.pc_types.specs.Below.{Bases}
 use Rattle.pc_types.specs.WellFormed.{IsWellFormed}
 use Rattle.pc_class.specs.Tables.{HasEntries, classes_with}
+use Rattle.pc_flow.specs.Naming.{meanings}
 use Rattle.pc_flow.specs.WellFormed.{IsWellFormedEnv}
 use Rattle.pc_flow.specs.Stored.{HasEach, env_of}
 use Rattle.pc_notes.specs.Notes.{Note}
@@ -20,9 +20,9 @@ use Rattle.pc_rules.specs.declared.label.Label.{Label}
 use Rattle.pc_labels.specs.ComputedStatements.{BodyFrame, BindingResult}
 use Rattle.pc_frames.specs.declared.frame.Frame.{Frame as RustFrame}
 
-module _ {Ty R : Type 0} (tree : Ty → Tree) (meaning : R → List ℕ → Res) where
+module _ {Ty : Type 0} (tree : Ty → Tree) where
   -- what the statements of a function may name
-  abbrev pub context_in : RustFrame Ty R → Context
+  abbrev pub context_in : RustFrame Ty → Context
   context_in f = record {
     bases = f.parents.now;
     classes = classes_with tree f.classes.now;
@@ -30,11 +30,11 @@ module _ {Ty R : Type 0} (tree : Ty → Tree) (meaning : R → List ℕ → Res)
     constants = map tree f.constants.now;
     known = f.known;
     in_body = true;
-    resolve = meaning f.names.now;
+    resolve = meanings f.names.now;
   }
 
   -- what the statements of a function stand in
-  abbrev pub frame_with : RustFrame Ty R → BodyFrame
+  abbrev pub frame_with : RustFrame Ty → BodyFrame
   frame_with f = record { whole = module_of f.tree.now; context = context_in f; returned = tree f.returned.now }
 
 -- a type is of the store and well-formed
@@ -61,13 +61,12 @@ HoldsTypesIfAny has tree bases (Some types) = HoldsTypes has tree bases types
 
 -- the store gave all types of what statements stand in, all of them are well-formed, and names mean what the module's
 -- scopes say
-pub record HoldsFrame {Ty R : Type 0} (has : Ty → Type 0) (tree : Ty → Tree) (meaning : R → List ℕ → Res)
-    (f : RustFrame Ty R) : Type 0 where
+pub record HoldsFrame {Ty : Type 0} (has : Ty → Type 0) (tree : Ty → Tree) (f : RustFrame Ty) : Type 0 where
   pub classes : HasEntries has f.classes.now
   pub functions : All (HasSignature has) f.functions.now
   pub constants : All has f.constants.now
   pub returned : HoldsType has tree f.parents.now f.returned.now
-  pub context : ContextWellFormed (context_in tree meaning f)
+  pub context : ContextWellFormed (context_in tree f)
   pub scopes : AreScopes (module_of f.tree.now) f.scopes.now
 
 module _ {Ty : Type 0} (tree : Ty → Tree) where

@@ -6,7 +6,6 @@ use Rattle.pc_types.specs.Store.{KeepsTypes}
 use Rattle.pc_types.specs.declared.store.TypeStore.{Ghosts as StoreOf}
 use Rattle.pc_flow.specs.Environment.{Env}
 use Rattle.pc_flow.specs.Stored.{env_of}
-use Rattle.pc_flow.specs.declared.naming.Resolver.{Ghosts as NamesOf}
 use Rattle.pc_notes.specs.Notes.{Note, notes_of}
 use Rattle.pc_rules.specs.Operations.{Mark}
 use Rattle.pc_rules.specs.Standing.{Standing}
@@ -16,41 +15,41 @@ use Rattle.pc_frames.specs.StatementsHeld.{frame_with, HoldsFrame, HoldsType, Ho
 use Rattle.pc_frames.specs.StatementsHeld.{HoldsTypesIfAny, GivesLabel, GivesTypes, GivesTypesIfAny, bound_with}
 use Rattle.pc_frames.specs.declared.walk.Walk.{Walk}
 
-module _ {Store R Ty : Type 0} (S : StoreOf Store Ty) where
+module _ {Store Ty : Type 0} (S : StoreOf Store Ty) where
   -- a type of the walk: it is of the store and well-formed
-  abbrev pub HoldsOne : Walk Store R Ty → Ty → Type 0
+  abbrev pub HoldsOne : Walk Store Ty → Ty → Type 0
   HoldsOne w ty = HoldsType (S.has w.store.now) S.tree w.frame.parents.now ty
 
   -- so is a type that there may be
-  abbrev pub HoldsWant : Walk Store R Ty → Option Ty → Type 0
+  abbrev pub HoldsWant : Walk Store Ty → Option Ty → Type 0
   HoldsWant w ty = HoldsTypeIfAny (S.has w.store.now) S.tree w.frame.parents.now ty
 
   -- an environment of the walk, or its declared types: all types are of the store and well-formed
-  abbrev pub HoldsEnv : Walk Store R Ty → List (Option Ty) → Type 0
+  abbrev pub HoldsEnv : Walk Store Ty → List (Option Ty) → Type 0
   HoldsEnv w env = HoldsTypes (S.has w.store.now) S.tree w.frame.parents.now env
 
   -- so is an environment that there may be
-  abbrev pub HoldsWay : Walk Store R Ty → Option (List (Option Ty)) → Type 0
+  abbrev pub HoldsWay : Walk Store Ty → Option (List (Option Ty)) → Type 0
   HoldsWay w way = HoldsTypesIfAny (S.has w.store.now) S.tree w.frame.parents.now way
 
   -- a label of the walk, which means this one
-  abbrev pub IsLabel : Walk Store R Ty → Label Ty → Mark → Type 0
+  abbrev pub IsLabel : Walk Store Ty → Label Ty → Mark → Type 0
   IsLabel w l m = GivesLabel S.has S.tree w.frame.parents.now w.store.now l m
 
   -- a type of the walk, which means this one
-  abbrev pub IsType : Walk Store R Ty → Ty → Tree → Type 0
+  abbrev pub IsType : Walk Store Ty → Ty → Tree → Type 0
   IsType w ty t = HoldsOne w ty × (S.tree ty ≡ t)
 
   -- an environment of the walk, which means this one
-  abbrev pub IsEnv : Walk Store R Ty → List (Option Ty) → Env → Type 0
+  abbrev pub IsEnv : Walk Store Ty → List (Option Ty) → Env → Type 0
   IsEnv w types env = GivesTypes S.has S.tree w.frame.parents.now w.store.now types env
 
   -- so does an environment that there may be
-  abbrev pub IsWay : Walk Store R Ty → Option (List (Option Ty)) → Option Env → Type 0
+  abbrev pub IsWay : Walk Store Ty → Option (List (Option Ty)) → Option Env → Type 0
   IsWay w types way = GivesTypesIfAny S.has S.tree w.frame.parents.now w.store.now types way
 
   -- the walk goes on: what the store gave stays given, and the frame and what is lent are the same
-  pub record GoesOn (old new : Walk Store R Ty) : Type 0 where
+  pub record GoesOn (old new : Walk Store Ty) : Type 0 where
     pub kept : KeepsTypes S.has old.store.now new.store.now
     pub frame : new.frame ≡ old.frame
     pub same_store : new.store.ghost_name ≡ old.store.ghost_name
@@ -58,35 +57,35 @@ module _ {Store R Ty : Type 0} (S : StoreOf Store Ty) where
     pub same_notes : new.found.ghost_name ≡ old.found.ghost_name
 
   -- the walk declared and found nothing
-  pub record IsQuiet (old new : Walk Store R Ty) : Type 0 where
+  pub record IsQuiet (old new : Walk Store Ty) : Type 0 where
     pub declared : new.declared.now ≡ old.declared.now
     pub found : notes_of new.found.now ≡ notes_of old.found.now
 
-module _ {Store R Ty : Type 0} (S : StoreOf Store Ty) (N : NamesOf R) where
+module _ {Store Ty : Type 0} (S : StoreOf Store Ty) where
   -- what the statements stand in
-  abbrev pub frame_in : Walk Store R Ty → BodyFrame
-  frame_in w = frame_with S.tree N.meaning w.frame
+  abbrev pub frame_in : Walk Store Ty → BodyFrame
+  frame_in w = frame_with S.tree w.frame
 
   -- what an expression stands in, in this environment
-  abbrev pub standing_in : Walk Store R Ty → List (Option Ty) → Standing
+  abbrev pub standing_in : Walk Store Ty → List (Option Ty) → Standing
   standing_in w env = at (frame_in w) (env_of S.tree w.declared.now) (env_of S.tree env)
 
   -- the walk stands, in this environment: the store gave all types, all are well-formed, and names mean what the scopes
   -- say
-  pub record Stands (w : Walk Store R Ty) (env : List (Option Ty)) : Type 0 where
-    pub frame : HoldsFrame (S.has w.store.now) S.tree N.meaning w.frame
+  pub record Stands (w : Walk Store Ty) (env : List (Option Ty)) : Type 0 where
+    pub frame : HoldsFrame (S.has w.store.now) S.tree w.frame
     pub declared : HoldsTypes (S.has w.store.now) S.tree w.frame.parents.now w.declared.now
     pub current : HoldsTypes (S.has w.store.now) S.tree w.frame.parents.now env
 
   -- in this environment the walk found these notes, and declared nothing
-  pub record Found (old : Walk Store R Ty) (env : List (Option Ty)) (new : Walk Store R Ty)
+  pub record Found (old : Walk Store Ty) (env : List (Option Ty)) (new : Walk Store Ty)
       (finds : BodyFrame → Standing → List Note) : Type 0 where
     pub pushed : notes_of new.found.now ≡ notes_of old.found.now ++ finds (frame_in old) (standing_in old env)
     pub declared : new.declared.now ≡ old.declared.now
     pub stands : Stands new env
 
   -- in this environment the walk bound a name, which came to this
-  pub record Bound (old : Walk Store R Ty) (env : List (Option Ty)) (new : Walk Store R Ty)
+  pub record Bound (old : Walk Store Ty) (env : List (Option Ty)) (new : Walk Store Ty)
       (behind : List (Option Ty)) (binds : BodyFrame → Table → Env → List Note → BindingResult) : Type 0 where
     pub is : bound_with S.tree new.declared.now behind (notes_of new.found.now)
         ≡ binds (frame_in old) (env_of S.tree old.declared.now) (env_of S.tree env) (notes_of old.found.now)

@@ -20,10 +20,11 @@ ghost use Rattle.pc_frames.specs.AnnotatedNames.{annotation_unless, declared_by}
 ghost use Rattle.pc_frames.specs.StatementsHeld.{HoldsFrame};
 ghost use Rattle.pc_frames.specs.Walks.{Stands, HoldsOne, HoldsWant, GoesOn, Bound, frame_in};
 
+use crate::flows::find_flow_in;
 use crate::walk::Walk;
 use pc_ann::read_ann;
-use pc_flow::{DeclaredTypes, Env, Resolver, assigned_type};
-use pc_rules::{Label, find_flow};
+use pc_flow::{DeclaredTypes, Env, assigned_type};
+use pc_rules::Label;
 use pc_scope::Res;
 use pc_source::{OutOfMemory, Place};
 use pc_tree::{Ann, Code, Name};
@@ -78,27 +79,24 @@ fn type_or<S: TypeStore>(
 }
 
 /// Binds a local to what has this label, at this place. Where its declared type isn't known it is that of the label.
-pub fn bind_label<S: TypeStore, R: Resolver>(
-    walk: &mut Walk<'_, S, R>,
+pub fn bind_label<S: TypeStore>(
+    walk: &mut Walk<'_, S>,
     env: Env<S::Ty>,
     local: usize,
     want: Option<S::Ty>,
     place: Place,
     label: &Label<S::Ty>,
 ) -> Result<Env<S::Ty>, OutOfMemory>
-    requires stands { Stands S.TypeStore R.Resolver walk.old env }
+    requires stands { Stands S.TypeStore walk.old env }
     requires want { HoldsWant S.TypeStore walk.old want }
     requires label { HoldsOne S.TypeStore walk.old label.now.ty }
     ensures bound { (m : Mark) → mark_with S.tree label.now ≡ brief m
-        → IfOk result (λ b. Bound S.TypeStore R.Resolver walk.old env walk.new b
+        → IfOk result (λ b. Bound S.TypeStore walk.old env walk.new b
         (λ f t k. bind_label f t k local (option_map S.tree want) place m)) }
     ensures goes_on { GoesOn S.TypeStore walk.old walk.new }
 {
-    let parents = walk.frame.parents;
     let ty = type_or(walk.store, walk.alloc, want, &label.ty)?;
-    let code = find_flow(
-        walk.store, walk.alloc, parents, place, label, &ty, walk.found,
-    )?;
+    let code = find_flow_in(walk, place, label, &ty)?;
     let current = assigned_type(walk.store, walk.alloc, &ty, &label.ty, code)?;
     settle(walk.declared, local, ty);
     let mut behind = env;
@@ -118,19 +116,19 @@ fn is_bound<Ty: Drop>(declared: &DeclaredTypes<Ty>, meaning: Res) -> bool
 
 /// The type that the annotation of a name is read as, with what is found in it; none with E24 where the name means a
 /// local that is bound already.
-pub fn annotated_type<S: TypeStore, R: Resolver>(
-    walk: &mut Walk<'_, S, R>,
+pub fn annotated_type<S: TypeStore>(
+    walk: &mut Walk<'_, S>,
     meaning: Res,
     name: &Name,
     annotation: &Ann,
 ) -> Result<Option<S::Ty>, OutOfMemory>
-    requires { HoldsFrame (S.has walk.old.store.now) S.tree R.meaning walk.old.frame }
+    requires { HoldsFrame (S.has walk.old.store.now) S.tree walk.old.frame }
     ensures typed { IfOk result (λ t. HoldsWant S.TypeStore walk.new t × (option_map S.tree t ≡ annotation_unless
-        (bound_name (frame_in S.TypeStore R.Resolver walk.old) (env_of S.tree walk.old.declared.now) meaning)
+        (bound_name (frame_in S.TypeStore walk.old) (env_of S.tree walk.old.declared.now) meaning)
         (read_ann (module_of walk.old.frame.tree.now) walk.old.frame.parents.now (ann_of annotation.now)))) }
     ensures pushed { OnOk result (notes_of walk.new.found.now ≡ notes_of walk.old.found.now
-        ++ annotation_finds (frame_in S.TypeStore R.Resolver walk.old)
-        (bound_name (frame_in S.TypeStore R.Resolver walk.old) (env_of S.tree walk.old.declared.now) meaning)
+        ++ annotation_finds (frame_in S.TypeStore walk.old)
+        (bound_name (frame_in S.TypeStore walk.old) (env_of S.tree walk.old.declared.now) meaning)
         (name_of name.now) (ann_of annotation.now)) }
     ensures goes_on { GoesOn S.TypeStore walk.old walk.new }
     ensures declared { OnOk result (walk.new.declared.now ≡ walk.old.declared.now) }

@@ -2,6 +2,7 @@
 #![tactic(auto)]
 
 mod binding;
+mod flows;
 mod frame;
 mod laws;
 mod locals;
@@ -13,10 +14,10 @@ mod walk;
 mod ways;
 
 pub use binding::{annotated_type, bind_label, declare_alone, known_type};
+pub use flows::{find_flow_in, find_flows_in};
 pub use frame::Frame;
 pub use laws::suites_keep_untouched_locals;
 pub use loops::{bind_item, for_start, while_start};
-pub use standing::narrow_in;
 pub use touched::{touched_by, touched_by_for, touched_by_while};
 pub use unreached::declare_unreached;
 pub use walk::Walk;

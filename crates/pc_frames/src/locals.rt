@@ -7,8 +7,9 @@ ghost use Rattle.pc_tree.specs.Lists.{branches_of_list};
 ghost use Rattle.pc_tree.specs.Stopping.{bound_by, bound_by_stmt, bound_by_branches, name_of_target};
 ghost use Rattle.pc_scope.specs.Internal.WalkViews.{name_seen};
 ghost use Rattle.pc_frames.specs.Touched.{numbers_of};
+ghost use Rattle.pc_flow.specs.Naming.{meanings};
 
-use pc_flow::Resolver;
+use pc_flow::OwnerNames;
 use pc_scope::Res;
 use pc_source::OutOfMemory;
 use pc_tree::{Branch, Name, Stmt, StmtKind, Target};
@@ -92,13 +93,9 @@ pub(crate) fn add_name<'m>(names: &mut Vec<&'m Name>, name: &'m Name) -> Result<
 }
 
 /// Adds the local that a name means, if it means one.
-fn add_local<R: Resolver>(
-    locals: &mut Vec<usize>,
-    names: &R,
-    name: &Name,
-) -> Result<(), OutOfMemory>
+fn add_local(locals: &mut Vec<usize>, names: &OwnerNames, name: &Name) -> Result<(), OutOfMemory>
     ensures { OnOk result (locals.new.items
-        ≡ locals.old.items ++ numbers_of (R.meaning names.now) (name_of name.now ∷ [])) }
+        ≡ locals.old.items ++ numbers_of (meanings names.now) (name_of name.now ∷ [])) }
 {
     match names.resolve(name.text.as_str()) {
         Res::Local(local) => {
@@ -110,12 +107,12 @@ fn add_local<R: Resolver>(
 }
 
 /// The numbers of the locals that these names mean, in order.
-pub(crate) fn locals_of<R: Resolver>(
+pub(crate) fn locals_of(
     alloc: Global,
-    names: &R,
+    names: &OwnerNames,
     bound: &[&Name],
 ) -> Result<Vec<usize>, OutOfMemory>
-    ensures { IfOk result (λ locals. locals.items ≡ numbers_of (R.meaning names.now) (map name_seen bound.now)) }
+    ensures { IfOk result (λ locals. locals.items ≡ numbers_of (meanings names.now) (map name_seen bound.now)) }
 {
     let mut locals = Vec::new(alloc);
     for name in bound {

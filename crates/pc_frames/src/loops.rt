@@ -9,12 +9,13 @@ ghost use Rattle.pc_flow.specs.Stored.{env_of};
 ghost use Rattle.pc_labels.specs.ComputedStatements.{head_at, bind_item};
 ghost use Rattle.pc_frames.specs.Touched.{numbers_of};
 ghost use Rattle.pc_frames.specs.Walks.{Stands, HoldsOne, HoldsEnv, IsEnv, IsQuiet, GoesOn, Bound, frame_in};
+ghost use Rattle.pc_flow.specs.Naming.{meanings};
 
 use crate::binding::{bind_label, known_type};
 use crate::locals::{add_bound, add_name, locals_of};
 use crate::standing::head_in;
 use crate::walk::Walk;
-use pc_flow::{Env, Resolver};
+use pc_flow::Env;
 use pc_rules::Label;
 use pc_scope::Res;
 use pc_source::{OutOfMemory, Place};
@@ -23,15 +24,15 @@ use pc_types::TypeStore;
 
 /// The environment at the head of a loop that binds these locals, from the one before it: each of them that is assigned
 /// has its declared type there. Own rule of the profile.
-fn loop_start<S: TypeStore, R: Resolver>(
-    walk: &mut Walk<'_, S, R>,
+fn loop_start<S: TypeStore>(
+    walk: &mut Walk<'_, S>,
     env: &Env<S::Ty>,
     locals: &[usize],
 ) -> Result<Env<S::Ty>, OutOfMemory>
     requires declared { HoldsEnv S.TypeStore walk.old walk.old.declared.now }
     requires env { HoldsEnv S.TypeStore walk.old env.now }
-    ensures head { (names : List NameOf) → locals.now ≡ numbers_of (R.meaning walk.old.frame.names.now) names
-        → IfOk result (λ e. IsEnv S.TypeStore walk.new e (head_at (frame_in S.TypeStore R.Resolver walk.old)
+    ensures head { (names : List NameOf) → locals.now ≡ numbers_of (meanings walk.old.frame.names.now) names
+        → IfOk result (λ e. IsEnv S.TypeStore walk.new e (head_at (frame_in S.TypeStore walk.old)
         (env_of S.tree walk.old.declared.now) names (env_of S.tree env.now))) }
     ensures quiet { OnOk result (IsQuiet S.TypeStore walk.old walk.new) }
     ensures goes_on { GoesOn S.TypeStore walk.old walk.new }
@@ -41,14 +42,14 @@ fn loop_start<S: TypeStore, R: Resolver>(
 }
 
 /// The environment at the head of a `while`.
-pub fn while_start<S: TypeStore, R: Resolver>(
-    walk: &mut Walk<'_, S, R>,
+pub fn while_start<S: TypeStore>(
+    walk: &mut Walk<'_, S>,
     env: &Env<S::Ty>,
     body: &[Stmt],
 ) -> Result<Env<S::Ty>, OutOfMemory>
     requires declared { HoldsEnv S.TypeStore walk.old walk.old.declared.now }
     requires env { HoldsEnv S.TypeStore walk.old env.now }
-    ensures head { IfOk result (λ e. IsEnv S.TypeStore walk.new e (head_at (frame_in S.TypeStore R.Resolver walk.old)
+    ensures head { IfOk result (λ e. IsEnv S.TypeStore walk.new e (head_at (frame_in S.TypeStore walk.old)
         (env_of S.tree walk.old.declared.now) (bound_by (stmts_of_list body.now)) (env_of S.tree env.now))) }
     ensures quiet { OnOk result (IsQuiet S.TypeStore walk.old walk.new) }
     ensures goes_on { GoesOn S.TypeStore walk.old walk.new }
@@ -61,15 +62,15 @@ pub fn while_start<S: TypeStore, R: Resolver>(
 }
 
 /// The environment at the head of a `for`, which binds its target too.
-pub fn for_start<S: TypeStore, R: Resolver>(
-    walk: &mut Walk<'_, S, R>,
+pub fn for_start<S: TypeStore>(
+    walk: &mut Walk<'_, S>,
     env: &Env<S::Ty>,
     target: &Name,
     body: &[Stmt],
 ) -> Result<Env<S::Ty>, OutOfMemory>
     requires declared { HoldsEnv S.TypeStore walk.old walk.old.declared.now }
     requires env { HoldsEnv S.TypeStore walk.old env.now }
-    ensures head { IfOk result (λ e. IsEnv S.TypeStore walk.new e (head_at (frame_in S.TypeStore R.Resolver walk.old)
+    ensures head { IfOk result (λ e. IsEnv S.TypeStore walk.new e (head_at (frame_in S.TypeStore walk.old)
         (env_of S.tree walk.old.declared.now) (name_of target.now ∷ bound_by (stmts_of_list body.now))
         (env_of S.tree env.now))) }
     ensures quiet { OnOk result (IsQuiet S.TypeStore walk.old walk.new) }
@@ -84,16 +85,16 @@ pub fn for_start<S: TypeStore, R: Resolver>(
 }
 
 /// Binds the target of a `for` to an item of this type, in the environment at the head. What is reserved binds nothing.
-pub fn bind_item<S: TypeStore, R: Resolver>(
-    walk: &mut Walk<'_, S, R>,
+pub fn bind_item<S: TypeStore>(
+    walk: &mut Walk<'_, S>,
     head: Env<S::Ty>,
     target: &Name,
     place: Place,
     item: S::Ty,
 ) -> Result<Env<S::Ty>, OutOfMemory>
-    requires stands { Stands S.TypeStore R.Resolver walk.old head }
+    requires stands { Stands S.TypeStore walk.old head }
     requires item { HoldsOne S.TypeStore walk.old item }
-    ensures bound { IfOk result (λ b. Bound S.TypeStore R.Resolver walk.old head walk.new b
+    ensures bound { IfOk result (λ b. Bound S.TypeStore walk.old head walk.new b
         (λ f t k. bind_item f t k (f.context.resolve (name_of target.now).text) place (S.tree item))) }
     ensures goes_on { GoesOn S.TypeStore walk.old walk.new }
 {

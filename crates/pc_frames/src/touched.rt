@@ -7,22 +7,23 @@ ghost use Rattle.pc_tree.specs.Lists.{branches_of_list};
 ghost use Rattle.pc_flow.specs.Agreement.{is_among};
 ghost use Rattle.pc_frames.specs.Touched.{tested_in, tested_in_stmt, tested_in_branches, touched_by_if, touched_by_while};
 ghost use Rattle.pc_frames.specs.Touched.{touched_by_for};
+ghost use Rattle.pc_flow.specs.Naming.{meanings};
 
 use crate::locals::{add_bound, add_bound_in, add_name, locals_of};
-use pc_flow::{Resolver, add_tested};
+use pc_flow::{OwnerNames, add_tested};
 use pc_source::OutOfMemory;
 use pc_tree::{Branch, Expr, Name, Stmt, StmtKind};
 use std::alloc::Global;
 
 /// Adds the locals that conditions in statements test, in text order.
 #[cycle(tested)]
-fn add_tested_in<R: Resolver>(
-    names: &R,
+fn add_tested_in(
+    names: &OwnerNames,
     body: &[Stmt],
     tested: &mut Vec<usize>,
 ) -> Result<(), OutOfMemory>
     ensures { OnOk result (tested.new.items
-        ≡ tested.old.items ++ tested_in (R.meaning names.now) (stmts_of_list body.now)) }
+        ≡ tested.old.items ++ tested_in (meanings names.now) (stmts_of_list body.now)) }
 {
     for statement in body {
         add_tested_by(names, &statement.kind, tested)?;
@@ -32,13 +33,13 @@ fn add_tested_in<R: Resolver>(
 
 /// Adds those that conditions in a statement test.
 #[cycle(tested)]
-fn add_tested_by<R: Resolver>(
-    names: &R,
+fn add_tested_by(
+    names: &OwnerNames,
     kind: &StmtKind,
     tested: &mut Vec<usize>,
 ) -> Result<(), OutOfMemory>
     ensures { (p : PlaceOf) → OnOk result (tested.new.items
-        ≡ tested.old.items ++ tested_in_stmt (R.meaning names.now) (stmt_of_kind p kind.now)) }
+        ≡ tested.old.items ++ tested_in_stmt (meanings names.now) (stmt_of_kind p kind.now)) }
 {
     match kind {
         StmtKind::Pass => Ok(()),
@@ -63,13 +64,13 @@ fn add_tested_by<R: Resolver>(
 
 /// Adds those that the conditions of an `if`, and conditions in their suites, test.
 #[cycle(tested)]
-fn add_tested_in_branches<R: Resolver>(
-    names: &R,
+fn add_tested_in_branches(
+    names: &OwnerNames,
     branches: &[Branch],
     tested: &mut Vec<usize>,
 ) -> Result<(), OutOfMemory>
     ensures { OnOk result (tested.new.items
-        ≡ tested.old.items ++ tested_in_branches (R.meaning names.now) (branches_of_list branches.now)) }
+        ≡ tested.old.items ++ tested_in_branches (meanings names.now) (branches_of_list branches.now)) }
 {
     for branch in branches {
         add_tested(names, &branch.condition, tested)?;
@@ -80,14 +81,14 @@ fn add_tested_in_branches<R: Resolver>(
 
 /// The locals that an `if` with this suite of `else` touches, each once and in order: those that its suites bind, at any
 /// depth, and those that a condition in it tests. Behind it every other local is as before it. Own rule of the profile.
-pub fn touched_by<R: Resolver>(
+pub fn touched_by(
     alloc: Global,
-    names: &R,
+    names: &OwnerNames,
     branches: &[Branch],
     otherwise: &[Stmt],
 ) -> Result<Vec<usize>, OutOfMemory>
     ensures { (x : ℕ) → IfOk result (λ locals. is_among locals.items x
-        ≡ is_among (touched_by_if (R.meaning names.now) (branches_of_list branches.now) (stmts_of_list otherwise.now)) x) }
+        ≡ is_among (touched_by_if (meanings names.now) (branches_of_list branches.now) (stmts_of_list otherwise.now)) x) }
 {
     let mut bound = Vec::new(alloc);
     add_bound_in(&mut bound, branches)?;
@@ -102,14 +103,14 @@ pub fn touched_by<R: Resolver>(
 
 /// The locals that a `while` touches, each once and in order: those that its body binds, at any depth, and those that a
 /// condition in it tests. Inside it and behind it every other local is as before it. Own rule of the profile.
-pub fn touched_by_while<R: Resolver>(
+pub fn touched_by_while(
     alloc: Global,
-    names: &R,
+    names: &OwnerNames,
     condition: &Expr,
     body: &[Stmt],
 ) -> Result<Vec<usize>, OutOfMemory>
     ensures { (x : ℕ) → IfOk result (λ locals. is_among locals.items x
-        ≡ is_among (touched_by_while (R.meaning names.now) (expr_of condition.now) (stmts_of_list body.now)) x) }
+        ≡ is_among (touched_by_while (meanings names.now) (expr_of condition.now) (stmts_of_list body.now)) x) }
 {
     let mut bound = Vec::new(alloc);
     add_bound(&mut bound, body)?;
@@ -123,14 +124,14 @@ pub fn touched_by_while<R: Resolver>(
 
 /// The locals that a `for` touches, each once and in order: its target, those that its body binds, at any depth, and those
 /// that a condition in it tests. Inside it and behind it every other local is as before it. Own rule of the profile.
-pub fn touched_by_for<R: Resolver>(
+pub fn touched_by_for(
     alloc: Global,
-    names: &R,
+    names: &OwnerNames,
     target: &Name,
     body: &[Stmt],
 ) -> Result<Vec<usize>, OutOfMemory>
     ensures { (x : ℕ) → IfOk result (λ locals. is_among locals.items x
-        ≡ is_among (touched_by_for (R.meaning names.now) (name_of target.now) (stmts_of_list body.now)) x) }
+        ≡ is_among (touched_by_for (meanings names.now) (name_of target.now) (stmts_of_list body.now)) x) }
 {
     let mut bound = Vec::new(alloc);
     add_name(&mut bound, target)?;

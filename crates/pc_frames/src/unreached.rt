@@ -16,16 +16,12 @@ ghost use Rattle.pc_frames.specs.Walks.{HoldsEnv, IsEnv, GoesOn, frame_in};
 use crate::binding::settle;
 use crate::locals::{add_bound_by, locals_of};
 use crate::walk::Walk;
-use pc_flow::Resolver;
 use pc_source::OutOfMemory;
 use pc_tree::StmtKind;
 use pc_types::TypeStore;
 
 /// Declares a local `Any`, unless its declared type is settled already.
-fn declare_any<S: TypeStore, R: Resolver>(
-    walk: &mut Walk<'_, S, R>,
-    local: usize,
-) -> Result<(), OutOfMemory>
+fn declare_any<S: TypeStore>(walk: &mut Walk<'_, S>, local: usize) -> Result<(), OutOfMemory>
     requires { HoldsEnv S.TypeStore walk.old walk.old.declared.now }
     ensures declared { OnOk result (IsEnv S.TypeStore walk.new walk.new.declared.now (with_declared
         (bound_type (env_of S.tree walk.old.declared.now) local) (env_of S.tree walk.old.declared.now) local Any)) }
@@ -38,10 +34,7 @@ fn declare_any<S: TypeStore, R: Resolver>(
 }
 
 /// Declares `Any` each of these locals whose declared type isn't settled.
-fn declare_each<S: TypeStore, R: Resolver>(
-    walk: &mut Walk<'_, S, R>,
-    locals: &[usize],
-) -> Result<(), OutOfMemory>
+fn declare_each<S: TypeStore>(walk: &mut Walk<'_, S>, locals: &[usize]) -> Result<(), OutOfMemory>
     requires { HoldsEnv S.TypeStore walk.old walk.old.declared.now }
     ensures declared { OnOk result (IsEnv S.TypeStore walk.new walk.new.declared.now
         (unreached_numbers (env_of S.tree walk.old.declared.now) locals.now)) }
@@ -55,13 +48,13 @@ fn declare_each<S: TypeStore, R: Resolver>(
 }
 
 /// Declares `Any` each local that a statement to which no run comes binds first. Own rule of the profile.
-pub fn declare_unreached<S: TypeStore, R: Resolver>(
-    walk: &mut Walk<'_, S, R>,
+pub fn declare_unreached<S: TypeStore>(
+    walk: &mut Walk<'_, S>,
     kind: &StmtKind,
 ) -> Result<(), OutOfMemory>
     requires { HoldsEnv S.TypeStore walk.old walk.old.declared.now }
     ensures declared { (p : PlaceOf) → OnOk result (IsEnv S.TypeStore walk.new walk.new.declared.now
-        (unreached_names (frame_in S.TypeStore R.Resolver walk.old) (env_of S.tree walk.old.declared.now)
+        (unreached_names (frame_in S.TypeStore walk.old) (env_of S.tree walk.old.declared.now)
         (bound_by_stmt (stmt_of_kind p kind.now)))) }
     ensures goes_on { GoesOn S.TypeStore walk.old walk.new }
     ensures found { OnOk result (notes_of walk.new.found.now ≡ notes_of walk.old.found.now) }

@@ -1,7 +1,7 @@
 //! The walk over the statements of a function, as far as it has come.
 
 use crate::frame::Frame;
-use pc_flow::{DeclaredTypes, Resolver};
+use pc_flow::DeclaredTypes;
 use pc_notes::Notes;
 use pc_types::TypeStore;
 use std::alloc::Global;
@@ -11,13 +11,13 @@ use std::alloc::Global;
 ///
 /// Own rule of the profile.
 #[derive(Drop)]
-pub struct Walk<'w, S: TypeStore, R: Resolver> {
+pub struct Walk<'w, S: TypeStore> {
     /// The store of the types.
     pub store: &'w mut S,
     /// What allocates.
     pub alloc: Global,
     /// What the statements stand in.
-    pub frame: Frame<'w, S::Ty, R>,
+    pub frame: Frame<'w, S::Ty>,
     /// The declared types of the locals so far.
     pub declared: &'w mut DeclaredTypes<S::Ty>,
     /// What is found so far.

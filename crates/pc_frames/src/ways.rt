@@ -11,14 +11,14 @@ ghost use Rattle.pc_frames.specs.Walks.{HoldsEnv, HoldsWay, IsWay, IsQuiet, Goes
 
 use crate::standing::join_at;
 use crate::walk::Walk;
-use pc_flow::{Env, Resolver};
+use pc_flow::Env;
 use pc_source::OutOfMemory;
 use pc_types::TypeStore;
 
 /// Joins the environment at a `break` onto the way out of its loop, if it stands in one. They agree at each local that is
 /// not among these: so only these are joined. Language Reference 7.9 "The break statement".
-pub fn break_out<S: TypeStore, R: Resolver>(
-    walk: &mut Walk<'_, S, R>,
+pub fn break_out<S: TypeStore>(
+    walk: &mut Walk<'_, S>,
     locals: &[usize],
     env: &Env<S::Ty>,
     broken: &mut Option<Env<S::Ty>>,
@@ -44,8 +44,8 @@ pub fn break_out<S: TypeStore, R: Resolver>(
 
 /// Joins the way out of a suite onto the ways out of those before it, if a run comes out of it. They agree at each local
 /// that is not among these: so only these are joined.
-pub fn meet<S: TypeStore, R: Resolver>(
-    walk: &mut Walk<'_, S, R>,
+pub fn meet<S: TypeStore>(
+    walk: &mut Walk<'_, S>,
     locals: &[usize],
     ways: Option<Env<S::Ty>>,
     out: Option<Env<S::Ty>>,

@@ -5,7 +5,7 @@ use Rattle.std.proofs.lemmas.List.Elements.{All-contains}
 use Rattle.pc_tree.specs.declared.code.Code.TheVariants.{A2, A3, A5, A6, E13, E16, E18, E19, E20, E27}
 use Rattle.pc_types.specs.declared.head.Head.{Head}
 use Rattle.pc_types.specs.declared.head.Head.TheVariants as heads
-use Rattle.pc_types.specs.Tree.{Tree, Trees, Any, Object, Never, Int, Bool, Str, NoneType, Class, ListOf, DictOf, TupleOf, Union}
+use Rattle.pc_types.specs.Tree.{Tree, Trees, Any, Int, Bool, Str, NoneType, Class, TupleOf, Union}
 use Rattle.pc_types.specs.Below.{Bases}
 use Rattle.pc_types.specs.Head.{head_of}
 use Rattle.pc_types.specs.Shape.{parts, list_of_trees}

@@ -1,20 +1,19 @@
 -- Displays within the limit of nodes and over it, and the first member of a kind that is expected.
 use Rattle.std.proofs.Common.{◌≡◌, ◌∙◌, ◌≤◌, ◌<◌, ◌+◌, ℕ, List, [], ◌∷◌, refl, sym, ap, subst, arith, length, get_or, drop}
-use Rattle.std.specs.Prelude.{nat_le, Bool as Test, All, true, false, Option, Some, None, map, slice_get, nat_eq, Result, IfOk}
+use Rattle.std.specs.Prelude.{nat_le, Bool as Test, All, true, false, Some, None, map, slice_get, nat_eq, Result, IfOk}
 use Rattle.std.proofs.lemmas.Bool.{false≢true}
 use Rattle.std.proofs.lemmas.Bool.Decides.{nat_tests}
 use Rattle.std.specs.List.{list_all}
-use Rattle.std.specs.Option.{option_map}
 use Rattle.pc_tree.specs.declared.code.Code.TheVariants.{E22, E26}
 use Rattle.pc_types.specs.declared.head.Head.TheVariants as heads
 use Rattle.pc_types.specs.declared.head.Head.{Head}
-use Rattle.pc_types.specs.Tree.{Tree, Trees, Any, Object, Never, Int, Bool, Str, NoneType, Class, ListOf, DictOf, TupleOf, Union}
+use Rattle.pc_types.specs.Tree.{Tree, Any, Int, Str, ListOf, DictOf, TupleOf}
 use Rattle.pc_types.specs.Below.{Bases}
 use Rattle.pc_types.specs.Head.{head_of}
-use Rattle.pc_types.specs.Shape.{nodes, node_limit, parts, list_of_trees, count}
+use Rattle.pc_types.specs.Shape.{nodes, node_limit, parts}
 use Rattle.pc_flow.specs.Environment.{join_all}
 use Rattle.pc_flow.proofs.Rest.{mapped_rest, mapped_end}
-use Rattle.pc_rules.specs.Operations.{Mark, clean, in_error, display_mark}
+use Rattle.pc_rules.specs.Operations.{clean, in_error, display_mark}
 use Rattle.pc_types.specs.Normal.{IsKey, IsNormal}
 use Rattle.pc_types.specs.Computed.{static_test}
 use Rattle.pc_rules.specs.Context.{Context}

@@ -1,6 +1,6 @@
 -- An operator on each pair of members comes to what the kind that all have in common says.
 use Rattle.std.proofs.Common.{◌≡◌, ◌∙◌, ◌++◌, List, [], ◌∷◌, refl, sym, ap, subst, append_assoc}
-use Rattle.std.specs.Prelude.{Bool as Test, true, false, not, ◌||◌, if◌then◌else◌, Option, Some, None, map, flat_map}
+use Rattle.std.specs.Prelude.{Bool as Test, true, false, not, ◌||◌, if◌then◌else◌, Option, Some, None, map}
 use Rattle.std.specs.List.{list_any}
 use Rattle.std.proofs.lemmas.Bool.{false≢true}
 use Rattle.std.proofs.lemmas.List.Folds.{list_any-append}
@@ -11,7 +11,7 @@ use Rattle.pc_tree.specs.Code.{is_error}
 use Rattle.pc_types.specs.Tree.{Tree, Any, Never}
 use Rattle.pc_types.specs.Below.{Bases}
 use Rattle.pc_flow.specs.Environment.{join_or_object, join_onto, join_all}
-use Rattle.pc_rules.specs.Operations.{Kind, whole_kind, text_kind, kind_of, kind_taken, Mark, Offer, clean, in_error, has_error, suits, found_of, offers_mark, row_of_kinds, pair_found, pair_offers}
+use Rattle.pc_rules.specs.Operations.{Kind, whole_kind, text_kind, kind_of, kind_taken, Offer, clean, in_error, has_error, suits, found_of, offers_mark, row_of_kinds, pair_found, pair_offers}
 use Rattle.pc_rules.specs.Found.{once_onto, once, brief}
 use Rattle.pc_operate.specs.Internal.OperandPairs.{meet, common_onto, common, kind_mark}
 

@@ -7,4 +7,3 @@ pub mod Offering
 pub mod Operators
 pub mod StoredByHead
 pub mod Storing
-pub mod WaysGiven

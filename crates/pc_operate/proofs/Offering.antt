@@ -1,5 +1,5 @@
 -- Loops over the members of a type and over what an operation comes to on them.
-use Rattle.std.proofs.Common.{◌≡◌, ◌+◌, ◌<◌, ◌≤◌, ◌∙◌, ℕ, List, [], ◌∷◌, ◌++◌, Option, Some, None, refl, sym, ap, subst, append_assoc, length, get_or, drop}
+use Rattle.std.proofs.Common.{◌≡◌, ◌+◌, ◌<◌, ◌≤◌, ◌∙◌, ℕ, List, [], ◌∷◌, ◌++◌, Option, Some, None, refl, sym, ap, append_assoc, length, get_or, drop}
 use Rattle.std.specs.Prelude.{Bool as Test, true, false, ◌||◌, if◌then◌else◌, All, map, flat_map, option_to_list}
 use Rattle.std.specs.Option.{option_map}
 use Rattle.std.specs.List.{list_any}
@@ -14,11 +14,11 @@ use Rattle.pc_types.specs.Below.{Bases}
 use Rattle.pc_types.specs.Store.{Means, KeepsTypes}
 use Rattle.pc_class.specs.Tables.{ClassEntry, HasEntry, HasEntries, HasParameter, HasMethod}
 use Rattle.pc_flow.specs.Environment.{join_or_object, join_onto, join_all}
-use Rattle.pc_flow.proofs.Given.{keeps_both, all_kept}
+use Rattle.pc_flow.proofs.Given.{keeps_both}
 use Rattle.pc_flow.proofs.Rest.{mapped_rest, mapped_end}
-use Rattle.pc_rules.specs.Operations.{Mark, Offer, has_error, found_of, offers_mark, operand_types}
-use Rattle.pc_rules.specs.Found.{once_onto, once, brief}
-use Rattle.pc_rules.specs.Standing.{HasIfAny, HasOffer, HasSignature, HasGivenAll, offer_with, mark_with, IsMark}
+use Rattle.pc_rules.specs.Operations.{Offer, has_error, found_of, offers_mark, operand_types}
+use Rattle.pc_rules.specs.Found.{once_onto, once}
+use Rattle.pc_rules.specs.Standing.{HasIfAny, HasOffer, offer_with, IsMark}
 use Rattle.pc_operate.specs.JudgedOperations.{IsOffer}
 use Rattle.pc_rules.specs.declared.label.Label.{Label}
 use Rattle.pc_rules.specs.declared.label.Offer.{Offer as RustOffer}

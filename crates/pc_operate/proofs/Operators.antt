@@ -1,12 +1,10 @@
 -- Operators on two operands: what their types are by their heads, loops over members, and labels by the kind in common.
-use Rattle.std.proofs.Common.{◌≡◌, ◌∙◌, ◌+◌, ◌<◌, ◌≤◌, ℕ, List, [], ◌∷◌, refl, sym, ap, arith, length, get_or, drop}
-use Rattle.std.specs.Prelude.{Bool as Test, true, false, ◌&&◌, ◌||◌, if◌then◌else◌, Option, Some, None, map, Result, IfOk}
-use Rattle.std.specs.List.{list_all}
+use Rattle.std.proofs.Common.{◌≡◌, ◌∙◌, ◌+◌, ◌<◌, ◌≤◌, ℕ, List, [], ◌∷◌, refl, sym, arith, length, get_or, drop}
+use Rattle.std.specs.Prelude.{Bool as Test, true, false, ◌||◌, if◌then◌else◌, Option, Some, None, map, Result, IfOk}
 use Rattle.std.specs.Option.{option_map}
 use Rattle.std.proofs.lemmas.Bool.{false≢true}
-use Rattle.std.proofs.Math.Bool.{or-true}
 use Rattle.std.proofs.lemmas.Result.{IfOk-weaker}
-use Rattle.pc_tree.specs.declared.code.Code.TheVariants.{A2, E13}
+use Rattle.pc_tree.specs.declared.code.Code.TheVariants.{E13}
 use Rattle.pc_types.specs.declared.head.Head.{Head}
 use Rattle.pc_types.specs.declared.head.Head.TheVariants as heads
 use Rattle.pc_types.specs.Tree.{Tree, Any, Never, Int, Bool, Str, Union}
@@ -15,9 +13,9 @@ use Rattle.pc_types.specs.Head.{head_of}
 use Rattle.pc_types.specs.Shape.{members}
 use Rattle.pc_flow.specs.Environment.{join_or_object}
 use Rattle.pc_flow.proofs.Rest.{mapped_rest, mapped_end}
-use Rattle.pc_rules.specs.Operations.{Kind, whole_kind, text_kind, kind_of, Mark, clean, in_error, is_never, is_any, is_dynamic, has_side, pair_offers, offers_mark, pairs_mark}
+use Rattle.pc_rules.specs.Operations.{Kind, whole_kind, text_kind, kind_of, Mark, clean, in_error, is_never, is_any, pair_offers, offers_mark}
 use Rattle.pc_rules.specs.Found.{brief}
-use Rattle.pc_operate.specs.Internal.OperandPairs.{meet, common_onto, common, kind_with, kind_mark, takes_of, gives_of, dynamic_of, dynamic_mark, operator_mark}
+use Rattle.pc_operate.specs.Internal.OperandPairs.{meet, common_onto, common, kind_with, kind_mark, takes_of, gives_of, operator_mark}
 use Rattle.pc_rules.specs.Standing.{IsMark}
 use Rattle.pc_rules.specs.declared.label.Label.{Label}
 use Rattle.pc_operate.specs.declared.pairs.Operator.{Operator}

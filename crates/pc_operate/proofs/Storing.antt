@@ -1,7 +1,6 @@
 -- Loops over what a store comes to on the members of a type.
 use Rattle.std.proofs.Common.{◌≡◌, ◌+◌, ◌<◌, ◌≤◌, ◌∙◌, ℕ, List, [], ◌∷◌, ◌++◌, refl, sym, ap, append_assoc, length, get_or, drop}
 use Rattle.std.specs.Prelude.{true, false, if◌then◌else◌, All, map, flat_map, option_to_list}
-use Rattle.std.specs.Option.{option_map}
 use Rattle.std.proofs.lemmas.List.{append-nil, map_push, drop_all}
 use Rattle.std.proofs.lemmas.List.Elements.{All-nil, All-push, All-weaker}
 use Rattle.pc_tree.specs.declared.code.Code.{Code}

@@ -2,4 +2,3 @@ pub mod Displays
 pub mod Internal
 pub mod JudgedOperations
 pub mod Storing
-pub mod Ways

@@ -9,7 +9,6 @@ mod offers;
 mod operating;
 mod pairs;
 mod stores;
-mod ways;
 
 pub use comparing::label_comparison;
 pub use display::{
@@ -25,4 +24,3 @@ pub use pairs::binary_label;
 pub use stores::{
     StoreOffer, StoreTarget, only_type, store_codes, store_index_types, store_offers, stored_types,
 };
-pub use ways::{and_ways, both_ways, or_ways};

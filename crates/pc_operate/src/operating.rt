@@ -1,6 +1,7 @@
 //! Labels of the forms of expressions over the labels of their operands.
+#![tactic(auto, using(pc_rules::proofs::Checkers::goes_further))]
 
-ghost use Rattle.std.specs.Prelude.{◌≡◌, ◌++◌, map, All, IfOk, OnOk};
+ghost use Rattle.std.specs.Prelude.{◌≡◌, map, All, IfOk, OnOk};
 ghost use Rattle.pc_tree.specs.Tree.{name_of, expr_of};
 ghost use Rattle.pc_tree.specs.Depth.{place_of};
 ghost use Rattle.pc_types.specs.Tree.{Int, Bool, Str, NoneType};
@@ -8,7 +9,7 @@ ghost use Rattle.pc_types.specs.Shape.{members};
 ghost use Rattle.pc_types.specs.Store.{KeepsTypes};
 ghost use Rattle.pc_class.specs.Tables.{classes_with, HasEntries};
 ghost use Rattle.pc_flow.specs.Environment.{join_or_object};
-ghost use Rattle.pc_notes.specs.Notes.{notes_of};
+ghost use Rattle.pc_rules.specs.Checkers.{Finds, GoesOn, IsLabel};
 ghost use Rattle.pc_rules.specs.Operations.{Mark, clean, offers_mark, operand_types, negative_member, attribute_member};
 ghost use Rattle.pc_rules.specs.Operations.{index_member};
 ghost use Rattle.pc_rules.specs.Lawful.{int_literal};
@@ -17,9 +18,8 @@ ghost use Rattle.pc_rules.specs.Found.{brief, flows_at};
 ghost use Rattle.pc_rules.specs.Standing.{mark_with, HasGivenAll, IsMark};
 
 use crate::offers::{Operation, literal_index, member_offers, offers_label, operand_types};
-use pc_flow::{Env, Resolver, join_or_object};
-use pc_notes::Notes;
-use pc_rules::{Label, Setting, find_flows};
+use pc_flow::{Env, join_or_object};
+use pc_rules::{Checker, Label, Setting, find_flows};
 use pc_source::OutOfMemory;
 use pc_tree::{Expr, Name};
 use pc_types::{Parents, TypeStore};
@@ -66,10 +66,10 @@ pub fn label_none<S: TypeStore>(store: &mut S, alloc: Global) -> Result<Label<S:
 }
 
 /// The label of `-` before an operand of a type. Language Reference 6.6 "Unary arithmetic and bitwise operations".
-pub fn label_negative<S: TypeStore, R: Resolver>(
+pub fn label_negative<S: TypeStore>(
     store: &mut S,
     alloc: Global,
-    setting: &Setting<'_, S::Ty, R>,
+    setting: &Setting<'_, S::Ty>,
     operand: &S::Ty,
 ) -> Result<Label<S::Ty>, OutOfMemory>
     requires operand { S.has store.old operand.now }
@@ -92,10 +92,10 @@ pub fn label_negative<S: TypeStore, R: Resolver>(
 }
 
 /// The label of an attribute of an object of a type. Language Reference 6.3.1 "Attribute references".
-pub fn label_attribute<S: TypeStore, R: Resolver>(
+pub fn label_attribute<S: TypeStore>(
     store: &mut S,
     alloc: Global,
-    setting: &Setting<'_, S::Ty, R>,
+    setting: &Setting<'_, S::Ty>,
     field: &Name,
     object: &S::Ty,
 ) -> Result<Label<S::Ty>, OutOfMemory>
@@ -116,36 +116,40 @@ pub fn label_attribute<S: TypeStore, R: Resolver>(
 
 /// The label of an object of a type at an index, and what is found where the index flows. Language Reference 6.3.2
 /// "Subscriptions".
-pub fn label_index<S: TypeStore, R: Resolver>(
-    store: &mut S,
-    alloc: Global,
-    setting: &Setting<'_, S::Ty, R>,
+pub fn label_index<S: TypeStore>(
+    checker: &mut Checker<'_, S>,
+    setting: &Setting<'_, S::Ty>,
     object: &S::Ty,
     key: &Expr,
     label: &Label<S::Ty>,
-    found: &mut Notes,
 ) -> Result<Label<S::Ty>, OutOfMemory>
-    requires object { S.has store.old object.now }
-    requires key { S.has store.old label.now.ty }
-    requires classes { HasEntries (S.has store.old) setting.now.classes.now }
+    requires object { S.has checker.old.store.now object.now }
+    requires key { S.has checker.old.store.now label.now.ty }
+    requires classes { HasEntries (S.has checker.old.store.now) setting.now.classes.now }
     ensures value { IfOk result
-        (λ l. IsMark S.has S.tree store.new l
+        (λ l. IsLabel S.TypeStore checker.new l
         (offers_mark setting.now.parents.now
         (map (index_member setting.now.parents.now (int_literal (expr_of key.now))) (members (S.tree object.now))))) }
-    ensures pushed { (m : Mark) → mark_with S.tree label.now ≡ brief m
-        → OnOk result (notes_of found.new
-        ≡ notes_of found.old ++ flows_at (place_of (expr_of key.now))
+    ensures found { (m : Mark) → mark_with S.tree label.now ≡ brief m
+        → OnOk result (Finds checker.old checker.new (flows_at (place_of (expr_of key.now))
         (flows_of setting.now.parents.now m
         (operand_types (map (index_member setting.now.parents.now (int_literal (expr_of key.now)))
-        (members (S.tree object.now)))))) }
-    ensures kept { KeepsTypes S.has store.old store.new }
+        (members (S.tree object.now))))))) }
+    ensures goes_on { GoesOn S.TypeStore checker.old checker.new }
 {
     let parents = setting.parents;
     let index = Operation::Index(literal_index(key));
-    let offers = member_offers(store, alloc, parents, setting.classes, index, object)?;
-    let types = operand_types(store, alloc, &offers)?;
-    find_flows(store, alloc, parents, key.place(), label, &types, found)?;
-    offers_label(store, alloc, parents, &offers)
+    let offers = member_offers(
+        checker.store,
+        checker.alloc,
+        parents,
+        setting.classes,
+        index,
+        object,
+    )?;
+    let types = operand_types(checker.store, checker.alloc, &offers)?;
+    find_flows(checker, parents, key.place(), label, &types)?;
+    offers_label(checker.store, checker.alloc, parents, &offers)
 }
 
 /// The label of `and` and `or` over operands of two types. Language Reference 6.11 "Boolean operations".
@@ -170,11 +174,7 @@ pub fn label_junction<S: TypeStore>(
 
 /// Does nothing: it says again that a setting and an environment hold types of the store, for a call that needs it
 /// next.
-pub fn still_stands<S: TypeStore, R: Resolver>(
-    _store: &S,
-    _setting: &Setting<'_, S::Ty, R>,
-    _env: &Env<S::Ty>,
-)
+pub fn still_stands<S: TypeStore>(_store: &S, _setting: &Setting<'_, S::Ty>, _env: &Env<S::Ty>)
     requires { HasGivenAll (S.has _store.now) S.tree _setting.now _env.now }
     ensures { HasGivenAll (S.has _store.now) S.tree _setting.now _env.now }
 {}

@@ -45,7 +45,7 @@ module _ {Ty : Type 0} (has later : Ty → Type 0) (k : (ty : Ty) → has ty →
   pub types_kept : (types : List Ty) → All has types → All later types
   types_kept types h = All-weaker has later k types h
 
-  module _ {R : Type 0} (tree : Ty → Tree) (s : Setting Ty R) (env : List (Option Ty)) where
+  module _ (tree : Ty → Tree) (s : Setting Ty) (env : List (Option Ty)) where
     -- all types of a setting and of an environment stay given
     pub stands_kept : HasGivenAll has tree s env → HasGivenAll later tree s env
     stands_kept h = record {
@@ -71,7 +71,7 @@ module _ {Ty : Type 0} (has later : Ty → Type 0) (k : (ty : Ty) → has ty →
     }
 
 -- the same, for tactics: what stood first, then that it is kept
-pub stands_further : {Ty R : Type 0} {has later : Ty → Type 0} {tree : Ty → Tree} {s : Setting Ty R} {env : List (Option Ty)} → HasGivenAll has tree s env → ((ty : Ty) → has ty → later ty) → HasGivenAll later tree s env
+pub stands_further : {Ty : Type 0} {has later : Ty → Type 0} {tree : Ty → Tree} {s : Setting Ty} {env : List (Option Ty)} → HasGivenAll has tree s env → ((ty : Ty) → has ty → later ty) → HasGivenAll later tree s env
 stands_further {has = has} {later = later} {tree = tree} {s = s} {env = env} h k = stands_kept has later k tree s env h
 
 module _ {Store Ty : Type 0} (has : Store → Ty → Type 0) where

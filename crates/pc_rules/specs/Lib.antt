@@ -1,4 +1,5 @@
 pub mod Calls
+pub mod Checkers
 pub mod Computed
 pub mod Context
 pub mod Found

@@ -3,12 +3,12 @@
 use Rattle.std.specs.Prelude.{◌≡◌, ℕ, List, map, Bool as Test, true, Option, Some, None, All, option_to_list}
 use Rattle.std.specs.Option.{option_map}
 use Rattle.pc_tree.specs.Tree.{Expr, Exprs, Entries, Keywords}
-use Rattle.pc_scope.specs.declared.resolution.Res.{Res}
 use Rattle.pc_types.specs.Tree.{Tree}
 use Rattle.pc_types.specs.Below.{Bases}
 use Rattle.pc_types.specs.Computed.{static_test, assignable_test}
 use Rattle.pc_class.specs.Tables.{HasParameter, HasEntries, parameters_with, classes_with}
 use Rattle.pc_flow.specs.Environment.{Env}
+use Rattle.pc_flow.specs.Naming.{meanings}
 use Rattle.pc_flow.specs.Narrowing.{narrow}
 use Rattle.pc_flow.specs.Stored.{HasEach, env_of, declared_of}
 use Rattle.pc_flow.specs.WellFormed.{AreWellFormed, IsWellFormedEnv}
@@ -122,9 +122,9 @@ module _ {Ty : Type 0} (tree : Ty → Tree) where
     takes = option_to_list (option_map tree o.takes);
   }
 
-module _ {Ty R : Type 0} (tree : Ty → Tree) (meaning : R → List ℕ → Res) where
+module _ {Ty : Type 0} (tree : Ty → Tree) where
   -- the context that a setting means
-  abbrev pub context_with : Setting Ty R → Context
+  abbrev pub context_with : Setting Ty → Context
   context_with s = record {
     bases = s.parents.now;
     classes = classes_with tree s.classes.now;
@@ -132,11 +132,11 @@ module _ {Ty R : Type 0} (tree : Ty → Tree) (meaning : R → List ℕ → Res)
     constants = map tree s.constants.now;
     known = s.known;
     in_body = s.in_body;
-    resolve = meaning s.names.now;
+    resolve = meanings s.names.now;
   }
 
   -- what an expression stands in, by a setting and the types of an environment
-  abbrev pub standing_of : Setting Ty R → List (Option Ty) → Standing
+  abbrev pub standing_of : Setting Ty → List (Option Ty) → Standing
   standing_of s types = record {
     context = context_with s;
     declared = declared_of tree s.declared.now;
@@ -159,7 +159,7 @@ pub record HasOffer {Ty : Type 0} (has : Ty → Type 0) (o : RustOffer Ty) : Typ
   pub takes : HasIfAny has o.takes
 
 -- the store gave all types of a setting and of an environment; those of the locals are well-formed
-pub record HasGivenAll {Ty R : Type 0} (has : Ty → Type 0) (tree : Ty → Tree) (s : Setting Ty R)
+pub record HasGivenAll {Ty : Type 0} (has : Ty → Type 0) (tree : Ty → Tree) (s : Setting Ty)
     (types : List (Option Ty)) : Type 0 where
   pub classes : HasEntries has s.classes.now
   pub functions : All (HasSignature has) s.functions.now

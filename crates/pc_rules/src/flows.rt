@@ -1,21 +1,21 @@
 //! Flows of a labelled expression into types.
+#![tactic(auto, using(crate::proofs::Checkers::goes_further))]
 
-ghost use Rattle.std.specs.Prelude.{◌≡◌, ◌++◌, All, IfOk, OnOk, map, option_to_list};
+ghost use Rattle.std.specs.Prelude.{◌≡◌, All, IfOk, OnOk, map};
 ghost use Rattle.pc_types.specs.Computed.{static_test, assignable_test};
 ghost use Rattle.pc_types.specs.Store.{KeepsTypes};
-ghost use Rattle.pc_notes.specs.Notes.{notes_of};
+ghost use Rattle.pc_rules.specs.Checkers.{Finds, GoesOn};
 ghost use Rattle.pc_rules.specs.Operations.{Mark};
 ghost use Rattle.pc_rules.specs.Context.{is_early};
 ghost use Rattle.pc_rules.specs.Computed.{code_unless, flows_of};
 ghost use Rattle.pc_rules.specs.Found.{own_flow, flow_at, flows_at, brief};
 ghost use Rattle.pc_rules.specs.Standing.{mark_with};
 
+use crate::checker::Checker;
 use crate::label::{Label, has_code, is_early, is_of_scopes};
-use pc_notes::Notes;
 use pc_source::{OutOfMemory, Place};
 use pc_tree::Code;
 use pc_types::{Parents, TypeStore};
-use std::alloc::Global;
 
 /// The code of a flow of a labelled expression into a type: none where it is static or E03 stands at the expression, A1
 /// where it is assignable alone, else E12.
@@ -42,78 +42,74 @@ fn flow_code<S: TypeStore>(
 
 /// Notes a flow with this code, a dynamic one with its two types; but nothing of a code that is found of scopes.
 fn note_flow<S: TypeStore>(
-    store: &S,
-    alloc: Global,
+    checker: &mut Checker<'_, S>,
     place: Place,
     code: Code,
     from: &S::Ty,
     into: &S::Ty,
-    found: &mut Notes,
 ) -> Result<(), OutOfMemory>
-    requires from { S.has store.now from.now }
-    requires into { S.has store.now into.now }
-    ensures { OnOk result (notes_of found.new
-        ≡ notes_of found.old ++ own_flow place (S.tree from.now) (S.tree into.now) code) }
+    requires from { S.has checker.old.store.now from.now }
+    requires into { S.has checker.old.store.now into.now }
+    ensures found { OnOk result
+        (Finds checker.old checker.new (own_flow place (S.tree from.now) (S.tree into.now) code)) }
+    ensures goes_on { GoesOn S.TypeStore checker.old checker.new }
 {
     if is_of_scopes(code) {
         return Ok(());
     }
     if let Code::A1 = code {
-        return found.put_flow(store, alloc, place, from, into);
+        return checker
+            .found
+            .put_flow(checker.store, checker.alloc, place, from, into);
     }
-    found.put(place, code)
+    checker.found.put(place, code)
 }
 
 /// Finds the flow of a labelled expression, which stands at this place, into a type, and answers its code. Typing
 /// specification, "Type system concepts", assignability; own rule of the profile.
 pub fn find_flow<S: TypeStore>(
-    store: &mut S,
-    alloc: Global,
+    checker: &mut Checker<'_, S>,
     parents: &Parents,
     place: Place,
     label: &Label<S::Ty>,
     into: &S::Ty,
-    found: &mut Notes,
 ) -> Result<Option<Code>, OutOfMemory>
-    requires label { S.has store.old label.now.ty }
-    requires into { S.has store.old into.now }
+    requires label { S.has checker.old.store.now label.now.ty }
+    requires into { S.has checker.old.store.now into.now }
     ensures value { IfOk result
         (λ c. c ≡ code_unless (static_test parents.now) (assignable_test parents.now) (is_early label.now.codes.items)
         (S.tree label.now.ty) (S.tree into.now)) }
     ensures found { IfOk result
-        (λ c. notes_of found.new ≡ notes_of found.old ++ flow_at place (S.tree label.now.ty) (S.tree into.now) c) }
-    ensures kept { KeepsTypes S.has store.old store.new }
+        (λ c. Finds checker.old checker.new (flow_at place (S.tree label.now.ty) (S.tree into.now) c)) }
+    ensures goes_on { GoesOn S.TypeStore checker.old checker.new }
 {
-    let code = flow_code(store, parents, label, into);
+    let code = flow_code(checker.store, parents, label, into);
     if let Some(code) = code {
-        note_flow(store, alloc, place, code, &label.ty, into, found)?;
+        note_flow(checker, place, code, &label.ty, into)?;
     }
     Ok(code)
 }
 
 /// Finds the flows of a labelled expression, which stands at this place, into several types, each code once.
 pub fn find_flows<S: TypeStore>(
-    store: &mut S,
-    alloc: Global,
+    checker: &mut Checker<'_, S>,
     parents: &Parents,
     place: Place,
     label: &Label<S::Ty>,
     into: &[S::Ty],
-    found: &mut Notes,
 ) -> Result<(), OutOfMemory>
-    requires label { S.has store.old label.now.ty }
-    requires into { All (S.has store.old) into.now }
+    requires label { S.has checker.old.store.now label.now.ty }
+    requires into { All (S.has checker.old.store.now) into.now }
     ensures found { (m : Mark) → mark_with S.tree label.now ≡ brief m
-        → OnOk result (notes_of found.new
-        ≡ notes_of found.old ++ flows_at place (flows_of parents.now m (map S.tree into.now))) }
-    ensures kept { KeepsTypes S.has store.old store.new }
+        → OnOk result (Finds checker.old checker.new (flows_at place (flows_of parents.now m (map S.tree into.now)))) }
+    ensures goes_on { GoesOn S.TypeStore checker.old checker.new }
 {
-    let mut codes = Vec::new(alloc);
+    let mut codes = Vec::new(checker.alloc);
     for ty in into {
-        if let Some(code) = flow_code(store, parents, label, ty) {
+        if let Some(code) = flow_code(checker.store, parents, label, ty) {
             if !has_code(&codes, code) {
                 codes.push(code)?;
-                note_flow(store, alloc, place, code, &label.ty, ty, found)?;
+                note_flow(checker, place, code, &label.ty, ty)?;
             }
         }
     }

@@ -1,12 +1,14 @@
 //! The rules of expressions and their laws; labels, names as values, and flows into types.
 #![tactic(auto)]
 
+mod checker;
 mod flows;
 mod label;
 mod laws;
 mod naming;
 mod setting;
 
+pub use checker::Checker;
 pub use flows::{find_flow, find_flows};
 pub use label::{Label, Offer, add_found, clean, find_codes, in_error, is_early};
 pub use laws::{

@@ -7,10 +7,11 @@ ghost use Rattle.pc_flow.specs.Environment.{current};
 ghost use Rattle.pc_flow.specs.Stored.{HasEach, env_of};
 ghost use Rattle.pc_rules.specs.Context.{local_mark, constant_mark, name_mark};
 ghost use Rattle.pc_rules.specs.Standing.{context_with, HasGivenAll, IsMark};
+ghost use Rattle.pc_flow.specs.Naming.{meanings};
 
 use crate::label::{Label, clean, in_error};
 use crate::setting::Setting;
-use pc_flow::{Env, Resolver};
+use pc_flow::Env;
 use pc_scope::Res;
 use pc_source::OutOfMemory;
 use pc_tree::{Code, Name};
@@ -55,18 +56,18 @@ fn constant_label<S: TypeStore>(
 
 /// The label of a name as a value: a function, a class and a reserved name are none. Language Reference 4.2.2
 /// "Resolution of names"; own rules of the profile.
-pub fn name_label<S: TypeStore, R: Resolver>(
+pub fn name_label<S: TypeStore>(
     store: &mut S,
     alloc: Global,
-    setting: &Setting<'_, S::Ty, R>,
+    setting: &Setting<'_, S::Ty>,
     env: &Env<S::Ty>,
     name: &Name,
 ) -> Result<Label<S::Ty>, OutOfMemory>
     requires { HasGivenAll (S.has store.old) S.tree setting.now env.now }
     ensures value { IfOk result
         (λ l. IsMark S.has S.tree store.new l
-        (name_mark (context_with S.tree R.meaning setting.now) (env_of S.tree env.now)
-        (R.meaning setting.now.names.now (string_bytes name.now.text)))) }
+        (name_mark (context_with S.tree setting.now) (env_of S.tree env.now)
+        (meanings setting.now.names.now (string_bytes name.now.text)))) }
     ensures kept { KeepsTypes S.has store.old store.new }
 {
     match setting.names.resolve(name.text.as_str()) {

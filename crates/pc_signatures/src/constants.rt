@@ -1,5 +1,5 @@
 //! The members of classes and the constants of a module, in text order.
-#![tactic(auto, using(pc_expr::proofs::Checkers::goes_further))]
+#![tactic(auto, using(pc_rules::proofs::Checkers::goes_further))]
 
 ghost use Rattle.std.specs.Prelude.{◌≡◌, ◌++◌, ◌∷◌, [], if◌then◌else◌, map, length, codes, IfOk, OnOk, All};
 ghost use Rattle.std.specs.Option.{option_map};
@@ -23,16 +23,16 @@ ghost use Rattle.pc_signatures.specs.Internal.SignaturesRead.{module_in, IsFrame
 ghost use Rattle.pc_signatures.specs.Internal.SignaturesRead.{HasSignatures};
 ghost use Rattle.pc_signatures.specs.Internal.SignaturesRead.{HasReached, signatures_with, methods_with, reached_with};
 ghost use Rattle.pc_rules.specs.Standing.{HasIfAny, mark_in, finds_in};
-ghost use Rattle.pc_expr.specs.Checkers.{Finds, GoesOn, IsLabel};
+ghost use Rattle.pc_rules.specs.Checkers.{Finds, GoesOn, IsLabel};
 
 use crate::bound::{Texts, bind, is_bound};
 use crate::defaults::{binds, find_default, find_into, is_reserved};
 use crate::signatures::{Frame, read_annotation, read_signature};
 use indexmap::IndexSet;
 use pc_class::ClassTable;
-use pc_expr::{Checker, type_expr};
+use pc_expr::type_expr;
 use pc_flow::{DeclaredTypes, Env, OwnerNames};
-use pc_rules::{Label, Setting, Signature};
+use pc_rules::{Checker, Label, Setting, Signature};
 use pc_scope::Owner;
 use pc_source::OutOfMemory;
 use pc_tree::{ClassDef, Constant, Expr, Field, FuncDef, Item, ItemKind, Member, Name};
@@ -368,7 +368,7 @@ fn add_item<S: TypeStore>(
 
 /// The types of the constants of a module, and what the methods of its classes take and return; what is found of its
 /// constants and classes.
-#[tactic(auto, using(pc_expr::proofs::Checkers::goes_further), unfolding(pc_rules::specs::SignaturesFound::constants_of, pc_rules::specs::SignaturesFound::method_signatures))]
+#[tactic(auto, using(pc_rules::proofs::Checkers::goes_further), unfolding(pc_rules::specs::SignaturesFound::constants_of, pc_rules::specs::SignaturesFound::method_signatures))]
 pub(crate) fn read_items<S: TypeStore>(
     checker: &mut Checker<'_, S>,
     globals: &Globals<'_, S::Ty>,

@@ -1,5 +1,5 @@
 //! Defaults of parameters and fields.
-#![tactic(auto, using(pc_expr::proofs::Checkers::goes_further))]
+#![tactic(auto, using(pc_rules::proofs::Checkers::goes_further))]
 
 ghost use Rattle.std.specs.Prelude.{◌≡◌, ◌∷◌, [], IfOk, OnOk};
 ghost use Rattle.pc_tree.specs.Tree.{literal_of, option_literal_of};
@@ -11,11 +11,10 @@ ghost use Rattle.pc_rules.specs.Found.{brief, flows_at};
 ghost use Rattle.pc_rules.specs.Signatures.{literal_type};
 ghost use Rattle.pc_rules.specs.SignaturesFound.{bound_in, binds_text, literal_findings, default_findings};
 ghost use Rattle.pc_rules.specs.Standing.{IsMark, mark_with};
-ghost use Rattle.pc_expr.specs.Checkers.{Finds, GoesOn};
+ghost use Rattle.pc_rules.specs.Checkers.{Finds, GoesOn};
 
 use crate::bound::{Texts, is_bound};
-use pc_expr::Checker;
-use pc_rules::{Label, find_flow};
+use pc_rules::{Checker, Label, find_flow};
 use pc_source::{OutOfMemory, Place};
 use pc_tree::{Literal, LiteralKind};
 use pc_types::{Parents, TypeStore};
@@ -86,15 +85,7 @@ pub(crate) fn find_into<S: TypeStore>(
         (flows_at place (flows_of parents.now m (S.tree into.now ∷ [])))) }
     ensures goes_on { GoesOn S.TypeStore checker.old checker.new }
 {
-    find_flow(
-        checker.store,
-        checker.alloc,
-        parents,
-        place,
-        label,
-        into,
-        checker.found,
-    )?;
+    find_flow(checker, parents, place, label, into)?;
     Ok(())
 }
 

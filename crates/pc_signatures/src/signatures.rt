@@ -1,5 +1,5 @@
 //! What functions take and return.
-#![tactic(auto, using(pc_expr::proofs::Checkers::goes_further))]
+#![tactic(auto, using(pc_rules::proofs::Checkers::goes_further))]
 
 ghost use Rattle.std.specs.Prelude.{◌≡◌, ◌++◌, ◌∷◌, [], map, IfOk, OnOk};
 ghost use Rattle.pc_tree.specs.Tree.{ann_of, option_ann_of, param_of, func_of, item_of};
@@ -16,14 +16,13 @@ ghost use Rattle.pc_rules.specs.SignaturesFound.{function_findings, functions_fi
 ghost use Rattle.pc_signatures.specs.Internal.SignaturesRead.{module_in, IsFrame, IsParameter, AreParameters};
 ghost use Rattle.pc_signatures.specs.Internal.SignaturesRead.{IsSignature};
 ghost use Rattle.pc_signatures.specs.Internal.SignaturesRead.{AreSignatures, HasSignatures, signatures_with};
-ghost use Rattle.pc_expr.specs.Checkers.{Finds, GoesOn};
+ghost use Rattle.pc_rules.specs.Checkers.{Finds, GoesOn};
 
 use crate::bound::{Texts, bind};
 use crate::defaults::{binds, find_default};
 use indexmap::IndexSet;
 use pc_class::Parameter;
-use pc_expr::Checker;
-use pc_rules::Signature;
+use pc_rules::{Checker, Signature};
 use pc_scope::Scopes;
 use pc_source::OutOfMemory;
 use pc_tree::{Ann, FuncDef, Item, ItemKind, Module, Param};
@@ -195,7 +194,7 @@ fn add_function<S: TypeStore>(
 }
 
 /// What the functions of a module take and return; what is found in their annotations and at their defaults.
-#[tactic(auto, using(pc_expr::proofs::Checkers::goes_further), unfolding(pc_rules::specs::Signatures::signatures_of))]
+#[tactic(auto, using(pc_rules::proofs::Checkers::goes_further), unfolding(pc_rules::specs::Signatures::signatures_of))]
 pub(crate) fn read_functions<S: TypeStore>(
     checker: &mut Checker<'_, S>,
     frame: &Frame,

@@ -1,5 +1,5 @@
 //! The signatures and constants of a module.
-#![tactic(auto, using(pc_expr::proofs::Checkers::goes_further))]
+#![tactic(auto, using(pc_rules::proofs::Checkers::goes_further))]
 
 ghost use Rattle.std.specs.Prelude.{◌≡◌, map, slice_get, IfOk, OnOk};
 ghost use Rattle.std.specs.Option.{option_copied};
@@ -13,13 +13,12 @@ ghost use Rattle.pc_rules.specs.SignaturesFound.{constants_of, method_signatures
 ghost use Rattle.pc_signatures.specs.SignaturesHeld.{HeldSignatures, methods_seen, method_numbered, HasSigned};
 ghost use Rattle.pc_signatures.specs.SignaturesHeld.{all_signatures_with};
 ghost use Rattle.pc_rules.specs.Standing.{signature_with};
-ghost use Rattle.pc_expr.specs.Checkers.{Finds, GoesOn};
+ghost use Rattle.pc_rules.specs.Checkers.{Finds, GoesOn};
 
 use crate::constants::{Globals, read_items};
 use crate::signatures::{Frame, read_functions};
 use pc_class::ClassTable;
-use pc_expr::Checker;
-use pc_rules::Signature;
+use pc_rules::{Checker, Signature};
 use pc_scope::Scopes;
 use pc_source::OutOfMemory;
 use pc_tree::Module;
@@ -86,7 +85,7 @@ impl<Ty: Drop> Sigs<Ty> {
 ///
 /// Language Reference 3.12, 7.2 "Assignment statements" and 8.7 "Function definitions"; library reference,
 /// `dataclasses`; typing specification, "Type annotations"; own rules of the profile.
-#[tactic(auto, using(pc_expr::proofs::Checkers::goes_further), unfolding(pc_rules::specs::SignaturesFound::signatures_find))]
+#[tactic(auto, using(pc_rules::proofs::Checkers::goes_further), unfolding(pc_rules::specs::SignaturesFound::signatures_find))]
 pub fn read_signatures<S: TypeStore>(
     checker: &mut Checker<'_, S>,
     parents: &Parents,

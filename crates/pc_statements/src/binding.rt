@@ -9,7 +9,7 @@ ghost use Rattle.pc_labels.specs.ComputedStatements.{bind_value, bind_annotated}
 ghost use Rattle.pc_frames.specs.Walks.{Stands, HoldsWant, GoesOn, Bound};
 
 use crate::typing::type_in;
-use pc_flow::{Env, Resolver};
+use pc_flow::Env;
 use pc_frames::{Walk, annotated_type, bind_label, declare_alone, known_type};
 use pc_scope::Res;
 use pc_source::OutOfMemory;
@@ -17,16 +17,16 @@ use pc_tree::{Ann, Expr, Name};
 use pc_types::TypeStore;
 
 /// Binds a name to a value. What is reserved binds nothing.
-pub(crate) fn bind_value<S: TypeStore, R: Resolver>(
-    walk: &mut Walk<'_, S, R>,
+pub(crate) fn bind_value<S: TypeStore>(
+    walk: &mut Walk<'_, S>,
     env: Env<S::Ty>,
     meaning: Res,
     annotation: Option<S::Ty>,
     e: &Expr,
 ) -> Result<Env<S::Ty>, OutOfMemory>
-    requires stands { Stands S.TypeStore R.Resolver walk.old env }
+    requires stands { Stands S.TypeStore walk.old env }
     requires annotation { HoldsWant S.TypeStore walk.old annotation }
-    ensures bound { IfOk result (λ b. Bound S.TypeStore R.Resolver walk.old env walk.new b
+    ensures bound { IfOk result (λ b. Bound S.TypeStore walk.old env walk.new b
         (λ f t k. bind_value f t k meaning (option_map S.tree annotation) (expr_of e.now))) }
     ensures goes_on { GoesOn S.TypeStore walk.old walk.new }
 {
@@ -48,15 +48,15 @@ pub(crate) fn bind_value<S: TypeStore, R: Resolver>(
 ///
 /// Language Reference 7.2.2 "Annotated assignment statements"; that a name that is bound already keeps its declared
 /// type is an own rule of the profile.
-pub fn bind_annotated<S: TypeStore, R: Resolver>(
-    walk: &mut Walk<'_, S, R>,
+pub fn bind_annotated<S: TypeStore>(
+    walk: &mut Walk<'_, S>,
     env: Env<S::Ty>,
     name: &Name,
     annotation: &Ann,
     value: &Option<Box<Expr>>,
 ) -> Result<Env<S::Ty>, OutOfMemory>
-    requires { Stands S.TypeStore R.Resolver walk.old env }
-    ensures bound { IfOk result (λ b. Bound S.TypeStore R.Resolver walk.old env walk.new b
+    requires { Stands S.TypeStore walk.old env }
+    ensures bound { IfOk result (λ b. Bound S.TypeStore walk.old env walk.new b
         (λ f t k. bind_annotated f t k (name_of name.now) (ann_of annotation.now) (option_expr_of value.now))) }
     ensures goes_on { GoesOn S.TypeStore walk.old walk.new }
 {

@@ -12,22 +12,23 @@ ghost use Rattle.pc_rules.specs.Standing.{finds_in};
 ghost use Rattle.pc_labels.specs.ComputedStatements.{item_mark_of, values_item, iterable_finds};
 ghost use Rattle.pc_statements.specs.Internal.Ranges.{over_range};
 ghost use Rattle.pc_frames.specs.Walks.{Stands, IsLabel, IsType, GoesOn, Found, frame_in, standing_in};
+ghost use Rattle.pc_flow.specs.Naming.{meanings};
 
 use crate::typing::type_in;
 use pc_call::is_range;
-use pc_expr::{Checker, RangeCall, type_range};
-use pc_flow::{Env, Resolver};
+use pc_expr::{RangeCall, type_range};
+use pc_flow::{Env, OwnerNames};
 use pc_frames::Walk;
 use pc_operate::item_label;
-use pc_rules::{Label, Setting, find_codes};
+use pc_rules::{Checker, Label, Setting, find_codes};
 use pc_source::OutOfMemory;
 use pc_tree::Expr;
 use pc_types::TypeStore;
 
 /// Whether an expression is a name that means `range`.
-fn means_range<R: Resolver>(names: &R, e: &Expr) -> bool
+fn means_range(names: &OwnerNames, e: &Expr) -> bool
     ensures { (p : PlaceOf) (arguments : Exprs) (keywords : Keywords)
-        → result ≡ over_range (R.meaning names.now) (call p (expr_of e.now) arguments keywords) }
+        → result ≡ over_range (meanings names.now) (call p (expr_of e.now) arguments keywords) }
 {
     let Expr::Name(name) = e else {
         return false;
@@ -36,9 +37,9 @@ fn means_range<R: Resolver>(names: &R, e: &Expr) -> bool
 }
 
 /// The call of `range` that an expression is, if it is one. Library reference, "Built-in Functions".
-fn range_call<'e, R: Resolver>(names: &R, e: &'e Expr) -> Option<RangeCall<'e>>
-    ensures { MatchOption result (over_range (R.meaning names.now) (expr_of e.now) ≡ false)
-        (λ c. (over_range (R.meaning names.now) (expr_of e.now) ≡ true)
+fn range_call<'e>(names: &OwnerNames, e: &'e Expr) -> Option<RangeCall<'e>>
+    ensures { MatchOption result (over_range (meanings names.now) (expr_of e.now) ≡ false)
+        (λ c. (over_range (meanings names.now) (expr_of e.now) ≡ true)
         × (expr_of e.now ≡ call c.place (expr_of c.callee.now) (exprs_of_list c.arguments.now)
         (keywords_of_list c.by_name.now))) }
 {
@@ -57,16 +58,16 @@ fn range_call<'e, R: Resolver>(names: &R, e: &'e Expr) -> Option<RangeCall<'e>>
 }
 
 /// The label of a turn's item of an iterable that is no call of `range`, with what is found in the iterable.
-fn label_values<S: TypeStore, R: Resolver>(
-    walk: &mut Walk<'_, S, R>,
+fn label_values<S: TypeStore>(
+    walk: &mut Walk<'_, S>,
     env: &Env<S::Ty>,
     iterable: &Expr,
 ) -> Result<Label<S::Ty>, OutOfMemory>
-    requires { Stands S.TypeStore R.Resolver walk.old env.now }
+    requires { Stands S.TypeStore walk.old env.now }
     ensures labelled { IfOk result
-        (λ l. IsLabel S.TypeStore walk.new l (values_item (frame_in S.TypeStore R.Resolver walk.old)
-        (standing_in S.TypeStore R.Resolver walk.old env.now) (expr_of iterable.now))) }
-    ensures finds { OnOk result (Found S.TypeStore R.Resolver walk.old env.now walk.new
+        (λ l. IsLabel S.TypeStore walk.new l (values_item (frame_in S.TypeStore walk.old)
+        (standing_in S.TypeStore walk.old env.now) (expr_of iterable.now))) }
+    ensures finds { OnOk result (Found S.TypeStore walk.old env.now walk.new
         (λ f k. finds_in k None (expr_of iterable.now))) }
     ensures goes_on { GoesOn S.TypeStore walk.old walk.new }
 {
@@ -83,21 +84,21 @@ fn label_values<S: TypeStore, R: Resolver>(
 }
 
 /// The label of a turn's item of a call of `range`, with what is found in the call.
-fn label_range<S: TypeStore, R: Resolver>(
-    walk: &mut Walk<'_, S, R>,
+fn label_range<S: TypeStore>(
+    walk: &mut Walk<'_, S>,
     env: &Env<S::Ty>,
     iterable: &RangeCall<'_>,
 ) -> Result<Label<S::Ty>, OutOfMemory>
-    requires stands { Stands S.TypeStore R.Resolver walk.old env.now }
-    requires range { over_range (R.meaning walk.old.frame.names.now)
+    requires stands { Stands S.TypeStore walk.old env.now }
+    requires range { over_range (meanings walk.old.frame.names.now)
         (call iterable.now.place (expr_of iterable.now.callee.now) (exprs_of_list iterable.now.arguments.now)
         (keywords_of_list iterable.now.by_name.now)) ≡ true }
     ensures labelled { IfOk result
-        (λ l. IsLabel S.TypeStore walk.new l (item_mark_of (frame_in S.TypeStore R.Resolver walk.old)
-        (standing_in S.TypeStore R.Resolver walk.old env.now)
+        (λ l. IsLabel S.TypeStore walk.new l (item_mark_of (frame_in S.TypeStore walk.old)
+        (standing_in S.TypeStore walk.old env.now)
         (call iterable.now.place (expr_of iterable.now.callee.now) (exprs_of_list iterable.now.arguments.now)
         (keywords_of_list iterable.now.by_name.now)))) }
-    ensures finds { OnOk result (Found S.TypeStore R.Resolver walk.old env.now walk.new
+    ensures finds { OnOk result (Found S.TypeStore walk.old env.now walk.new
         (λ f k. iterable_finds f k
         (call iterable.now.place (expr_of iterable.now.callee.now) (exprs_of_list iterable.now.arguments.now)
         (keywords_of_list iterable.now.by_name.now)))) }
@@ -123,16 +124,16 @@ fn label_range<S: TypeStore, R: Resolver>(
 }
 
 /// The label of a turn's item, with what is found in the iterable.
-fn label_item<S: TypeStore, R: Resolver>(
-    walk: &mut Walk<'_, S, R>,
+fn label_item<S: TypeStore>(
+    walk: &mut Walk<'_, S>,
     env: &Env<S::Ty>,
     iterable: &Expr,
 ) -> Result<Label<S::Ty>, OutOfMemory>
-    requires { Stands S.TypeStore R.Resolver walk.old env.now }
+    requires { Stands S.TypeStore walk.old env.now }
     ensures labelled { IfOk result
-        (λ l. IsLabel S.TypeStore walk.new l (item_mark_of (frame_in S.TypeStore R.Resolver walk.old)
-        (standing_in S.TypeStore R.Resolver walk.old env.now) (expr_of iterable.now))) }
-    ensures finds { OnOk result (Found S.TypeStore R.Resolver walk.old env.now walk.new
+        (λ l. IsLabel S.TypeStore walk.new l (item_mark_of (frame_in S.TypeStore walk.old)
+        (standing_in S.TypeStore walk.old env.now) (expr_of iterable.now))) }
+    ensures finds { OnOk result (Found S.TypeStore walk.old env.now walk.new
         (λ f k. iterable_finds f k (expr_of iterable.now))) }
     ensures goes_on { GoesOn S.TypeStore walk.old walk.new }
 {
@@ -143,16 +144,16 @@ fn label_item<S: TypeStore, R: Resolver>(
 }
 
 /// The type of a turn's item, with what is found in the iterable and at it. Language Reference 8.3 "The for statement".
-pub fn item_type<S: TypeStore, R: Resolver>(
-    walk: &mut Walk<'_, S, R>,
+pub fn item_type<S: TypeStore>(
+    walk: &mut Walk<'_, S>,
     env: &Env<S::Ty>,
     iterable: &Expr,
 ) -> Result<S::Ty, OutOfMemory>
-    requires { Stands S.TypeStore R.Resolver walk.old env.now }
+    requires { Stands S.TypeStore walk.old env.now }
     ensures typed { IfOk result
-        (λ t. IsType S.TypeStore walk.new t (item_mark_of (frame_in S.TypeStore R.Resolver walk.old)
-        (standing_in S.TypeStore R.Resolver walk.old env.now) (expr_of iterable.now)).type) }
-    ensures finds { OnOk result (Found S.TypeStore R.Resolver walk.old env.now walk.new
+        (λ t. IsType S.TypeStore walk.new t (item_mark_of (frame_in S.TypeStore walk.old)
+        (standing_in S.TypeStore walk.old env.now) (expr_of iterable.now)).type) }
+    ensures finds { OnOk result (Found S.TypeStore walk.old env.now walk.new
         (λ f k. iterable_finds f k (expr_of iterable.now)
         ++ codes_at (place_of (expr_of iterable.now)) (item_mark_of f k (expr_of iterable.now)).codes)) }
     ensures goes_on { GoesOn S.TypeStore walk.old walk.new }

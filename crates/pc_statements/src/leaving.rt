@@ -10,27 +10,26 @@ ghost use Rattle.pc_labels.specs.ComputedStatements.{narrowed_at, return_finds, 
 ghost use Rattle.pc_frames.specs.Walks.{Stands, IsEnv, GoesOn, Found, frame_in};
 
 use crate::typing::{type_condition, type_in};
-use pc_flow::{BothWays, Env, Resolver};
-use pc_frames::Walk;
-use pc_rules::{Label, find_flow};
+use pc_flow::{BothWays, Env};
+use pc_frames::{Walk, find_flow_in};
+use pc_rules::Label;
 use pc_source::{OutOfMemory, Place};
 use pc_tree::Expr;
 use pc_types::TypeStore;
 
 /// Finds what stands in a `return`: in its value, and of the flow into the return type. Without a value `None` flows.
 /// Language Reference 7.6 "The return statement".
-pub fn find_return<S: TypeStore, R: Resolver>(
-    walk: &mut Walk<'_, S, R>,
+pub fn find_return<S: TypeStore>(
+    walk: &mut Walk<'_, S>,
     env: &Env<S::Ty>,
     first: Place,
     value: &Option<Box<Expr>>,
 ) -> Result<(), OutOfMemory>
-    requires { Stands S.TypeStore R.Resolver walk.old env.now }
-    ensures finds { OnOk result (Found S.TypeStore R.Resolver walk.old env.now walk.new
+    requires { Stands S.TypeStore walk.old env.now }
+    ensures finds { OnOk result (Found S.TypeStore walk.old env.now walk.new
         (λ f k. return_finds f k first (option_expr_of value.now))) }
     ensures goes_on { GoesOn S.TypeStore walk.old walk.new }
 {
-    let parents = walk.frame.parents;
     let returned = walk.frame.returned;
     match value {
         None => {
@@ -39,36 +38,26 @@ pub fn find_return<S: TypeStore, R: Resolver>(
                 ty: none,
                 codes: Vec::new(walk.alloc),
             };
-            find_flow(
-                walk.store, walk.alloc, parents, first, &label, returned, walk.found,
-            )?;
+            find_flow_in(walk, first, &label, returned)?;
             Ok(())
         }
         Some(e) => {
             let want = Some(walk.store.copy(walk.alloc, returned)?);
             let label = type_in(walk, env, &want, e)?;
-            find_flow(
-                walk.store,
-                walk.alloc,
-                parents,
-                e.place(),
-                &label,
-                returned,
-                walk.found,
-            )?;
+            find_flow_in(walk, e.place(), &label, returned)?;
             Ok(())
         }
     }
 }
 
 /// Finds what stands in an expression that may be missing.
-fn find_option<S: TypeStore, R: Resolver>(
-    walk: &mut Walk<'_, S, R>,
+fn find_option<S: TypeStore>(
+    walk: &mut Walk<'_, S>,
     env: &Env<S::Ty>,
     e: &Option<Box<Expr>>,
 ) -> Result<(), OutOfMemory>
-    requires { Stands S.TypeStore R.Resolver walk.old env.now }
-    ensures finds { OnOk result (Found S.TypeStore R.Resolver walk.old env.now walk.new
+    requires { Stands S.TypeStore walk.old env.now }
+    ensures finds { OnOk result (Found S.TypeStore walk.old env.now walk.new
         (λ f k. option_finds f k None (option_expr_of e.now))) }
     ensures goes_on { GoesOn S.TypeStore walk.old walk.new }
 {
@@ -83,17 +72,17 @@ fn find_option<S: TypeStore, R: Resolver>(
 
 /// The environment behind an `assert`, with what is found in its condition and in its message, which is checked where
 /// the condition is false. Language Reference 7.3 "The assert statement".
-pub fn check_assert<S: TypeStore, R: Resolver>(
-    walk: &mut Walk<'_, S, R>,
+pub fn check_assert<S: TypeStore>(
+    walk: &mut Walk<'_, S>,
     env: Env<S::Ty>,
     condition: &Expr,
     message: &Option<Box<Expr>>,
 ) -> Result<Env<S::Ty>, OutOfMemory>
-    requires { Stands S.TypeStore R.Resolver walk.old env }
+    requires { Stands S.TypeStore walk.old env }
     ensures behind { IfOk result (λ e. IsEnv S.TypeStore walk.new e
-        (narrowed_at (frame_in S.TypeStore R.Resolver walk.old) (env_of S.tree walk.old.declared.now) true
+        (narrowed_at (frame_in S.TypeStore walk.old) (env_of S.tree walk.old.declared.now) true
         (expr_of condition.now) (env_of S.tree env))) }
-    ensures finds { OnOk result (Found S.TypeStore R.Resolver walk.old env walk.new
+    ensures finds { OnOk result (Found S.TypeStore walk.old env walk.new
         (λ f k. finds_in k None (expr_of condition.now)
         ++ option_finds f (narrowed_standing k false (expr_of condition.now)) None (option_expr_of message.now))) }
     ensures goes_on { GoesOn S.TypeStore walk.old walk.new }
@@ -101,7 +90,7 @@ pub fn check_assert<S: TypeStore, R: Resolver>(
     let BothWays {
         where_true,
         where_false,
-    } = type_condition(walk, env, condition)?;
+    } = type_condition(walk, &env, condition)?;
     find_option(walk, &where_false, message)?;
     Ok(where_true)
 }

@@ -11,61 +11,52 @@ ghost use Rattle.pc_labels.specs.ComputedStatements.{store_finds, stored_finds};
 ghost use Rattle.pc_frames.specs.Walks.{Stands, GoesOn, Found};
 
 use crate::typing::type_in;
-use pc_flow::{Env, Resolver};
-use pc_frames::Walk;
+use pc_flow::Env;
+use pc_frames::{Walk, find_flows_in};
 use pc_operate::{
     StoreOffer, StoreTarget, only_type, store_codes, store_index_types, store_offers, stored_types,
 };
-use pc_rules::{find_codes, find_flows};
+use pc_rules::find_codes;
 use pc_source::{OutOfMemory, Place};
 use pc_tree::{Expr, Name, Target};
 use pc_types::TypeStore;
 
 /// Finds what stands in a value that is stored with these offers at this place: it flows into what the members take.
-fn find_stored<S: TypeStore, R: Resolver>(
-    walk: &mut Walk<'_, S, R>,
+fn find_stored<S: TypeStore>(
+    walk: &mut Walk<'_, S>,
     env: &Env<S::Ty>,
     offers: &[StoreOffer<S::Ty>],
     place: Place,
     value: &Expr,
 ) -> Result<(), OutOfMemory>
-    requires stands { Stands S.TypeStore R.Resolver walk.old env.now }
+    requires stands { Stands S.TypeStore walk.old env.now }
     requires offers { All (HasStoreOffer (S.has walk.old.store.now)) offers.now }
     requires well_formed { AreWellFormed walk.old.frame.parents.now
         (stored_types (map (store_offer_with S.tree) offers.now)) }
-    ensures finds { OnOk result (Found S.TypeStore R.Resolver walk.old env.now walk.new
+    ensures finds { OnOk result (Found S.TypeStore walk.old env.now walk.new
         (λ f k. stored_finds f k (map (store_offer_with S.tree) offers.now) place (expr_of value.now))) }
     ensures goes_on { GoesOn S.TypeStore walk.old walk.new }
 {
-    let parents = walk.frame.parents;
     let codes = store_codes(walk.alloc, offers)?;
     find_codes(place, &codes, walk.found)?;
     let types = stored_types(walk.store, walk.alloc, offers)?;
     let want = only_type(walk.store, walk.alloc, offers, &types)?;
     let label = type_in(walk, env, &want, value)?;
-    find_flows(
-        walk.store,
-        walk.alloc,
-        parents,
-        value.place(),
-        &label,
-        &types,
-        walk.found,
-    )?;
+    find_flows_in(walk, value.place(), &label, &types)?;
     Ok(())
 }
 
 /// Finds what stands in a store to an attribute of an object. Language Reference 7.2 "Assignment statements".
-fn find_attribute_store<S: TypeStore, R: Resolver>(
-    walk: &mut Walk<'_, S, R>,
+fn find_attribute_store<S: TypeStore>(
+    walk: &mut Walk<'_, S>,
     env: &Env<S::Ty>,
     place: Place,
     object: &Expr,
     field: &Name,
     value: &Expr,
 ) -> Result<(), OutOfMemory>
-    requires { Stands S.TypeStore R.Resolver walk.old env.now }
-    ensures finds { OnOk result (Found S.TypeStore R.Resolver walk.old env.now walk.new
+    requires { Stands S.TypeStore walk.old env.now }
+    ensures finds { OnOk result (Found S.TypeStore walk.old env.now walk.new
         (λ f k. store_finds f k (to_attribute place (expr_of object.now) (name_of field.now)) (expr_of value.now))) }
     ensures goes_on { GoesOn S.TypeStore walk.old walk.new }
 {
@@ -83,20 +74,19 @@ fn find_attribute_store<S: TypeStore, R: Resolver>(
 }
 
 /// Finds what stands in a store to an item of an object. Language Reference 7.2 "Assignment statements".
-fn find_item_store<S: TypeStore, R: Resolver>(
-    walk: &mut Walk<'_, S, R>,
+fn find_item_store<S: TypeStore>(
+    walk: &mut Walk<'_, S>,
     env: &Env<S::Ty>,
     place: Place,
     object: &Expr,
     index: &Expr,
     value: &Expr,
 ) -> Result<(), OutOfMemory>
-    requires { Stands S.TypeStore R.Resolver walk.old env.now }
-    ensures finds { OnOk result (Found S.TypeStore R.Resolver walk.old env.now walk.new
+    requires { Stands S.TypeStore walk.old env.now }
+    ensures finds { OnOk result (Found S.TypeStore walk.old env.now walk.new
         (λ f k. store_finds f k (to_index place (expr_of object.now) (expr_of index.now)) (expr_of value.now))) }
     ensures goes_on { GoesOn S.TypeStore walk.old walk.new }
 {
-    let parents = walk.frame.parents;
     let label = type_in(walk, env, &None, object)?;
     let classes = walk.frame.classes;
     let offers = store_offers(
@@ -108,28 +98,20 @@ fn find_item_store<S: TypeStore, R: Resolver>(
     )?;
     let at = type_in(walk, env, &None, index)?;
     let types = store_index_types(walk.store, walk.alloc, &offers)?;
-    find_flows(
-        walk.store,
-        walk.alloc,
-        parents,
-        index.place(),
-        &at,
-        &types,
-        walk.found,
-    )?;
+    find_flows_in(walk, index.place(), &at, &types)?;
     find_stored(walk, env, &offers, place, value)?;
     Ok(())
 }
 
 /// Finds what stands in a store to an attribute or an item.
-pub(crate) fn find_store<S: TypeStore, R: Resolver>(
-    walk: &mut Walk<'_, S, R>,
+pub(crate) fn find_store<S: TypeStore>(
+    walk: &mut Walk<'_, S>,
     env: &Env<S::Ty>,
     target: &Target,
     value: &Expr,
 ) -> Result<(), OutOfMemory>
-    requires { Stands S.TypeStore R.Resolver walk.old env.now }
-    ensures finds { OnOk result (Found S.TypeStore R.Resolver walk.old env.now walk.new
+    requires { Stands S.TypeStore walk.old env.now }
+    ensures finds { OnOk result (Found S.TypeStore walk.old env.now walk.new
         (λ f k. store_finds f k (target_of target.now) (expr_of value.now))) }
     ensures goes_on { GoesOn S.TypeStore walk.old walk.new }
 {

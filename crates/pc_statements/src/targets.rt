@@ -9,21 +9,21 @@ ghost use Rattle.pc_frames.specs.Walks.{Stands, GoesOn, Bound};
 
 use crate::binding::bind_value;
 use crate::stores::find_store;
-use pc_flow::{Env, Resolver};
+use pc_flow::Env;
 use pc_frames::Walk;
 use pc_source::OutOfMemory;
 use pc_tree::{Expr, Target};
 use pc_types::TypeStore;
 
 /// Assigns a value: a name is bound, any other target is stored to. Language Reference 7.2 "Assignment statements".
-pub fn assign_target<S: TypeStore, R: Resolver>(
-    walk: &mut Walk<'_, S, R>,
+pub fn assign_target<S: TypeStore>(
+    walk: &mut Walk<'_, S>,
     env: Env<S::Ty>,
     target: &Target,
     value: &Expr,
 ) -> Result<Env<S::Ty>, OutOfMemory>
-    requires { Stands S.TypeStore R.Resolver walk.old env }
-    ensures bound { IfOk result (λ b. Bound S.TypeStore R.Resolver walk.old env walk.new b
+    requires { Stands S.TypeStore walk.old env }
+    ensures bound { IfOk result (λ b. Bound S.TypeStore walk.old env walk.new b
         (λ f t k. assign_target f t k (target_of target.now) (expr_of value.now))) }
     ensures goes_on { GoesOn S.TypeStore walk.old walk.new }
 {

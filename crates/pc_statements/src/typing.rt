@@ -10,27 +10,27 @@ ghost use Rattle.pc_rules.specs.Standing.{mark_in, finds_in};
 ghost use Rattle.pc_labels.specs.ComputedStatements.{narrowed_at};
 ghost use Rattle.pc_frames.specs.Walks.{Stands, HoldsWant, IsLabel, IsEnv, GoesOn, Found, frame_in, standing_in};
 
-use pc_expr::{Checker, type_expr};
-use pc_flow::{BothWays, Env, Resolver};
-use pc_frames::{Walk, narrow_in};
-use pc_rules::{Label, Setting};
+use pc_expr::type_expr;
+use pc_flow::{BothWays, Env};
+use pc_frames::Walk;
+use pc_rules::{Checker, Label, Setting};
 use pc_source::OutOfMemory;
 use pc_tree::Expr;
 use pc_types::TypeStore;
 
 /// The label of an expression in the body of a function, with what is found in it.
-pub fn type_in<S: TypeStore, R: Resolver>(
-    walk: &mut Walk<'_, S, R>,
+pub fn type_in<S: TypeStore>(
+    walk: &mut Walk<'_, S>,
     env: &Env<S::Ty>,
     want: &Option<S::Ty>,
     e: &Expr,
 ) -> Result<Label<S::Ty>, OutOfMemory>
-    requires stands { Stands S.TypeStore R.Resolver walk.old env.now }
+    requires stands { Stands S.TypeStore walk.old env.now }
     requires want { HoldsWant S.TypeStore walk.old want.now }
     ensures labelled { IfOk result
         (λ l. IsLabel S.TypeStore walk.new l
-        (mark_in (standing_in S.TypeStore R.Resolver walk.old env.now) (option_map S.tree want.now) (expr_of e.now))) }
-    ensures finds { OnOk result (Found S.TypeStore R.Resolver walk.old env.now walk.new
+        (mark_in (standing_in S.TypeStore walk.old env.now) (option_map S.tree want.now) (expr_of e.now))) }
+    ensures finds { OnOk result (Found S.TypeStore walk.old env.now walk.new
         (λ f k. finds_in k (option_map S.tree want.now) (expr_of e.now))) }
     ensures goes_on { GoesOn S.TypeStore walk.old walk.new }
 {
@@ -57,30 +57,37 @@ pub fn type_in<S: TypeStore, R: Resolver>(
 /// asked, of an `if`, an `elif`, a `while` and an `assert`.
 ///
 /// Typing specification, "Type narrowing"; own rule of the profile.
-pub fn type_condition<S: TypeStore, R: Resolver>(
-    walk: &mut Walk<'_, S, R>,
-    env: Env<S::Ty>,
+pub fn type_condition<S: TypeStore>(
+    walk: &mut Walk<'_, S>,
+    env: &Env<S::Ty>,
     condition: &Expr,
 ) -> Result<BothWays<S::Ty>, OutOfMemory>
-    requires { Stands S.TypeStore R.Resolver walk.old env }
+    requires { Stands S.TypeStore walk.old env.now }
     ensures where_true { IfOk result (λ n. IsEnv S.TypeStore walk.new n.where_true
-        (narrowed_at (frame_in S.TypeStore R.Resolver walk.old) (env_of S.tree walk.old.declared.now) true
-        (expr_of condition.now) (env_of S.tree env))) }
+        (narrowed_at (frame_in S.TypeStore walk.old) (env_of S.tree walk.old.declared.now) true
+        (expr_of condition.now) (env_of S.tree env.now))) }
     ensures where_false { IfOk result (λ n. IsEnv S.TypeStore walk.new n.where_false
-        (narrowed_at (frame_in S.TypeStore R.Resolver walk.old) (env_of S.tree walk.old.declared.now) false
-        (expr_of condition.now) (env_of S.tree env))) }
-    ensures finds { OnOk result (Found S.TypeStore R.Resolver walk.old env walk.new
+        (narrowed_at (frame_in S.TypeStore walk.old) (env_of S.tree walk.old.declared.now) false
+        (expr_of condition.now) (env_of S.tree env.now))) }
+    ensures finds { OnOk result (Found S.TypeStore walk.old env.now walk.new
         (λ f k. finds_in k None (expr_of condition.now))) }
     ensures goes_on { GoesOn S.TypeStore walk.old walk.new }
 {
-    type_in(walk, &env, &None, condition)?;
-    let ways = narrow_in(
-        walk.store,
-        walk.alloc,
-        &walk.frame,
-        walk.declared,
-        condition,
-        env,
-    )?;
-    Ok(ways)
+    let setting = Setting {
+        parents: walk.frame.parents,
+        classes: walk.frame.classes,
+        functions: walk.frame.functions,
+        constants: walk.frame.constants,
+        known: walk.frame.known,
+        in_body: true,
+        names: walk.frame.names,
+        declared: walk.declared,
+    };
+    let mut checker = Checker {
+        store: walk.store,
+        alloc: walk.alloc,
+        found: walk.found,
+    };
+    let typed = pc_expr::type_condition(&mut checker, &setting, env, condition)?;
+    Ok(typed.ways)
 }

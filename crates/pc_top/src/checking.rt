@@ -49,7 +49,7 @@ pub fn findings_by<S: TypeStore>(
     let classes = class_table(store, alloc, parents, module, scopes, &mut of_classes)?;
     override_findings(store, parents, module, &classes, &mut of_classes)?;
     let mut found = Notes::new(alloc);
-    check_module(store, alloc, parents, module, scopes, &classes, &mut found)?;
+    check_module(store, alloc, module, scopes, &classes, &mut found)?;
     let of_scopes = scope_findings(alloc, module, scopes)?;
     found.put_all(&of_scopes)?;
     found.put_all(&of_classes)?;

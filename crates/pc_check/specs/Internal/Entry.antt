@@ -10,7 +10,7 @@ use Rattle.pc_frames.specs.declared.walk.Walk.{Walk}
 use Rattle.pc_frames.specs.Walks.{HoldsOne}
 
 -- the types of parameters are types of the walk
-abbrev pub HoldsParameters : {Store R Ty : Type 0} (S : StoreOf Store Ty) → Walk Store R Ty → List (Parameter Ty) → Type 0
+abbrev pub HoldsParameters : {Store Ty : Type 0} (S : StoreOf Store Ty) → Walk Store Ty → List (Parameter Ty) → Type 0
 HoldsParameters S w params = All (λ p. HoldsOne S w p.ty) params
 
 -- the declared types and the environment that parameters come to, where nothing is found

@@ -1,11 +1,11 @@
 -- What the walk over statements has come to, in terms of the definitions.
 -- Own rule of the profile.
+use Rattle.pc_flow.specs.Naming.{meanings}
 use Rattle.std.specs.Prelude.{◌≡◌, ℕ, List, Option, Some}
 use Rattle.std.specs.Option.{option_map}
 use Rattle.pc_scope.specs.declared.resolution.Res.{Res}
 use Rattle.pc_types.specs.declared.store.TypeStore.{Ghosts as StoreOf}
 use Rattle.pc_flow.specs.Stored.{env_of}
-use Rattle.pc_flow.specs.declared.naming.Resolver.{Ghosts as NamesOf}
 use Rattle.pc_notes.specs.Notes.{notes_of}
 use Rattle.pc_labels.specs.ComputedStatements.{BodyFrame, Walk as Reached, BranchesResult}
 use Rattle.pc_frames.specs.StatementsHeld.{HoldsFrame}
@@ -13,43 +13,43 @@ use Rattle.pc_frames.specs.declared.walk.Walk.{Walk}
 use Rattle.pc_frames.specs.Walks.{HoldsEnv, HoldsWay, frame_in}
 use Rattle.pc_check.specs.Internal.StatementWalk.{walk_with, forked_with, BreaksAgree}
 
-module _ {Store R Ty : Type 0} (S : StoreOf Store Ty) where
+module _ {Store Ty : Type 0} (S : StoreOf Store Ty) where
   -- what a walk has come to, with the environment here, if a run comes here, and the way out of the loop around
-  abbrev pub reached : Walk Store R Ty → (env way : Option (List (Option Ty))) → Reached
+  abbrev pub reached : Walk Store Ty → (env way : Option (List (Option Ty))) → Reached
   reached w env way = walk_with S.tree w.declared.now env way (notes_of w.found.now)
 
   -- what a walk over branches has come to
-  abbrev pub forked : Walk Store R Ty → (last : List (Option Ty)) → (ways way : Option (List (Option Ty)))
+  abbrev pub forked : Walk Store Ty → (last : List (Option Ty)) → (ways way : Option (List (Option Ty)))
       → BranchesResult
   forked w last ways way = forked_with S.tree w.declared.now last ways way (notes_of w.found.now)
 
-module _ {Store R Ty : Type 0} (S : StoreOf Store Ty) (N : NamesOf R) where
+module _ {Store Ty : Type 0} (S : StoreOf Store Ty) where
   -- the walk stands, with this environment and this way out of the loop around, if there are such: the store gave all
   -- types, all are well-formed, and names mean what the scopes say
-  pub record StandsIn (w : Walk Store R Ty) (env way : Option (List (Option Ty))) : Type 0 where
-    pub frame : HoldsFrame (S.has w.store.now) S.tree N.meaning w.frame
+  pub record StandsIn (w : Walk Store Ty) (env way : Option (List (Option Ty))) : Type 0 where
+    pub frame : HoldsFrame (S.has w.store.now) S.tree w.frame
     pub declared : HoldsEnv S w w.declared.now
     pub current : HoldsWay S w env
     pub out : HoldsWay S w way
 
   -- where statements stand in a loop, what they touch is among these locals, and the environment before them agrees with
   -- the way out of the loop so far at each other local
-  abbrev pub Breaks : Walk Store R Ty → List ℕ → (env way : Option (List (Option Ty)))
+  abbrev pub Breaks : Walk Store Ty → List ℕ → (env way : Option (List (Option Ty)))
       → (touched : (List ℕ → Res) → List ℕ) → Type 0
-  Breaks w locals env way touched = BreaksAgree locals (touched (N.meaning w.frame.names.now))
+  Breaks w locals env way touched = BreaksAgree locals (touched (meanings w.frame.names.now))
       (option_map (env_of S.tree) way) (option_map (env_of S.tree) env)
 
   -- the walk went over statements, from an environment and a way out of the loop around to others
-  pub record Walked (old : Walk Store R Ty) (env way : Option (List (Option Ty))) (new : Walk Store R Ty)
+  pub record Walked (old : Walk Store Ty) (env way : Option (List (Option Ty))) (new : Walk Store Ty)
       (behind later : Option (List (Option Ty))) (walks : BodyFrame → Reached → Reached) : Type 0 where
-    pub is : reached S new behind later ≡ walks (frame_in S N old) (reached S old env way)
+    pub is : reached S new behind later ≡ walks (frame_in S old) (reached S old env way)
     pub stands : StandsIn new behind later
 
   -- the walk went over branches, from the environment where all conditions so far are false, the ways out of suites
   -- joined and a way out of the loop around to others
-  pub record Forked (old : Walk Store R Ty) (last : List (Option Ty)) (ways way : Option (List (Option Ty)))
-      (new : Walk Store R Ty) (next : List (Option Ty)) (joined later : Option (List (Option Ty)))
+  pub record Forked (old : Walk Store Ty) (last : List (Option Ty)) (ways way : Option (List (Option Ty)))
+      (new : Walk Store Ty) (next : List (Option Ty)) (joined later : Option (List (Option Ty)))
       (walks : BodyFrame → BranchesResult → BranchesResult) : Type 0 where
-    pub is : forked S new next joined later ≡ walks (frame_in S N old) (forked S old last ways way)
+    pub is : forked S new next joined later ≡ walks (frame_in S old) (forked S old last ways way)
     pub stands : StandsIn new (Some next) later
     pub met : HoldsWay S new joined

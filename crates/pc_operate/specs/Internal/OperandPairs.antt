@@ -1,7 +1,6 @@
 -- Operators on two operands, by the kind that all members of a type have in common: computed twin of the rows on pairs
 -- of members. Own rule of the profile.
-use Rattle.std.specs.Prelude.{List, [], ◌∷◌, Bool as Test, true, false, if◌then◌else◌, Option, Some, None}
-use Rattle.pc_tree.specs.declared.tree.BinaryOperator.{BinaryOperator}
+use Rattle.std.specs.Prelude.{List, [], ◌∷◌, Bool as Test, true, if◌then◌else◌, Option, Some, None}
 use Rattle.pc_tree.specs.declared.code.Code.TheVariants.{A2, E13}
 use Rattle.pc_types.specs.Tree.{Tree, Any, Bool}
 use Rattle.pc_types.specs.Below.{Bases}

@@ -1,7 +1,4 @@
-use Rattle.std.proofs.Common.{◌∙◌, ◌++◌, sym, ap, map, arith}
-use Rattle.pc_flow.proofs.Rest.{mapped_rest, mapped_end}
-use Rattle.pc_rules.specs.Calls.{value_offer}
-use Rattle.pc_call.specs.JudgedCalls.{offer_called}
+use Rattle.std.proofs.Common.{arith}
 use Rattle.pc_call.proofs.CallsKept.{item_held, values_more, values_all}
 use Rattle.pc_call.proofs.call_offers.push_value_offers.Goals as goal
 

@@ -1,4 +1,3 @@
-use Rattle.std.proofs.Common.{◌∙◌, sym, ap}
 use Rattle.pc_call.proofs.ErrorsOfCalls.{call_more, call_all}
 use Rattle.pc_call.proofs.calling.codes_at_call.Goals as goal
 

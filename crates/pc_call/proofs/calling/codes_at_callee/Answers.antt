@@ -1,4 +1,3 @@
-use Rattle.std.proofs.Common.{◌∙◌, sym, ap}
 use Rattle.pc_call.proofs.ErrorsOfCalls.{callee_more, callee_all}
 use Rattle.pc_call.proofs.calling.codes_at_callee.Goals as goal
 

@@ -1,3 +1,4 @@
+use Rattle.pc_flow.specs.Naming.{meanings}
 use Rattle.std.proofs.Common.{◌≡◌, ◌<◌, ℕ, List, [], ◌∷◌, length, None, refl, arith}
 use Rattle.pc_tree.specs.declared.tree.Expr.{Expr as RustExpr}
 use Rattle.pc_tree.specs.Lists.{exprs_of_list}
@@ -12,4 +13,4 @@ no_second resolve (x ∷ []) h = refl
 no_second resolve (x ∷ y ∷ es) h = absurd (omega (arith, h))
 
 pub returns-in-len1 : goal.returns-in-len1
-returns-in-len1 g c = no_second (g.R.Resolver.meaning c.args.names.now) c.args.arguments.now c.in-len1.len_below
+returns-in-len1 c = no_second (meanings c.args.names.now) c.args.arguments.now c.in-len1.len_below

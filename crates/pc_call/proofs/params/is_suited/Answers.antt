@@ -1,6 +1,6 @@
-use Rattle.std.proofs.Common.{◌∙◌, sym, ap, arith}
+use Rattle.std.proofs.Common.{◌∙◌, sym, arith}
 use Rattle.pc_call.specs.JudgedCalls.{given_with}
-use Rattle.pc_call.proofs.Filling.{suited_lent, suited_then, suited_else}
+use Rattle.pc_call.proofs.Filling.{suited_then, suited_else}
 use Rattle.pc_call.proofs.params.is_suited.Goals as goal
 
 pub returns-then-are_free : goal.returns-then-are_free

@@ -1,4 +1,4 @@
-use Rattle.std.proofs.Common.{◌∙◌, ◌≡◌, ◌≢◌, sym, ap, arith, length}
+use Rattle.std.proofs.Common.{◌∙◌, ◌≡◌, ◌≢◌, sym, arith, length}
 use Rattle.std.specs.Prelude.{nat_eq, false}
 use Rattle.pc_call.specs.JudgedCalls.{given_with}
 use Rattle.pc_call.proofs.Filling.{unsuited}

@@ -1,4 +1,4 @@
-use Rattle.std.proofs.Common.{arith, sym}
+use Rattle.std.proofs.Common.{sym}
 use Rattle.pc_call.proofs.SeatTypes.{builtin_none, builtin_past, builtin_there}
 use Rattle.pc_call.proofs.seats.builtin_type.Goals as goal
 

@@ -1,7 +1,5 @@
-use Rattle.std.proofs.Common.{◌∙◌, ◌≡◌, sym, ap, true, false}
-use Rattle.std.specs.Prelude.{◌||◌, option_to_list}
-use Rattle.pc_rules.specs.Operations.{has_error}
-use Rattle.pc_call.proofs.ErrorsOfCalls.{error_found, error_not, error_end, or_first, or_second}
+use Rattle.std.proofs.Common.{◌∙◌, sym}
+use Rattle.pc_call.proofs.ErrorsOfCalls.{error_found, error_end, or_first, or_second}
 use Rattle.pc_call.proofs.seats.is_in_error.Goals.{then-is_error-via-then-is_error, then-is_error-via-else-is_error+then-is_error-2}
 use Rattle.pc_call.proofs.seats.is_in_error.Goals as goal
 

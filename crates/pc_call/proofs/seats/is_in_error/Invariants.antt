@@ -1,5 +1,4 @@
-use Rattle.std.proofs.Common.{◌≡◌, ◌++◌, drop}
-use Rattle.std.specs.Prelude.{option_to_list}
+use Rattle.std.proofs.Common.{◌≡◌, drop}
 use Rattle.pc_call.proofs.ErrorsOfCalls.{any_error}
 use Rattle.pc_call.proofs.seats.is_in_error.Given as goal
 

@@ -1,4 +1,4 @@
-use Rattle.std.proofs.Common.{arith, sym, ◌∙◌}
+use Rattle.std.proofs.Common.{arith}
 use Rattle.pc_call.proofs.SeatTypes.{types_more, types_all, types_held}
 use Rattle.pc_call.proofs.seats.types_for.Goals as goal
 

@@ -1,3 +1,4 @@
+use Rattle.pc_flow.specs.Naming.{meanings}
 use Rattle.std.proofs.Common.{◌≡◌, ◌∙◌, map, sym, ap, subst, All}
 use Rattle.std.specs.Prelude.{OnOk}
 use Rattle.std.specs.Option.{option_copied}
@@ -22,8 +23,8 @@ use Rattle.pc_check.specs.Internal.ModuleWalk.{module_in}
 use Rattle.pc_check.proofs.ModuleSettings.{frame_is, names_mean, signature_held, signature_is, signature_there}
 use Rattle.pc_check.proofs.bodies.check_owned.Goals as goal
 
-pub returns-in-None-clause-pushed : goal.returns-in-None-clause-pushed
-returns-in-None-clause-pushed g c =
+pub returns-in-None-clause-found : goal.returns-in-None-clause-found
+returns-in-None-clause-found g c =
     let setting = c.args.setting.now in
     let h = c.requires.setting in
     absurd (signature_there (module_in setting) g.S.TypeStore.tree setting.signatures.now h.functions h.methods
@@ -31,6 +32,7 @@ returns-in-None-clause-pushed g c =
     (func_of c.args.def.now) c.requires.owner (sym c.signature_for.ensures ∙ ap option_copied c.in-None.is))
 
 pub check_function-requires-clause-body : goal.check_function-requires-clause-body
+unfolding meanings
 check_function-requires-clause-body g c =
     let tree = g.S.TypeStore.tree in
     let setting = c.args.setting.now in
@@ -46,11 +48,12 @@ check_function-requires-clause-body g c =
     (ap (λ (s : Signature). s.returns) signature)
 
 pub check_function-requires-clause-frame : goal.check_function-requires-clause-frame
+unfolding meanings
 check_function-requires-clause-frame g c =
     let has = g.S.TypeStore.has in
     let tree = g.S.TypeStore.tree in
     let setting = c.args.setting.now in
-    let store = c.args.store.now in
+    let store = c.args.checker.now.store.now in
     let m = module_in setting in
     let h = c.requires.setting in
     let f = func_of c.args.def.now in
@@ -79,15 +82,15 @@ check_function-requires-clause-frame g c =
       scopes = h.scopes;
     }
 
-pub returns-in-Some-clause-pushed : goal.returns-in-Some-clause-pushed
-returns-in-Some-clause-pushed g c =
+pub returns-in-Some-clause-found : goal.returns-in-Some-clause-found
+returns-in-Some-clause-found g c =
     let tree = g.S.TypeStore.tree in
     let m = module_in c.args.setting.now in
-    let found = notes_of c.args.found.now in
+    let found = notes_of c.args.checker.now.found.now in
     let same : map tree c.constants.result.now ≡ constants_of m =
     ap (map tree) c.constants.ensures ∙ c.requires.setting.constants in
-    subst (λ cs. OnOk c.check_function.result (notes_of c.check_function.new.found
-    ≡ function_finds m cs c.args.owner (func_of c.args.def.now) found)) same c.check_function.ensures.pushed
+    subst (λ cs. OnOk c.check_function.result (notes_of c.check_function.new.checker.found.now
+    ≡ function_finds m cs c.args.owner (func_of c.args.def.now) found)) same c.check_function.ensures.found
 
 pub check_function-requires-clause-params : goal.check_function-requires-clause-params
 check_function-requires-clause-params g c =

@@ -4,4 +4,4 @@ use Rattle.pc_check.proofs.entering.enter_receiver.Goals as goal
 
 pub enter_name-requires-clause-stands : goal.enter_name-requires-clause-stands
 enter_name-requires-clause-stands g c =
-    stands_on g.S.TypeStore g.R.Resolver c.args.walk.now _ c.args.env.now c.requires (grown c.class.ensures.kept) refl
+    stands_on g.S.TypeStore c.args.walk.now _ c.args.env.now c.requires (grown c.class.ensures.kept) refl

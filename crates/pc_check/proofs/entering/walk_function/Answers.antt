@@ -1,3 +1,4 @@
+use Rattle.pc_flow.specs.Naming.{meanings}
 use Rattle.std.proofs.Common.{◌≡◌, ◌∙◌, ◌++◌, List, length, refl, sym, ap, subst}
 use Rattle.std.specs.Prelude.{All, map, Some, None}
 use Rattle.std.specs.Option.{option_map}
@@ -13,7 +14,7 @@ use Rattle.pc_notes.specs.Notes.{Note, notes_of}
 use Rattle.pc_labels.specs.ComputedStatements.{BindingResult, BodyFrame, Table, end_finds, enter_parameters, walk_suite}
 use Rattle.pc_labels.specs.Modules.{receiver_parameter}
 use Rattle.pc_frames.specs.declared.frame.Frame.{Frame as RustFrame}
-use Rattle.pc_frames.specs.StatementsHeld.{HoldsType, frame_with}
+use Rattle.pc_frames.specs.StatementsHeld.{HoldsType}
 use Rattle.pc_frames.specs.Walks.{frame_in}
 use Rattle.pc_frames.proofs.Walks.{goes_further, in_frame}
 use Rattle.pc_check.specs.Internal.Walked.{reached}
@@ -43,7 +44,7 @@ enter-requires-clause-params g c =
     let well_formed = subst (λ bases. ParametersWellFormed bases (parameters_with S.tree params)) bases
     (subst (ParametersWellFormed (bases_of m)) (sym c.requires.params) (params_well_formed m (func_of c.args.def.now).params))
     in
-    in_frame S g.R.Resolver old new (λ (f : RustFrame _ _). All (λ p. HoldsType (S.has new.store.now) S.tree f.parents.now
+    in_frame S old new (λ (f : RustFrame _). All (λ p. HoldsType (S.has new.store.now) S.tree f.parents.now
     p.ty) params) on (parameters_hold (S.has new.store.now) S.tree old.frame.parents.now params given well_formed)
 
 pub check_suite-requires-clause-stands : goal.check_suite-requires-clause-stands
@@ -54,14 +55,13 @@ check_suite-requires-clause-stands g c =
 pub check_suite-requires-clause-long : goal.check_suite-requires-clause-long
 check_suite-requires-clause-long g c =
     let tree = g.S.TypeStore.tree in
-    let meaning = g.R.Resolver.meaning in
     let old = c.args.walk.now in
     let mid = c.enter_receiver.new.walk in
     let none : Table = none_assigned c.args.count in
     let receiver = receiver_parameter c.args.owner in
     let declared = ap (env_of tree) c.requires.declared ∙ none_is tree c.args.count in
     let env = ap (env_of tree) c.in_ok-env.ensures ∙ none_is tree c.args.count in
-    let resolve = meaning old.frame.names.now in
+    let resolve = meanings old.frame.names.now in
     let table = env_of tree mid.declared.now in
     let first = env_of tree c.enter_receiver.new.env in
     let received : (table, first) ≡ enter_parameters resolve none none receiver =
@@ -69,7 +69,7 @@ check_suite-requires-clause-long g c =
     ∙ (λ i. enter_parameters resolve (declared i) (env i) receiver) in
     let between = subst (λ (r : Table × Env). length r.1 ≡ length r.0) (sym received)
     (entered_long resolve none none receiver refl) in
-    let behind = entered_long (meaning mid.frame.names.now) table first (parameters_with tree c.args.params.now) between in
+    let behind = entered_long (meanings mid.frame.names.now) table first (parameters_with tree c.args.params.now) between in
     record {
       env_long = subst (λ (r : Table × Env). length r.1 ≡ length r.0)
           (sym (ap (λ (b : BindingResult). (b.table, b.env)) c.in_ok-enter.ensures.bound.is)) behind;
@@ -79,13 +79,12 @@ check_suite-requires-clause-long g c =
 pub returns-clause-pushed : goal.returns-clause-pushed
 returns-clause-pushed g c =
     let S = g.S.TypeStore in
-    let N = g.R.Resolver in
     let tree = S.tree in
     let old = c.args.walk.now in
     let first = c.enter_receiver.new.walk in
     let mid = c.enter.new.walk in
     let later = c.check_suite.new.walk in
-    let frame = frame_in S N old in
+    let frame = frame_in S old in
     let resolve = frame.context.resolve in
     let m = module_of old.frame.tree.now in
     let def = func_of c.args.def.now in
@@ -108,11 +107,11 @@ returns-clause-pushed g c =
     let received = ap (λ (b : BindingResult). (b.table, b.env)) r.is
     ∙ (λ i. enter_parameters resolve (declared_is i) (env_is i) receiver) in
     let started = ap (λ (b : BindingResult). (b.table, b.env)) e.is
-    ∙ (λ i. enter_parameters (N.meaning (g1.frame i).names.now) middle.0 middle.1
+    ∙ (λ i. enter_parameters (meanings (g1.frame i).names.now) middle.0 middle.1
     (parameters_with tree c.args.params.now))
     ∙ ap (enter_parameters resolve middle.0 middle.1) c.requires.params in
     let notes = ap (λ (b : BindingResult). b.found) e.is ∙ ap (λ (b : BindingResult). b.found) r.is in
-    let walked = walks_on S N old mid later (Some env) None out c.check_suite.new.broken
+    let walked = walks_on S old mid later (Some env) None out c.check_suite.new.broken
     (λ f w. walk_suite f w (stmts_of_list c.deref.result.now)) g2 s
     ∙ ap (λ b. walk_suite frame (reached S mid (Some env) None) (stmts_of_list b)) c.deref.ensures.value
     ∙ ap (λ (ns : List Note). walk_suite frame (reached_by start.0 (Some start.1) None ns) def.body) notes in

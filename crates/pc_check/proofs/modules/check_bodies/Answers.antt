@@ -7,6 +7,8 @@ use Rattle.pc_check.specs.Internal.ModuleWalk.{module_in, IsModuleSetting}
 use Rattle.pc_labels.specs.ComputedModules.{bodies_find}
 use Rattle.pc_check.proofs.CheckedModules.{ItemsAt, items_next, class_here, def_here, constant_passed, class_passed}
 use Rattle.pc_check.proofs.CheckedModules.{def_passed}
+use Rattle.pc_rules.specs.declared.checker.Checker.{Checker}
+use Rattle.pc_rules.proofs.Checkers.{goes_further}
 use Rattle.pc_check.proofs.ModuleSettings.{setting_kept}
 use Rattle.pc_check.proofs.modules.check_bodies.Goals as goal
 use Rattle.pc_check.proofs.modules.check_bodies.Goals.{in-Constant, in-Class+in_ok-check_methods-in-Class}
@@ -53,34 +55,34 @@ loop-item-preserved g c =
     let functions = functions_in m.items in
     let n = c.loop-item.classes in
     let k = c.loop-item.functions in
-    let old = (notes_of c.loop-item.found) in
-    let new = (notes_of c.match-item.found) in
-    let total = bodies_find m cs 0 0 (map item_of items) (notes_of c.args.found.now) in
+    let old = (notes_of c.loop-item.checker.found.now) in
+    let new = (notes_of c.match-item.checker.found.now) in
+    let total = bodies_find m cs 0 0 (map item_of items) (notes_of c.args.checker.now.found.now) in
     let here : ItemsAt m cs classes functions total before rest n k c.match-item.classes c.match-item.functions old
     new = elim c.match-item.branch [
       | in-Constant w ↦ constant_passed m cs classes functions total before rest n k c.match-item.classes
           c.match-item.functions old new v.classes_stand v.functions_stand v.found
           x.first (constant_of w.in-Constant.field-0)
           (step ∙ ap (λ q. item_of_kind x.first q ∷ rest) w.in-Constant.is) w.classes-is w.functions-is
-          (λ j. notes_of (w.found-is j))
+          (λ j. notes_of ((w.checker-is j).found.now))
       | in-Class+in_ok-check_methods-in-Class w ↦ class_passed m cs classes functions total before rest n k
           c.match-item.classes c.match-item.functions old new v.classes_stand v.functions_stand v.found
           x.first (class_of w.in-Class.class) (step ∙ ap (λ q. item_of_kind x.first q ∷ rest) w.in-Class.is)
-          w.classes-is w.functions-is ((λ j. notes_of (w.found-is j)) ∙ w.in_ok-check_methods-in-Class.ensures.pushed)
+          w.classes-is w.functions-is ((λ j. notes_of ((w.checker-is j).found.now)) ∙ w.in_ok-check_methods-in-Class.ensures.found)
       | in-Def+in_ok-check_owned-in-Def w ↦ def_passed m cs classes functions total before rest n k
           c.match-item.classes c.match-item.functions old new v.classes_stand v.functions_stand v.found
           x.first (func_of w.in-Def.def) (step ∙ ap (λ q. item_of_kind x.first q ∷ rest) w.in-Def.is) w.classes-is
-          w.functions-is ((λ j. notes_of (w.found-is j)) ∙ w.in_ok-check_owned-in-Def.ensures.pushed)
+          w.functions-is ((λ j. notes_of ((w.checker-is j).found.now)) ∙ w.in_ok-check_owned-in-Def.ensures.found)
     ] in
     record {
       setting = elim c.match-item.branch [
-        | in-Constant w ↦ subst (λ s. IsModuleSetting (has s) tree c.args.setting.now) (sym w.store-is) v.setting
-        | in-Class+in_ok-check_methods-in-Class w ↦ subst (λ s. IsModuleSetting (has s) tree c.args.setting.now)
-            (sym w.store-is) (setting_kept has tree c.loop-item.store w.check_methods.new.store
-            w.check_methods.ensures.kept c.args.setting.now v.setting)
-        | in-Def+in_ok-check_owned-in-Def w ↦ subst (λ s. IsModuleSetting (has s) tree c.args.setting.now)
-            (sym w.store-is) (setting_kept has tree c.loop-item.store w.check_owned.new.store
-            w.check_owned.ensures.kept c.args.setting.now v.setting)
+        | in-Constant w ↦ subst (λ (k : Checker _ _). IsModuleSetting (has k.store.now) tree c.args.setting.now) (sym w.checker-is) v.setting
+        | in-Class+in_ok-check_methods-in-Class w ↦ subst (λ (k : Checker _ _). IsModuleSetting (has k.store.now) tree c.args.setting.now)
+            (sym w.checker-is) (setting_kept has tree c.loop-item.checker.store.now w.check_methods.new.checker.store.now
+            w.check_methods.ensures.goes_on.kept c.args.setting.now v.setting)
+        | in-Def+in_ok-check_owned-in-Def w ↦ subst (λ (k : Checker _ _). IsModuleSetting (has k.store.now) tree c.args.setting.now)
+            (sym w.checker-is) (setting_kept has tree c.loop-item.checker.store.now w.check_owned.new.checker.store.now
+            w.check_owned.ensures.goes_on.kept c.args.setting.now v.setting)
       ];
       classes_counted = let h = v.classes_counted in elim c.match-item.branch [
         | in-Constant w ↦ let e = w.classes-is in omega arith
@@ -95,11 +97,9 @@ loop-item-preserved g c =
       classes_stand = here.classes_stand;
       functions_stand = here.functions_stand;
       found = here.found;
-      kept = elim c.match-item.branch [
-        | in-Constant w ↦ λ ty h. subst (λ s. has s ty) (sym w.store-is) (v.kept ty h)
-        | in-Class+in_ok-check_methods-in-Class w ↦ λ ty h. subst (λ s. has s ty) (sym w.store-is)
-            (w.check_methods.ensures.kept ty (v.kept ty h))
-        | in-Def+in_ok-check_owned-in-Def w ↦ λ ty h. subst (λ s. has s ty) (sym w.store-is)
-            (w.check_owned.ensures.kept ty (v.kept ty h))
+      goes_on = elim c.match-item.branch [
+        | in-Constant w ↦ rw w.checker-is v.goes_on
+        | in-Class+in_ok-check_methods-in-Class w ↦ rw w.checker-is (goes_further v.goes_on w.check_methods.ensures.goes_on)
+        | in-Def+in_ok-check_owned-in-Def w ↦ rw w.checker-is (goes_further v.goes_on w.check_owned.ensures.goes_on)
       ];
     }

@@ -7,6 +7,8 @@ use Rattle.pc_rules.specs.SignaturesFound.{constants_of}
 use Rattle.pc_check.specs.Internal.ModuleWalk.{module_in, IsModuleSetting}
 use Rattle.pc_labels.specs.ComputedModules.{methods_find}
 use Rattle.pc_check.proofs.CheckedModules.{MembersAt, members_next, method_here, field_passed, method_passed}
+use Rattle.pc_rules.specs.declared.checker.Checker.{Checker}
+use Rattle.pc_rules.proofs.Checkers.{goes_further}
 use Rattle.pc_check.proofs.ModuleSettings.{setting_kept}
 use Rattle.pc_check.proofs.modules.check_methods.Goals as goal
 use Rattle.pc_check.proofs.modules.check_methods.Goals.{in-Field, in-Method+in_ok-check_owned-in-Method}
@@ -35,24 +37,24 @@ loop-member-preserved g c =
     let before = map member_of (drop i ms) in
     let rest = map member_of (drop (i + 1) ms) in
     let step = members_next ms i c.member-item.result c.loop-member-test.true c.member-item.is in
-    let total = methods_find m (constants_of m) c.args.class 0 (map member_of ms) (notes_of c.args.found.now) in
+    let total = methods_find m (constants_of m) c.args.class 0 (map member_of ms) (notes_of c.args.checker.now.found.now) in
     let here : MembersAt m (constants_of m) c.args.class all total before rest n c.match-member.methods
-    (notes_of c.loop-member.found) (notes_of c.match-member.found) = elim c.match-member.branch [
+    (notes_of c.loop-member.checker.found.now) (notes_of c.match-member.checker.found.now) = elim c.match-member.branch [
       | in-Field w ↦ field_passed m (constants_of m) c.args.class all total before rest n c.match-member.methods
-          (notes_of c.loop-member.found) (notes_of c.match-member.found) v.stand v.found
+          (notes_of c.loop-member.checker.found.now) (notes_of c.match-member.checker.found.now) v.stand v.found
           (field_of w.in-Field.field-0) (step ∙ ap (λ y. member_of y ∷ rest) w.in-Field.is) w.methods-is
-          (λ j. notes_of (w.found-is j))
+          (λ j. notes_of ((w.checker-is j).found.now))
       | in-Method+in_ok-check_owned-in-Method w ↦ method_passed m (constants_of m) c.args.class all total before rest
-          n c.match-member.methods (notes_of c.loop-member.found) (notes_of c.match-member.found) v.stand v.found
+          n c.match-member.methods (notes_of c.loop-member.checker.found.now) (notes_of c.match-member.checker.found.now) v.stand v.found
           (func_of w.in-Method.method) (step ∙ ap (λ y. member_of y ∷ rest) w.in-Method.is) w.methods-is
-          ((λ j. notes_of (w.found-is j)) ∙ w.in_ok-check_owned-in-Method.ensures.pushed)
+          ((λ j. notes_of ((w.checker-is j).found.now)) ∙ w.in_ok-check_owned-in-Method.ensures.found)
     ] in
     record {
       setting = elim c.match-member.branch [
-        | in-Field w ↦ subst (λ s. IsModuleSetting (has s) tree c.args.setting.now) (sym w.store-is) v.setting
-        | in-Method+in_ok-check_owned-in-Method w ↦ subst (λ s. IsModuleSetting (has s) tree c.args.setting.now)
-            (sym w.store-is) (setting_kept has tree c.loop-member.store w.check_owned.new.store
-            w.check_owned.ensures.kept c.args.setting.now v.setting)
+        | in-Field w ↦ subst (λ (k : Checker _ _). IsModuleSetting (has k.store.now) tree c.args.setting.now) (sym w.checker-is) v.setting
+        | in-Method+in_ok-check_owned-in-Method w ↦ subst (λ (k : Checker _ _). IsModuleSetting (has k.store.now) tree c.args.setting.now)
+            (sym w.checker-is) (setting_kept has tree c.loop-member.checker.store.now w.check_owned.new.checker.store.now
+            w.check_owned.ensures.goes_on.kept c.args.setting.now v.setting)
       ];
       counted = let h = v.counted in elim c.match-member.branch [
         | in-Field w ↦ let e = w.methods-is in omega arith
@@ -60,9 +62,8 @@ loop-member-preserved g c =
       ];
       stand = here.stand;
       found = here.found;
-      kept = elim c.match-member.branch [
-        | in-Field w ↦ λ ty h. subst (λ s. has s ty) (sym w.store-is) (v.kept ty h)
-        | in-Method+in_ok-check_owned-in-Method w ↦ λ ty h. subst (λ s. has s ty) (sym w.store-is)
-            (w.check_owned.ensures.kept ty (v.kept ty h))
+      goes_on = elim c.match-member.branch [
+        | in-Field w ↦ rw w.checker-is v.goes_on
+        | in-Method+in_ok-check_owned-in-Method w ↦ rw w.checker-is (goes_further v.goes_on w.check_owned.ensures.goes_on)
       ];
     }

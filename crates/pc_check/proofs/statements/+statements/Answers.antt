@@ -1,5 +1,6 @@
-use Rattle.std.proofs.Common.{◌≡◌, ◌∙◌, ◌+◌, ◌++◌, ◌∷◌, List, Option, Some, None, length, refl, sym, ap, subst, arith}
-use Rattle.std.proofs.Common.{rules, drop, append_assoc}
+use Rattle.pc_flow.specs.Naming.{meanings}
+use Rattle.std.proofs.Common.{◌≡◌, ◌∙◌, ◌+◌, ◌++◌, ◌∷◌, Some, None, length, refl, sym, ap, subst, arith}
+use Rattle.std.proofs.Common.{rules, drop}
 use Rattle.std.specs.Prelude.{true, false}
 use Rattle.std.specs.Option.{option_map}
 use Rattle.pc_tree.specs.Tree.{Stmt, stmt_of, expr_of, option_expr_of, stmt_of_kind, stmts_of_list, no_branches}
@@ -54,25 +55,22 @@ check_suite-check_next-requires g t c κs within = (
   (
     within.0,
     (
-      within.1.0,
+      within.1,
       (
-        within.1.1,
+        c.loop-statement.invariant.stands,
         (
-          c.loop-statement.invariant.stands,
-          (
-            c.loop-statement.invariant.long,
-            let tree = g.S.TypeStore.tree in
-                let frame = frame_in g.S.TypeStore g.R.Resolver c.loop-statement.walk in
-                let broken = option_map (env_of tree) c.loop-statement.broken in
-                let env = option_map (env_of tree) c.loop-statement.env in
-                let i = c.loop-statement.statement-index in
-                let next = stmts_next c.args.body.now i c.statement-item.result c.loop-statement-test.true
-                c.statement-item.is in
-                first_breaks frame c.args.breaking.now (stmt_of c.statement-item.result)
-                (stmts_of_list (drop (i + 1) c.args.body.now)) broken env
-                (subst (λ ss. BreaksAgree c.args.breaking.now (touched_by frame.context.resolve ss) broken env) next
-                c.loop-statement.invariant.breaks),
-          ),
+          c.loop-statement.invariant.long,
+          let tree = g.S.TypeStore.tree in
+              let frame = frame_in g.S.TypeStore c.loop-statement.walk in
+              let broken = option_map (env_of tree) c.loop-statement.broken in
+              let env = option_map (env_of tree) c.loop-statement.env in
+              let i = c.loop-statement.statement-index in
+              let next = stmts_next c.args.body.now i c.statement-item.result c.loop-statement-test.true
+              c.statement-item.is in
+              first_breaks frame c.args.breaking.now (stmt_of c.statement-item.result)
+              (stmts_of_list (drop (i + 1) c.args.body.now)) broken env
+              (subst (λ ss. BreaksAgree c.args.breaking.now (touched_by frame.context.resolve ss) broken env) next
+              c.loop-statement.invariant.breaks),
         ),
       ),
     ),
@@ -91,7 +89,6 @@ check_suite-loop-statement-init g t c = record {
 pub check_suite-loop-statement-preserved : goal.check_suite-loop-statement-preserved
 check_suite-loop-statement-preserved g t c =
     let S = g.S.TypeStore in
-    let N = g.R.Resolver in
     let here = c.loop-statement in
     let new = c.check_next.new.walk in
     let w = c.in_ok-env.ensures.walked in
@@ -101,7 +98,7 @@ check_suite-loop-statement-preserved g t c =
     let breaking = c.args.breaking.now in
     let rest = stmts_of_list (drop (i + 1) c.args.body.now) in
     let s = stmt_of c.statement-item.result in
-    let frame = frame_in S N here.walk in
+    let frame = frame_in S here.walk in
     let resolve = frame.context.resolve in
     let before = reached S here.walk here.env here.broken in
     let behind = reached S new c.in_ok-env.env c.check_next.new.broken in
@@ -115,10 +112,10 @@ check_suite-loop-statement-preserved g t c =
       goes_on = goes_further v.goes_on on;
       stands = w.stands;
       long = subst IsLong (sym w.is) (step_long frame before.table before.env before.broken before.found s v.long);
-      breaks = in_frame S N here.walk new (λ (f : RustFrame _ _). BreaksAgree breaking
-          (touched_by (N.meaning f.names.now) rest) behind.broken behind.env) on
+      breaks = in_frame S here.walk new (λ (f : RustFrame _). BreaksAgree breaking
+          (touched_by (meanings f.names.now) rest) behind.broken behind.env) on
           (subst (λ (x : Reached). BreaksAgree breaking (touched_by resolve rest) x.broken x.env) (sym w.is) breaks);
-      is = (λ j. walk_suite (frame_with S.tree N.meaning (on.frame j)) (w.is j) rest)
+      is = (λ j. walk_suite (frame_with S.tree (on.frame j)) (w.is j) rest)
           ∙ sym (ap (walk_suite frame before) next) ∙ v.is;
     }
 
@@ -129,7 +126,7 @@ check_suite-returns-clause-walked g t c =
     let v = here.invariant in
     let left = no_statement_left c.args.body.now here.statement-index (omega arith) in
     record {
-      is = sym (ap (walk_suite (frame_in S g.R.Resolver here.walk) (reached S here.walk here.env here.broken)) left)
+      is = sym (ap (walk_suite (frame_in S here.walk) (reached S here.walk here.env here.broken)) left)
           ∙ v.is;
       stands = v.stands;
     }
@@ -140,7 +137,6 @@ pub check_next-returns-in_ok-declare_unreached-in-None-clause-walked :
     goal.check_next-returns-in_ok-declare_unreached-in-None-clause-walked
 check_next-returns-in_ok-declare_unreached-in-None-clause-walked g t c =
     let S = g.S.TypeStore in
-    let N = g.R.Resolver in
     let old = c.args.walk.now in
     let new = c.declare_unreached.new.walk in
     let d = c.in_ok-declare_unreached-in-None.ensures in
@@ -149,10 +145,10 @@ check_next-returns-in_ok-declare_unreached-in-None-clause-walked g t c =
     rw c.in-None.is (record {
       is = λ i. record { table = declared.is i; env = None; broken = way; found = d.found i };
       stands = record {
-        frame = frame_on S N old new c.requires.stands.frame c.declare_unreached.ensures.goes_on;
+        frame = frame_on S old new c.requires.stands.frame c.declare_unreached.ensures.goes_on;
         declared = declared.holds;
         current = tt;
-        out = way_kept S N old new c.args.broken.now c.declare_unreached.ensures.goes_on c.requires.stands.out;
+        out = way_kept S old new c.args.broken.now c.declare_unreached.ensures.goes_on c.requires.stands.out;
       };
     })
 
@@ -166,11 +162,10 @@ pub check_stmt-returns-in_ok-break_out-in-Break-clause-walked :
     goal.check_stmt-returns-in_ok-break_out-in-Break-clause-walked
 check_stmt-returns-in_ok-break_out-in-Break-clause-walked g t c =
     let S = g.S.TypeStore in
-    let N = g.R.Resolver in
     let b = c.in_ok-break_out-in-Break.ensures in
     let old = c.args.walk.now in
     let new = c.break_out.new.walk in
-    let stood = quiet_stands S N old new c.break_out.ensures.goes_on b.quiet
+    let stood = quiet_stands S old new c.break_out.ensures.goes_on b.quiet
     (Some c.args.env) c.args.broken.now c.requires.stands in
     rw c.in-Break.is (record {
       is = λ i. record {
@@ -194,28 +189,26 @@ pub check_stmt-returns-in_ok-find_return-in-Return-clause-walked :
     goal.check_stmt-returns-in_ok-find_return-in-Return-clause-walked
 check_stmt-returns-in_ok-find_return-in-Return-clause-walked g t c =
     let S = g.S.TypeStore in
-    let N = g.R.Resolver in
     let old = c.args.walk.now in
     let new = c.find_return.new.walk in
     let a = c.in_ok-find_return-in-Return.ensures.finds in
     let on = c.find_return.ensures.goes_on in
     let way = c.args.broken.now in
     rw c.in-Return.is (record {
-      is = found_reached S N old new c.args.env _ on a None way;
-      stands = found_stands S N old new c.args.env _ on a None way tt c.requires.stands.out;
+      is = found_reached S old new c.args.env _ on a None way;
+      stands = found_stands S old new c.args.env _ on a None way tt c.requires.stands.out;
     })
 
 pub check_stmt-returns-in_ok-env-in-Assert-clause-walked : goal.check_stmt-returns-in_ok-env-in-Assert-clause-walked
 check_stmt-returns-in_ok-env-in-Assert-clause-walked g t c =
     let S = g.S.TypeStore in
-    let N = g.R.Resolver in
     let old = c.args.walk.now in
     let new = c.check_assert.new.walk in
     let a = c.in_ok-env-in-Assert.ensures in
     let env = c.in_ok-env-in-Assert.env in
     let way = c.args.broken.now in
-    let F = frame_in S N old in
-    let K = standing_in S N old c.args.env in
+    let F = frame_in S old in
+    let K = standing_in S old c.args.env in
     let condition = expr_of c.in-Assert.condition.value in
     let message = option_expr_of c.in-Assert.text in
     let behind = rw c.deref.ensures at a.behind.is in
@@ -228,7 +221,7 @@ check_stmt-returns-in_ok-env-in-Assert-clause-walked g t c =
         found = in_turn (notes_of old.found.now) (finds_in K None condition)
             (option_finds F (narrowed_standing K false condition) None message) (notes_of new.found.now) pushed i;
       };
-      stands = found_stands S N old new c.args.env _ c.check_assert.ensures.goes_on a.finds
+      stands = found_stands S old new c.args.env _ c.check_assert.ensures.goes_on a.finds
           (Some env) way a.behind.holds c.requires.stands.out;
     })
 
@@ -236,43 +229,40 @@ pub check_stmt-returns-in_ok-env-in-Annotated-clause-walked :
     goal.check_stmt-returns-in_ok-env-in-Annotated-clause-walked
 check_stmt-returns-in_ok-env-in-Annotated-clause-walked g t c =
     let S = g.S.TypeStore in
-    let N = g.R.Resolver in
     let old = c.args.walk.now in
     let new = c.bind_annotated.new.walk in
     let b = rw c.deref-in-Annotated.ensures at c.in_ok-env-in-Annotated.ensures.bound in
     let way = c.args.broken.now in
     rw c.in-Annotated.is (record {
-      is = ap (behind_binding (frame_in S N old) (option_map (env_of S.tree) way)) b.is;
+      is = ap (behind_binding (frame_in S old) (option_map (env_of S.tree) way)) b.is;
       stands = record {
         frame = b.stands.frame;
         declared = b.stands.declared;
         current = b.stands.current;
-        out = way_kept S N old new way c.bind_annotated.ensures.goes_on c.requires.stands.out;
+        out = way_kept S old new way c.bind_annotated.ensures.goes_on c.requires.stands.out;
       };
     })
 
 pub check_stmt-returns-in_ok-env-in-Assign-clause-walked : goal.check_stmt-returns-in_ok-env-in-Assign-clause-walked
 check_stmt-returns-in_ok-env-in-Assign-clause-walked g t c =
     let S = g.S.TypeStore in
-    let N = g.R.Resolver in
     let old = c.args.walk.now in
     let new = c.assign_target.new.walk in
     let b = rw c.deref-in-Assign.ensures at c.in_ok-env-in-Assign.ensures.bound in
     let way = c.args.broken.now in
     rw c.in-Assign.is (record {
-      is = ap (behind_binding (frame_in S N old) (option_map (env_of S.tree) way)) b.is;
+      is = ap (behind_binding (frame_in S old) (option_map (env_of S.tree) way)) b.is;
       stands = record {
         frame = b.stands.frame;
         declared = b.stands.declared;
         current = b.stands.current;
-        out = way_kept S N old new way c.assign_target.ensures.goes_on c.requires.stands.out;
+        out = way_kept S old new way c.assign_target.ensures.goes_on c.requires.stands.out;
       };
     })
 
 pub check_stmt-returns-in_ok-type_in-in-Expr-clause-walked : goal.check_stmt-returns-in_ok-type_in-in-Expr-clause-walked
 check_stmt-returns-in_ok-type_in-in-Expr-clause-walked g t c =
     let S = g.S.TypeStore in
-    let N = g.R.Resolver in
     let old = c.args.walk.now in
     let new = c.type_in.new.walk in
     let env = c.args.env in
@@ -280,14 +270,13 @@ check_stmt-returns-in_ok-type_in-in-Expr-clause-walked g t c =
     let a = c.in_ok-type_in-in-Expr.ensures.finds in
     let on = c.type_in.ensures.goes_on in
     rw c.in-Expr.is (record {
-      is = found_reached S N old new env _ on a (Some env) way;
-      stands = found_stands S N old new env _ on a (Some env) way a.stands.current c.requires.stands.out;
+      is = found_reached S old new env _ on a (Some env) way;
+      stands = found_stands S old new env _ on a (Some env) way a.stands.current c.requires.stands.out;
     })
 
 pub check_stmt-returns-in_ok-out-in-While-clause-walked : goal.check_stmt-returns-in_ok-out-in-While-clause-walked
 check_stmt-returns-in_ok-out-in-While-clause-walked g t c =
     let S = g.S.TypeStore in
-    let N = g.R.Resolver in
     let way = c.args.broken.now in
     let kind = c.in-While in
     let new = c.check_while.new.walk in
@@ -295,14 +284,13 @@ check_stmt-returns-in_ok-out-in-While-clause-walked g t c =
     c.deref-in-While.ensures.value
     ∙ ap (λ e. while_loop c.args.first (expr_of e) (stmts_of_list kind.body.items)) c.deref-in-While-2.ensures
     ∙ sym (while_tree c.args.first kind.condition kind.body) ∙ sym (ap (stmt_of_kind c.args.first) kind.is) in
-    subst (λ (s : Stmt). Walked S N c.args.walk.now (Some c.args.env) way new c.in_ok-out-in-While.out way
+    subst (λ (s : Stmt). Walked S c.args.walk.now (Some c.args.env) way new c.in_ok-out-in-While.out way
     (λ f w. step f w.table w.env w.broken w.found s)) is
     (c.in_ok-out-in-While.ensures.walked c.args.first way c.requires.stands.out)
 
 pub check_stmt-returns-in_ok-out-in-For-clause-walked : goal.check_stmt-returns-in_ok-out-in-For-clause-walked
 check_stmt-returns-in_ok-out-in-For-clause-walked g t c =
     let S = g.S.TypeStore in
-    let N = g.R.Resolver in
     let way = c.args.broken.now in
     let kind = c.in-For in
     let new = c.check_for.new.walk in
@@ -311,14 +299,14 @@ check_stmt-returns-in_ok-out-in-For-clause-walked g t c =
     c.deref-in-For.ensures.value
     ∙ ap (λ e. for_loop c.args.first name (expr_of e) (stmts_of_list kind.body.items)) c.deref-in-For-2.ensures
     ∙ sym (for_tree c.args.first kind.name kind.iterable kind.body) ∙ sym (ap (stmt_of_kind c.args.first) kind.is) in
-    subst (λ (s : Stmt). Walked S N c.args.walk.now (Some c.args.env) way new c.in_ok-out-in-For.out way
+    subst (λ (s : Stmt). Walked S c.args.walk.now (Some c.args.env) way new c.in_ok-out-in-For.out way
     (λ f w. step f w.table w.env w.broken w.found s)) is
     (c.in_ok-out-in-For.ensures.walked c.args.first way c.requires.stands.out)
 
 pub check_stmt-check_branches-requires : goal.check_stmt-check_branches-requires
 check_stmt-check_branches-requires g t c κs within =
     let S = g.S.TypeStore in
-    let frame = frame_in S g.R.Resolver c.args.walk.now in
+    let frame = frame_in S c.args.walk.now in
     let resolve = frame.context.resolve in
     let first = c.args.first in
     let breaking = c.args.breaking.now in
@@ -341,19 +329,18 @@ check_stmt-check_branches-requires g t c κs within =
     let touched = subst (λ ls. AreAmong ls (touched_by_branches resolve later)) (sym c.deref-in-If-3.ensures.value)
     (subst (λ bs. AreAmong locals (touched_by_branches resolve (branches_of_list bs))) same branches) in (
       first_of (search (rules, the_lemmas), grind (the_lemmas, arith)),
-      (within.0, (within.1.0, (within.1.1, (c.requires.stands, (c.requires.long, (breaks, touched)))))),
+      (within.0, (within.1, (c.requires.stands, (c.requires.long, (breaks, touched))))),
     )
 
 pub check_stmt-check_otherwise-requires : goal.check_stmt-check_otherwise-requires
 check_stmt-check_otherwise-requires g t c κs within =
     let S = g.S.TypeStore in
-    let N = g.R.Resolver in
     let old = c.args.walk.now in
     let mid = c.check_branches.new.walk in
     let f = c.in_ok-fork-in-If.ensures.walked in
     let on = c.check_branches.ensures.goes_on in
     let fork = c.in_ok-fork-in-If.fork in
-    let frame = frame_in S N old in
+    let frame = frame_in S old in
     let resolve = frame.context.resolve in
     let first = c.args.first in
     let breaking = c.args.breaking.now in
@@ -393,25 +380,22 @@ check_stmt-check_otherwise-requires g t c κs within =
       (
         within.0,
         (
-          within.1.0,
+          within.1,
           (
-            within.1.1,
+            f.stands,
             (
-              f.stands,
+              f.met,
               (
-                f.met,
+                subst (λ ls. ForkAgrees ls behind) same_locals (subst (ForkAgrees locals) (sym f.is) agree),
                 (
-                  subst (λ ls. ForkAgrees ls behind) same_locals (subst (ForkAgrees locals) (sym f.is) agree),
-                  (
-                    in_frame S N old mid (λ (x : RustFrame _ _). BreaksAgree breaking
-                        (touched_by (N.meaning x.names.now) suite) behind.broken (Some behind.last)) on
-                        (subst (λ (r : BranchesResult). BreaksAgree breaking (touched_by resolve suite) r.broken
-                        (Some r.last))
-                        (sym f.is) breaks),
-                    in_frame S N old mid (λ (x : RustFrame _ _). AreAmong c.deref-in-If-5.result.now
-                        (touched_by (N.meaning x.names.now) suite)) on
-                        (subst (λ ls. AreAmong ls (touched_by resolve suite)) same_locals suite_touched),
-                  ),
+                  in_frame S old mid (λ (x : RustFrame _). BreaksAgree breaking
+                      (touched_by (meanings x.names.now) suite) behind.broken (Some behind.last)) on
+                      (subst (λ (r : BranchesResult). BreaksAgree breaking (touched_by resolve suite) r.broken
+                      (Some r.last))
+                      (sym f.is) breaks),
+                  in_frame S old mid (λ (x : RustFrame _). AreAmong c.deref-in-If-5.result.now
+                      (touched_by (meanings x.names.now) suite)) on
+                      (subst (λ ls. AreAmong ls (touched_by resolve suite)) same_locals suite_touched),
                 ),
               ),
             ),
@@ -423,10 +407,9 @@ check_stmt-check_otherwise-requires g t c κs within =
 pub check_stmt-returns-in_ok-out-in-If-clause-walked : goal.check_stmt-returns-in_ok-out-in-If-clause-walked
 check_stmt-returns-in_ok-out-in-If-clause-walked g t c =
     let S = g.S.TypeStore in
-    let N = g.R.Resolver in
     let old = c.args.walk.now in
     let mid = c.check_branches.new.walk in
-    let frame = frame_in S N old in
+    let frame = frame_in S old in
     let first = c.args.first in
     let f = c.in_ok-fork-in-If.ensures.walked in
     let fork = c.in_ok-fork-in-If.fork in
@@ -440,7 +423,7 @@ check_stmt-returns-in_ok-out-in-If-clause-walked g t c =
     c.deref-in-If-6.ensures.value
     ∙ sym (if_tree first c.in-If.branches c.in-If.suite) ∙ sym (ap (stmt_of_kind first) c.in-If.is) in
     record {
-      is = walks_on S N old mid c.check_otherwise.new.walk (Some fork.last) c.check_branches.new.broken
+      is = walks_on S old mid c.check_otherwise.new.walk (Some fork.last) c.check_branches.new.broken
           c.in_ok-out-in-If.out c.check_otherwise.new.broken
           (λ f w. behind_branches f behind.ways (walk_suite f w suite)) c.check_branches.ensures.goes_on o
           ∙ branches_from frame behind _ suite f.is ∙ ap stepped is;
@@ -452,7 +435,7 @@ check_stmt-returns-in_ok-out-in-If-clause-walked g t c =
 pub check_while-type_condition-requires : goal.check_while-type_condition-requires
 check_while-type_condition-requires g t c =
     let q = c.in_ok-head.ensures.quiet in
-    let stood = stands_on g.S.TypeStore g.R.Resolver c.args.walk.now c.while_start.new.walk c.args.env.now
+    let stood = stands_on g.S.TypeStore c.args.walk.now c.while_start.new.walk c.args.env.now
     c.requires.stands
     c.while_start.ensures.goes_on q.declared in
     record { frame = stood.frame; declared = stood.declared; current = c.in_ok-head.ensures.head.holds }
@@ -460,7 +443,6 @@ check_while-type_condition-requires g t c =
 pub check_while-check_suite-requires : goal.check_while-check_suite-requires
 check_while-check_suite-requires g t c κs within =
     let S = g.S.TypeStore in
-    let N = g.R.Resolver in
     let old = c.args.walk.now in
     let mid = c.while_start.new.walk in
     let new = c.type_condition.new.walk in
@@ -468,7 +450,7 @@ check_while-check_suite-requires g t c κs within =
     let start = c.in_ok-head.ensures.head in
     let a = c.in_ok-where_true.ensures in
     let ways = c.in_ok-where_true.field-0 in
-    let frame = frame_in S N new in
+    let frame = frame_in S new in
     let resolve = frame.context.resolve in
     let table = env_of S.tree new.declared.now in
     let head = env_of S.tree c.in_ok-head.head in
@@ -476,15 +458,15 @@ check_while-check_suite-requires g t c κs within =
     let body = stmts_of_list c.args.body.now in
     let locals = c.in_ok-breaking.breaking.items in
     let where_true : env_of S.tree ways.where_true ≡ narrowed_at frame table true condition head =
-    a.where_true.is ∙ sym (same_narrowed S N mid new c.in_ok-head.head _ c.type_condition.ensures.goes_on a.finds true
+    a.where_true.is ∙ sym (same_narrowed S mid new c.in_ok-head.head _ c.type_condition.ensures.goes_on a.finds true
     condition) in
     let where_false : env_of S.tree ways.where_false ≡ narrowed_at frame table false condition head =
-    a.where_false.is ∙ sym (same_narrowed S N mid new c.in_ok-head.head _ c.type_condition.ensures.goes_on a.finds
+    a.where_false.is ∙ sym (same_narrowed S mid new c.in_ok-head.head _ c.type_condition.ensures.goes_on a.finds
     false condition) in
     let same_table : length table ≡ length (env_of S.tree old.declared.now) =
     ap (λ ds. length (env_of S.tree ds)) (a.finds.declared ∙ q.declared) in
     let head_long : length head ≡ length table = ap (λ (e : Env). length e) start.is
-    ∙ head_at_long (frame_in S N old) (env_of S.tree old.declared.now) (bound_by body) (env_of S.tree c.args.env.now)
+    ∙ head_at_long (frame_in S old) (env_of S.tree old.declared.now) (bound_by body) (env_of S.tree c.args.env.now)
     c.requires.long ∙ sym same_table in
     let touched = among_same locals (touched_by_while resolve condition body) (λ x. c.in_ok-breaking.ensures x) in
     let breaks = while_breaks frame locals table head condition body a.finds.stands.current.well_formed head_long
@@ -493,30 +475,27 @@ check_while-check_suite-requires g t c κs within =
       (
         within.0,
         (
-          within.1.0,
+          within.1,
           (
-            within.1.1,
+            record {
+              frame = a.finds.stands.frame;
+              declared = a.finds.stands.declared;
+              current = a.where_true.holds;
+              out = a.where_false.holds;
+            },
             (
               record {
-                frame = a.finds.stands.frame;
-                declared = a.finds.stands.declared;
-                current = a.where_true.holds;
-                out = a.where_false.holds;
+                env_long = ap (λ (e : Env). length e) where_true ∙ narrowed_long frame table true condition head
+                    head_long;
+                broken_long = ap (λ (e : Env). length e) where_false
+                    ∙ narrowed_long frame table false condition head head_long;
               },
-              (
-                record {
-                  env_long = ap (λ (e : Env). length e) where_true ∙ narrowed_long frame table true condition head
-                      head_long;
-                  broken_long = ap (λ (e : Env). length e) where_false
-                      ∙ narrowed_long frame table false condition head head_long;
-                },
-                subst (λ ls. BreaksAgree ls (touched_by resolve body) (Some (env_of S.tree ways.where_false))
-                    (Some (env_of S.tree ways.where_true))) (sym c.deref.ensures.value)
-                    (subst (λ (e : Env). BreaksAgree locals (touched_by resolve body) (Some e)
-                    (Some (env_of S.tree ways.where_true))) (sym where_false)
-                    (subst (λ (e : Env). BreaksAgree locals (touched_by resolve body)
-                    (Some (narrowed_at frame table false condition head)) (Some e)) (sym where_true) breaks)),
-              ),
+              subst (λ ls. BreaksAgree ls (touched_by resolve body) (Some (env_of S.tree ways.where_false))
+                  (Some (env_of S.tree ways.where_true))) (sym c.deref.ensures.value)
+                  (subst (λ (e : Env). BreaksAgree locals (touched_by resolve body) (Some e)
+                  (Some (env_of S.tree ways.where_true))) (sym where_false)
+                  (subst (λ (e : Env). BreaksAgree locals (touched_by resolve body)
+                  (Some (narrowed_at frame table false condition head)) (Some e)) (sym where_true) breaks)),
             ),
           ),
         ),
@@ -526,7 +505,6 @@ check_while-check_suite-requires g t c κs within =
 pub check_while-returns-clause-walked : goal.check_while-returns-clause-walked
 check_while-returns-clause-walked g t c = λ p way held.
     let S = g.S.TypeStore in
-    let N = g.R.Resolver in
     let old = c.args.walk.now in
     let mid = c.while_start.new.walk in
     let later = c.type_condition.new.walk in
@@ -542,7 +520,7 @@ check_while-returns-clause-walked g t c = λ p way held.
     let condition = expr_of c.args.condition.now in
     let body = stmts_of_list c.args.body.now in
     let table = env_of S.tree old.declared.now in
-    let frame = frame_in S N old in
+    let frame = frame_in S old in
     let first = head_at frame table (bound_by body) (env_of S.tree c.args.env.now) in
     let before = goes_further c.while_start.ensures.goes_on c.type_condition.ensures.goes_on in
     let all = goes_further before c.check_suite.ensures.goes_on in
@@ -553,11 +531,11 @@ check_while-returns-clause-walked g t c = λ p way held.
       found = notes_of old.found.now ++ finds_in (at frame table first) None condition;
     } = λ i. record {
       table = env_of S.tree ((a.finds.declared ∙ q.declared) i);
-      env = Some ((a.where_true.is ∙ narrowed_from S N old mid on q head first start.is true condition) i);
-      broken = Some ((a.where_false.is ∙ narrowed_from S N old mid on q head first start.is false condition) i);
-      found = (a.finds.pushed ∙ finds_from S N old mid on q head first start.is condition) i;
+      env = Some ((a.where_true.is ∙ narrowed_from S old mid on q head first start.is true condition) i);
+      broken = Some ((a.where_false.is ∙ narrowed_from S old mid on q head first start.is false condition) i);
+      found = (a.finds.pushed ∙ finds_from S old mid on q head first start.is condition) i;
     } in
-    let walked = walks_on S N old later new (Some ways.where_true) (Some ways.where_false) c.in_ok-check_suite.field-0
+    let walked = walks_on S old later new (Some ways.where_true) (Some ways.where_false) c.in_ok-check_suite.field-0
     out
     (λ f w. walk_suite f w body) before s in
     record {
@@ -567,26 +545,25 @@ check_while-returns-clause-walked g t c = λ p way held.
         frame = s.stands.frame;
         declared = s.stands.declared;
         current = s.stands.out;
-        out = way_kept S N old new way all held;
+        out = way_kept S old new way all held;
       };
     }
 
 pub check_for-bind_item-requires-clause-stands : goal.check_for-bind_item-requires-clause-stands
 check_for-bind_item-requires-clause-stands g t c =
     let q = c.in_ok-head.ensures.quiet in
-    let stood = stands_on g.S.TypeStore g.R.Resolver c.item_type.new.walk c.for_start.new.walk c.args.env.now
+    let stood = stands_on g.S.TypeStore c.item_type.new.walk c.for_start.new.walk c.args.env.now
     c.in_ok-item.ensures.finds.stands c.for_start.ensures.goes_on q.declared in
     record { frame = stood.frame; declared = stood.declared; current = c.in_ok-head.ensures.head.holds }
 
 pub check_for-bind_item-requires-clause-item : goal.check_for-bind_item-requires-clause-item
 check_for-bind_item-requires-clause-item g t c =
-    one_kept g.S.TypeStore g.R.Resolver c.item_type.new.walk c.for_start.new.walk c.in_ok-item.item
+    one_kept g.S.TypeStore c.item_type.new.walk c.for_start.new.walk c.in_ok-item.item
     c.for_start.ensures.goes_on c.in_ok-item.ensures.typed.0
 
 pub check_for-check_suite-requires : goal.check_for-check_suite-requires
 check_for-check_suite-requires g t c κs within =
     let S = g.S.TypeStore in
-    let N = g.R.Resolver in
     let old = c.args.walk.now in
     let first = c.item_type.new.walk in
     let mid = c.for_start.new.walk in
@@ -597,7 +574,7 @@ check_for-check_suite-requires g t c κs within =
     let b = c.in_ok-inside.ensures.bound in
     let on = c.bind_item.ensures.goes_on in
     let copied = c.in_ok-copy_env in
-    let frame = frame_in S N mid in
+    let frame = frame_in S mid in
     let resolve = frame.context.resolve in
     let table = env_of S.tree mid.declared.now in
     let head = env_of S.tree c.in_ok-head.head in
@@ -611,15 +588,15 @@ check_for-check_suite-requires g t c κs within =
     let env_long : length (env_of S.tree c.args.env.now) ≡ length (env_of S.tree first.declared.now) =
     c.requires.long ∙ sym (ap (λ ds. length (env_of S.tree ds)) a.finds.declared) in
     let head_long : length head ≡ length table = ap (λ (e : Env). length e) start.is
-    ∙ head_at_long (frame_in S N first) (env_of S.tree first.declared.now) (name ∷ bound_by body)
+    ∙ head_at_long (frame_in S first) (env_of S.tree first.declared.now) (name ∷ bound_by body)
     (env_of S.tree c.args.env.now) env_long
     ∙ sym (ap (λ ds. length (env_of S.tree ds)) q.declared) in
     let sizes = item_long frame table head (resolve name.text) place item found head_long in
     let table_long = ap (λ (r : BindingResult). length r.table) b.is ∙ sizes.0 in
-    let touched = in_frame S N old mid (λ (f : RustFrame _ _). AreAmong locals
-    (touched_by_for (N.meaning f.names.now) name body))
+    let touched = in_frame S old mid (λ (f : RustFrame _). AreAmong locals
+    (touched_by_for (meanings f.names.now) name body))
     (goes_further c.item_type.ensures.goes_on c.for_start.ensures.goes_on)
-    (among_same locals (touched_by_for (N.meaning old.frame.names.now) name body) (λ x. c.in_ok-breaking.ensures x)) in
+    (among_same locals (touched_by_for (meanings old.frame.names.now) name body) (λ x. c.in_ok-breaking.ensures x)) in
     let breaks = for_breaks frame locals table head name body place item found start.holds.well_formed head_long
     touched in
     let held = gives_types S.has S.tree mid.frame.parents.now mid.store.now copied.field-0 head copied.ensures
@@ -628,31 +605,28 @@ check_for-check_suite-requires g t c κs within =
       (
         within.0,
         (
-          within.1.0,
+          within.1,
           (
-            within.1.1,
+            record {
+              frame = b.stands.frame;
+              declared = b.stands.declared;
+              current = b.stands.current;
+              out = env_kept S mid new copied.field-0 on held.holds;
+            },
             (
               record {
-                frame = b.stands.frame;
-                declared = b.stands.declared;
-                current = b.stands.current;
-                out = env_kept S N mid new copied.field-0 on held.holds;
+                env_long = ap (λ (r : BindingResult). length r.env) b.is ∙ sizes.1 ∙ sym table_long;
+                broken_long = ap (λ (e : Env). length e) copied.ensures.is ∙ head_long ∙ sym table_long;
               },
-              (
-                record {
-                  env_long = ap (λ (r : BindingResult). length r.env) b.is ∙ sizes.1 ∙ sym table_long;
-                  broken_long = ap (λ (e : Env). length e) copied.ensures.is ∙ head_long ∙ sym table_long;
-                },
-                in_frame S N mid new (λ (f : RustFrame _ _). BreaksAgree c.deref.result.now
-                    (touched_by (N.meaning f.names.now) body) (Some (env_of S.tree copied.field-0)) inside) on
-                    (subst (λ ls. BreaksAgree ls (touched_by resolve body) (Some (env_of S.tree copied.field-0)) inside)
-                    (sym c.deref.ensures.value)
-                    (subst (λ (e : Env). BreaksAgree locals (touched_by resolve body) (Some e) inside)
-                    (sym copied.ensures.is)
-                    (subst (λ (r : BindingResult). BreaksAgree locals (touched_by resolve body) (Some head)
-                    (Some r.env))
-                    (sym b.is) breaks))),
-              ),
+              in_frame S mid new (λ (f : RustFrame _). BreaksAgree c.deref.result.now
+                  (touched_by (meanings f.names.now) body) (Some (env_of S.tree copied.field-0)) inside) on
+                  (subst (λ ls. BreaksAgree ls (touched_by resolve body) (Some (env_of S.tree copied.field-0)) inside)
+                  (sym c.deref.ensures.value)
+                  (subst (λ (e : Env). BreaksAgree locals (touched_by resolve body) (Some e) inside)
+                  (sym copied.ensures.is)
+                  (subst (λ (r : BindingResult). BreaksAgree locals (touched_by resolve body) (Some head)
+                  (Some r.env))
+                  (sym b.is) breaks))),
             ),
           ),
         ),
@@ -662,7 +636,6 @@ check_for-check_suite-requires g t c κs within =
 pub check_for-returns-clause-walked : goal.check_for-returns-clause-walked
 check_for-returns-clause-walked g t c = λ p way held.
     let S = g.S.TypeStore in
-    let N = g.R.Resolver in
     let old = c.args.walk.now in
     let later = c.bind_item.new.walk in
     let new = c.check_suite.new.walk in
@@ -680,9 +653,9 @@ check_for-returns-clause-walked g t c = λ p way held.
     let before = goes_further on c.for_start.ensures.goes_on in
     let entry = goes_further before c.bind_item.ensures.goes_on in
     let all = goes_further entry c.check_suite.ensures.goes_on in
-    let frame = frame_in S N old in
+    let frame = frame_in S old in
     let table = env_of S.tree old.declared.now in
-    let standing = standing_in S N old c.args.env.now in
+    let standing = standing_in S old c.args.env.now in
     let resolve = frame.context.resolve in
     let e = expr_of c.args.iterable.now in
     let mark = item_mark_of frame standing e in
@@ -693,24 +666,24 @@ check_for-returns-clause-walked g t c = λ p way held.
     let mid = c.for_start.new.walk in
     let here = env_of S.tree c.in_ok-head.head in
     let head : here ≡ first = start.is
-    ∙ (λ i. head_at (frame_with S.tree N.meaning (on.frame i)) (env_of S.tree (a.finds.declared i)) names env) in
+    ∙ (λ i. head_at (frame_with S.tree (on.frame i)) (env_of S.tree (a.finds.declared i)) names env) in
     let tables : mid.declared.now ≡ old.declared.now = q.declared ∙ a.finds.declared in
     let notes : notes_of mid.found.now ≡ (told ++ asked) ++ codes =
     in_turn told asked codes (notes_of mid.found.now) (q.found ∙ a.finds.pushed) in
     let item = S.tree c.in_ok-item.item in
-    let there = frame_in S N mid in
+    let there = frame_in S mid in
     let binding : bind_item there (env_of S.tree mid.declared.now) here
     (there.context.resolve name.text) c.place.result item
     (notes_of mid.found.now) ≡ bind_item frame table first (resolve name.text) (place_of e) mark.type
-    ((told ++ asked) ++ codes) = λ i. bind_item (frame_with S.tree N.meaning (before.frame i))
+    ((told ++ asked) ++ codes) = λ i. bind_item (frame_with S.tree (before.frame i))
     (env_of S.tree (tables i))
-    (head i) (N.meaning (before.frame i).names.now name.text) (c.place.ensures i) (a.typed.1 i) (notes i) in
+    (head i) (meanings (before.frame i).names.now name.text) (c.place.ensures i) (a.typed.1 i) (notes i) in
     let bound = b.is ∙ binding in
     let copy = copied.ensures.is ∙ head in
     let from : reached S later (Some c.in_ok-inside.inside) (Some copied.field-0) ≡ inside_for frame first
     (bind_item frame table first (resolve name.text) (place_of e) mark.type ((told ++ asked) ++ codes)) =
     λ i. inside_for frame (copy i) (bound i) in
-    let walked = walks_on S N old later new (Some c.in_ok-inside.inside) (Some copied.field-0)
+    let walked = walks_on S old later new (Some c.in_ok-inside.inside) (Some copied.field-0)
     c.in_ok-check_suite.field-0 c.check_suite.new.broken (λ f w. walk_suite f w body) entry s in
     record {
       is = ap (behind_loop frame (option_map (env_of S.tree) way))
@@ -719,7 +692,7 @@ check_for-returns-clause-walked g t c = λ p way held.
         frame = s.stands.frame;
         declared = s.stands.declared;
         current = s.stands.out;
-        out = way_kept S N old new way all held;
+        out = way_kept S old new way all held;
       };
     }
 
@@ -731,15 +704,12 @@ check_otherwise-check_suite-requires g t c κs within = (
   (
     within.0,
     (
-      within.1.0,
+      within.1,
       (
-        within.1.1,
+        c.requires.stands,
         (
-          c.requires.stands,
-          (
-            record { env_long = c.requires.agree.last_long; broken_long = c.requires.agree.broken_long },
-            c.requires.breaks,
-          ),
+          record { env_long = c.requires.agree.last_long; broken_long = c.requires.agree.broken_long },
+          c.requires.breaks,
         ),
       ),
     ),
@@ -748,7 +718,7 @@ check_otherwise-check_suite-requires g t c κs within = (
 
 pub check_otherwise-meet-requires-clause-ways : goal.check_otherwise-meet-requires-clause-ways
 check_otherwise-meet-requires-clause-ways g t c =
-    way_kept g.S.TypeStore g.R.Resolver c.args.walk.now c.check_suite.new.walk c.args.fork.ways
+    way_kept g.S.TypeStore c.args.walk.now c.check_suite.new.walk c.args.fork.ways
     c.check_suite.ensures.goes_on c.requires.ways
 
 pub check_otherwise-meet-requires-clause-agree : goal.check_otherwise-meet-requires-clause-agree
@@ -758,16 +728,15 @@ check_otherwise-meet-requires-clause-agree g t c =
     let locals = c.args.locals.now in
     let fork = forked S w c.args.fork.last c.args.fork.ways c.args.broken.now in
     subst (λ (x : Reached). WaysAgree locals fork.ways x.env) (sym c.in_ok-out.ensures.walked.is)
-    (otherwise_agrees (frame_in S g.R.Resolver w) locals fork (stmts_of_list c.args.otherwise.now)
+    (otherwise_agrees (frame_in S w) locals fork (stmts_of_list c.args.otherwise.now)
     c.requires.stands.current.well_formed c.requires.agree c.requires.touched)
 
 pub check_otherwise-returns-clause-walked : goal.check_otherwise-returns-clause-walked
 check_otherwise-returns-clause-walked g t c =
     let S = g.S.TypeStore in
-    let N = g.R.Resolver in
     let mid = c.check_suite.new.walk in
     let new = c.meet.new.walk in
-    let frame = frame_in S N c.args.walk.now in
+    let frame = frame_in S c.args.walk.now in
     let s = c.in_ok-out.ensures.walked in
     let j = c.in_ok-joined.ensures in
     let joined = c.in_ok-joined.joined in
@@ -776,10 +745,10 @@ check_otherwise-returns-clause-walked g t c =
     let out = reached S mid c.in_ok-out.out broken in
     let met : option_map (env_of S.tree) joined ≡ with_way frame.context.bases out.table ways out.env =
     j.joined.is ∙ (λ i. with_way (c.check_suite.ensures.goes_on.frame i).parents.now out.table ways out.env) in
-    let stood = quiet_stands S N mid new c.meet.ensures.goes_on j.quiet None broken
+    let stood = quiet_stands S mid new c.meet.ensures.goes_on j.quiet None broken
     (record { frame = s.stands.frame; declared = s.stands.declared; current = tt; out = s.stands.out }) in
     record {
-      is = quiet_reached S N mid new c.meet.ensures.goes_on j.quiet joined broken
+      is = quiet_reached S mid new c.meet.ensures.goes_on j.quiet joined broken
           ∙ otherwise_walked frame ways out _ (option_map (env_of S.tree) joined) s.is met;
       stands = record { frame = stood.frame; declared = stood.declared; current = j.joined.holds; out = stood.out };
     }
@@ -791,7 +760,7 @@ check_branches-check_branch-requires g t c κs within =
     let S = g.S.TypeStore in
     let here = c.loop-branch in
     let v = here.invariant in
-    let frame = frame_in S g.R.Resolver here.walk in
+    let frame = frame_in S here.walk in
     let resolve = frame.context.resolve in
     let locals = c.args.locals.now in
     let breaking = c.args.breaking.now in
@@ -812,23 +781,20 @@ check_branches-check_branch-requires g t c κs within =
       (
         within.0,
         (
-          within.1.0,
+          within.1,
           (
-            within.1.1,
+            v.stands,
             (
-              v.stands,
+              v.ways,
               (
-                v.ways,
+                v.agree,
                 (
-                  v.agree,
-                  (
-                    subst (λ bs. BreaksAgree breaking (touched_by_branches resolve bs) broken last) one
-                        (part_breaks frame breaking (touched_by_branches resolve (more_branches condition body rest))
-                        (touched_by_branches resolve (more_branches condition body no_branches)) broken last
-                        (first_touched resolve breaking condition body rest) breaks),
-                    subst (λ bs. AreAmong locals (touched_by_branches resolve bs)) one
-                        (first_touched resolve locals condition body rest touched),
-                  ),
+                  subst (λ bs. BreaksAgree breaking (touched_by_branches resolve bs) broken last) one
+                      (part_breaks frame breaking (touched_by_branches resolve (more_branches condition body rest))
+                      (touched_by_branches resolve (more_branches condition body no_branches)) broken last
+                      (first_touched resolve breaking condition body rest) breaks),
+                  subst (λ bs. AreAmong locals (touched_by_branches resolve bs)) one
+                      (first_touched resolve locals condition body rest touched),
                 ),
               ),
             ),
@@ -853,13 +819,12 @@ check_branches-loop-branch-init g t c =
 pub check_branches-loop-branch-preserved : goal.check_branches-loop-branch-preserved
 check_branches-loop-branch-preserved g t c =
     let S = g.S.TypeStore in
-    let N = g.R.Resolver in
     let here = c.loop-branch in
     let new = c.check_branch.new.walk in
     let w = c.in_ok-fork.ensures.walked in
     let on = c.check_branch.ensures.goes_on in
     let v = here.invariant in
-    let frame = frame_in S N here.walk in
+    let frame = frame_in S here.walk in
     let resolve = frame.context.resolve in
     let locals = c.args.locals.now in
     let breaking = c.args.breaking.now in
@@ -887,15 +852,15 @@ check_branches-loop-branch-preserved g t c =
       stands = w.stands;
       ways = w.met;
       agree = subst (ForkAgrees locals) (sym w.is) agree;
-      touched = in_frame S N here.walk new (λ (f : RustFrame _ _). AreAmong locals
-          (touched_by_branches (N.meaning f.names.now) rest)) on
+      touched = in_frame S here.walk new (λ (f : RustFrame _). AreAmong locals
+          (touched_by_branches (meanings f.names.now) rest)) on
           (later_touched resolve locals condition body rest all);
-      breaks = in_frame S N here.walk new (λ (f : RustFrame _ _). BreaksAgree breaking
-          (touched_by_branches (N.meaning f.names.now) rest) behind.broken (Some behind.last)) on
+      breaks = in_frame S here.walk new (λ (f : RustFrame _). BreaksAgree breaking
+          (touched_by_branches (meanings f.names.now) rest) behind.broken (Some behind.last)) on
           (subst (λ (r : BranchesResult). BreaksAgree breaking (touched_by_branches resolve rest) r.broken
           (Some r.last))
           (sym is) breaks);
-      is = (λ j. walk_branches (frame_with S.tree N.meaning (on.frame j)) (is j) rest)
+      is = (λ j. walk_branches (frame_with S.tree (on.frame j)) (is j) rest)
           ∙ sym (ap (walk_branches frame before) next) ∙ v.is;
     }
 
@@ -906,7 +871,7 @@ check_branches-returns-clause-walked g t c =
     let v = here.invariant in
     let left = no_branch_left c.args.branches.now here.branch-index (omega arith) in
     record {
-      is = sym (ap (walk_branches (frame_in S g.R.Resolver here.walk)
+      is = sym (ap (walk_branches (frame_in S here.walk)
           (forked S here.walk here.fork.last here.fork.ways here.broken)) left) ∙ v.is;
       stands = v.stands;
       met = v.ways;
@@ -917,13 +882,12 @@ check_branches-returns-clause-walked g t c =
 pub check_branch-check_suite-requires : goal.check_branch-check_suite-requires
 check_branch-check_suite-requires g t c κs within =
     let S = g.S.TypeStore in
-    let N = g.R.Resolver in
     let old = c.args.walk.now in
     let new = c.type_condition.new.walk in
     let a = c.in_ok-where_true.ensures in
     let ways = c.in_ok-where_true.field-0 in
     let last = c.args.fork.last in
-    let frame = frame_in S N old in
+    let frame = frame_in S old in
     let resolve = frame.context.resolve in
     let table = env_of S.tree old.declared.now in
     let breaking = c.args.breaking.now in
@@ -941,32 +905,29 @@ check_branch-check_suite-requires g t c κs within =
       (
         within.0,
         (
-          within.1.0,
+          within.1,
           (
-            within.1.1,
+            found_stands S old new last _ c.type_condition.ensures.goes_on a.finds
+                (Some ways.where_true) c.args.broken.now a.where_true.holds
+                c.requires.stands.out,
             (
-              found_stands S N old new last _ c.type_condition.ensures.goes_on a.finds
-                  (Some ways.where_true) c.args.broken.now a.where_true.holds
-                  c.requires.stands.out,
-              (
-                subst (λ (t : _). IsLong (record {
-                  table = t;
-                  env = Some (env_of S.tree ways.where_true);
-                  broken = broken;
-                  found = notes_of new.found.now;
-                })) (sym (ap (env_of S.tree) a.finds.declared)) (record {
-                  env_long = ap (λ (e : Env). length e) a.where_true.is
-                      ∙ narrowed_long frame table true condition (env_of S.tree last) agree.last_long;
-                  broken_long = agree.broken_long;
-                }),
-                in_frame S N old new (λ (f : RustFrame _ _). BreaksAgree breaking
-                    (touched_by (N.meaning f.names.now) (stmts_of_list c.deref.result.now)) broken
-                    (Some (env_of S.tree ways.where_true))) c.type_condition.ensures.goes_on
-                    (subst (λ ss. BreaksAgree breaking (touched_by resolve (stmts_of_list ss)) broken
-                    (Some (env_of S.tree ways.where_true))) (sym c.deref.ensures.value)
-                    (subst (λ (e : Env). BreaksAgree breaking (touched_by resolve body) broken (Some e))
-                    (sym a.where_true.is) start)),
-              ),
+              subst (λ (t : _). IsLong (record {
+                table = t;
+                env = Some (env_of S.tree ways.where_true);
+                broken = broken;
+                found = notes_of new.found.now;
+              })) (sym (ap (env_of S.tree) a.finds.declared)) (record {
+                env_long = ap (λ (e : Env). length e) a.where_true.is
+                    ∙ narrowed_long frame table true condition (env_of S.tree last) agree.last_long;
+                broken_long = agree.broken_long;
+              }),
+              in_frame S old new (λ (f : RustFrame _). BreaksAgree breaking
+                  (touched_by (meanings f.names.now) (stmts_of_list c.deref.result.now)) broken
+                  (Some (env_of S.tree ways.where_true))) c.type_condition.ensures.goes_on
+                  (subst (λ ss. BreaksAgree breaking (touched_by resolve (stmts_of_list ss)) broken
+                  (Some (env_of S.tree ways.where_true))) (sym c.deref.ensures.value)
+                  (subst (λ (e : Env). BreaksAgree breaking (touched_by resolve body) broken (Some e))
+                  (sym a.where_true.is) start)),
             ),
           ),
         ),
@@ -975,19 +936,18 @@ check_branch-check_suite-requires g t c κs within =
 
 pub check_branch-meet-requires-clause-ways : goal.check_branch-meet-requires-clause-ways
 check_branch-meet-requires-clause-ways g t c =
-    way_kept g.S.TypeStore g.R.Resolver c.args.walk.now c.check_suite.new.walk c.args.fork.ways
+    way_kept g.S.TypeStore c.args.walk.now c.check_suite.new.walk c.args.fork.ways
     (goes_further c.type_condition.ensures.goes_on c.check_suite.ensures.goes_on) c.requires.ways
 
 pub check_branch-meet-requires-clause-agree : goal.check_branch-meet-requires-clause-agree
 check_branch-meet-requires-clause-agree g t c =
     let S = g.S.TypeStore in
-    let N = g.R.Resolver in
     let old = c.args.walk.now in
     let mid = c.type_condition.new.walk in
     let a = c.in_ok-where_true.ensures in
     let where_true = c.in_ok-where_true.field-0.where_true in
     let s = c.in_ok-out.ensures.walked in
-    let frame = frame_in S N old in
+    let frame = frame_in S old in
     let locals = c.args.locals.now in
     let condition = expr_of (out-Branch c.args.branch.now).condition in
     let body = stmts_of_list (out-Branch c.args.branch.now).body.items in
@@ -1006,7 +966,7 @@ check_branch-meet-requires-clause-agree g t c =
       broken = fork.broken;
       found = found;
     } in
-    let walked = walks_on S N old mid c.check_suite.new.walk (Some where_true) c.args.broken.now c.in_ok-out.out
+    let walked = walks_on S old mid c.check_suite.new.walk (Some where_true) c.args.broken.now c.in_ok-out.out
     c.check_suite.new.broken (λ f w. walk_suite f w (stmts_of_list c.deref.result.now))
     c.type_condition.ensures.goes_on s in
     subst (λ (w : Reached). WaysAgree locals fork.ways w.env)
@@ -1018,7 +978,6 @@ check_branch-meet-requires-clause-agree g t c =
 pub check_branch-returns-clause-walked : goal.check_branch-returns-clause-walked
 check_branch-returns-clause-walked g t c =
     let S = g.S.TypeStore in
-    let N = g.R.Resolver in
     let old = c.args.walk.now in
     let mid = c.type_condition.new.walk in
     let later = c.check_suite.new.walk in
@@ -1029,7 +988,7 @@ check_branch-returns-clause-walked g t c =
     let j = c.in_ok-ways.ensures in
     let joined = c.in_ok-ways.ways in
     let broken = c.check_suite.new.broken in
-    let frame = frame_in S N old in
+    let frame = frame_in S old in
     let condition = expr_of (out-Branch c.args.branch.now).condition in
     let body = stmts_of_list (out-Branch c.args.branch.now).body.items in
     let fork = forked S old c.args.fork.last c.args.fork.ways c.args.broken.now in
@@ -1038,7 +997,7 @@ check_branch-returns-clause-walked g t c =
     let met = option_map (env_of S.tree) joined in
     let g1 = c.type_condition.ensures.goes_on in
     let g2 = goes_further g1 c.check_suite.ensures.goes_on in
-    let walked = walks_on S N old mid later (Some ways.where_true) c.args.broken.now c.in_ok-out.out broken
+    let walked = walks_on S old mid later (Some ways.where_true) c.args.broken.now c.in_ok-out.out broken
     (λ f w. walk_suite f w (stmts_of_list c.deref.result.now)) g1 s
     ∙ ap (λ ss. walk_suite frame (reached S mid (Some ways.where_true) c.args.broken.now) (stmts_of_list ss))
     c.deref.ensures.value in
@@ -1068,7 +1027,7 @@ check_branch-returns-clause-walked g t c =
       broken = out.broken;
       found = j.quiet.found i;
     } in
-    let stood = quiet_stands S N later new c.meet.ensures.goes_on j.quiet None broken
+    let stood = quiet_stands S later new c.meet.ensures.goes_on j.quiet None broken
     (record { frame = s.stands.frame; declared = s.stands.declared; current = tt; out = s.stands.out }) in
     record {
       is = quiet
@@ -1078,7 +1037,7 @@ check_branch-returns-clause-walked g t c =
       stands = record {
         frame = stood.frame;
         declared = stood.declared;
-        current = env_kept S N mid new ways.where_false
+        current = env_kept S mid new ways.where_false
             (goes_further c.check_suite.ensures.goes_on c.meet.ensures.goes_on) a.where_false.holds;
         out = stood.out;
       };

@@ -24,7 +24,7 @@ pub returns-clause-found : goal.returns-clause-found
 returns-clause-found g c =
     let tree = g.S.TypeStore.tree in
     if_ok c.find_codes.result
-    (λ i. range_found (standing_of tree g.R.Resolver.meaning c.args.setting.now c.args.env.now) c.args.range.now.place (expr_of c.args.range.now.callee.now) (exprs_of_list c.args.range.now.arguments.now) (keywords_of_list c.args.range.now.by_name.now)
+    (λ i. range_found (standing_of tree c.args.setting.now c.args.env.now) c.args.range.now.place (expr_of c.args.range.now.callee.now) (exprs_of_list c.args.range.now.arguments.now) (keywords_of_list c.args.range.now.by_name.now)
     (given_with c.in_ok-given.given) c.in_ok-given.ensures (map (offer_called tree) c.in_ok-offers.offers.items) c.in_ok-offers.ensures.offers.is
     (notes_of c.args.checker.now.found.now) (notes_of c.type_arguments.new.checker.found.now) (notes_of c.type_keywords.new.checker.found.now) (notes_of c.find_codes.new.found) c.in_ok-codes.codes.items c.is_instance_test-is_test.result
     (rw c.deref-3.ensures.value at (c.in_ok-codes.ensures tree)) c.is_instance_test-is_test.ensures

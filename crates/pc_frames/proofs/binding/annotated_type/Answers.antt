@@ -15,7 +15,7 @@ pub returns-then-is_bound-clause-typed : goal.returns-then-is_bound-clause-typed
 returns-then-is_bound-clause-typed g c =
     let tree = g.S.TypeStore.tree in
     let w = c.args.walk.now in
-    let frame = frame_in g.S.TypeStore g.R.Resolver w in
+    let frame = frame_in g.S.TypeStore w in
     let bound = bound_name frame (env_of tree w.declared.now) c.args.meaning in
     (tt, sym (bound_unless bound _ (sym (c.is_bound.ensures frame tree) ∙ c.if-is_bound.true)))
 
@@ -23,7 +23,7 @@ pub returns-then-is_bound-clause-pushed : goal.returns-then-is_bound-clause-push
 returns-then-is_bound-clause-pushed g c =
     let tree = g.S.TypeStore.tree in
     let w = c.args.walk.now in
-    let frame = frame_in g.S.TypeStore g.R.Resolver w in
+    let frame = frame_in g.S.TypeStore w in
     let bound = bound_name frame (env_of tree w.declared.now) c.args.meaning in
     c.in_ok-put.ensures ∙ ap (λ (fs : List Note). notes_of w.found.now ++ fs)
     (sym (bound_finds frame bound (name_of c.args.name.now) (ann_of c.args.annotation.now)
@@ -33,7 +33,7 @@ pub returns-clause-typed : goal.returns-clause-typed
 returns-clause-typed g c =
     let tree = g.S.TypeStore.tree in
     let w = c.args.walk.now in
-    let frame = frame_in g.S.TypeStore g.R.Resolver w in
+    let frame = frame_in g.S.TypeStore w in
     let bases = w.frame.parents.now in
     let bound = bound_name frame (env_of tree w.declared.now) c.args.meaning in
     let read = read_ann_well_formed (module_of w.frame.tree.now) bases c.requires.context.smaller
@@ -47,7 +47,7 @@ pub returns-clause-pushed : goal.returns-clause-pushed
 returns-clause-pushed g c =
     let tree = g.S.TypeStore.tree in
     let w = c.args.walk.now in
-    let frame = frame_in g.S.TypeStore g.R.Resolver w in
+    let frame = frame_in g.S.TypeStore w in
     let annotation = ann_of c.args.annotation.now in
     let bound = bound_name frame (env_of tree w.declared.now) c.args.meaning in
     let before = notes_of w.found.now in

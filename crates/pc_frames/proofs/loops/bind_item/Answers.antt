@@ -23,7 +23,7 @@ pub returns-in_ok-inside-in-Local-clause-bound : goal.returns-in_ok-inside-in-Lo
 returns-in_ok-inside-in-Local-clause-bound g c =
     let S = g.S.TypeStore in
     let w = c.args.walk.now in
-    let frame = frame_in S g.R.Resolver w in
+    let frame = frame_in S w in
     let table = env_of S.tree w.declared.now in
     let head = env_of S.tree c.args.head in
     let item = S.tree c.args.item in
@@ -45,7 +45,7 @@ pub returns-in_default-clause-bound : goal.returns-in_default-clause-bound
 returns-in_default-clause-bound g c =
     let S = g.S.TypeStore in
     let w = c.args.walk.now in
-    let frame = frame_in S g.R.Resolver w in
+    let frame = frame_in S w in
     let table = env_of S.tree w.declared.now in
     let head = env_of S.tree c.args.head in
     let item = S.tree c.args.item in

@@ -1,3 +1,4 @@
+use Rattle.pc_flow.specs.Naming.{meanings}
 use Rattle.std.proofs.Common.{◌≡◌, ◌∙◌, ℕ, ap, subst}
 use Rattle.std.specs.Prelude.{Bool as Test}
 use Rattle.pc_flow.specs.Agreement.{is_among}
@@ -13,7 +14,7 @@ pub returns-clause-head : goal.returns-clause-head
 returns-clause-head g c = λ names e.
     let S = g.S.TypeStore in
     let w = c.args.walk.now in
-    let resolve = g.R.Resolver.meaning w.frame.names.now in
+    let resolve = meanings w.frame.names.now in
     let among : ℕ → Test = λ x. is_among c.args.locals.now x in
     let alike : among ≡ binds_number resolve names = λ i x. (ap (λ ns. is_among ns x) e ∙ numbers_bind resolve names x) i in
     let declared = type_table (env_of S.tree w.declared.now) in

@@ -1,3 +1,4 @@
+use Rattle.pc_flow.specs.Naming.{meanings}
 use Rattle.std.proofs.Common.{◌≡◌, drop, ◌++◌}
 use Rattle.pc_tree.specs.Tree.{stmts_of_list}
 use Rattle.pc_tree.specs.Lists.{branches_of_list}
@@ -5,7 +6,7 @@ use Rattle.pc_frames.specs.Touched.{tested_in, tested_in_branches}
 use Rattle.pc_frames.proofs.touched.+tested.Given as goal
 
 abbrev pub invariant-add_tested_in-loop-statement : goal.invariant-add_tested_in-loop-statement
-invariant-add_tested_in-loop-statement g l = l.tested.items ++ tested_in (g.R.Resolver.meaning l.names) (stmts_of_list (drop l.statement-index l.body)) ≡ l.fn.tested.items ++ tested_in (g.R.Resolver.meaning l.names) (stmts_of_list l.body)
+invariant-add_tested_in-loop-statement l = l.tested.items ++ tested_in (meanings l.names) (stmts_of_list (drop l.statement-index l.body)) ≡ l.fn.tested.items ++ tested_in (meanings l.names) (stmts_of_list l.body)
 
 abbrev pub invariant-add_tested_in_branches-loop-branch : goal.invariant-add_tested_in_branches-loop-branch
-invariant-add_tested_in_branches-loop-branch g l = l.tested.items ++ tested_in_branches (g.R.Resolver.meaning l.names) (branches_of_list (drop l.branch-index l.branches)) ≡ l.fn.tested.items ++ tested_in_branches (g.R.Resolver.meaning l.names) (branches_of_list l.branches)
+invariant-add_tested_in_branches-loop-branch l = l.tested.items ++ tested_in_branches (meanings l.names) (branches_of_list (drop l.branch-index l.branches)) ≡ l.fn.tested.items ++ tested_in_branches (meanings l.names) (branches_of_list l.branches)

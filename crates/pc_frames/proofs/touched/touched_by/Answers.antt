@@ -1,3 +1,4 @@
+use Rattle.pc_flow.specs.Naming.{meanings}
 use Rattle.std.proofs.Common.{◌≡◌, ◌∙◌, ◌++◌, ℕ, List, append_assoc, sym, ap, eqb}
 use Rattle.std.specs.Prelude.{map, nat_eq}
 use Rattle.std.proofs.lemmas.List.Elements.{filter_map-append}
@@ -15,8 +16,8 @@ use Rattle.pc_frames.proofs.Among.{among_four}
 use Rattle.pc_frames.proofs.touched.touched_by.Goals as goal
 
 pub returns : goal.returns
-returns g c x =
-    let resolve = g.R.Resolver.meaning c.args.names.now in
+returns c x =
+    let resolve = meanings c.args.names.now in
     let bs = branches_of_list c.args.branches.now in
     let o = stmts_of_list c.args.otherwise.now in
     let seen : map name_seen c.add_bound.new.names.items ≡ bound_by_branches bs ++ bound_by o = c.in_ok-add_bound.ensures ∙ ap (λ ns. ns ++ bound_by o) (c.in_ok-add_bound_in.ensures ∙ ap (λ ns. map name_seen ns ++ bound_by_branches bs) c.new-bound.ensures.items) in

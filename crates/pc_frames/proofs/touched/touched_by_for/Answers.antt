@@ -1,3 +1,4 @@
+use Rattle.pc_flow.specs.Naming.{meanings}
 use Rattle.std.proofs.Common.{◌≡◌, ◌∙◌, ◌∷◌, ◌++◌, [], ℕ, List, sym, ap, eqb}
 use Rattle.std.specs.Prelude.{map, nat_eq}
 use Rattle.std.proofs.lemmas.List.Filters.{dedup_is}
@@ -11,8 +12,8 @@ use Rattle.pc_flow.proofs.Among.{among_dedup}
 use Rattle.pc_frames.proofs.touched.touched_by_for.Goals as goal
 
 pub returns : goal.returns
-returns g c x =
-    let resolve = g.R.Resolver.meaning c.args.names.now in
+returns c x =
+    let resolve = meanings c.args.names.now in
     let b = stmts_of_list c.args.body.now in
     let target = name_of c.args.target.now in
     let seen : map name_seen c.add_bound.new.names.items ≡ target ∷ bound_by b = c.in_ok-add_bound.ensures ∙ ap (λ ns. ns ++ bound_by b) (c.in_ok-add_name.ensures ∙ ap (λ ns. map name_seen ns ++ (target ∷ [])) c.new-bound.ensures.items) in

@@ -1,8 +1,8 @@
 use Rattle.std.proofs.Common.{◌≡◌, arith, sym, subst, ◌∙◌, length}
-use Rattle.std.specs.Prelude.{Bool as Test, true, false, map, IfOk}
+use Rattle.std.specs.Prelude.{true, false, map, IfOk}
 use Rattle.std.specs.List.{list_all}
 use Rattle.std.proofs.lemmas.Bool.Decides.{nat_tests}
-use Rattle.pc_types.specs.Tree.{Tree, Int, Str, DictOf}
+use Rattle.pc_types.specs.Tree.{Tree, DictOf}
 use Rattle.pc_types.specs.Computed.{static_test}
 use Rattle.pc_flow.specs.Environment.{join_all}
 use Rattle.pc_rules.specs.Operations.{display_mark}

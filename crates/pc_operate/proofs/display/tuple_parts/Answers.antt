@@ -1,5 +1,4 @@
 use Rattle.std.proofs.Common.{arith, sym, ap, ◌∙◌}
-use Rattle.std.specs.Prelude.{IfOk}
 use Rattle.pc_rules.specs.Lawful.{tuple_parts}
 use Rattle.pc_operate.proofs.Displayed.{tuple_here, tuple_later}
 use Rattle.pc_operate.proofs.display.tuple_parts.Goals as goal

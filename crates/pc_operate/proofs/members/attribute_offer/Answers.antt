@@ -1,5 +1,3 @@
-use Rattle.std.proofs.Common.{rules, sym}
-use Rattle.std.proofs.lemmas.Result.{IfOk-weaker}
 use Rattle.pc_class.specs.Tables.{classes_with}
 use Rattle.pc_operate.proofs.ByHead.{method_read, field_given}
 use Rattle.pc_operate.proofs.members.attribute_offer.Goals as goal

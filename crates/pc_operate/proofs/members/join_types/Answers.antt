@@ -1,5 +1,4 @@
-use Rattle.std.proofs.Common.{arith, sym, ◌∙◌, ap}
-use Rattle.pc_flow.specs.Environment.{join_onto}
+use Rattle.std.proofs.Common.{arith}
 use Rattle.pc_flow.proofs.Given.{keeps_both, all_kept}
 use Rattle.pc_flow.proofs.Rest.{mapped_rest, mapped_end}
 use Rattle.pc_operate.proofs.members.join_types.Goals as goal

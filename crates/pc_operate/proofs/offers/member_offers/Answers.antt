@@ -1,7 +1,7 @@
-use Rattle.std.proofs.Common.{arith, sym, ap, ◌∙◌}
+use Rattle.std.proofs.Common.{arith, ap, ◌∙◌}
 use Rattle.std.specs.Prelude.{map}
 use Rattle.pc_class.specs.Tables.{classes_with}
-use Rattle.pc_flow.proofs.Given.{keeps_both, all_kept}
+use Rattle.pc_flow.proofs.Given.{all_kept}
 use Rattle.pc_operate.specs.JudgedOperations.{offer_on}
 use Rattle.pc_operate.proofs.Offering.{entries_kept, offered_none, offered_more, offered_all}
 use Rattle.pc_operate.proofs.offers.member_offers.Goals as goal

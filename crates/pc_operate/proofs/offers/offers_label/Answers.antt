@@ -1,4 +1,4 @@
-use Rattle.std.proofs.Common.{arith, [], refl, sym, ap, ◌∙◌}
+use Rattle.std.proofs.Common.{arith, refl, sym, ap, ◌∙◌}
 use Rattle.std.specs.Prelude.{true, false}
 use Rattle.pc_rules.specs.Operations.{has_error}
 use Rattle.pc_operate.proofs.Offering.{joined_none, joined_more, joined_codes, joined_type, label_is}

@@ -1,5 +1,4 @@
 use Rattle.std.proofs.Common.{arith, sym, ◌∙◌}
-use Rattle.std.proofs.lemmas.Grind.{common_steps}
 use Rattle.pc_operate.proofs.Offering.{taken_more, taken_all, taken_none}
 use Rattle.pc_operate.proofs.offers.operand_types.Goals as goal
 

@@ -1,5 +1,4 @@
-use Rattle.std.proofs.Common.{arith, ◌≤◌, ◌*◌, ◌+◌, ◌-◌, get_or, drop}
-use Rattle.pc_rules.specs.Lawful.{number_behind}
+use Rattle.std.proofs.Common.{arith, ◌*◌, ◌+◌, ◌-◌, get_or, drop}
 use Rattle.pc_operate.proofs.Literals.{at_least, read_more}
 use Rattle.pc_operate.proofs.offers.small_number.Goals as goal
 

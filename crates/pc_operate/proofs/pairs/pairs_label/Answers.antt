@@ -1,5 +1,5 @@
 use Rattle.std.proofs.Common.{◌≡◌, ap, subst, ◌∙◌}
-use Rattle.std.specs.Prelude.{List, Option, map, IfOk}
+use Rattle.std.specs.Prelude.{Option, map, IfOk}
 use Rattle.std.specs.Option.{option_map}
 use Rattle.pc_types.specs.Shape.{members}
 use Rattle.pc_rules.specs.Operations.{Kind}

@@ -1,4 +1,3 @@
-use Rattle.pc_class.specs.Tables.{classes_with}
 use Rattle.pc_operate.proofs.ByHead.{field_given}
 use Rattle.pc_operate.proofs.stores.attribute_store.Goals as goal
 

@@ -1,6 +1,6 @@
 use Rattle.std.proofs.Common.{◌∙◌, map}
 use Rattle.pc_notes.specs.Notes.{notes_of}
-use Rattle.pc_expr.proofs.Checkers.{goes_further}
+use Rattle.pc_rules.proofs.Checkers.{goes_further}
 use Rattle.pc_signatures.specs.Internal.SignaturesRead.{module_in, methods_with, reached_with}
 use Rattle.pc_signatures.proofs.HeldSignatures.{globals_kept}
 use Rattle.pc_signatures.proofs.SignatureWalks.{stepped, classes_apart, reached_next, items_found}

@@ -3,7 +3,7 @@ use Rattle.pc_tree.specs.Tree.{item_of}
 use Rattle.pc_scope.specs.Bindings.{classes_in}
 use Rattle.pc_notes.specs.Notes.{notes_of}
 use Rattle.pc_rules.specs.SignaturesFound.{nothing_reached, signatures_of_methods, behind_all, items_findings}
-use Rattle.pc_expr.specs.Checkers.{GoesOn}
+use Rattle.pc_rules.specs.Checkers.{GoesOn}
 use Rattle.pc_signatures.specs.Internal.SignaturesRead.{module_in, AreGlobals, HasReached, methods_with, reached_with}
 use Rattle.pc_signatures.proofs.constants.read_items.Given as goal
 

@@ -3,7 +3,7 @@ use Rattle.pc_tree.specs.Tree.{Name}
 use Rattle.pc_class.specs.Facts.{base_facts, classes_of}
 use Rattle.pc_notes.specs.Notes.{notes_of}
 use Rattle.pc_rules.specs.SignaturesFound.{bound_in, with_name}
-use Rattle.pc_expr.proofs.Checkers.{goes_further}
+use Rattle.pc_rules.proofs.Checkers.{goes_further}
 use Rattle.pc_signatures.specs.Internal.SignaturesRead.{module_in, signatures_with}
 use Rattle.pc_signatures.proofs.HeldSignatures.{globals_kept}
 use Rattle.pc_signatures.proofs.SignatureWalks.{stepped, walked, methods_apart, no_methods, members_found}

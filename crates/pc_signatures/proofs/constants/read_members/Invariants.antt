@@ -5,7 +5,7 @@ use Rattle.pc_class.specs.Facts.{base_facts, classes_of}
 use Rattle.pc_notes.specs.Notes.{notes_of}
 use Rattle.pc_rules.specs.Signatures.{signature_of}
 use Rattle.pc_rules.specs.SignaturesFound.{bound_in, no_name, members_findings}
-use Rattle.pc_expr.specs.Checkers.{GoesOn}
+use Rattle.pc_rules.specs.Checkers.{GoesOn}
 use Rattle.pc_signatures.specs.Internal.SignaturesRead.{module_in, AreGlobals, HasSignatures, signatures_with}
 use Rattle.pc_signatures.proofs.constants.read_members.Given as goal
 

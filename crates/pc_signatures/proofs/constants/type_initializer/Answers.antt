@@ -1,3 +1,4 @@
+use Rattle.pc_flow.specs.Naming.{meanings}
 use Rattle.std.proofs.Common.{◌≡◌, ◌++◌, map, length, ap, subst, ◌∙◌}
 use Rattle.std.specs.Prelude.{IfOk, OnOk}
 use Rattle.std.specs.Option.{option_map}
@@ -10,6 +11,7 @@ use Rattle.pc_signatures.proofs.InitializerStanding.{module_names, standing_is}
 use Rattle.pc_signatures.proofs.constants.type_initializer.Goals as goal
 
 pub returns-clause-marked : goal.returns-clause-marked
+unfolding meanings
 returns-clause-marked g c =
     let tree = g.S.TypeStore.tree in
     let globals = c.requires.globals in
@@ -19,6 +21,7 @@ returns-clause-marked g c =
     subst (λ (k : Standing). IfOk c.type_expr.result (λ l. IsMark g.S.TypeStore.has tree c.type_expr.new.checker.store.now l (mark_in k (option_map tree c.args.want.now) (expr_of c.args.value.now)))) is c.type_expr.ensures.marked
 
 pub returns-clause-found : goal.returns-clause-found
+unfolding meanings
 returns-clause-found g c =
     let tree = g.S.TypeStore.tree in
     let globals = c.requires.globals in

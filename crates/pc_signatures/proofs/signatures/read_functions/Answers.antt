@@ -1,5 +1,5 @@
 use Rattle.pc_notes.specs.Notes.{notes_of}
-use Rattle.pc_expr.proofs.Checkers.{goes_further}
+use Rattle.pc_rules.proofs.Checkers.{goes_further}
 use Rattle.pc_signatures.specs.Internal.SignaturesRead.{module_in, signatures_with}
 use Rattle.pc_signatures.proofs.SignatureWalks.{stepped, functions_apart, functions_found}
 use Rattle.pc_signatures.proofs.signatures.read_functions.Goals as goal

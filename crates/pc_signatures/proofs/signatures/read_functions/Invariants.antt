@@ -4,7 +4,7 @@ use Rattle.pc_scope.specs.Bindings.{functions_in}
 use Rattle.pc_notes.specs.Notes.{notes_of}
 use Rattle.pc_rules.specs.Signatures.{signature_of}
 use Rattle.pc_rules.specs.SignaturesFound.{functions_findings}
-use Rattle.pc_expr.specs.Checkers.{GoesOn}
+use Rattle.pc_rules.specs.Checkers.{GoesOn}
 use Rattle.pc_signatures.specs.Internal.SignaturesRead.{module_in, HasSignatures, signatures_with}
 use Rattle.pc_signatures.proofs.signatures.read_functions.Given as goal
 

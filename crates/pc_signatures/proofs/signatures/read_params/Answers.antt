@@ -4,7 +4,7 @@ use Rattle.pc_class.specs.Facts.{typed_parameter}
 use Rattle.pc_class.specs.Tables.{HasParameter, parameter_with, parameters_with}
 use Rattle.pc_notes.specs.Notes.{notes_of}
 use Rattle.pc_rules.specs.SignaturesFound.{bound_in, with_name}
-use Rattle.pc_expr.proofs.Checkers.{goes_further}
+use Rattle.pc_rules.proofs.Checkers.{goes_further}
 use Rattle.pc_signatures.specs.Internal.SignaturesRead.{module_in}
 use Rattle.pc_signatures.proofs.HeldSignatures.{params_kept, held_push}
 use Rattle.pc_signatures.proofs.SignatureWalks.{stepped, pushed_one, params_apart, params_found}

@@ -4,7 +4,7 @@ use Rattle.pc_class.specs.Facts.{parameters_of}
 use Rattle.pc_class.specs.Tables.{HasParameter, parameters_with}
 use Rattle.pc_notes.specs.Notes.{notes_of}
 use Rattle.pc_rules.specs.SignaturesFound.{bound_in, params_findings}
-use Rattle.pc_expr.specs.Checkers.{GoesOn}
+use Rattle.pc_rules.specs.Checkers.{GoesOn}
 use Rattle.pc_signatures.specs.Internal.SignaturesRead.{module_in}
 use Rattle.pc_signatures.proofs.signatures.read_params.Given as goal
 

@@ -1,3 +1,4 @@
+use Rattle.pc_flow.specs.Naming.{meanings}
 use Rattle.std.proofs.Common.{◌≡◌, ◌∙◌, ◌++◌, List, Option, Some, sym, ap, subst}
 use Rattle.std.specs.Option.{option_map}
 use Rattle.pc_scope.specs.declared.resolution.Res.{Res}
@@ -20,19 +21,18 @@ use Rattle.pc_statements.proofs.binding.bind_annotated.Goals as goal
 pub bind_value-requires-clause-stands : goal.bind_value-requires-clause-stands
 bind_value-requires-clause-stands g c =
     let a = c.in_ok-ty.ensures in
-    stands_on g.S.TypeStore g.R.Resolver c.args.walk.now c.annotated_type.new.walk c.args.env c.requires a.goes_on
+    stands_on g.S.TypeStore c.args.walk.now c.annotated_type.new.walk c.args.env c.requires a.goes_on
     a.declared
 
 pub returns-in-None-clause-bound : goal.returns-in-None-clause-bound
 returns-in-None-clause-bound g c =
     let S = g.S.TypeStore in
-    let N = g.R.Resolver in
     let tree = S.tree in
     let old = c.args.walk.now in
     let mid = c.annotated_type.new.walk in
     let a = c.in_ok-ty.ensures in
     let bases = old.frame.parents.now in
-    let F = frame_in S N old in
+    let F = frame_in S old in
     let T = env_of tree old.declared.now in
     let E = env_of tree c.args.env in
     let name = name_of c.args.name.now in
@@ -42,7 +42,7 @@ returns-in-None-clause-bound g c =
     let meaning = c.resolve-meaning.result in
     let ty = c.in_ok-ty.ty in
     let declared = declared_by old.declared.now meaning ty in
-    let held = subst (λ (f : RustFrame _ _). HoldsTypeIfAny (S.has mid.store.now) tree f.parents.now ty)
+    let held = subst (λ (f : RustFrame _). HoldsTypeIfAny (S.has mid.store.now) tree f.parents.now ty)
     c.annotated_type.ensures.goes_on.frame a.typed.0 in
     let alone = alone_gives S.has tree bases mid.store.now F old.declared.now meaning ty t a.typed.1 held
     (types_kept S.has tree bases old.store.now mid.store.now c.annotated_type.ensures.goes_on.kept old.declared.now c.requires.declared) in
@@ -53,10 +53,10 @@ returns-in-None-clause-bound g c =
     } in
     let declared_is : c.declare_alone.new.declared ≡ declared =
     c.declare_alone.ensures ∙ ap (λ (ds : List (Option _)). declared_by ds meaning ty) a.declared in
-    let meaning_is = c.resolve-meaning.ensures ∙ ap (N.meaning old.frame.names.now) c.as_str.ensures.value in
+    let meaning_is = c.resolve-meaning.ensures ∙ ap (meanings old.frame.names.now) c.as_str.ensures.value in
     let table_is = ap (env_of tree) declared_is ∙ alone.is in
-    let stood = stands_on S N old mid c.args.env c.requires c.annotated_type.ensures.goes_on a.declared in
-    let later = subst (λ (f : RustFrame _ _). HoldsTypes (S.has mid.store.now) tree f.parents.now declared)
+    let stood = stands_on S old mid c.args.env c.requires c.annotated_type.ensures.goes_on a.declared in
+    let later = subst (λ (f : RustFrame _). HoldsTypes (S.has mid.store.now) tree f.parents.now declared)
     (sym c.annotated_type.ensures.goes_on.frame) alone.holds in
     rw c.in-None.is (record {
       is = (λ i. record { table = table_is i; env = E; found = a.pushed i }) ∙ ap made meaning_is;
@@ -70,13 +70,12 @@ returns-in-None-clause-bound g c =
 pub returns-in_ok-behind-in-Some-clause-bound : goal.returns-in_ok-behind-in-Some-clause-bound
 returns-in_ok-behind-in-Some-clause-bound g c =
     let S = g.S.TypeStore in
-    let N = g.R.Resolver in
     let tree = S.tree in
     let old = c.args.walk.now in
     let mid = c.annotated_type.new.walk in
     let a = c.in_ok-ty.ensures in
     let b = c.in_ok-behind-in-Some.ensures.bound in
-    let F = frame_in S N old in
+    let F = frame_in S old in
     let T = env_of tree old.declared.now in
     let E = env_of tree c.args.env in
     let name = name_of c.args.name.now in
@@ -88,10 +87,10 @@ returns-in_ok-behind-in-Some-clause-bound g c =
     let ty = option_map tree c.in_ok-ty.ty in
     let e = expr_of c.deref.result.now in
     let inside : Res → List Note = λ r. found ++ annotation_finds F (bound_name F T r) name annotation in
-    let meaning_is = c.resolve-meaning.ensures ∙ ap (N.meaning old.frame.names.now) c.as_str.ensures.value in
+    let meaning_is = c.resolve-meaning.ensures ∙ ap (meanings old.frame.names.now) c.as_str.ensures.value in
     record {
       is = b.is
-          ∙ ap (λ (f : RustFrame _ _). bind_value (frame_with tree N.meaning f)
+          ∙ ap (λ (f : RustFrame _). bind_value (frame_with tree f)
           (env_of tree mid.declared.now) E meaning ty e
           after) c.annotated_type.ensures.goes_on.frame
           ∙ ap (λ (ds : List (Option _)). bind_value F (env_of tree ds) E meaning ty e after) a.declared

@@ -31,7 +31,7 @@ bind_label-requires-clause-want g c =
     let w = c.args.walk.now in
     let bases = w.frame.parents.now in
     let want = c.in_ok-want-in-Local.want in
-    want_kept S g.R.Resolver w c.type_in.new.walk want c.type_in.ensures.goes_on
+    want_kept S w c.type_in.new.walk want c.type_in.ensures.goes_on
     (known_holds S.has S.tree bases w.store.now w.declared.now c.in-Local.local (option_map S.tree c.args.annotation)
     want c.requires.stands.declared
     (want_well_formed S.has S.tree bases w.store.now c.args.annotation c.requires.annotation)
@@ -40,11 +40,10 @@ bind_label-requires-clause-want g c =
 pub returns-in_ok-behind-in-Local-clause-bound : goal.returns-in_ok-behind-in-Local-clause-bound
 returns-in_ok-behind-in-Local-clause-bound g c =
     let S = g.S.TypeStore in
-    let N = g.R.Resolver in
     let old = c.args.walk.now in
-    let F = frame_in S N old in
+    let F = frame_in S old in
     let T = env_of S.tree old.declared.now in
-    let K = standing_in S N old c.args.env in
+    let K = standing_in S old c.args.env in
     let E = env_of S.tree c.args.env in
     let e = expr_of c.args.e.now in
     let x = c.in-Local.local in
@@ -53,7 +52,7 @@ returns-in_ok-behind-in-Local-clause-bound g c =
     let m = mark_in K want e in
     let found = notes_of old.found.now in
     let typed = c.in_ok-label-in-Local.ensures in
-    let bound = bound_then S N old c.type_in.new.walk c.bind_label.new.walk c.args.env c.in_ok-behind-in-Local.behind
+    let bound = bound_then S old c.type_in.new.walk c.bind_label.new.walk c.args.env c.in_ok-behind-in-Local.behind
     (λ f k. finds_in k want e) (λ f t k. bind_label f t k x want c.place.result m) c.type_in.ensures.goes_on typed.finds
     (c.in_ok-behind-in-Local.ensures.bound m typed.labelled.mark.is) in
     record {

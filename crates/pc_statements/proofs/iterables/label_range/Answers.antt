@@ -41,8 +41,8 @@ returns-clause-labelled g c =
     let r = c.args.iterable.now in
     let arguments = exprs_of_list r.arguments.now in
     let keywords = keywords_of_list r.by_name.now in
-    let k = standing_in S g.R.Resolver w c.args.env.now in
-    let frame = frame_in S g.R.Resolver w in
+    let k = standing_in S w c.args.env.now in
+    let frame = frame_in S w in
     let e = call r.place (expr_of r.callee.now) arguments keywords in
     let store = c.type_range.new.checker.store.now in
     let l = c.in_ok-item.item in
@@ -58,10 +58,9 @@ returns-clause-labelled g c =
 pub returns-clause-finds : goal.returns-clause-finds
 returns-clause-finds g c =
     let S = g.S.TypeStore in
-    let N = g.R.Resolver in
     let w = c.args.walk.now in
     let bases = w.frame.parents.now in
-    let k = standing_in S N w c.args.env.now in
+    let k = standing_in S w c.args.env.now in
     let r = c.args.iterable.now in
     let callee = expr_of r.callee.now in
     let arguments = exprs_of_list r.arguments.now in
@@ -74,15 +73,15 @@ returns-clause-finds g c =
     let old = notes_of w.found.now in
     let codes = codes_at r.place (call_mark bases offers).codes in
     let pushed = subst (λ (fs : List Note). new ≡ old ++ fs)
-    (sym (range_found (frame_in S N w) k r.place callee arguments keywords c.requires.range))
+    (sym (range_found (frame_in S w) k r.place callee arguments keywords c.requires.range))
     (subst (λ (ds : List Tree). let s : Standing = record {
-      context = context_in S.tree N.meaning w.frame;
+      context = context_in S.tree w.frame;
       declared = ds;
       env = env_of S.tree c.args.env.now;
     } in new ≡ old
     ++ (arguments_find s (is_instance_test callee arguments keywords) (positional_seat offers) arguments
     ++ (keywords_find s (named_seat offers) [] keywords ++ codes)))
     (declared_is S.tree w.declared.now) c.in_ok-item.ensures.found) in
-    let all : Found S N w c.args.env.now walk (λ f k. iterable_finds f k (call r.place callee arguments keywords)) =
-    found_by S N w walk c.args.env.now _ c.requires.stands (grown c.type_range.ensures.goes_on.kept) refl pushed in
+    let all : Found S w c.args.env.now walk (λ f k. iterable_finds f k (call r.place callee arguments keywords)) =
+    found_by S w walk c.args.env.now _ c.requires.stands (grown c.type_range.ensures.goes_on.kept) refl pushed in
     search (rules, all)

@@ -25,8 +25,8 @@ returns-clause-labelled g c =
     let item : Tree → Mark = λ t. offers_mark bases (map (iterate_member bases) (members t)) in
     subst (λ (m : Mark). GivesLabel S.has S.tree bases store l m)
     (ap (λ (x : Mark). item x.type) c.in_ok-label.ensures.labelled.mark.is
-    ∙ ap (λ (x : RustFrame _ _). offers_mark x.parents.now
-    (map (iterate_member x.parents.now) (members (mark_in (standing_in S g.R.Resolver c.args.walk.now c.args.env.now)
+    ∙ ap (λ (x : RustFrame _). offers_mark x.parents.now
+    (map (iterate_member x.parents.now) (members (mark_in (standing_in S c.args.walk.now c.args.env.now)
     None e).type))) c.type_in.ensures.goes_on.frame)
     (record {
       mark = c.in_ok-item.ensures.label;
@@ -36,5 +36,5 @@ returns-clause-labelled g c =
     })
 
 pub returns-clause-finds : goal.returns-clause-finds
-returns-clause-finds g c = found_quiet g.S.TypeStore g.R.Resolver _ c.type_in.new.walk _ _ _
+returns-clause-finds g c = found_quiet g.S.TypeStore _ c.type_in.new.walk _ _ _
     c.in_ok-label.ensures.finds (grown c.item_label.ensures.kept) refl refl

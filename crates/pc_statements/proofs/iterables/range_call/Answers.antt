@@ -1,3 +1,4 @@
+use Rattle.pc_flow.specs.Naming.{meanings}
 use Rattle.std.proofs.Common.{◌≡◌, ◌∙◌, sym, ap, rules}
 use Rattle.std.specs.Prelude.{true}
 use Rattle.pc_tree.specs.Tree.{expr_of, call}
@@ -7,8 +8,8 @@ use Rattle.pc_statements.specs.Internal.Ranges.{over_range}
 use Rattle.pc_statements.proofs.iterables.range_call.Goals as goal
 
 pub returns : goal.returns
-returns g c =
-    let resolve = g.R.Resolver.meaning c.args.names.now in
+returns c =
+    let resolve = meanings c.args.names.now in
     let place = c.in-Call.place in
     let arguments = exprs_of_list c.deref-3.result.now in
     let keywords = keywords_of_list c.deref-4.result.now in

@@ -8,17 +8,16 @@ use Rattle.pc_frames.proofs.Walks.{env_given, found_then}
 use Rattle.pc_statements.proofs.leaving.check_assert.Goals as goal
 
 pub returns-clause-behind : goal.returns-clause-behind
-returns-clause-behind g c = env_given g.S.TypeStore g.R.Resolver c.type_condition.new.walk c.find_option.new.walk _ _
+returns-clause-behind g c = env_given g.S.TypeStore c.type_condition.new.walk c.find_option.new.walk _ _
     c.find_option.ensures.goes_on c.in_ok-where_true.ensures.where_true
 
 pub returns-clause-finds : goal.returns-clause-finds
 returns-clause-finds g c =
     let S = g.S.TypeStore in
-    let N = g.R.Resolver in
     let old = c.args.walk.now in
-    let K = standing_in S N old c.args.env in
-    found_then S N old c.type_condition.new.walk c.find_option.new.walk _ _ _ _ _ c.type_condition.ensures.goes_on
+    let K = standing_in S old c.args.env in
+    found_then S old c.type_condition.new.walk c.find_option.new.walk _ _ _ _ _ c.type_condition.ensures.goes_on
     c.find_option.ensures.goes_on c.in_ok-where_true.ensures.finds c.in_ok-find_option.ensures.finds
-    (ap (λ (x : Env). finds_in K None (expr_of c.args.condition.now) ++ option_finds (frame_in S N old)
+    (ap (λ (x : Env). finds_in K None (expr_of c.args.condition.now) ++ option_finds (frame_in S old)
     (record { context = K.context; declared = K.declared; env = x }) None (option_expr_of c.args.message.now))
     c.in_ok-where_true.ensures.where_false.is)

@@ -1,9 +1,8 @@
-use Rattle.std.proofs.Common.{◌≡◌, ◌∙◌, ◌++◌, ◌∷◌, [], List, Some, refl, sym, ap}
+use Rattle.std.proofs.Common.{◌≡◌, ◌∙◌, ◌++◌, ◌∷◌, [], List, Some, sym, ap, subst}
 use Rattle.pc_source.specs.declared.place.Place.{Place}
 use Rattle.pc_tree.specs.Tree.{Expr, expr_of, option_expr_of}
 use Rattle.pc_tree.specs.Depth.{place_of}
 use Rattle.pc_types.specs.Tree.{Tree, NoneType}
-use Rattle.pc_flow.proofs.Given.{keeps_both}
 use Rattle.pc_notes.specs.Notes.{Note, notes_of}
 use Rattle.pc_rules.specs.Operations.{clean}
 use Rattle.pc_rules.specs.Computed.{flows_of}
@@ -11,9 +10,10 @@ use Rattle.pc_rules.specs.Found.{flows_at}
 use Rattle.pc_rules.specs.Standing.{Standing, finds_in, mark_in}
 use Rattle.pc_rules.specs.declared.label.Label.{Label}
 use Rattle.pc_labels.specs.ComputedStatements.{BodyFrame, return_finds}
+use Rattle.pc_frames.specs.declared.frame.Frame.{Frame as RustFrame}
 use Rattle.pc_frames.specs.Walks.{frame_in, standing_in}
 use Rattle.pc_frames.proofs.Bound.{flow_found}
-use Rattle.pc_frames.proofs.Walks.{grown, found_by, found_then}
+use Rattle.pc_frames.proofs.Walks.{grown, goes_further, found_by, found_then}
 use Rattle.pc_statements.proofs.leaving.find_return.Goals as goal
 
 -- a value that flows into the return type
@@ -27,45 +27,46 @@ returned f k first e p t i j =
     ∙ ap (λ x. finds_in k (Some f.returned) e
     ++ flows_at x (flows_of f.context.bases (mark_in k (Some f.returned) e) into)) j
 
-pub returns-in_ok-find_flow-in-None-clause-finds : goal.returns-in_ok-find_flow-in-None-clause-finds
-returns-in_ok-find_flow-in-None-clause-finds g c =
+pub returns-in_ok-find_flow_in-in-None-clause-finds : goal.returns-in_ok-find_flow_in-in-None-clause-finds
+returns-in_ok-find_flow_in-in-None-clause-finds g c =
     let S = g.S.TypeStore in
     let w = c.args.walk.now in
     let none = c.in_ok-none-in-None in
     let l : Label _ = record { ty = none.none; codes = c.new.result } in
-    let flow = c.in_ok-find_flow-in-None in
+    let flow = c.in_ok-find_flow_in-in-None in
     let found = flow_found S.tree w.frame.parents.now c.args.first l (clean NoneType) w.frame.returned.now flow.field-0
-    (notes_of w.found.now) (notes_of c.find_flow.new.found)
+    (notes_of w.found.now) (notes_of c.find_flow_in.new.walk.found.now)
     (λ i. record { type = none.ensures.value.1 i; codes = c.new.ensures.items i }) flow.ensures.value
     flow.ensures.found in
-    rw c.in-None.is (found_by S g.R.Resolver _ _ _ _ c.requires
-    (grown (keeps_both S.has _ _ _ c.none.ensures.kept c.find_flow.ensures.kept)) refl found)
+    rw c.in-None.is (found_by S _ _ _ _ c.requires
+    (goes_further (grown c.none.ensures.kept) c.find_flow_in.ensures.goes_on) c.find_flow_in.ensures.declared found)
 
-pub returns-in_ok-find_flow-in-Some-clause-finds : goal.returns-in_ok-find_flow-in-Some-clause-finds
-returns-in_ok-find_flow-in-Some-clause-finds g c =
+pub returns-in_ok-find_flow_in-in-Some-clause-finds : goal.returns-in_ok-find_flow_in-in-Some-clause-finds
+returns-in_ok-find_flow_in-in-Some-clause-finds g c =
     let S = g.S.TypeStore in
-    let N = g.R.Resolver in
     let old = c.args.walk.now in
     let mid = c.type_in.new.walk in
     let env = c.args.env.now in
     let typed = c.in_ok-label-in-Some.ensures in
-    let F = frame_in S N old in
-    let K = standing_in S N old env in
+    let F = frame_in S old in
+    let K = standing_in S old env in
     let copied = c.in_ok-copy-in-Some in
     let want = Some (S.tree copied.field-0) in
     let m = mark_in K want (expr_of c.deref.result.now) in
     let into = old.frame.returned.now in
     let bases = old.frame.parents.now in
-    let flow = c.in_ok-find_flow-in-Some in
+    let flow = c.in_ok-find_flow_in-in-Some in
     let flowed : BodyFrame → Standing → List Note = λ f k. flows_at c.place.result
     (flows_of bases m (S.tree into ∷ [])) in
-    let pushed = flow_found S.tree bases c.place.result c.in_ok-label-in-Some.label m into flow.field-0
-    (notes_of mid.found.now) (notes_of c.find_flow-in-Some.new.found) typed.labelled.mark.is flow.ensures.value
-    flow.ensures.found in
+    let pushed = subst (λ (f : RustFrame _). notes_of c.find_flow_in-in-Some.new.walk.found.now
+    ≡ notes_of mid.found.now ++ flows_at c.place.result (flows_of f.parents.now m (S.tree into ∷ [])))
+    c.type_in.ensures.goes_on.frame (flow_found S.tree mid.frame.parents.now c.place.result c.in_ok-label-in-Some.label m into flow.field-0
+    (notes_of mid.found.now) (notes_of c.find_flow_in-in-Some.new.walk.found.now) typed.labelled.mark.is flow.ensures.value
+    flow.ensures.found) in
     let place = c.place.ensures ∙ ap (λ x. place_of (expr_of x)) (c.deref-in-Some.ensures ∙ sym c.deref.ensures) in
     let is = returned F K c.args.first (expr_of c.deref.result.now) c.place.result (S.tree copied.field-0)
     copied.ensures.1 place
     ∙ ap (λ x. return_finds F K c.args.first (Some (expr_of x))) c.deref.ensures
     ∙ ap (λ v. return_finds F K c.args.first (option_expr_of v)) (sym c.in-Some.is) in
-    found_then S N old mid _ env env _ flowed _ c.type_in.ensures.goes_on (grown c.find_flow-in-Some.ensures.kept) typed.finds
-    (found_by S N mid _ env flowed typed.finds.stands (grown c.find_flow-in-Some.ensures.kept) refl pushed) is
+    found_then S old mid _ env env _ flowed _ c.type_in.ensures.goes_on c.find_flow_in-in-Some.ensures.goes_on typed.finds
+    (found_by S mid _ env flowed typed.finds.stands c.find_flow_in-in-Some.ensures.goes_on c.find_flow_in-in-Some.ensures.declared pushed) is

@@ -16,7 +16,7 @@ use Rattle.pc_frames.proofs.Walks.{grown, goes_further, found_quiet, found_then}
 use Rattle.pc_statements.proofs.stores.find_attribute_store.Goals as goal
 
 pub find_stored-requires-clause-stands : goal.find_stored-requires-clause-stands
-find_stored-requires-clause-stands g c = (found_quiet g.S.TypeStore g.R.Resolver c.args.walk.now c.type_in.new.walk _
+find_stored-requires-clause-stands g c = (found_quiet g.S.TypeStore c.args.walk.now c.type_in.new.walk _
     c.args.env.now _ c.in_ok-label.ensures.finds (grown c.store_offers.ensures.kept) refl refl).stands
 
 pub find_stored-requires-clause-offers : goal.find_stored-requires-clause-offers
@@ -36,12 +36,11 @@ find_stored-requires-clause-well_formed g c =
 pub returns-clause-finds : goal.returns-clause-finds
 returns-clause-finds g c =
     let S = g.S.TypeStore in
-    let N = g.R.Resolver in
     let old = c.args.walk.now in
     let mid = c.type_in.new.walk in
     let env = c.args.env.now in
-    let F = frame_in S N old in
-    let K = standing_in S N old env in
+    let F = frame_in S old in
+    let K = standing_in S old env in
     let o = expr_of c.args.object.now in
     let v = expr_of c.args.value.now in
     let field = string_bytes c.args.field.now.text in
@@ -50,13 +49,13 @@ returns-clause-finds g c =
     let stored : BodyFrame → Standing → List Note = λ f k. stored_finds f k offers c.args.place v in
     let is : offers ≡ attribute_stores F field (mark_in K None o).type =
     ap (map (store_offer_with S.tree)) c.deref.ensures.value ∙ c.in_ok-offers.ensures.value
-    ∙ ap (λ w. attribute_stores (frame_in S N mid) w ty) c.as_str.ensures.value
-    ∙ ap (λ (x : RustFrame _ _). attribute_stores (frame_with S.tree N.meaning x) field ty)
+    ∙ ap (λ w. attribute_stores (frame_in S mid) w ty) c.as_str.ensures.value
+    ∙ ap (λ (x : RustFrame _). attribute_stores (frame_with S.tree x) field ty)
     c.type_in.ensures.goes_on.frame
     ∙ ap (λ (m : Mark). attribute_stores F field m.type) c.in_ok-label.ensures.labelled.mark.is in
     let offered = record mid { store = record mid.store { now = c.store_offers.new.store } } in
     let on : GoesOn S mid offered = grown c.store_offers.ensures.kept in
-    found_then S N old offered c.find_stored.new.walk env env _ stored _ (goes_further c.type_in.ensures.goes_on on)
-    c.find_stored.ensures.goes_on (found_quiet S N old mid offered env _ c.in_ok-label.ensures.finds on refl refl)
+    found_then S old offered c.find_stored.new.walk env env _ stored _ (goes_further c.type_in.ensures.goes_on on)
+    c.find_stored.ensures.goes_on (found_quiet S old mid offered env _ c.in_ok-label.ensures.finds on refl refl)
     c.in_ok-find_stored.ensures.finds
     (ap (λ (os : List StoreOffer). finds_in K None o ++ stored_finds F K os c.args.place v) is)

@@ -6,7 +6,7 @@ use Rattle.pc_tree.specs.Depth.{place_of}
 use Rattle.pc_types.specs.Tree.{Tree}
 use Rattle.pc_flow.specs.WellFormed.{AreWellFormed}
 use Rattle.pc_flow.proofs.Given.{keeps_both}
-use Rattle.pc_notes.specs.Notes.{Note}
+use Rattle.pc_notes.specs.Notes.{Note, notes_of}
 use Rattle.pc_rules.specs.Operations.{Mark, StoreOffer, stored_types, store_index_types}
 use Rattle.pc_rules.specs.Found.{flows_at}
 use Rattle.pc_rules.specs.Computed.{flows_of}
@@ -21,7 +21,7 @@ use Rattle.pc_frames.proofs.Walks.{grown, goes_further, same_standing, stands_on
 use Rattle.pc_statements.proofs.stores.find_item_store.Goals as goal
 
 pub type_in-requires-2-clause-stands : goal.type_in-requires-2-clause-stands
-type_in-requires-2-clause-stands g c = stands_on g.S.TypeStore g.R.Resolver c.type_in.new.walk _ c.args.env.now
+type_in-requires-2-clause-stands g c = stands_on g.S.TypeStore c.type_in.new.walk _ c.args.env.now
     c.in_ok-label.ensures.finds.stands (grown c.store_offers.ensures.kept) refl
 
 pub store_index_types-requires : goal.store_index_types-requires
@@ -29,17 +29,17 @@ store_index_types-requires g c = all_stores_kept g.S.TypeStore.has _ _ c.type_in
     c.deref.result.now (subst (All (HasStoreOffer (g.S.TypeStore.has c.store_offers.new.store)))
     (sym c.deref.ensures.value) c.in_ok-offers.ensures.held)
 
-pub find_flows-requires-clause-into : goal.find_flows-requires-clause-into
-find_flows-requires-clause-into g c = subst (All (g.S.TypeStore.has c.type_in-2.new.walk.store.now))
+pub find_flows_in-requires-clause-into : goal.find_flows_in-requires-clause-into
+find_flows_in-requires-clause-into g c = subst (All (g.S.TypeStore.has c.type_in-2.new.walk.store.now))
     (sym c.deref-2.ensures.value) c.in_ok-types.ensures.held
 
 pub find_stored-requires-clause-stands : goal.find_stored-requires-clause-stands
-find_stored-requires-clause-stands g c = stands_on g.S.TypeStore g.R.Resolver c.type_in-2.new.walk _ c.args.env.now
-    c.in_ok-at.ensures.finds.stands (grown c.find_flows.ensures.kept) refl
+find_stored-requires-clause-stands g c = stands_on g.S.TypeStore c.type_in-2.new.walk _ c.args.env.now
+    c.in_ok-at.ensures.finds.stands c.find_flows_in.ensures.goes_on c.find_flows_in.ensures.declared
 
 pub find_stored-requires-clause-offers : goal.find_stored-requires-clause-offers
 find_stored-requires-clause-offers g c = all_stores_kept g.S.TypeStore.has _ _
-    (keeps_both g.S.TypeStore.has _ _ _ c.type_in-2.ensures.goes_on.kept c.find_flows.ensures.kept)
+    (keeps_both g.S.TypeStore.has _ _ _ c.type_in-2.ensures.goes_on.kept c.find_flows_in.ensures.goes_on.kept)
     c.deref-3.result.now (subst (All (HasStoreOffer (g.S.TypeStore.has c.store_offers.new.store)))
     (sym c.deref-3.ensures.value) c.in_ok-offers.ensures.held)
 
@@ -47,11 +47,11 @@ pub find_stored-requires-clause-well_formed : goal.find_stored-requires-clause-w
 find_stored-requires-clause-well_formed g c =
     let tree = g.S.TypeStore.tree in
     let ty = tree c.in_ok-label.label.ty in
-    subst (λ (os : List StoreOffer). AreWellFormed c.type_in-2.new.walk.frame.parents.now (stored_types os))
+    subst (λ (os : List StoreOffer). AreWellFormed c.find_flows_in.new.walk.frame.parents.now (stored_types os))
     (sym (ap (map (store_offer_with tree)) c.deref-3.ensures.value ∙ c.in_ok-offers.ensures.value))
-    (subst (λ (f : RustFrame _ _). AreWellFormed f.parents.now
-    (stored_types (index_stores (frame_in g.S.TypeStore g.R.Resolver c.type_in.new.walk) ty)))
-    (sym c.type_in-2.ensures.goes_on.frame) (items_stored c.type_in.new.walk.frame.parents.now ty
+    (subst (λ (f : RustFrame _). AreWellFormed f.parents.now
+    (stored_types (index_stores (frame_in g.S.TypeStore c.type_in.new.walk) ty)))
+    (sym (c.find_flows_in.ensures.goes_on.frame ∙ c.type_in-2.ensures.goes_on.frame)) (items_stored c.type_in.new.walk.frame.parents.now ty
     c.in_ok-label.ensures.labelled.well_formed))
 
 -- what is found in a store to an item
@@ -81,19 +81,18 @@ item_as f k place p o i v m types offers mi ti oi pi =
 pub returns-clause-finds : goal.returns-clause-finds
 returns-clause-finds g c =
     let S = g.S.TypeStore in
-    let N = g.R.Resolver in
     let old = c.args.walk.now in
     let first = c.type_in.new.walk in
     let second = c.type_in-2.new.walk in
     let env = c.args.env.now in
-    let F = frame_in S N old in
-    let K = standing_in S N old env in
+    let F = frame_in S old in
+    let K = standing_in S old env in
     let o = expr_of c.args.object.now in
     let i = expr_of c.args.index.now in
     let v = expr_of c.args.value.now in
     let offers = map (store_offer_with S.tree) c.deref-3.result.now in
     let types = map S.tree c.deref-2.result.now in
-    let m = mark_in (standing_in S N first env) None i in
+    let m = mark_in (standing_in S first env) None i in
     let flows = flows_at c.place.result (flows_of old.frame.parents.now m types) in
     let of_object : BodyFrame → Standing → List Note = λ f k. finds_in k None o in
     let of_index : BodyFrame → Standing → List Note = λ f k. finds_in k None i in
@@ -104,26 +103,26 @@ returns-clause-finds g c =
     let typed = c.in_ok-label.ensures.finds in
     let is_same : c.deref.result.now ≡ c.deref-3.result.now = c.deref.ensures.value ∙ sym c.deref-3.ensures.value in
     let offered = record first { store = record first.store { now = c.store_offers.new.store } } in
-    let flown = record second {
-      store = record second.store { now = c.find_flows.new.store };
-      found = record second.found { now = c.find_flows.new.found };
-    } in
+    let flown = c.find_flows_in.new.walk in
     let to_first = c.type_in.ensures.goes_on in
     let first_on : GoesOn S first offered = grown c.store_offers.ensures.kept in
     let to_offered = goes_further to_first first_on in
     let to_second = goes_further to_offered c.type_in-2.ensures.goes_on in
-    let second_on : GoesOn S second flown = grown c.find_flows.ensures.kept in
-    found_then S N old flown c.find_stored.new.walk env env before stored _ (goes_further to_second second_on)
+    let second_on : GoesOn S second flown = c.find_flows_in.ensures.goes_on in
+    let flowing = subst (λ (f : RustFrame _). notes_of flown.found.now ≡ notes_of second.found.now
+    ++ flows_at c.place.result (flows_of f.parents.now m types)) to_second.frame
+    (c.in_ok-find_flows_in.ensures.found m c.in_ok-at.ensures.labelled.mark.is) in
+    found_then S old flown c.find_stored.new.walk env env before stored _ (goes_further to_second second_on)
     c.find_stored.ensures.goes_on
-    (found_then S N old second flown env env of_both flowed before to_second second_on
-    (found_then S N old offered second env env of_object of_index of_both to_offered c.type_in-2.ensures.goes_on
-    (found_quiet S N old first offered env of_object typed first_on refl refl) c.in_ok-at.ensures.finds refl)
-    (found_by S N second flown env flowed c.in_ok-at.ensures.finds.stands second_on refl
-    (c.in_ok-find_flows.ensures.found m c.in_ok-at.ensures.labelled.mark.is))
+    (found_then S old second flown env env of_both flowed before to_second second_on
+    (found_then S old offered second env env of_object of_index of_both to_offered c.type_in-2.ensures.goes_on
+    (found_quiet S old first offered env of_object typed first_on refl refl) c.in_ok-at.ensures.finds refl)
+    (found_by S second flown env flowed c.in_ok-at.ensures.finds.stands second_on c.find_flows_in.ensures.declared
+    flowing)
     refl)
     c.in_ok-find_stored.ensures.finds
     (item_as F K c.args.place c.place.result o i v m types offers
-    (same_standing S N old first env (λ (f : BodyFrame) (k : Standing). mark_in k None i) to_first typed.declared)
+    (same_standing S old first env (λ (f : BodyFrame) (k : Standing). mark_in k None i) to_first typed.declared)
     (ap (map S.tree) c.deref-2.ensures.value ∙ c.in_ok-types.ensures.value
     ∙ ap (λ os. store_index_types (map (store_offer_with S.tree) os)) is_same)
     (ap (map (store_offer_with S.tree)) c.deref-3.ensures.value ∙ c.in_ok-offers.ensures.value

@@ -8,6 +8,6 @@ use Rattle.pc_statements.proofs.stores.find_store.Goals as goal
 pub returns-in-Attribute-clause-finds : goal.returns-in-Attribute-clause-finds
 returns-in-Attribute-clause-finds g c =
     subst (λ (t : Target). OnOk c.find_attribute_store.result
-    (Found g.S.TypeStore g.R.Resolver c.args.walk.now c.args.env.now c.find_attribute_store.new.walk
+    (Found g.S.TypeStore c.args.walk.now c.args.env.now c.find_attribute_store.new.walk
     (λ f k. store_finds f k t (expr_of c.args.value.now)))) (sym (ap target_of c.in-Attribute.is))
     (rw c.deref.ensures at c.find_attribute_store.ensures.finds)

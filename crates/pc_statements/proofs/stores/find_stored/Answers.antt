@@ -15,6 +15,7 @@ use Rattle.pc_rules.specs.Computed.{flows_of}
 use Rattle.pc_rules.specs.Standing.{Standing, mark_in, finds_in}
 use Rattle.pc_operate.specs.Storing.{store_offer_with}
 use Rattle.pc_labels.specs.ComputedStatements.{BodyFrame, stored_finds}
+use Rattle.pc_frames.specs.declared.frame.Frame.{Frame as RustFrame}
 use Rattle.pc_frames.specs.Walks.{GoesOn, frame_in, standing_in}
 use Rattle.pc_statements.proofs.FoundStores.{want_holds}
 use Rattle.pc_frames.proofs.Walks.{grown, goes_further, found_by, found_then}
@@ -29,8 +30,8 @@ type_in-requires-clause-want g c =
     (subst (AreWellFormed bases) (sym (ap (map tree) c.deref-2.ensures.value ∙ c.in_ok-types.ensures.value))
     c.requires.well_formed) c.in_ok-want.ensures.held c.in_ok-want.ensures.value
 
-pub find_flows-requires-clause-into : goal.find_flows-requires-clause-into
-find_flows-requires-clause-into g c = all_kept g.S.TypeStore.has _ _ c.type_in.ensures.goes_on.kept
+pub find_flows_in-requires-clause-into : goal.find_flows_in-requires-clause-into
+find_flows_in-requires-clause-into g c = all_kept g.S.TypeStore.has _ _ c.type_in.ensures.goes_on.kept
     c.deref-3.result.now (subst (All (g.S.TypeStore.has c.args.walk.now.store.now))
     (sym c.deref-3.ensures.value) c.in_ok-types.ensures.held)
 
@@ -54,13 +55,12 @@ stored_as f k offers place p e want types i j q =
 pub returns-clause-finds : goal.returns-clause-finds
 returns-clause-finds g c =
     let S = g.S.TypeStore in
-    let N = g.R.Resolver in
     let tree = S.tree in
     let old = c.args.walk.now in
     let env = c.args.env.now in
     let mid = c.type_in.new.walk in
-    let F = frame_in S N old in
-    let K = standing_in S N old env in
+    let F = frame_in S old in
+    let K = standing_in S old env in
     let place = c.args.place in
     let e = expr_of c.args.value.now in
     let offers = map (store_offer_with tree) c.args.offers.now in
@@ -74,14 +74,17 @@ returns-clause-finds g c =
     (flows_of old.frame.parents.now (mark_in K want e) types) in
     let codes = c.in_ok-find_codes.ensures ∙ ap (λ cs. notes_of old.found.now ++ flat_map (own_at place) cs)
     (c.deref.ensures.value ∙ c.in_ok-codes.ensures tree) in
+    let flows = subst (λ (f : RustFrame _). notes_of c.find_flows_in.new.walk.found.now ≡ notes_of mid.found.now
+    ++ flows_at c.place.result (flows_of f.parents.now (mark_in K want e) types)) c.type_in.ensures.goes_on.frame
+    (c.in_ok-find_flows_in.ensures.found (mark_in K want e) c.in_ok-label.ensures.labelled.mark.is) in
     let told = record old { found = record old.found { now = c.find_codes.new.found } } in
     let first : GoesOn S old told = grown (λ ty h. h) in
-    found_then S N old mid _ env env both flowed _ (goes_further first c.type_in.ensures.goes_on)
-    (grown c.find_flows.ensures.kept)
-    (found_then S N old told mid env env coded typed both first c.type_in.ensures.goes_on
-    (found_by S N old told env coded c.requires.stands first refl codes) c.in_ok-label.ensures.finds refl)
-    (found_by S N mid _ env flowed c.in_ok-label.ensures.finds.stands (grown c.find_flows.ensures.kept) refl
-    (c.in_ok-find_flows.ensures.found (mark_in K want e) c.in_ok-label.ensures.labelled.mark.is))
+    found_then S old mid _ env env both flowed _ (goes_further first c.type_in.ensures.goes_on)
+    c.find_flows_in.ensures.goes_on
+    (found_then S old told mid env env coded typed both first c.type_in.ensures.goes_on
+    (found_by S old told env coded c.requires.stands first refl codes) c.in_ok-label.ensures.finds refl)
+    (found_by S mid _ env flowed c.in_ok-label.ensures.finds.stands c.find_flows_in.ensures.goes_on c.find_flows_in.ensures.declared
+    flows)
     (stored_as F K offers place c.place.result e want types
     (c.in_ok-want.ensures.value ∙ ap (λ ts. only_type offers (map tree ts)) (sym same))
     (ap (map tree) c.deref-3.ensures.value ∙ c.in_ok-types.ensures.value) c.place.ensures)

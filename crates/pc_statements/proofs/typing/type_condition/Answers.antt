@@ -1,41 +1,75 @@
-use Rattle.std.proofs.Common.{refl, subst}
+use Rattle.std.proofs.Common.{◌≡◌, ◌++◌, List, None, refl, subst, rules}
 use Rattle.std.specs.Prelude.{true, false}
 use Rattle.pc_tree.specs.Tree.{expr_of}
-use Rattle.pc_flow.specs.Environment.{Env}
+use Rattle.pc_types.specs.Tree.{Tree}
+use Rattle.pc_flow.specs.Naming.{meanings}
 use Rattle.pc_flow.specs.Narrowing.{narrow}
-use Rattle.pc_rules.specs.Standing.{Standing}
-use Rattle.pc_labels.specs.ComputedStatements.{BodyFrame}
-use Rattle.pc_frames.specs.StatementsHeld.{GivesTypes}
-use Rattle.pc_frames.proofs.Walks.{grown, same_standing, found_quiet}
+use Rattle.pc_flow.specs.Stored.{env_of}
+use Rattle.pc_notes.specs.Notes.{notes_of}
+use Rattle.pc_rules.specs.Standing.{finds_in}
+use Rattle.pc_frames.specs.StatementsHeld.{GivesTypes, context_in}
+use Rattle.pc_frames.specs.Walks.{Found}
+use Rattle.pc_frames.proofs.Held.{declared_is, declared_well_formed}
+use Rattle.pc_frames.proofs.Walks.{grown, found_by}
 use Rattle.pc_statements.proofs.typing.type_condition.Goals as goal
+
+pub type_condition-requires : goal.type_condition-requires
+type_condition-requires g c =
+    let w = c.args.walk.now in
+    let h = c.requires in
+    record {
+      classes = h.frame.classes;
+      functions = h.frame.functions;
+      constants = h.frame.constants;
+      declared = h.declared.given;
+      env = h.current.given;
+      declared_well_formed = declared_well_formed g.S.TypeStore.tree w.frame.parents.now w.declared.now
+          h.declared.well_formed;
+      env_well_formed = h.current.well_formed;
+    }
 
 pub returns-clause-where_true : goal.returns-clause-where_true
 returns-clause-where_true g c =
     let S = g.S.TypeStore in
-    let w = c.type_in.new.walk in
-    let typed = c.in_ok-type_in.ensures.finds in
-    let condition = expr_of c.args.condition.now in
-    subst (λ (x : Env). GivesTypes S.has S.tree w.frame.parents.now c.narrow_in.new.store c.in_ok-ways.ways.where_true
-    x)
-    (same_standing S g.R.Resolver c.args.walk.now w c.args.env
-    (λ (f : BodyFrame) (k : Standing). narrow f.context.bases k.declared f.context.resolve true condition k.env)
-    c.type_in.ensures.goes_on typed.declared)
-    c.in_ok-ways.ensures.where_true
+    let tree = S.tree in
+    let w = c.args.walk.now in
+    let ways = c.in_ok-typed.ensures.ways in
+    let f = w.frame in
+    subst (λ (ds : List Tree). GivesTypes S.has tree f.parents.now c.type_condition.new.checker.store.now
+    c.in_ok-typed.typed.ways.where_true
+    (narrow f.parents.now ds (meanings f.names.now) true (expr_of c.args.condition.now) (env_of tree c.args.env.now)))
+    (declared_is tree w.declared.now) (record {
+      holds = record { given = ways.given_true.env; well_formed = ways.given_true.env_well_formed };
+      is = ways.where_true;
+    })
 
 pub returns-clause-where_false : goal.returns-clause-where_false
 returns-clause-where_false g c =
     let S = g.S.TypeStore in
-    let w = c.type_in.new.walk in
-    let typed = c.in_ok-type_in.ensures.finds in
-    let condition = expr_of c.args.condition.now in
-    subst (λ (x : Env). GivesTypes S.has S.tree w.frame.parents.now c.narrow_in.new.store
-    c.in_ok-ways.ways.where_false x)
-    (same_standing S g.R.Resolver c.args.walk.now w c.args.env
-    (λ (f : BodyFrame) (k : Standing). narrow f.context.bases k.declared f.context.resolve false condition k.env)
-    c.type_in.ensures.goes_on typed.declared)
-    c.in_ok-ways.ensures.where_false
+    let tree = S.tree in
+    let w = c.args.walk.now in
+    let ways = c.in_ok-typed.ensures.ways in
+    let f = w.frame in
+    subst (λ (ds : List Tree). GivesTypes S.has tree f.parents.now c.type_condition.new.checker.store.now
+    c.in_ok-typed.typed.ways.where_false
+    (narrow f.parents.now ds (meanings f.names.now) false (expr_of c.args.condition.now) (env_of tree c.args.env.now)))
+    (declared_is tree w.declared.now) (record {
+      holds = record { given = ways.given_false.env; well_formed = ways.given_false.env_well_formed };
+      is = ways.where_false;
+    })
 
 pub returns-clause-finds : goal.returns-clause-finds
 returns-clause-finds g c =
-    found_quiet g.S.TypeStore g.R.Resolver _ c.type_in.new.walk _ _ _ c.in_ok-type_in.ensures.finds
-    (grown c.narrow_in.ensures.kept) refl refl
+    let S = g.S.TypeStore in
+    let tree = S.tree in
+    let w = c.args.walk.now in
+    let e = expr_of c.args.condition.now in
+    let store = c.type_condition.new.checker.store.now in
+    let found = c.type_condition.new.checker.found.now in
+    let new = record w { store = record w.store { now = store }; found = record w.found { now = found } } in
+    let pushed = subst (λ (ds : List Tree). notes_of found ≡ notes_of w.found.now ++ finds_in
+    (record { context = context_in tree w.frame; declared = ds; env = env_of tree c.args.env.now })
+    None e) (declared_is tree w.declared.now) c.in_ok-typed.ensures.found in
+    let all : Found S w c.args.env.now new (λ f k. finds_in k None e) =
+    found_by S w new c.args.env.now _ c.requires (grown c.type_condition.ensures.goes_on.kept) refl pushed in
+    search (rules, all)

@@ -38,14 +38,14 @@ returns-clause-labelled g c =
     let w = c.args.walk.now in
     let h = c.requires.stands in
     let bases = w.frame.parents.now in
-    let k = standing_in S g.R.Resolver w c.args.env.now in
+    let k = standing_in S w c.args.env.now in
     let want = option_map tree c.args.want.now in
     let e = expr_of c.args.e.now in
     let store = c.type_expr.new.checker.store.now in
     let l = c.in_ok-label.label in
     let new = record w { store = record w.store { now = store } } in
     let mark = subst (λ (ds : List Tree). IsMark S.has tree store l (mark_in
-    (record { context = context_in tree g.R.Resolver.meaning w.frame; declared = ds; env = env_of tree c.args.env.now })
+    (record { context = context_in tree w.frame; declared = ds; env = env_of tree c.args.env.now })
     want e)) (declared_is tree w.declared.now) c.in_ok-label.ensures.marked in
     let labelled : IsLabel S new l (mark_in k want e) = gives_label S.has tree bases store l k want e refl h.frame.context
     (table_well_formed bases (env_of tree w.declared.now) h.declared.well_formed) h.current.well_formed
@@ -63,8 +63,8 @@ returns-clause-finds g c =
     let found = c.type_expr.new.checker.found.now in
     let new = record w { store = record w.store { now = store }; found = record w.found { now = found } } in
     let pushed = subst (λ (ds : List Tree). notes_of found ≡ notes_of w.found.now ++ finds_in
-    (record { context = context_in tree g.R.Resolver.meaning w.frame; declared = ds; env = env_of tree c.args.env.now })
+    (record { context = context_in tree w.frame; declared = ds; env = env_of tree c.args.env.now })
     want e) (declared_is tree w.declared.now) c.in_ok-label.ensures.found in
-    let all : Found S g.R.Resolver w c.args.env.now new (λ f k. finds_in k want e) =
-    found_by S g.R.Resolver w new c.args.env.now _ c.requires.stands (grown c.type_expr.ensures.goes_on.kept) refl pushed in
+    let all : Found S w c.args.env.now new (λ f k. finds_in k want e) =
+    found_by S w new c.args.env.now _ c.requires.stands (grown c.type_expr.ensures.goes_on.kept) refl pushed in
     search (rules, all)

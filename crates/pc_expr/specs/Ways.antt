@@ -8,9 +8,9 @@ use Rattle.pc_flow.specs.declared.narrowing.BothWays.{BothWays}
 use Rattle.pc_rules.specs.Standing.{Standing, narrowed_standing, HasGivenAll}
 use Rattle.pc_rules.specs.declared.setting.Setting.{Setting}
 
-module _ {Store Ty R : Type 0} (has : Store → Ty → Type 0) (tree : Ty → Tree) where
+module _ {Store Ty : Type 0} (has : Store → Ty → Type 0) (tree : Ty → Tree) where
   -- environments of the store that a condition leaves of the one it stands in: where it is true, and where it is false
-  pub record GivesWays (store : Store) (s : Setting Ty R) (k : Standing) (n : BothWays Ty) (e : Expr) : Type 0 where
+  pub record GivesWays (store : Store) (s : Setting Ty) (k : Standing) (n : BothWays Ty) (e : Expr) : Type 0 where
     pub given_true : HasGivenAll (has store) tree s n.where_true
     pub given_false : HasGivenAll (has store) tree s n.where_false
     pub where_true : env_of tree n.where_true ≡ (narrowed_standing k true e).env

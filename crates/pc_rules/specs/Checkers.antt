@@ -8,11 +8,11 @@ use Rattle.pc_rules.specs.Operations.{Mark}
 use Rattle.pc_rules.specs.Standing.{HasGivenAll, HasIfAny, IsMark}
 use Rattle.pc_rules.specs.declared.label.Label.{Label}
 use Rattle.pc_rules.specs.declared.setting.Setting.{Setting}
-use Rattle.pc_expr.specs.declared.checker.Checker.{Checker}
+use Rattle.pc_rules.specs.declared.checker.Checker.{Checker}
 
 module _ {Store Ty : Type 0} (S : StoreOf Store Ty) where
   -- the checker's store gave all types of a setting and of an environment; those of the locals are well-formed
-  abbrev pub Stands : {R : Type 0} → Checker Store Ty → Setting Ty R → List (Option Ty) → Type 0
+  abbrev pub Stands : Checker Store Ty → Setting Ty → List (Option Ty) → Type 0
   Stands c s types = HasGivenAll (S.has c.store.now) S.tree s types
 
   -- it gave a type, if there is one
