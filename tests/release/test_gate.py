@@ -15,8 +15,9 @@ done
 echo "{last}"
 exit {status}
 """
-SLOW_STEPS = ("tools/check_definitions", "tools/check_edits", "tools/check_tested", "tests/tools/run",
-              "tools/check_codes", "tools/compare_rows", "tools/generated", "tests/memory/run", "tests/mypy/run")
+SLOW_STEPS = ("tools/check_definitions", "tools/check_edits", "tools/check_tested", "tools/check_pages",
+              "tools/architecture", "tests/tools/run", "tools/check_codes", "tools/compare_rows", "tools/generated",
+              "tests/memory/run", "tests/mypy/run")
 
 
 class Gate(RoomCase):
@@ -76,7 +77,8 @@ class Gate(RoomCase):
 
     def test_each_step_that_fails_is_told(self) -> None:
         commands = {"tools/check_definitions": "definitions", "tools/check_edits": "edits",
-                    "tools/check_tested": "tested", "tests/tools/run": "tools", "tools/check_codes": "pages",
+                    "tools/check_tested": "tested", "tools/check_pages": "links",
+                    "tools/architecture": "architecture", "tests/tools/run": "tools", "tools/check_codes": "pages",
                     "tools/compare_rows": "examples left_out", "tools/generated": "generated",
                     "tests/memory/run": "memory", "tests/mypy/run": "mypy", "tests/release/run": "release",
                     "tests/reports/run": "reports"}

@@ -1,4 +1,4 @@
-"""What docs/PROJECTS.md shows: each command on it is run, and prints what stands there."""
+"""What docs/PROJECTS.md and README.md show: each command of tools/check_all there is run, and prints what stands there."""
 from __future__ import annotations
 
 import re
@@ -6,17 +6,19 @@ import shlex
 import shutil
 import subprocess
 import sys
+from pathlib import Path
 from typing import Iterator, List, Tuple
 
 from support import COMMAND, ROOT, Test, variables
 
 PAGE = ROOT / "docs" / "PROJECTS.md"
+FIRST = ROOT / "README.md"
 BLOCK = re.compile(r"(?:^(?:    .*)?\n)+", re.MULTILINE)
 
 
-def blocks() -> Iterator[List[str]]:
-    """The blocks of the page that are indented by four, as lines."""
-    for found in BLOCK.finditer(PAGE.read_text(encoding="utf-8")):
+def blocks(page: Path) -> Iterator[List[str]]:
+    """The blocks of a page that are indented by four, as lines."""
+    for found in BLOCK.finditer(page.read_text(encoding="utf-8")):
         lines = [line[4:] for line in found[0].split("\n")]
         while lines and not lines[-1]:
             lines.pop()
@@ -39,18 +41,29 @@ class Document(Test):
     def test_what_the_page_shows(self) -> None:
         shutil.copytree(ROOT / "examples", self.folder / "examples")
         shown = 0
-        for lines in blocks():
+        for lines in blocks(PAGE):
             if re.fullmatch(r"# \w+\.py", lines[0]):
                 self.write(lines[0][2:], "\n".join(lines) + "\n")
             for call, wanted in calls(lines):
-                with self.subTest(call):
-                    words = shlex.split(call)
-                    words[:1] = [sys.executable, str(COMMAND)] if words[0] == "tools/check_all" else words[:1]
-                    done = subprocess.run(words, cwd=self.folder, capture_output=True, env=variables({}), timeout=60)
-                    self.assertEqual(done.stdout.decode().splitlines(), wanted)
-                    self.assertEqual(done.stderr, b"")
-                    shown += 1
+                self.assert_prints(call, wanted)
+                shown += 1
         self.assertGreaterEqual(shown, 8)
+
+    def test_what_the_first_page_shows(self) -> None:
+        shutil.copytree(ROOT / "examples", self.folder / "examples")
+        shown = [call for lines in blocks(FIRST) for call in calls(lines) if call[0].startswith("tools/check_all ")]
+        self.assertTrue(shown)
+        for call, wanted in shown:
+            self.assert_prints(call, wanted)
+
+    def assert_prints(self, call: str, wanted: List[str]) -> None:
+        """A command of a page prints these lines, and no others."""
+        with self.subTest(call):
+            words = shlex.split(call)
+            words[:1] = [sys.executable, str(COMMAND)] if words[0] == "tools/check_all" else words[:1]
+            done = subprocess.run(words, cwd=self.folder, capture_output=True, env=variables({}), timeout=60)
+            self.assertEqual(done.stdout.decode().splitlines(), wanted)
+            self.assertEqual(done.stderr, b"")
 
     def test_options_are_those_of_the_command(self) -> None:
         page = PAGE.read_text(encoding="utf-8")
