@@ -30,12 +30,12 @@ use Rattle.pc_labels.specs.StatementLabels.{OptionMarks}
 use Rattle.pc_labels.specs.Statements.{NamesBound, is_first, only_code, DeclaredAt, known_type, LawfulBinding, LawfulDeclaration, LawfulTarget, annotation_at, LawfulAnnotated, OptionFinds, option_place, AnnotationFinds}
 use Rattle.pc_labels.specs.LabellingLaws.{Setting}
 use Rattle.pc_labels.specs.ComputedStatements.{Table, type_table, bound_type, known_declared, BodyFrame, BindingResult, at, bind_label, bind_value, declared_alone, annotation_finds, bound_name, bind_annotated, bind_item}
-use Rattle.pc_labels.specs.WalkLaw.{TableFits, EnvFits, Adds, frame_in}
+use Rattle.pc_labels.specs.WalkLaw.{TableFits, EnvFits, Adds, frame_in, Lists}
 use Rattle.pc_labels.proofs.BoundNames.{here_among}
 use Rattle.pc_labels.proofs.Marked.{type_of_bound}
 use Rattle.pc_labels.proofs.OneStatement.{assign_kept}
 use Rattle.pc_labels.proofs.SaidByStatements.{no_flows}
-use Rattle.pc_labels.proofs.WalkedFindings.{Lists, lists_annotation, lists_one, adds_nothing, adds_same, adds_list, adds_both}
+use Rattle.pc_labels.proofs.WalkedFindings.{lists_annotation, lists_one, adds_nothing, adds_same, adds_list, adds_both}
 use Rattle.pc_labels.proofs.WalkedTables.{NameFits, name_fits, other_fits}
 use Rattle.pc_labels.proofs.WalkedExpressions.{flows_told, flows_found, told}
 

@@ -28,10 +28,10 @@ use Rattle.pc_rules.proofs.ComputedLawful.{labels_are_lawful, items_lawful, keyw
 use Rattle.pc_labels.specs.Statements.{RangeOrValues, LawfulRange, LawfulValues, LawfulIterable}
 use Rattle.pc_labels.specs.LabellingLaws.{Setting}
 use Rattle.pc_labels.specs.ComputedStatements.{Table, type_table, BodyFrame, values_item, item_mark_of, iterable_finds}
-use Rattle.pc_labels.specs.WalkLaw.{EnvFits, frame_in}
+use Rattle.pc_labels.specs.WalkLaw.{EnvFits, frame_in, Lists}
 use Rattle.pc_labels.proofs.LabelledExpressions.{range_item_well_formed}
 use Rattle.pc_labels.proofs.StoredTypes.{turns_well_formed}
-use Rattle.pc_labels.proofs.WalkedFindings.{Lists, lists_expression, lists_flows}
+use Rattle.pc_labels.proofs.WalkedFindings.{lists_expression, lists_flows}
 use Rattle.pc_labels.proofs.WalkedTables.{types_well_formed}
 
 module _ (setting : Setting) where

@@ -18,16 +18,12 @@ use Rattle.pc_rules.specs.Operations.{clean}
 use Rattle.pc_rules.specs.Labels.{FlowMarks, Marks, is_of_scopes, IsFoundAt, IsFlowAt, Finds}
 use Rattle.pc_rules.specs.Found.{codes_at, flows_at, notes_under}
 use Rattle.pc_rules.proofs.FoundList.{findings_listed, plain_findings}
-use Rattle.pc_labels.specs.WalkLaw.{Adds}
+use Rattle.pc_labels.specs.WalkLaw.{Adds, Lists}
 use Rattle.pc_labels.proofs.SaidByStatements.{no_annotation}
 
 -- a finding that is not of scopes
 abbrev pub IsElsewhere : Finding → Type 0
 IsElsewhere f = is_of_scopes f.code ≡ false
-
--- a list has just what stands somewhere, but for what is found of scopes
-abbrev pub Lists : List Note → (Finding → Type 0) → Type 0
-Lists xs Says = (f : Finding) → Contains (findings_of xs) f ↔ (Says f × IsElsewhere f)
 
 -- the findings of one list behind another
 joined : (xs ys : List Note) → findings_of (xs ++ ys) ≡ findings_of xs ++ findings_of ys

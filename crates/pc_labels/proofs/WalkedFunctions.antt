@@ -28,14 +28,14 @@ use Rattle.pc_labels.specs.Statements.{NamesBound}
 use Rattle.pc_labels.specs.Modules.{DeclaredEntry, LawfulEntry, assigned_at_entry, entry_env, entry_parameters, names_entered, ReturnsWell, leaves, may_complete, may_not}
 use Rattle.pc_labels.specs.LabellingLaws.{Setting}
 use Rattle.pc_labels.specs.ComputedStatements.{Table, type_table, bound_type, with_declared, Walk, walk_suite, enter_local, enter_name, enter_parameters, end_finds}
-use Rattle.pc_labels.specs.WalkLaw.{TableFits, EnvFits, frame_in, BodiesFindWhatLabelsSay}
+use Rattle.pc_labels.specs.WalkLaw.{TableFits, EnvFits, frame_in, BodiesFindWhatLabelsSay, Lists}
 use Rattle.pc_labels.proofs.BoundNames.{here_among}
 use Rattle.pc_labels.proofs.LabelledFunctions.{none_well_formed, entries_well_formed}
 use Rattle.pc_labels.proofs.LocalNames.{names_are}
 use Rattle.pc_labels.proofs.Marked.{none_bound, type_of_bound}
 use Rattle.pc_labels.proofs.OneModule.{none_kept}
 use Rattle.pc_labels.proofs.OneStatement.{assign_kept}
-use Rattle.pc_labels.proofs.WalkedFindings.{Lists, lists_nothing, lists_one, adds_same, adds_list, adds_both}
+use Rattle.pc_labels.proofs.WalkedFindings.{lists_nothing, lists_one, adds_same, adds_list, adds_both}
 use Rattle.pc_labels.proofs.WalkedTables.{NameFits, name_fits, other_fits}
 use Rattle.pc_labels.proofs.WalkedStatements.{suite_says}
 

@@ -27,13 +27,14 @@ use Rattle.pc_rules.proofs.InitializersListed.{initializer_label, value_listed}
 use Rattle.pc_rules.proofs.One.{one_labelling}
 use Rattle.pc_rules.proofs.SignaturesListed.{option_listed}
 use Rattle.pc_labels.specs.Modules.{ItemMarks, ItemsMarks, constant_types, BeforeItem, before_next, LawfulItem, LawfulModuleItems}
+use Rattle.pc_labels.specs.SignaturesSaid.{MembersSay, FunctionSays, FunctionsSay, ItemsSay}
 use Rattle.pc_labels.specs.ComputedStatements.{function_finds}
 use Rattle.pc_labels.specs.ComputedModules.{methods_find, bodies_find}
-use Rattle.pc_labels.specs.WalkLaw.{Adds, BodySays}
+use Rattle.pc_labels.specs.WalkLaw.{Adds, BodySays, Lists}
 use Rattle.pc_labels.proofs.LabelledModule.{wants_well_formed, first_well_formed, constant_well_formed, one_more}
-use Rattle.pc_labels.proofs.WalkedFindings.{Lists, lists_nothing, lists_both, adds_nothing, adds_both}
+use Rattle.pc_labels.proofs.WalkedFindings.{lists_nothing, lists_both, adds_nothing, adds_both}
 use Rattle.pc_labels.proofs.WalkedFunctions.{bodies_say}
-use Rattle.pc_labels.proofs.WalkedMembers.{SignatureSays, signature_listed, MembersSay, MethodsSay, members_listed, methods_say, lists_each}
+use Rattle.pc_labels.proofs.WalkedMembers.{signature_listed, MethodsSay, members_listed, methods_say, lists_each}
 
 -- what a walk has reached at an item
 abbrev pub reached_at : BeforeItem → ItemsReached
@@ -74,35 +75,13 @@ module _ (m : Module) where
         (lists_each (map plain_note (option_findings m (bases_of m) c.annotation)) (λ f. option_listed m f c.annotation))
         (lists_each (value_findings m (reached_at b) into c.value) (λ f. value_listed m (reached_at b) kb into into_well_formed c.value marks.value l.value marks.flows l.flow f))
 
-  -- ---- what is said in three parts: of functions' signatures, of constants and classes, and in bodies
-
-  -- of functions' signatures
-  abbrev pub FunctionSays : (i : Item) → ItemMarks i → Finding → Type 0
-  FunctionSays (constant_item p c) marks f = ⊥
-  FunctionSays (class_item p c) marks f = ⊥
-  FunctionSays (def_item p d) marks f = SignatureSays m d marks.params f
-
-  abbrev pub FunctionsSay : (items : List Item) → ItemsMarks items → Finding → Type 0
-  FunctionsSay [] marks f = ⊥
-  FunctionsSay (i ∷ rest) marks f = FunctionSays i marks.first f ⊎ FunctionsSay rest marks.rest f
-
-  -- of constants and classes
-  abbrev pub ItemSays : (i : Item) → ItemMarks i → Finding → Type 0
-  ItemSays (constant_item p c) marks f = OptionAnnFinds m (bases_of m) c.annotation f ⊎ (Finds c.value marks.value f ⊎ IsFlowAt (place_of c.value) marks.flows f)
-  ItemSays (class_item p c) marks f = MembersSay m c.members marks f
-  ItemSays (def_item p d) marks f = ⊥
-
-  abbrev pub ItemsSay : (items : List Item) → ItemsMarks items → Finding → Type 0
-  ItemsSay [] marks f = ⊥
-  ItemsSay (i ∷ rest) marks f = ItemSays i marks.first f ⊎ ItemsSay rest marks.rest f
-
   -- ---- functions' signatures
 
-  pub functions_listed : (all : List Tree) (b : BeforeItem) (items : List Item) (marks : ItemsMarks items) → LawfulModuleItems m all b items marks → Lists (functions_findings m items) (FunctionsSay items marks)
+  pub functions_listed : (all : List Tree) (b : BeforeItem) (items : List Item) (marks : ItemsMarks items) → LawfulModuleItems m all b items marks → Lists (functions_findings m items) (FunctionsSay m items marks)
   functions_listed all b [] marks l = lists_nothing
   functions_listed all b (i ∷ rest) marks l = lists_both (function_findings m i) (functions_findings m rest) (one i marks.first l.0) (functions_listed all (before_next m b i marks.first) rest marks.rest l.1)
     where
-      one : (i : Item) (mk : ItemMarks i) → LawfulItem m all b i mk → Lists (function_findings m i) (FunctionSays i mk)
+      one : (i : Item) (mk : ItemMarks i) → LawfulItem m all b i mk → Lists (function_findings m i) (FunctionSays m i mk)
       one (constant_item p c) mk h = lists_nothing
       one (class_item p c) mk h = lists_nothing
       one (def_item p d) mk h = signature_listed m [] d mk.params h.params
@@ -120,7 +99,7 @@ module _ (m : Module) where
   pub record ItemsWalked (b : BeforeItem) (items : List Item) (marks : ItemsMarks items) : Type 0 where
     pub types : (behind_all m (reached_at b) items).constants ≡ b.constants ++ constant_types m items marks
     pub well_formed : AreWellFormed (bases_of m) (b.constants ++ constant_types m items marks)
-    pub listed : Lists (items_findings m (reached_at b) items) (ItemsSay items marks)
+    pub listed : Lists (items_findings m (reached_at b) items) (ItemsSay m items marks)
 
   pub items_walked : (all : List Tree) (b : BeforeItem) → AreWellFormed (bases_of m) b.constants → (items : List Item) → ClassesFrom m b.classes (classes_in items) → (marks : ItemsMarks items) → LawfulModuleItems m all b items marks → ItemsWalked b items marks
   items_walked all b kb [] from marks l = record {
@@ -140,7 +119,7 @@ module _ (m : Module) where
         well_formed = subst (AreWellFormed (bases_of m)) more r.well_formed;
         listed = lists_both (constant_findings m (reached_at b) c) (items_findings m (behind m (reached_at b) (constant_item p c)) rest)
             (constant_listed b kb p c mk all l.0)
-            (subst (λ (x : ItemsReached). Lists (items_findings m x rest) (ItemsSay rest marks.rest)) (sym here) r.listed);
+            (subst (λ (x : ItemsReached). Lists (items_findings m x rest) (ItemsSay m rest marks.rest)) (sym here) r.listed);
       }
   items_walked all b kb (class_item p c ∷ rest) from marks l =
       let next = before_next m b (class_item p c) marks.first in

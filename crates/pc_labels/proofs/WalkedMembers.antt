@@ -17,10 +17,11 @@ use Rattle.pc_rules.specs.SignaturesFound.{def_findings, field_findings, members
 use Rattle.pc_rules.proofs.FoundList.{Noted as ListsOne}
 use Rattle.pc_rules.proofs.SignaturesListed.{def_listed, field_listed}
 use Rattle.pc_labels.specs.Modules.{FunctionMarks, FunctionFinds, MembersMarks, LawfulMembers, MembersFind}
+use Rattle.pc_labels.specs.SignaturesSaid.{SignatureSays, MembersSay}
 use Rattle.pc_labels.specs.ComputedStatements.{function_finds}
 use Rattle.pc_labels.specs.ComputedModules.{methods_find}
-use Rattle.pc_labels.specs.WalkLaw.{Adds, BodySays}
-use Rattle.pc_labels.proofs.WalkedFindings.{Lists, lists_nothing, lists_both, adds_nothing, adds_both}
+use Rattle.pc_labels.specs.WalkLaw.{Adds, BodySays, Lists}
+use Rattle.pc_labels.proofs.WalkedFindings.{lists_nothing, lists_both, adds_nothing, adds_both}
 use Rattle.pc_labels.proofs.WalkedFunctions.{bodies_say}
 
 -- a list that has each finding of which something stands
@@ -51,18 +52,8 @@ either_said s = elim s [
 module _ (m : Module) where
   -- ---- signatures
 
-  -- what is said of the signature of a function: in annotations, and at defaults
-  abbrev pub SignatureSays : (f : FuncDef) → ParamsMarks f.params → Finding → Type 0
-  SignatureSays f params g = ParamsFind m f.params params g ⊎ OptionAnnFinds m (bases_of m) f.returns g
-
-  pub signature_listed : (before : List (List ℕ)) (f : FuncDef) (params : ParamsMarks f.params) → LawfulParams m before f.params params → Lists (def_findings m (λ t. is_one_of t before) f) (SignatureSays f params)
+  pub signature_listed : (before : List (List ℕ)) (f : FuncDef) (params : ParamsMarks f.params) → LawfulParams m before f.params params → Lists (def_findings m (λ t. is_one_of t before) f) (SignatureSays m f params)
   signature_listed before f params l = lists_each (def_findings m (λ t. is_one_of t before) f) (λ g. def_listed m g before f params l)
-
-  -- what is said of members but for the bodies of methods: of fields, and of signatures
-  abbrev pub MembersSay : (ms : List Member) → MembersMarks ms → Finding → Type 0
-  MembersSay [] marks g = ⊥
-  MembersSay (field_member d ∷ rest) marks g = (AnnFinds m (bases_of m) d.annotation g ⊎ DefaultFinds d.default marks.default g) ⊎ MembersSay rest marks.rest g
-  MembersSay (method_member d ∷ rest) marks g = SignatureSays d marks.method.params g ⊎ MembersSay rest marks.rest g
 
   module _ (constants : List Tree) where
     -- what is said in the bodies of methods
@@ -74,7 +65,7 @@ module _ (m : Module) where
     -- ---- lists
 
     -- what is found of members behind these names
-    pub members_listed : (base : ClassFacts) (c number : ℕ) (before : List (List ℕ)) (ms : List Member) (marks : MembersMarks ms) → LawfulMembers m constants base c number before ms marks → Lists (members_findings m base (λ t. is_one_of t before) ms) (MembersSay ms marks)
+    pub members_listed : (base : ClassFacts) (c number : ℕ) (before : List (List ℕ)) (ms : List Member) (marks : MembersMarks ms) → LawfulMembers m constants base c number before ms marks → Lists (members_findings m base (λ t. is_one_of t before) ms) (MembersSay m ms marks)
     members_listed base c number before [] marks l = lists_nothing
     members_listed base c number before (field_member d ∷ rest) marks l =
         let one = field_findings m base (λ t. is_one_of t before) d in
@@ -99,13 +90,13 @@ module _ (m : Module) where
 
     -- ---- both of them are what is said
 
-    pub function_split : (owner : Owner) (f : FuncDef) (marks : FunctionMarks f) (g : Finding) → FunctionFinds m constants owner f marks g → SignatureSays f marks.params g ⊎ BodySays m constants owner f marks g
+    pub function_split : (owner : Owner) (f : FuncDef) (marks : FunctionMarks f) (g : Finding) → FunctionFinds m constants owner f marks g → SignatureSays m f marks.params g ⊎ BodySays m constants owner f marks g
     function_split owner f marks g h = in_halves h
 
-    pub function_joined : (owner : Owner) (f : FuncDef) (marks : FunctionMarks f) (g : Finding) → SignatureSays f marks.params g ⊎ BodySays m constants owner f marks g → FunctionFinds m constants owner f marks g
+    pub function_joined : (owner : Owner) (f : FuncDef) (marks : FunctionMarks f) (g : Finding) → SignatureSays m f marks.params g ⊎ BodySays m constants owner f marks g → FunctionFinds m constants owner f marks g
     function_joined owner f marks g h = from_halves h
 
-    pub members_split : (c number : ℕ) (ms : List Member) (marks : MembersMarks ms) (g : Finding) → MembersFind m constants c number ms marks g → MembersSay ms marks g ⊎ MethodsSay c number ms marks g
+    pub members_split : (c number : ℕ) (ms : List Member) (marks : MembersMarks ms) (g : Finding) → MembersFind m constants c number ms marks g → MembersSay m ms marks g ⊎ MethodsSay c number ms marks g
     members_split c number [] marks g h = absurd h
     members_split c number (field_member d ∷ rest) marks g h = elim h [
       | inl a ↦ inl (inl (inl a))
@@ -119,7 +110,7 @@ module _ (m : Module) where
       | inr r ↦ others_said (members_split c (suc number) rest marks.rest g r)
     ]
 
-    pub members_joined : (c number : ℕ) (ms : List Member) (marks : MembersMarks ms) (g : Finding) → MembersSay ms marks g ⊎ MethodsSay c number ms marks g → MembersFind m constants c number ms marks g
+    pub members_joined : (c number : ℕ) (ms : List Member) (marks : MembersMarks ms) (g : Finding) → MembersSay m ms marks g ⊎ MethodsSay c number ms marks g → MembersFind m constants c number ms marks g
     members_joined c number [] marks g h = elim h [ inl x ↦ x | inr y ↦ y ]
     members_joined c number (field_member d ∷ rest) marks g h = elim h [
       | inl t ↦ elim t [

@@ -14,12 +14,13 @@ use Rattle.pc_flow.specs.WellFormed.{AreWellFormed}
 use Rattle.pc_notes.specs.Notes.{Note, findings_of}
 use Rattle.pc_rules.specs.SignaturesFound.{constants_of, signatures_find, nothing_reached, functions_findings, items_findings}
 use Rattle.pc_labels.specs.Modules.{Labelling, IsLawful, ItemsMarks, BeforeItem, nothing_before, before_next, constant_types, ItemsFind, LabelsSay, LabelsFind, IsFinding}
+use Rattle.pc_labels.specs.SignaturesSaid.{FunctionsSay, ItemsSay, SignaturesSay}
 use Rattle.pc_labels.specs.ComputedModules.{bodies_find, module_finds}
-use Rattle.pc_labels.specs.WalkLaw.{Adds}
-use Rattle.pc_labels.specs.ModuleLaw.{ConstantsHaveTheTypesOfLabels, ModulesFindWhatLabelsSay, ModulesFindWhatLabelsFind, FindingsOfModulesAreComputed}
+use Rattle.pc_labels.specs.WalkLaw.{Adds, Lists}
+use Rattle.pc_labels.specs.ModuleLaw.{ConstantsHaveTheTypesOfLabels, SignaturesFindWhatLabelsSay, ModulesFindWhatLabelsSay, ModulesFindWhatLabelsFind, FindingsOfModulesAreComputed}
 use Rattle.pc_labels.proofs.LabelledModule.{every_module_has_a_labelling}
-use Rattle.pc_labels.proofs.WalkedFindings.{Lists, lists_both, adds_same, adds_list, adds_both}
-use Rattle.pc_labels.proofs.WalkedItems.{FunctionsSay, ItemsSay, BodiesSay, ItemsWalked, functions_listed, items_walked, all_bodies_say}
+use Rattle.pc_labels.proofs.WalkedFindings.{lists_both, adds_same, adds_list, adds_both}
+use Rattle.pc_labels.proofs.WalkedItems.{BodiesSay, ItemsWalked, functions_listed, items_walked, all_bodies_say}
 use Rattle.pc_labels.proofs.WalkedMembers.{function_split, function_joined, members_split, members_joined}
 
 -- ---- what is said of items, in three parts
@@ -105,7 +106,7 @@ module _ (m : Module) (marks : Labelling m) (l : IsLawful m marks) where
   unfolding constants_of
   constants_are = walked.types
 
-  signatures_listed : Lists (signatures_find m) (λ f. FunctionsSay m m.items marks f ⊎ ItemsSay m m.items marks f)
+  signatures_listed : Lists (signatures_find m) (SignaturesSay m marks)
   unfolding signatures_find
   signatures_listed = lists_both (functions_findings m m.items) (items_findings m nothing_reached m.items) (functions_listed m all nothing_before m.items marks l) walked.listed
 
@@ -129,6 +130,9 @@ module _ (m : Module) (marks : Labelling m) (l : IsLawful m marks) where
 
 pub constants_have_types : ConstantsHaveTheTypesOfLabels
 constants_have_types m marks l = constants_are m marks l
+
+pub signatures_say : SignaturesFindWhatLabelsSay
+signatures_say m marks l f = signatures_listed m marks l f
 
 pub modules_say : ModulesFindWhatLabelsSay
 modules_say m marks l found = module_adds m marks l found

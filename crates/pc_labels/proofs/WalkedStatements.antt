@@ -19,8 +19,8 @@ use Rattle.pc_labels.specs.StatementLabels.{StmtMarks, SuiteMarks, BranchesMarks
 use Rattle.pc_labels.specs.Statements.{NamesBound, binds_number, AreUndeclared, OptionFinds, StmtFinds, SuiteFinds, BranchesFind, LawfulStmt, LawfulSuite, LawfulBranches}
 use Rattle.pc_labels.specs.LabellingLaws.{Setting}
 use Rattle.pc_labels.specs.ComputedStatements.{Table, BodyFrame, Walk, BranchesResult, BindingResult, at, with_way, narrowed_at, head_at, iterable_finds, bind_value, bind_annotated, bind_item, store_finds, option_finds, return_finds, behind_binding, inside_for, behind_loop, unreached_names, step, walk_suite, walk_branches}
-use Rattle.pc_labels.specs.WalkLaw.{TableFits, EnvFits, OutFits, Adds, with_breaks, frame_in, WalkSays}
-use Rattle.pc_labels.proofs.WalkedFindings.{Lists, lists_codes, adds_nothing, adds_same, adds_list, adds_both}
+use Rattle.pc_labels.specs.WalkLaw.{TableFits, EnvFits, OutFits, Adds, with_breaks, frame_in, WalkSays, Lists}
+use Rattle.pc_labels.proofs.WalkedFindings.{lists_codes, adds_nothing, adds_same, adds_list, adds_both}
 use Rattle.pc_labels.proofs.WalkedTables.{out_grows, fits_both, all_unreached_fit, unreached_suite}
 use Rattle.pc_labels.proofs.WalkedEnvironments.{breaks_both, no_breaks, truth_same, truth_fits, head_same, head_fits, one_break, break_fits, one_way, way_fits}
 use Rattle.pc_labels.proofs.WalkedExpressions.{told, iterable_told}

@@ -20,9 +20,9 @@ use Rattle.pc_labels.specs.StatementLabels.{OptionMarks, TargetMarks}
 use Rattle.pc_labels.specs.Statements.{attribute_offers, index_offers, LawfulStore, LawfulReturn, LawfulOption, OptionFinds, option_place, TargetFinds}
 use Rattle.pc_labels.specs.LabellingLaws.{Setting}
 use Rattle.pc_labels.specs.ComputedStatements.{Table, BodyFrame, attribute_stores, index_stores, stored_finds, store_finds, option_finds, return_finds}
-use Rattle.pc_labels.specs.WalkLaw.{EnvFits, frame_in}
+use Rattle.pc_labels.specs.WalkLaw.{EnvFits, frame_in, Lists}
 use Rattle.pc_labels.proofs.StoredTypes.{fields_stored, items_stored, keys_stored, only_well_formed}
-use Rattle.pc_labels.proofs.WalkedFindings.{Lists, lists_nothing, lists_same, lists_both, lists_codes}
+use Rattle.pc_labels.proofs.WalkedFindings.{lists_nothing, lists_same, lists_both, lists_codes}
 use Rattle.pc_labels.proofs.WalkedExpressions.{here, ExpressionTold, told, flows_told, flows_found}
 
 module _ (setting : Setting) (returned : Tree) (kr : IsWellFormed setting.context.bases returned) (declared : List Tree) (table : Table) (kt : IsWellFormedEnv setting.context.bases table) (env : Env) (h : EnvFits setting declared table env) where

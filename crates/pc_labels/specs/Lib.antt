@@ -5,6 +5,7 @@ pub mod DynamicFlows
 pub mod LabellingLaws
 pub mod ModuleLaw
 pub mod Modules
+pub mod SignaturesSaid
 pub mod StatementLabels
 pub mod Statements
 pub mod WalkLaw

@@ -1,5 +1,5 @@
--- The law that what is computed of a module is just what its lawful labelling says: the types of its constants, and
--- what is found under its labels, but for what is found of scopes.
+-- The law that what is computed of a module is just what its lawful labelling says: the types of its constants, what is
+-- found of its signatures and constants, and what is found under all its labels, but for what is found of scopes.
 -- Own rule of the profile.
 use Rattle.std.specs.Prelude.{◌≡◌, ◌⊎◌, ◌↔◌, List, [], Contains}
 use Rattle.pc_tree.specs.declared.code.Finding.{Finding}
@@ -7,15 +7,21 @@ use Rattle.pc_tree.specs.Tree.{Module}
 use Rattle.pc_scope_findings.specs.Findings.{ScopeFinds}
 use Rattle.pc_class.specs.Findings.{ClassFinds}
 use Rattle.pc_notes.specs.Notes.{Note, findings_of}
-use Rattle.pc_rules.specs.SignaturesFound.{constants_of}
+use Rattle.pc_rules.specs.SignaturesFound.{constants_of, signatures_find}
 use Rattle.pc_labels.specs.Modules.{Labelling, IsLawful, LabelsSay, LabelsFind, IsFinding, constant_types}
 use Rattle.pc_labels.specs.ComputedModules.{module_finds}
-use Rattle.pc_labels.specs.WalkLaw.{Adds}
+use Rattle.pc_labels.specs.SignaturesSaid.{SignaturesSay}
+use Rattle.pc_labels.specs.WalkLaw.{Adds, Lists}
 
 -- the types of the constants are those under any lawful labelling
 abbrev pub ConstantsHaveTheTypesOfLabels : Type 0
 ConstantsHaveTheTypesOfLabels = (m : Module) (marks : Labelling m) → IsLawful m marks
     → constants_of m ≡ constant_types m m.items marks
+
+-- what is found of signatures and constants is just what any lawful labelling says of them, but for what is found of scopes
+abbrev pub SignaturesFindWhatLabelsSay : Type 0
+SignaturesFindWhatLabelsSay = (m : Module) (marks : Labelling m) → IsLawful m marks
+    → Lists (signatures_find m) (SignaturesSay m marks)
 
 -- behind what was found, just what any lawful labelling says is found of the module, but for what is found of scopes
 abbrev pub ModulesFindWhatLabelsSay : Type 0

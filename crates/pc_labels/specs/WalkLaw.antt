@@ -61,6 +61,10 @@ abbrev pub Adds : (before after : List Note) → (Says : Finding → Type 0) →
 Adds before after Says = (f : Finding)
     → Contains (findings_of after) f ↔ (Contains (findings_of before) f ⊎ (Says f × (is_of_scopes f.code ≡ false)))
 
+-- a list has just what is said, but for what is found of scopes
+abbrev pub Lists : List Note → (Says : Finding → Type 0) → Type 0
+Lists notes Says = (f : Finding) → Contains (findings_of notes) f ↔ (Says f × (is_of_scopes f.code ≡ false))
+
 -- A walk has come to what labels say: from a table to one that fits behind these names, to this environment, with these
 -- `break`s joined, and with what is said found; and what fitted the table before fits the one behind.
 pub record WalkSays (setting : Setting) (declared : List Tree) (seen : NamesBound) (table : Table) (broken : Option Env)

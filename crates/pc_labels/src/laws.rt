@@ -17,8 +17,9 @@ ghost use Rattle.pc_labels.specs.LabellingLaws.{StatementsAreLabelled, SuitesAre
 ghost use Rattle.pc_labels.specs.LabellingLaws.{ClassesAreLabelled};
 ghost use Rattle.pc_labels.specs.WalkLaw.{WalksOfStatementsSayWhatLabelsSay, WalksOfSuitesSayWhatLabelsSay};
 ghost use Rattle.pc_labels.specs.WalkLaw.{BodiesFindWhatLabelsSay};
-ghost use Rattle.pc_labels.specs.ModuleLaw.{ConstantsHaveTheTypesOfLabels, ModulesFindWhatLabelsSay};
-ghost use Rattle.pc_labels.specs.ModuleLaw.{ModulesFindWhatLabelsFind, FindingsOfModulesAreComputed};
+ghost use Rattle.pc_labels.specs.ModuleLaw.{ConstantsHaveTheTypesOfLabels, SignaturesFindWhatLabelsSay};
+ghost use Rattle.pc_labels.specs.ModuleLaw.{ModulesFindWhatLabelsSay, ModulesFindWhatLabelsFind};
+ghost use Rattle.pc_labels.specs.ModuleLaw.{FindingsOfModulesAreComputed};
 ghost use Rattle.pc_labels.specs.Modules.{Labelling, IsLawful, IsFinding, HasLabelling, HasOneLabelling};
 ghost use Rattle.pc_labels.specs.Modules.{HasExactlyOneLabelling};
 
@@ -92,11 +93,12 @@ pub fn walks_say_what_labels_say()
 {}
 
 /// The law that what is computed of a module is what its lawful labelling says: the types of its constants are those of
-/// the labels; and the walks over its signatures, its constants and its bodies find just what stands under the labels,
-/// but for what is found of scopes. So the findings of a module are those of scopes, those of classes, and what these
-/// walks find.
+/// the labels; what is found of its signatures and its constants is just what the labels say of these; and the walks over
+/// its signatures, its constants and its bodies find just what stands under the labels, but for what is found of scopes.
+/// So the findings of a module are those of scopes, those of classes, and what these walks find.
 pub fn modules_find_what_labels_say()
     ensures constants { ConstantsHaveTheTypesOfLabels }
+    ensures signatures { SignaturesFindWhatLabelsSay }
     ensures adds { ModulesFindWhatLabelsSay }
     ensures found { ModulesFindWhatLabelsFind }
     ensures all { FindingsOfModulesAreComputed }
