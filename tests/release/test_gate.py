@@ -17,7 +17,7 @@ exit {status}
 """
 SLOW_STEPS = ("tools/check_definitions", "tools/check_edits", "tools/check_tested", "tools/check_pages",
               "tools/architecture", "tests/tools/run", "tools/check_codes", "tools/compare_rows", "tools/generated",
-              "tests/memory/run", "tests/mypy/run")
+              "tests/memory/run", "tests/depth/run", "tests/mypy/run")
 
 
 class Gate(RoomCase):
@@ -80,8 +80,8 @@ class Gate(RoomCase):
                     "tools/check_tested": "tested", "tools/check_pages": "links",
                     "tools/architecture": "architecture", "tests/tools/run": "tools", "tools/check_codes": "pages",
                     "tools/compare_rows": "examples left_out", "tools/generated": "generated",
-                    "tests/memory/run": "memory", "tests/mypy/run": "mypy", "tests/release/run": "release",
-                    "tests/reports/run": "reports"}
+                    "tests/memory/run": "memory", "tests/depth/run": "depth", "tests/mypy/run": "mypy",
+                    "tests/release/run": "release", "tests/reports/run": "reports"}
         for step, names in commands.items():
             with self.subTest(step):
                 kept = (self.clone / step).read_text(encoding="utf-8").splitlines()[1]

@@ -1,15 +1,14 @@
-//! Tables of what the layers below the checker answer: names, annotations, types, classes, what is known of locals.
+//! Tables of what layers below the checker answer: names, what stops runs, types, classes, locals, notes.
 #![tactic(auto)]
 
-mod annotations;
 mod classes;
+mod conditions;
 mod environments;
-mod large;
+mod modules;
 mod names;
+mod notes;
 mod questions;
-mod scopes;
 mod tables;
 mod types;
 
-pub use large::large_module;
 pub use tables::judge;

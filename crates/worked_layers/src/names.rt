@@ -1,56 +1,78 @@
-//! What names mean in a module, by `pc_scope`.
+//! What names mean in a module, by `pc_scope`; sets and maps of names, by `pc_names`.
+use indexmap::{IndexMap, IndexSet};
 use pc_front::read_module;
+use pc_names::{bind_first, fixed_keys, put};
 use pc_scope::{Owner, scopes};
 use pc_source::Fault;
-use pc_tables::{TableFault, Tally};
+use pc_tree::is_reserved;
 use std::alloc::{AllocError, Global};
 
-/// A number of a table.
-fn number(text: &str) -> Result<usize, TableFault> {
-    text.parse().map_err(|_| TableFault::Form)
-}
-
-/// Whose names are looked up, as a table says it: `Module`, `Func(0)` or `Method(0, 1)`.
-fn owner_of(text: &str) -> Result<Owner, TableFault> {
-    let text = text.strip_suffix(')').unwrap_or(text);
-    if let Some(function) = text.strip_prefix("Func(") {
-        return Ok(Owner::Func(number(function)?));
-    }
-    if let Some(method) = text.strip_prefix("Method(") {
-        let (class, method) = method.split_once(", ").ok_or(TableFault::Form)?;
-        return Ok(Owner::Method(number(class)?, number(method)?));
-    }
-    if text == "Module" {
-        Ok(Owner::Module)
-    } else {
-        Err(TableFault::Form)
+/// Whose names are looked up, as a row says it: `Module`, `Func 0` or `Method 0 1`.
+fn owner_of(words: &[&str]) -> Option<Owner> {
+    match words.get(0).copied()? {
+        "Module" => Some(Owner::Module),
+        "Func" => Some(Owner::Func(words.get(1).copied()?.parse().ok()?)),
+        "Method" => {
+            let class = words.get(1).copied()?.parse().ok()?;
+            Some(Owner::Method(class, words.get(2).copied()?.parse().ok()?))
+        }
+        _ => None,
     }
 }
 
-/// What a name means there.
-fn meaning(alloc: Global, text: &str, owner: Owner, name: &str) -> Result<String, Fault> {
-    let module = read_module(alloc, text.as_bytes())?;
+/// What the name that a row says last means to the owner that it says first, in a module, and how many locals the owner
+/// has.
+pub fn meaning_text(alloc: Global, module: &str, row: &str) -> Result<String, Fault> {
+    let (owner, name) = row.split_once(" ; ").unwrap_or(("", ""));
+    let words: Vec<&str> = owner.split(' ').collect(alloc)?;
+    let Some(owner) = owner_of(words.as_slice()) else {
+        return Ok(String::from_str(alloc, "no owner")?);
+    };
+    let module = read_module(alloc, module.as_bytes())?;
     let names = scopes(alloc, &module)?;
-    Ok(format!(in alloc; "{:?}", names.resolve(owner, name))?)
+    let locals = names.count_locals(owner);
+    Ok(format!(in alloc; "{:?} of {locals}", names.resolve(owner, name))?)
 }
 
-/// What a row comes to: the meaning of its name, or why there is none.
-fn answer(alloc: Global, text: &str, owner: Owner, name: &str) -> Result<String, AllocError> {
-    match meaning(alloc, text, owner, name) {
-        Ok(meaning) => Ok(meaning),
-        Err(fault) => format!(in alloc; "{fault}"),
+/// What each word has in a map in which each was bound to its number, where it was not bound before.
+fn bound(alloc: Global, words: &str) -> Result<String, Fault> {
+    let mut map = IndexMap::with_hasher(alloc, fixed_keys()?);
+    for (number, word) in words.split(' ').enumerate() {
+        bind_first(&mut map, word, number)?;
     }
+    let mut text = String::new(alloc);
+    for word in words.split(' ') {
+        write!(text, "{:?} ", map.get(word))?;
+    }
+    Ok(text)
 }
 
-/// Counts the names of a table: a module, a line of four dashes, and then a row for each: whose name it is, the name,
-/// and what it means.
-pub fn count_names(alloc: Global, table: &str, tally: &mut Tally) -> Result<(), TableFault> {
-    let (text, rows) = table.split_once("----\n").ok_or(TableFault::Form)?;
-    for row in rows.lines() {
-        let (place, want) = row.rsplit_once(" ; ").ok_or(TableFault::Form)?;
-        let (owner, name) = place.split_once(" ; ").ok_or(TableFault::Form)?;
-        let got = answer(alloc, text, owner_of(owner)?, name)?;
-        tally.count(place, want, got.as_str())?;
+/// Of each word whether it was in a set of the words before it.
+fn repeated(alloc: Global, words: &str) -> Result<String, Fault> {
+    let mut set = IndexSet::with_hasher(alloc, fixed_keys()?);
+    let mut text = String::new(alloc);
+    for word in words.split(' ') {
+        let stands_before = put(&mut set, word)?;
+        write!(text, "{stands_before} ")?;
     }
-    Ok(())
+    Ok(text)
+}
+
+/// Of each word whether it is reserved.
+fn reserved(alloc: Global, words: &str) -> Result<String, AllocError> {
+    let mut text = String::new(alloc);
+    for word in words.split(' ') {
+        let is_reserved = is_reserved(word);
+        write!(text, "{is_reserved} ")?;
+    }
+    Ok(text)
+}
+
+/// What comes of words in a part of this name.
+pub fn words_text(alloc: Global, part: &str, words: &str) -> Result<String, Fault> {
+    match part {
+        "BOUND" => bound(alloc, words),
+        "REPEATED" => repeated(alloc, words),
+        _ => Ok(reserved(alloc, words)?),
+    }
 }

@@ -1,14 +1,15 @@
 //! What is asked of types, over any store: how two compare, their join, and what one is made of.
-ghost use Rattle.std.specs.Prelude.{◌≡◌, All, IfOk};
+ghost use Rattle.std.specs.Prelude.{◌≡◌, All, IfOk, IfSome};
 ghost use Rattle.pc_tree.specs.Tree.{module_of};
 ghost use Rattle.pc_scope.specs.ModuleScopes.{AreScopes};
 ghost use Rattle.pc_types.specs.Store.{KeepsTypes};
 
 use pc_ann::{read_ann, type_text};
+use pc_notes::transfer;
 use pc_scope::Scopes;
 use pc_source::OutOfMemory;
 use pc_tree::{Ann, Findings, ItemKind, Module};
-use pc_types::{Parents, TypeStore};
+use pc_types::{BoxStore, Parents, TypeStore};
 use std::alloc::Global;
 
 /// What is asked of two types, or of the first one.
@@ -26,6 +27,10 @@ pub enum Question {
     Members,
     /// The type again.
     Copy,
+    /// The type again, when boxes have taken it and given it back.
+    Taken,
+    /// The type that a maker makes.
+    Made,
 }
 
 /// A module whose first two constants are annotated with the types that are asked of.
@@ -184,6 +189,67 @@ fn parts<S: TypeStore>(
     Ok(format!(in alloc; "{at_once} at once, {one_by_one} one by one")?)
 }
 
+/// The text of a type when a store of boxes has taken it, and the store has taken it back from there.
+fn taken<S: TypeStore>(
+    store: &mut S,
+    alloc: Global,
+    tree: &Module,
+    ty: &S::Ty,
+) -> Result<String, OutOfMemory>
+    requires { S.has store.old ty.now }
+{
+    let mut boxes = BoxStore::new();
+    let taken = transfer(store, &mut boxes, alloc, ty)?;
+    let again = transfer(&boxes, store, alloc, &taken)?;
+    type_text(store, alloc, tree, &again)
+}
+
+/// The type that a store makes by its maker of this name, of `int` where it has parts, and the union of none.
+fn make<S: TypeStore>(
+    store: &mut S,
+    alloc: Global,
+    name: &str,
+) -> Result<Option<S::Ty>, OutOfMemory>
+    ensures { IfOk result (λ o. IfSome o (S.has store.new)) }
+{
+    match name {
+        "any" => Ok(Some(store.any(alloc)?)),
+        "object" => Ok(Some(store.object(alloc)?)),
+        "never" => Ok(Some(store.never(alloc)?)),
+        "bool" => Ok(Some(store.bool(alloc)?)),
+        "str" => Ok(Some(store.str(alloc)?)),
+        "none" => Ok(Some(store.none(alloc)?)),
+        "class" => Ok(Some(store.class(alloc, 0)?)),
+        "list" => {
+            let int = store.int(alloc)?;
+            store.list(alloc, &int)
+        }
+        "dict" => {
+            let int = store.int(alloc)?;
+            store.dict(alloc, &int, &int)
+        }
+        "tuple" => {
+            let int = store.int(alloc)?;
+            store.tuple(alloc, &[int])
+        }
+        "union" => store.union(alloc, &[]),
+        _ => Ok(Some(store.int(alloc)?)),
+    }
+}
+
+/// The text of the type that a store makes by its maker of this name.
+pub fn made<S: TypeStore>(
+    store: &mut S,
+    alloc: Global,
+    tree: &Module,
+    name: &str,
+) -> Result<String, OutOfMemory> {
+    match make(store, alloc, name)? {
+        Some(ty) => type_text(store, alloc, tree, &ty),
+        None => Ok(String::from_str(alloc, "none")?),
+    }
+}
+
 /// The answer of a store.
 pub fn answer<S: TypeStore>(
     store: &mut S,
@@ -207,6 +273,8 @@ pub fn answer<S: TypeStore>(
         Question::Parts => parts(store, alloc, tree, &s),
         Question::Members => listed(store, alloc, tree, &store.members(alloc, &s)?),
         Question::Copy => type_text(store, alloc, tree, &store.copy(alloc, &s)?),
+        Question::Taken => taken(store, alloc, tree, &s),
+        Question::Made => Ok(String::new(alloc)),
     }?;
     if text.is_empty() {
         return Ok(String::from_str(alloc, "nothing")?);

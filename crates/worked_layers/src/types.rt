@@ -1,12 +1,12 @@
 //! Types as annotations spell them, by both stores.
-use crate::questions::{Question, Setting, answer};
+use crate::questions::{Question, Setting, answer, made};
 use pc_ann::parents_of;
 use pc_front::read_module;
 use pc_intern::InternStore;
 use pc_scope::scopes;
-use pc_source::{Fault, OutOfMemory};
+use pc_source::Fault;
 use pc_tables::{BETWEEN, TableFault, Tally};
-use pc_types::BoxStore;
+use pc_types::{BoxStore, TypeStore};
 use std::alloc::{AllocError, Global};
 
 /// What stands behind the types of a row in its module.
@@ -36,6 +36,8 @@ fn question_of(word: &str) -> Option<Question> {
         "parts" => Some(Question::Parts),
         "members" => Some(Question::Members),
         "copy" => Some(Question::Copy),
+        "taken" => Some(Question::Taken),
+        "made" => Some(Question::Made),
         _ => None,
     }
 }
@@ -62,18 +64,28 @@ fn add_constant(text: &mut String, name: &str, ty: &str) -> Result<(), AllocErro
     }
 }
 
-/// The answers of both stores to a row, or the one that both give.
-fn ask(
+/// The text of the module of a row: its constants are of the types that are asked of.
+fn module_of(alloc: Global, head: &str, row: &Row) -> Result<String, AllocError> {
+    let mut text = String::from_str(alloc, head)?;
+    match row.question {
+        Question::Made => {}
+        _ => {
+            add_constant(&mut text, "s", row.first)?;
+            add_constant(&mut text, "t", row.second)?;
+        }
+    }
+    text.push_str(TAIL)?;
+    Ok(text)
+}
+
+/// The answer of a store to a row.
+fn answer_of<S: TypeStore>(
+    store: &mut S,
     alloc: Global,
-    numbers: &mut InternStore,
-    boxes: &mut BoxStore,
     head: &str,
     row: &Row,
 ) -> Result<String, Fault> {
-    let mut text = String::from_str(alloc, head)?;
-    add_constant(&mut text, "s", row.first)?;
-    add_constant(&mut text, "t", row.second)?;
-    text.push_str(TAIL)?;
+    let text = module_of(alloc, head, row)?;
     let module = read_module(alloc, text.as_bytes())?;
     let scopes = scopes(alloc, &module)?;
     let parents = parents_of(alloc, &module, &scopes)?;
@@ -82,16 +94,26 @@ fn ask(
         scopes: &scopes,
         parents: &parents,
     };
-    let by_numbers = answer(numbers, alloc, &setting, row.question)?;
-    let by_boxes = answer(boxes, alloc, &setting, row.question)?;
+    match row.question {
+        Question::Made => Ok(made(store, alloc, &module, row.first)?),
+        question => Ok(answer(store, alloc, &setting, question)?),
+    }
+}
+
+/// The answers of both stores to a row, or the one that both give.
+fn ask(
+    alloc: Global,
+    numbers: &mut InternStore,
+    boxes: &mut BoxStore,
+    head: &str,
+    row: &Row,
+) -> Result<String, Fault> {
+    let by_numbers = answer_of(numbers, alloc, head, row)?;
+    let by_boxes = answer_of(boxes, alloc, head, row)?;
     if by_numbers.as_str() == by_boxes.as_str() {
         return Ok(by_numbers);
     }
-    Ok(format!(in alloc;
-        "{} by numbers, {} by boxes",
-        by_numbers.as_str(),
-        by_boxes.as_str()
-    )?)
+    Ok(format!(in alloc; "{by_numbers} by numbers, {by_boxes} by boxes")?)
 }
 
 /// Counts the rows of a part of a table.

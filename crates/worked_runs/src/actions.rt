@@ -141,6 +141,13 @@ fn outcome(
     }
 }
 
+/// What a heap tells of a value: its class, whether it is a list, and whether it is true.
+fn heap_text(alloc: Global, heap: &Heap, value: &Value) -> Result<String, AllocError> {
+    let (class, is_list) = (heap.class_of(value), heap.is_list(value));
+    let is_true = heap.is_true(value);
+    format!(in alloc; "{class:?}, {is_list}, {is_true}")
+}
+
 /// What a row comes to: an action with its operands, and perhaps a choice byte, or a value that is made.
 fn answer(alloc: Global, heap: &mut Heap, row: &str) -> Result<String, TableFault> {
     let (action, choice) = match row.rsplit_once(" ; choice ") {
@@ -149,8 +156,8 @@ fn answer(alloc: Global, heap: &mut Heap, row: &str) -> Result<String, TableFaul
     };
     let words: Vec<&str> = action.split(" ; ").collect(alloc)?;
     if word(&words, 0)? == "new" {
-        let _ = value(alloc, heap, &words, 1)?;
-        return Ok(String::from_str(alloc, "made")?);
+        let made = value(alloc, heap, &words, 1)?;
+        return Ok(heap_text(alloc, heap, &made)?);
     }
     let action = action_of(alloc, heap, &words)?;
     Ok(outcome(alloc, heap, &action, choice)?)
@@ -161,7 +168,7 @@ fn count_rows(alloc: Global, lines: &str, tally: &mut Tally) -> Result<(), Table
     let mut heap = Heap::new(alloc);
     for row in rows(alloc, lines)? {
         let got = answer(alloc, &mut heap, row.text.as_str())?;
-        tally.count(row.written.as_str(), row.want.as_str(), got.as_str())?;
+        tally.count(row.written.as_str(), row.want, got.as_str())?;
     }
     Ok(())
 }

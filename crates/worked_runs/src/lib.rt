@@ -1,12 +1,12 @@
-//! Tables of worked modules and actions, and what comes of each when it is run.
+//! Tables of worked modules and actions, and what comes of each when it is run, and of the words of command lines.
 #![tactic(auto)]
 
 mod actions;
-mod builder;
 mod cases;
+mod devices;
 mod modules;
+mod options;
 mod tables;
 mod values;
-mod words;
 
 pub use tables::judge;

@@ -1,10 +1,11 @@
-//! Tables of runs, of actions, and of modules made of words.
+//! Tables of runs, of actions, and of the words of command lines.
 
 use crate::actions::count_actions;
 use crate::cases::{Case, cases};
+use crate::devices::{reason_text, status_text};
 use crate::modules::{module_of_lines, module_of_statements, trace_of};
-use crate::words::count_words;
-use pc_tables::{TableFault, Tally};
+use crate::options::{check_text, run_text};
+use pc_tables::{Row, TableFault, Tally, rows};
 use std::alloc::{AllocError, Global};
 
 /// What stands before the heading of a part of a table.
@@ -16,8 +17,10 @@ const CASES: &str = "----\n";
 /// A part of a table: what its cases have, and what it says of them.
 #[derive(Clone, Copy)]
 struct Part<'t> {
-    /// What stands before `main`, where the cases have the statements of `main` alone.
-    before: Option<&'t str>,
+    /// What a case is: `modules` but for their first and their last line, `statements` of `main`, or whole `texts`.
+    of: &'t str,
+    /// What stands before `main`, where the cases have its statements alone.
+    before: &'t str,
     /// Whether the table says the end alone, and not each event.
     is_end: bool,
     cases: &'t str,
@@ -27,31 +30,24 @@ struct Part<'t> {
 fn part_of(text: &str) -> Result<Part<'_>, TableFault> {
     let (heading, lines) = text.split_once('\n').ok_or(TableFault::Form)?;
     let (what, of) = heading.split_once(" of ").ok_or(TableFault::Form)?;
-    let is_end = match what {
-        "ends" => true,
-        "events" => false,
-        _ => return Err(TableFault::Form),
-    };
     let (before, cases) = match of {
-        "modules" => (None, lines),
-        "statements" => {
-            let (before, cases) = lines.split_once(CASES).ok_or(TableFault::Form)?;
-            (Some(before), cases)
-        }
-        _ => return Err(TableFault::Form),
+        "statements" => lines.split_once(CASES).ok_or(TableFault::Form)?,
+        _ => ("", lines),
     };
     Ok(Part {
+        of,
         before,
-        is_end,
+        is_end: what == "ends",
         cases,
     })
 }
 
 /// The text of the module of a case.
 fn module_of(alloc: Global, part: &Part<'_>, case: &Case) -> Result<String, AllocError> {
-    match part.before {
-        Some(before) => module_of_statements(alloc, before, case.text.as_str()),
-        None => module_of_lines(alloc, case.text.as_str()),
+    match part.of {
+        "statements" => module_of_statements(alloc, part.before, case.text.as_str()),
+        "texts" => String::from_str(alloc, case.text.as_str()),
+        _ => module_of_lines(alloc, case.text.as_str()),
     }
 }
 
@@ -93,16 +89,32 @@ fn count_runs(alloc: Global, table: &str, tally: &mut Tally) -> Result<(), Table
     Ok(())
 }
 
-/// Counts each case of a table of runs of this kind.
+/// What comes of a row of another kind of tables.
+fn answer(alloc: Global, kind: &str, row: &Row<'_>) -> Result<String, AllocError> {
+    let text = row.text.as_str();
+    match kind {
+        "check_words" => check_text(alloc, text, row.want),
+        "run_words" => run_text(alloc, text, row.want),
+        "statuses" => status_text(alloc, text),
+        "reasons" => reason_text(alloc, text),
+        _ => String::from_str(alloc, "no table is of this kind"),
+    }
+}
+
+/// Counts each case of a table of runs, or of the words of command lines, of this kind.
 ///
 /// # Errors
 ///
-/// `Kind` where there are no tables of this kind, and `Form` where a part of the table is no case.
+/// `Form` where a part of the table is no case.
 pub fn judge(alloc: Global, kind: &str, table: &str, tally: &mut Tally) -> Result<(), TableFault> {
     match kind {
-        "runs" => count_runs(alloc, table, tally),
-        "actions" => count_actions(alloc, table, tally),
-        "words" => count_words(alloc, table, tally),
-        _ => Err(TableFault::Kind),
+        "runs" => return count_runs(alloc, table, tally),
+        "actions" => return count_actions(alloc, table, tally),
+        _ => {}
     }
+    for row in rows(alloc, table)? {
+        let got = answer(alloc, kind, &row)?;
+        tally.count(row.written.as_str(), row.want, got.as_str())?;
+    }
+    Ok(())
 }

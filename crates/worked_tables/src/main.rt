@@ -2,11 +2,11 @@
 //! FOLDER/FILE..`.
 #![tactic(auto)]
 
-mod bytes;
 mod files;
+mod flows;
 mod forms;
 mod modules;
-mod sizes;
+mod reports;
 mod stores;
 mod streams;
 mod tables;

@@ -1,6 +1,6 @@
 //! Modules with their reports.
 use crate::stores::answer_to;
-use pc_tables::{BETWEEN, ROW, TableFault, Tally};
+use pc_tables::{BETWEEN, ROW, TableFault, Tally, written_out};
 use pc_top::Format;
 use std::alloc::{AllocError, Global};
 
@@ -41,7 +41,8 @@ fn read_line(case: &mut Case, line: &str) -> Result<(), AllocError> {
     };
     case.report.push_str(row)?;
     case.report.push_str("\n")?;
-    if row.contains(" E") {
+    let (_, code) = row.split_once(' ').unwrap_or(("", ""));
+    if code.starts_with("E") {
         case.errors = case.errors.saturating_add(1);
     } else {
         case.dynamic = case.dynamic.saturating_add(1);
@@ -72,7 +73,8 @@ pub fn count_modules(
     tally: &mut Tally,
 ) -> Result<(), TableFault> {
     for lines in table.split(BETWEEN) {
-        let case = case_of(alloc, lines)?;
+        let lines = written_out(alloc, lines)?;
+        let case = case_of(alloc, lines.as_str())?;
         let got = answer_to(alloc, case.text.as_str(), format)?;
         let (report, errors, dynamic) = (case.report.as_str(), case.errors, case.dynamic);
         let want = format!(in alloc; "{report}errors {errors}, dynamic {dynamic}\n")?;

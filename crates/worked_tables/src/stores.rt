@@ -11,9 +11,6 @@ use std::alloc::{AllocError, Global};
 /// What stands before the report by types in boxes, where it is another one.
 const BY_BOXES: &str = "by types in boxes: ";
 
-/// How the answer to a module begins that is refused.
-const REFUSED: &str = "refused ";
-
 /// What stands before the last line of a module in a table.
 const LAST_ROW: &str = "\n> ";
 
@@ -59,16 +56,26 @@ pub fn answer_to(alloc: Global, text: &str, format: Format) -> Result<String, Al
     answer_to_bytes(alloc, text.as_bytes(), format)
 }
 
+/// Whether an answer is a report: it ends in its counts, and both stores give it.
+fn is_report(answer: &str) -> bool {
+    match answer.lines().last() {
+        Some(line) => {
+            line.starts_with("errors ") && line.contains(", dynamic ") && !answer.contains(BY_BOXES)
+        }
+        None => false,
+    }
+}
+
 /// Counts the modules of a table, which says of each that it has a report, or how it is refused: what the report is,
 /// the two stores tell each other.
 pub fn count_stores(alloc: Global, table: &str, tally: &mut Tally) -> Result<(), TableFault> {
     for case in table.split(BETWEEN) {
         let (text, row) = case.rsplit_once(LAST_ROW).ok_or(TableFault::Form)?;
         let answer = answer_to(alloc, text, Format::Two)?;
-        let got = if answer.starts_with(REFUSED) || answer.contains(BY_BOXES) {
-            answer.as_str()
-        } else {
+        let got = if is_report(answer.as_str()) {
             "a report"
+        } else {
+            answer.as_str()
         };
         tally.count(text, row.trim_end(), got)?;
     }

@@ -1,4 +1,5 @@
 //! Modules that are checked as streams, from readers and to writers that fail.
+use pc_report::read_at_most;
 use pc_source::Counted;
 use pc_tables::{TableFault, Tally, bytes_of};
 use pc_top::{Format, check_stream};
@@ -8,6 +9,9 @@ use std::io::{Read, Write};
 
 /// What stands before each text of a table.
 const TEXT: &str = "====\n";
+
+/// What stands for the report of a text that is only read.
+const READS: &str = "reads";
 
 /// What stands behind a text, and behind its report.
 const NEXT: &str = "\n----\n";
@@ -80,7 +84,8 @@ fn taken_text(alloc: Global, taken: &[u8], report: &str) -> Result<String, Alloc
 }
 
 /// What comes of a check of these bytes with such a reader and such a writer: the answer; the calls of the reader and
-/// of the writer that failed; the bytes that were read and the calls that were left; what the writer took.
+/// of the writer that failed, among them that of a flush behind the check; the bytes that were read and the calls that
+/// were left; what the writer took.
 fn told(
     alloc: Global,
     mut reader: Counted<FailingReader>,
@@ -92,6 +97,7 @@ fn told(
         Ok((errors, dynamic)) => format!(in alloc; "errors {errors}, dynamic {dynamic}")?,
         Err(fault) => format!(in alloc; "{fault}")?,
     };
+    let _ = writer.flush();
     let taken = taken_text(alloc, writer.inner().taken.as_slice(), report)?;
     let (failed_reads, failed_writes) = (reader.failures(), writer.failures());
     let (read, left) = (reader.inner().at, reader.inner().calls);
@@ -125,13 +131,45 @@ fn answer(alloc: Global, text: &str, report: &str, row: &str) -> Result<String, 
     )?)
 }
 
+/// What comes of three reads in turn of at most so many bytes of a text: the bytes that the reader gives a call, its
+/// calls, and the most that each read asks for. The fault, or how many bytes it gives, and whether they stand there.
+fn reads_text(alloc: Global, text: &str, row: &str) -> Result<String, TableFault> {
+    let words: Vec<&str> = row.split(' ').collect(alloc)?;
+    let mut reader = Counted::new(FailingReader {
+        bytes: bytes_of(alloc, text)?,
+        at: 0,
+        each: number(&words, 0)?,
+        calls: number(&words, 1)?,
+    });
+    let most = number(&words, 2)?;
+    let mut told = String::new(alloc);
+    for _ in 0..3 {
+        let before = reader.inner().at;
+        match read_at_most(alloc, &mut reader, most) {
+            Ok(bytes) => {
+                let at = reader.inner().at;
+                let is_same = reader.inner().bytes.get(before..at) == Some(bytes.as_slice());
+                write!(told, "{} {is_same}; ", bytes.len())?;
+            }
+            Err(fault) => write!(told, "{fault}; ")?,
+        }
+    }
+    let (failures, left) = (reader.failures(), reader.inner().calls);
+    write!(told, "failed {failures}, left {left}")?;
+    Ok(told)
+}
+
 /// Counts the rows of a text.
 fn count_text(alloc: Global, part: &str, tally: &mut Tally) -> Result<(), TableFault> {
     let (text, rest) = part.split_once(NEXT).ok_or(TableFault::Form)?;
     let (report, rows) = rest.split_once(NEXT).ok_or(TableFault::Form)?;
     for row in rows.lines() {
         let (devices, want) = row.split_once("  ⇒ ").ok_or(TableFault::Form)?;
-        let got = answer(alloc, text, report, devices)?;
+        let got = if report == READS {
+            reads_text(alloc, text, devices)?
+        } else {
+            answer(alloc, text, report, devices)?
+        };
         tally.count(devices, want, got.as_str())?;
     }
     Ok(())

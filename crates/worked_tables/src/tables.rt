@@ -1,14 +1,45 @@
 //! The folders of tables, and the kinds of tables of reports.
-use crate::bytes::{count_bytes, count_faults};
+use crate::flows::checked;
 use crate::forms::count_forms;
 use crate::modules::count_modules;
-use crate::sizes::count_sizes;
+use crate::reports::forms_text;
 use crate::stores::count_stores;
 use crate::streams::count_streams;
-use crate::texts::{count_ends, count_texts};
-use pc_tables::{TableFault, Tally};
+use crate::texts::{end_text, fault_text, report_text};
+use pc_source::Fault;
+use pc_tables::{Row, TableFault, Tally, rows};
 use pc_top::Format;
-use std::alloc::Global;
+use std::alloc::{AllocError, Global};
+
+/// What is told by layers alone, or the fault.
+fn told(alloc: Global, answer: Result<String, Fault>) -> Result<String, AllocError> {
+    match answer {
+        Ok(text) => Ok(text),
+        Err(fault) => format!(in alloc; "{fault}"),
+    }
+}
+
+/// What comes of a row of a table of this kind.
+fn answer(alloc: Global, kind: &str, row: &Row<'_>) -> Result<String, TableFault> {
+    let (part, text) = (row.part, row.text.as_str());
+    match kind {
+        "texts" | "bytes" => report_text(alloc, text),
+        "ends" => end_text(alloc, text),
+        "faults" => Ok(fault_text(alloc, text)?),
+        "written" => Ok(told(alloc, forms_text(alloc, text))?),
+        "checked" => Ok(told(alloc, checked(alloc, part, text))?),
+        _ => Err(TableFault::Kind),
+    }
+}
+
+/// Counts each row of a table of this kind.
+fn count_rows(alloc: Global, kind: &str, table: &str, tally: &mut Tally) -> Result<(), TableFault> {
+    for row in rows(alloc, table)? {
+        let got = answer(alloc, kind, &row)?;
+        tally.count(row.written.as_str(), row.want, got.as_str())?;
+    }
+    Ok(())
+}
 
 /// Counts each case of a table of reports of this kind.
 fn judge_reports(
@@ -20,15 +51,10 @@ fn judge_reports(
     match kind {
         "modules" => count_modules(alloc, table, Format::One, tally),
         "explained" => count_modules(alloc, table, Format::Two, tally),
-        "texts" => count_texts(alloc, table, tally),
-        "ends" => count_ends(alloc, table, tally),
-        "sizes" => count_sizes(alloc, table, tally),
         "stores" => count_stores(alloc, table, tally),
-        "bytes" => count_bytes(alloc, table, tally),
         "streams" => count_streams(alloc, table, tally),
-        "faults" => count_faults(alloc, table, tally),
         "forms" => count_forms(alloc, table, tally),
-        _ => Err(TableFault::Kind),
+        _ => count_rows(alloc, kind, table, tally),
     }
 }
 

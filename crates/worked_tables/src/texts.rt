@@ -1,50 +1,44 @@
 //! Whole texts, byte for byte, with their reports or refusals.
-use crate::stores::answer_to;
-use pc_tables::{TableFault, Tally, rows};
-use pc_top::Format;
+use crate::stores::answer_to_bytes;
+use pc_report::{ReadFault, WriteFault};
+use pc_tables::{TableFault, bytes_of, in_one_line};
+use pc_top::{CheckFault, Format};
 use std::alloc::{AllocError, Global};
 
-/// The lines of an answer behind one another.
-pub fn in_one_line(alloc: Global, answer: &str) -> Result<String, AllocError> {
-    let mut text = String::new(alloc);
-    for line in answer.lines() {
-        if !text.is_empty() {
-            text.push_str(" / ")?;
-        }
-        text.push_str(line)?;
-    }
-    Ok(text)
+/// The report or the refusal of the bytes that a text stands for, its lines behind one another.
+pub fn report_text(alloc: Global, text: &str) -> Result<String, TableFault> {
+    let bytes = bytes_of(alloc, text)?;
+    let answer = answer_to_bytes(alloc, bytes.as_slice(), Format::One)?;
+    Ok(in_one_line(alloc, answer.as_str())?)
 }
 
-/// Counts the texts of a table.
-pub fn count_texts(alloc: Global, table: &str, tally: &mut Tally) -> Result<(), TableFault> {
-    for row in rows(alloc, table)? {
-        let answer = answer_to(alloc, row.text.as_str(), Format::One)?;
-        let got = in_one_line(alloc, answer.as_str())?;
-        tally.count(row.written.as_str(), row.want.as_str(), got.as_str())?;
-    }
-    Ok(())
-}
-
-/// The last two lines of an answer, or its only one.
-fn last_lines(answer: &str) -> &str {
-    let lines = answer.strip_suffix('\n').unwrap_or(answer);
-    let before = match lines.rsplit_once('\n') {
-        Some((before, _)) => before.rsplit_once('\n'),
+/// How the report or the refusal of a text ends: with its last two lines, or its only one.
+pub fn end_text(alloc: Global, text: &str) -> Result<String, TableFault> {
+    let report = report_text(alloc, text)?;
+    let before = match report.as_str().rsplit_once(" / ") {
+        Some((before, _)) => before.rsplit_once(" / "),
         None => None,
     };
-    match before {
-        Some((first, _)) => lines.get(first.len()..).unwrap_or("").trim_start(),
-        None => lines,
-    }
+    let end = match before {
+        Some((first, _)) => report
+            .as_str()
+            .get(first.len().saturating_add(3)..)
+            .unwrap_or(""),
+        None => report.as_str(),
+    };
+    Ok(String::from_str(alloc, end)?)
 }
 
-/// Counts the texts of a table, which says how the answer to each ends: its last two lines, or its only one.
-pub fn count_ends(alloc: Global, table: &str, tally: &mut Tally) -> Result<(), TableFault> {
-    for row in rows(alloc, table)? {
-        let answer = answer_to(alloc, row.text.as_str(), Format::One)?;
-        let got = in_one_line(alloc, last_lines(answer.as_str()))?;
-        tally.count(row.written.as_str(), row.want.as_str(), got.as_str())?;
+/// The text of a fault that bytes alone do not have, by its name.
+pub fn fault_text(alloc: Global, name: &str) -> Result<String, AllocError> {
+    match name {
+        "OutOfMemory" => format!(in alloc; "{}", CheckFault::OutOfMemory),
+        "Read" => format!(in alloc; "{}", CheckFault::Read),
+        "Write" => format!(in alloc; "{}", CheckFault::Write),
+        "report: OutOfMemory" => format!(in alloc; "{}", WriteFault::OutOfMemory),
+        "report: Write" => format!(in alloc; "{}", WriteFault::Write),
+        "input: OutOfMemory" => format!(in alloc; "{}", ReadFault::OutOfMemory),
+        "input: Read" => format!(in alloc; "{}", ReadFault::Read),
+        _ => String::from_str(alloc, "no fault has this name"),
     }
-    Ok(())
 }

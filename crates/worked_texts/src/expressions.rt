@@ -1,31 +1,8 @@
 //! Expressions of a stream of tokens, as the reader reads them.
-use crate::parts::fault_text;
 use pc_reader::Reader;
 use pc_source::{Fault, read_source};
-use pc_tables::TableFault;
 use pc_token::{Token, tokens};
 use std::alloc::{AllocError, Global};
-
-/// How the rows of a part say an expression.
-#[derive(Clone, Copy)]
-enum Form {
-    /// As a text with all its parentheses.
-    Grouped,
-    /// As a tree without its places.
-    Tree,
-    /// As a tree with its places.
-    Placed,
-}
-
-/// How the rows of a part say an expression, by its name.
-fn form_of(name: &str) -> Result<Form, TableFault> {
-    match name {
-        "GROUPED" => Ok(Form::Grouped),
-        "TREES" => Ok(Form::Tree),
-        "PLACES" => Ok(Form::Placed),
-        _ => Err(TableFault::Form),
-    }
-}
 
 /// What is printed of an expression, without its places.
 fn without_places(alloc: Global, printed: &str) -> Result<String, AllocError> {
@@ -60,33 +37,22 @@ fn printed(alloc: Global, text: &str) -> Result<String, Fault> {
     Ok(format!(in alloc; "{:?}", operand.expr)?)
 }
 
-/// What comes of a text: its expression, as it is printed, or its refusal.
-fn told(alloc: Global, text: &str) -> Result<String, AllocError> {
-    match printed(alloc, text) {
-        Ok(printed) => Ok(printed),
-        Err(fault) => fault_text(alloc, fault, 0),
-    }
+/// What a text spells, without places, or its refusal.
+fn bare(alloc: Global, text: &str) -> Result<String, Fault> {
+    let printed = printed(alloc, text)?;
+    Ok(without_places(alloc, printed.as_str())?)
 }
 
-/// What comes of a row of a part of this name. Where the part says texts with all their parentheses, that is the text
-/// which the row says, if both spell the same expression.
-pub fn expression_answer(
-    alloc: Global,
-    name: &str,
-    text: &str,
-    want: &str,
-) -> Result<String, TableFault> {
-    let form = form_of(name)?;
-    let got = told(alloc, text)?;
-    if let Form::Placed = form {
-        return Ok(got);
+/// What comes of a row of a part of this name: its expression as a tree with places (`PLACES`) or without them
+/// (`TREES`). Where the part says texts with all their parentheses (`GROUPED`), that is the text which the row says, if
+/// both spell the same expression.
+pub fn expression_text(alloc: Global, name: &str, text: &str, want: &str) -> Result<String, Fault> {
+    if name == "PLACES" {
+        return printed(alloc, text);
     }
-    let bare = without_places(alloc, got.as_str())?;
-    if let Form::Grouped = form {
-        let wanted = without_places(alloc, told(alloc, want)?.as_str())?;
-        if bare.as_str() == wanted.as_str() {
-            return Ok(String::from_str(alloc, want)?);
-        }
+    let tree = bare(alloc, text)?;
+    if name == "GROUPED" && bare(alloc, want)?.as_str() == tree.as_str() {
+        return Ok(String::from_str(alloc, want)?);
     }
-    Ok(bare)
+    Ok(tree)
 }

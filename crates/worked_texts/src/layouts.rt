@@ -1,7 +1,6 @@
 //! Texts, and the layout of the lines of each.
-use crate::parts::fault_text;
 use pc_layout::{layout, layout_of};
-use pc_source::{Fault, read_source};
+use pc_source::{Fault, RefusalCode, Source, read_source};
 use pc_token::{Tok, lines, tokens};
 use std::alloc::{AllocError, Global};
 
@@ -9,33 +8,18 @@ use std::alloc::{AllocError, Global};
 const FEW: usize = 20;
 
 /// How many tokens the layout of a text has.
-fn laid_out(alloc: Global, text: &str) -> Result<usize, Fault> {
+pub fn layout_text(alloc: Global, text: &str) -> Result<String, Fault> {
     let source = read_source(alloc, text.as_bytes())?;
     let mut count: usize = 0;
     for token in layout_of(alloc, &source, lines(alloc, &source)) {
         let _ = token?;
         count = count.saturating_add(1);
     }
-    Ok(count)
+    Ok(format!(in alloc; "{count}")?)
 }
 
-/// The number of tokens, or the fault of the layout.
-pub fn layout_text(alloc: Global, text: &str) -> Result<String, AllocError> {
-    match laid_out(alloc, text) {
-        Ok(count) => format!(in alloc; "{count}"),
-        Err(fault) => fault_text(alloc, fault, 0),
-    }
-}
-
-/// The fault of the layout, if there is one.
-pub fn layout_fault(alloc: Global, text: &str) -> Result<String, AllocError> {
-    match laid_out(alloc, text) {
-        Ok(_) => String::from_str(alloc, "none"),
-        Err(fault) => fault_text(alloc, fault, 0),
-    }
-}
-
-/// How many tokens these are, and where they are few each with the bytes at which it starts and ends.
+/// How many tokens these are, and where they are few each with the bytes at which it starts and ends, and its form if
+/// it has one.
 fn listed(alloc: Global, text: &str, tokens: &[Tok<'_>]) -> Result<String, AllocError> {
     let mut out = format!(in alloc; "{}", tokens.len())?;
     if tokens.len() > FEW {
@@ -44,6 +28,9 @@ fn listed(alloc: Global, text: &str, tokens: &[Tok<'_>]) -> Result<String, Alloc
     for token in tokens {
         let (kind, start, end) = (token.kind, token.place.start, token.place.end);
         write!(out, "; {kind:?} {start} {end}")?;
+        if let Some(form) = &token.form {
+            write!(out, " {form}")?;
+        }
         if text.get(start..end) != Some(token.text) {
             out.push_str(" with another text")?;
         }
@@ -52,17 +39,56 @@ fn listed(alloc: Global, text: &str, tokens: &[Tok<'_>]) -> Result<String, Alloc
 }
 
 /// The layout of the list of a text's lines.
-fn laid_out_at_once(alloc: Global, text: &str) -> Result<String, Fault> {
+pub fn list_text(alloc: Global, text: &str) -> Result<String, Fault> {
     let source = read_source(alloc, text.as_bytes())?;
     let lines = tokens(alloc, &source)?;
     let tokens = layout(alloc, &source, lines.as_slice())?;
     Ok(listed(alloc, text, tokens.as_slice())?)
 }
 
-/// The layout of the list of a text's lines, or the fault.
-pub fn list_text(alloc: Global, text: &str) -> Result<String, AllocError> {
-    match laid_out_at_once(alloc, text) {
-        Ok(listed) => Ok(listed),
-        Err(fault) => fault_text(alloc, fault, 0),
+/// The fault that stands behind the lines of a part of this name.
+fn fault_behind(name: &str) -> Option<Fault> {
+    match name {
+        "LATE" => Some(Fault::refused_at(RefusalCode::L1, 87)),
+        "MEMORY" => Some(Fault::OutOfMemory),
+        _ => None,
+    }
+}
+
+/// The first fault of the layout of a text's lines with a fault behind them, and whether nothing comes behind it.
+fn settled(
+    alloc: Global,
+    source: &Source,
+    behind: Option<Fault>,
+) -> Result<(Option<Fault>, bool), Fault> {
+    let mut items = Vec::new(alloc);
+    for line in tokens(alloc, source)? {
+        items.push(Ok(line))?;
+    }
+    if let Some(fault) = behind {
+        items.push(Err(fault))?;
+    }
+    let mut tokens = layout_of(alloc, source, items.into_iter());
+    let mut found = None;
+    for _ in 0..source.text().len().saturating_add(1) {
+        match tokens.next() {
+            None => break,
+            Some(Ok(_)) => {}
+            Some(Err(fault)) => {
+                found = Some(fault);
+                break;
+            }
+        }
+    }
+    Ok((found, tokens.next().is_none()))
+}
+
+/// The fault of the layout of a text's lines with such a fault behind them, as the name of the part says.
+pub fn settled_text(alloc: Global, name: &str, text: &str) -> Result<String, Fault> {
+    let source = read_source(alloc, text.as_bytes())?;
+    match settled(alloc, &source, fault_behind(name))? {
+        (None, true) => Ok(String::from_str(alloc, "none")?),
+        (Some(fault), true) => Ok(format!(in alloc; "{fault}")?),
+        (_, false) => Ok(String::from_str(alloc, "more behind the end")?),
     }
 }

@@ -1,12 +1,13 @@
 //! Tables of worked texts, and what comes of each text.
 #![tactic(auto)]
 
+mod asking;
 mod expressions;
 mod layouts;
 mod lines;
 mod lists;
 mod modules;
-mod parts;
+mod random;
 mod refusals;
 mod sources;
 mod tables;

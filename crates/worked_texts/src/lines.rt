@@ -1,5 +1,4 @@
 //! Texts, and the lines of tokens of each.
-use crate::parts::fault_text;
 use pc_source::{Fault, read_source};
 use pc_token::{Line, TokenKind, tokens};
 use std::alloc::{AllocError, Global};
@@ -43,7 +42,7 @@ fn is_placed(text: &str, line: &Line<'_>) -> bool {
 }
 
 /// Each line of a text.
-fn shown(alloc: Global, text: &str) -> Result<String, Fault> {
+pub fn lines_text(alloc: Global, text: &str) -> Result<String, Fault> {
     let source = read_source(alloc, text.as_bytes())?;
     let mut out = String::new(alloc);
     for line in &tokens(alloc, &source)? {
@@ -59,12 +58,4 @@ fn shown(alloc: Global, text: &str) -> Result<String, Fault> {
         out.push_str("no line")?;
     }
     Ok(out)
-}
-
-/// Each line of a text, or its refusal.
-pub fn lines_text(alloc: Global, text: &str) -> Result<String, AllocError> {
-    match shown(alloc, text) {
-        Ok(lines) => Ok(lines),
-        Err(fault) => fault_text(alloc, fault, 0),
-    }
 }

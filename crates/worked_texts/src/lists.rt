@@ -1,10 +1,9 @@
 //! Lists of tokens that no text spells, and the trees of statements.
 //!
 //! In a text the words `NL`, `IN`, `OUT` and `END` stand for the marks of the layout. Names are ASCII.
-use crate::parts::fault_text;
+use crate::tables::fault_text;
 use pc_parse::{parse, parse_from};
 use pc_source::{Fault, Refusal, RefusalCode, read_source};
-use pc_tables::TableFault;
 use pc_token::{Tok, Token, TokenKind, tokens};
 use pc_tree::{ItemKind, Module};
 use std::alloc::{AllocError, Global};
@@ -42,15 +41,6 @@ fn parsed(alloc: Global, text: &str) -> Result<Module, Fault> {
     parse(alloc, items.as_slice())
 }
 
-/// Whether a text is a module, or the code of its refusal and the byte behind what stands before it.
-fn answer(alloc: Global, before: &str, text: &str) -> Result<String, AllocError> {
-    let text = format!(in alloc; "{before}{text}")?;
-    match parsed(alloc, text.as_str()) {
-        Ok(_) => String::from_str(alloc, "module"),
-        Err(fault) => fault_text(alloc, fault, before.len()),
-    }
-}
-
 /// The module that the tokens of a text spell, with a fault of the stream behind them.
 fn broken_off(alloc: Global, text: &str) -> Result<Module, Fault> {
     let source = read_source(alloc, text.as_bytes())?;
@@ -68,40 +58,36 @@ fn broken_off(alloc: Global, text: &str) -> Result<Module, Fault> {
     parse_from(alloc, items.into_iter())
 }
 
-/// Whether a text with a fault of the stream behind it is a module, or its refusal.
-fn answer_to_stream(alloc: Global, text: &str) -> Result<String, AllocError> {
-    match broken_off(alloc, text) {
+/// Whether a suite of `main` is one of a module, or the code of its refusal and the byte in the suite.
+fn suite_text(alloc: Global, suite: &str) -> Result<String, AllocError> {
+    let text = format!(in alloc; "{BEFORE}{suite}")?;
+    match parsed(alloc, text.as_str()) {
         Ok(_) => String::from_str(alloc, "module"),
-        Err(fault) => fault_text(alloc, fault, 0),
-    }
-}
-
-/// A module as it is printed, or its refusal.
-fn printed(alloc: Global, text: &str) -> Result<String, AllocError> {
-    match parsed(alloc, text) {
-        Ok(module) => format!(in alloc; "{module:?}"),
-        Err(fault) => fault_text(alloc, fault, 0),
-    }
-}
-
-/// What comes of a row of a part of this name.
-pub fn list_answer(alloc: Global, name: &str, text: &str) -> Result<String, TableFault> {
-    match name {
-        "LIST" => Ok(answer(alloc, "", text)?),
-        "SUITE" => Ok(answer(alloc, BEFORE, text)?),
-        "STREAM" => Ok(answer_to_stream(alloc, text)?),
-        "MODULE" => Ok(printed(alloc, text)?),
-        _ => Err(TableFault::Form),
+        Err(fault) => fault_text(alloc, fault, BEFORE.len()),
     }
 }
 
 /// The statements of the first function of a module, as they are printed.
-pub fn statements(alloc: Global, text: &str) -> Result<String, AllocError> {
-    match parsed(alloc, text) {
-        Ok(module) => match module.items.first().map(|item| &item.kind) {
-            Some(ItemKind::Def(def)) => format!(in alloc; "{:?}", def.body),
-            _ => String::from_str(alloc, "no function comes first"),
-        },
-        Err(fault) => fault_text(alloc, fault, 0),
+pub fn statements(alloc: Global, text: &str) -> Result<String, Fault> {
+    let module = parsed(alloc, text)?;
+    match module.items.first().map(|item| &item.kind) {
+        Some(ItemKind::Def(def)) => Ok(format!(in alloc; "{:?}", def.body)?),
+        _ => Ok(String::from_str(alloc, "no function comes first")?),
     }
+}
+
+/// What comes of a row of a part of this name: that its tokens are a module (`LIST`), or a suite of `main` (`SUITE`),
+/// or with a fault of the stream behind them (`STREAM`), or the module as it is printed.
+pub fn tokens_text(alloc: Global, name: &str, text: &str) -> Result<String, Fault> {
+    if name == "SUITE" {
+        return Ok(suite_text(alloc, text)?);
+    }
+    let module = match name {
+        "STREAM" => broken_off(alloc, text)?,
+        _ => parsed(alloc, text)?,
+    };
+    if name == "MODULE" {
+        return Ok(format!(in alloc; "{module:?}")?);
+    }
+    Ok(String::from_str(alloc, "module")?)
 }

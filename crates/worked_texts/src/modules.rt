@@ -1,7 +1,6 @@
 //! Modules, and texts that are a token away from one.
-use crate::parts::fault_text;
+use crate::tables::fault_text;
 use pc_front::read_module;
-use pc_tables::TableFault;
 use std::alloc::{AllocError, Global};
 
 /// What stands before and behind the rows of a part of a table, so that a row is one part of a module.
@@ -67,38 +66,31 @@ const EXPRESSION: Frame = (
     "\nmain()\n",
 );
 
-/// What stands around the rows of a part of a table, by its name.
-fn frame_of(name: &str) -> Result<Frame, TableFault> {
+/// What stands around the rows of a part of a table, by its name: nothing around those of a part of no other name.
+fn frame_of(name: &str) -> Frame {
     match name {
-        "WHOLE" => Ok(WHOLE),
-        "TEXT" => Ok(TEXT),
-        "ITEM" => Ok(ITEM),
-        "LAST_LINE" => Ok(LAST_LINE),
-        "PARAMETERS" => Ok(PARAMETERS),
-        "DEFAULT" => Ok(DEFAULT),
-        "DECORATED" => Ok(DECORATED),
-        "CLASS" => Ok(CLASS),
-        "MEMBER" => Ok(MEMBER),
-        "ANNOTATION" => Ok(ANNOTATION),
-        "STATEMENT" => Ok(STATEMENT),
-        "EXPRESSION" => Ok(EXPRESSION),
-        _ => Err(TableFault::Form),
+        "TEXT" => TEXT,
+        "ITEM" => ITEM,
+        "LAST_LINE" => LAST_LINE,
+        "PARAMETERS" => PARAMETERS,
+        "DEFAULT" => DEFAULT,
+        "DECORATED" => DECORATED,
+        "CLASS" => CLASS,
+        "MEMBER" => MEMBER,
+        "ANNOTATION" => ANNOTATION,
+        "STATEMENT" => STATEMENT,
+        "EXPRESSION" => EXPRESSION,
+        _ => WHOLE,
     }
 }
 
-/// What a row comes to in its frame: a module, or the code of its refusal and the byte, counted from the row's first
-/// one.
-fn answer(alloc: Global, frame: Frame, row: &str) -> Result<String, AllocError> {
-    let (before, after) = frame;
+/// What a row of a part of this name comes to: a module, or the code of its refusal and the byte, counted from the
+/// row's first one.
+pub fn module_text(alloc: Global, name: &str, row: &str) -> Result<String, AllocError> {
+    let (before, after) = frame_of(name);
     let text = format!(in alloc; "{before}{row}{after}")?;
     match read_module(alloc, text.as_bytes()) {
         Ok(_) => String::from_str(alloc, "module"),
         Err(fault) => fault_text(alloc, fault, before.len()),
     }
-}
-
-/// What a row of a part of this name comes to.
-pub fn module_answer(alloc: Global, name: &str, row: &str) -> Result<String, TableFault> {
-    let frame = frame_of(name)?;
-    Ok(answer(alloc, frame, row)?)
 }

@@ -1,8 +1,8 @@
 //! Texts of which some are refused while their lines are read.
-use crate::parts::fault_text;
+use crate::tables::fault_text;
 use pc_source::{Fault, Source, read_source};
 use pc_token::lines;
-use std::alloc::{AllocError, Global};
+use std::alloc::Global;
 
 /// How many lines a text has before the fault that ends them, and that fault.
 fn ended(alloc: Global, source: &Source) -> (usize, Option<Fault>) {
@@ -26,25 +26,18 @@ fn has_ended(alloc: Global, source: &Source, answers: usize) -> bool {
 }
 
 /// What comes of a text: that it is read, or how many lines come before its refusal, the code and the byte.
-fn told(alloc: Global, source: &Source) -> Result<String, AllocError> {
-    let (before, fault) = ended(alloc, source);
+pub fn reading_text(alloc: Global, text: &str) -> Result<String, Fault> {
+    let source = read_source(alloc, text.as_bytes())?;
+    let (before, fault) = ended(alloc, &source);
     let answers = before.saturating_add(fault.is_some() as usize);
-    if !has_ended(alloc, source, answers) {
-        return String::from_str(alloc, "lines behind the end");
+    if !has_ended(alloc, &source, answers) {
+        return Ok(String::from_str(alloc, "lines behind the end")?);
     }
     match fault {
-        None => String::from_str(alloc, "read"),
+        None => Ok(String::from_str(alloc, "read")?),
         Some(fault) => {
             let fault = fault_text(alloc, fault, 0)?;
-            format!(in alloc; "{before} {fault}")
+            Ok(format!(in alloc; "{before} {fault}")?)
         }
-    }
-}
-
-/// What comes of a text, or of bytes that are no text.
-pub fn reading_text(alloc: Global, text: &str) -> Result<String, AllocError> {
-    match read_source(alloc, text.as_bytes()) {
-        Ok(source) => told(alloc, &source),
-        Err(fault) => fault_text(alloc, fault, 0),
     }
 }

@@ -1,0 +1,43 @@
+//! What conditions test, by `pc_flow`.
+use pc_flow::{OwnerNames, add_tested, local_named, test_of};
+use pc_scope::{Owner, is_instance_test, scopes};
+use pc_source::OutOfMemory;
+use pc_tree::{Expr, ItemKind, Module, StmtKind};
+use std::alloc::Global;
+
+/// The condition of the `if` that stands first in the first item of a module, which is a function.
+fn condition_of(module: &Module) -> Option<&Expr> {
+    match &module.items.first()?.kind {
+        ItemKind::Def(def) => match &def.body.first()?.kind {
+            StmtKind::If(branches, _) => Some(&branches.first()?.condition),
+            _ => None,
+        },
+        _ => None,
+    }
+}
+
+/// Whether an expression is a test of an instance.
+fn is_test(e: &Expr) -> bool {
+    match e {
+        Expr::Call(_, callee, arguments, by_name) => is_instance_test(callee, arguments, by_name),
+        _ => false,
+    }
+}
+
+/// The locals that a condition tests, then the local that it names, what `isinstance` tests for by it, and whether it
+/// is a test of an instance.
+pub fn condition_text(alloc: Global, module: &Module) -> Result<String, OutOfMemory> {
+    let scopes = scopes(alloc, module)?;
+    let Some(condition) = condition_of(module) else {
+        return Ok(String::from_str(alloc, "no condition")?);
+    };
+    let names = OwnerNames {
+        scopes: &scopes,
+        owner: Owner::Func(0),
+    };
+    let mut tested = Vec::new(alloc);
+    add_tested(&names, condition, &mut tested)?;
+    let (named, test) = (local_named(&names, condition), test_of(&names, condition));
+    let is_test = is_test(condition);
+    Ok(format!(in alloc; "{tested:?}; {named:?} {test:?} {is_test}")?)
+}

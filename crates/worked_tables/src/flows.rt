@@ -1,0 +1,155 @@
+//! What the check of a module explains and finds, by `pc_check` and `pc_signatures`, over any store of types.
+ghost use Rattle.std.specs.Prelude.{◌≡◌};
+ghost use Rattle.pc_tree.specs.Tree.{module_of};
+ghost use Rattle.pc_scope.specs.ModuleScopes.{AreScopes};
+ghost use Rattle.pc_class.specs.Bases.{bases_of};
+
+use pc_ann::{parents_of, type_text};
+use pc_check::{check_module, explain_flow};
+use pc_class::class_table;
+use pc_front::read_module;
+use pc_intern::InternStore;
+use pc_notes::Notes;
+use pc_rules::Checker;
+use pc_scope::{Scopes, scopes};
+use pc_signatures::read_signatures;
+use pc_source::{Fault, OutOfMemory, Place};
+use pc_tree::Module;
+use pc_types::{BoxStore, Parents, TypeStore};
+use std::alloc::Global;
+
+/// The two types of the dynamic flow at a place of a module, or `none`.
+fn flow_text<S: TypeStore>(
+    store: &mut S,
+    alloc: Global,
+    tree: &Module,
+    scopes: &Scopes,
+    parents: &Parents,
+    place: Place,
+) -> Result<String, OutOfMemory>
+    requires scopes { AreScopes (module_of tree.now) scopes.now }
+    requires parents { parents.now ≡ bases_of (module_of tree.now) }
+{
+    let mut aside = Vec::new(alloc);
+    let classes = class_table(store, alloc, parents, tree, scopes, &mut aside)?;
+    match explain_flow(store, alloc, tree, scopes, &classes, place)? {
+        None => Ok(String::from_str(alloc, "none")?),
+        Some((from, into)) => {
+            let from = type_text(store, alloc, tree, &from)?;
+            let into = type_text(store, alloc, tree, &into)?;
+            Ok(format!(in alloc; "{from} -> {into}")?)
+        }
+    }
+}
+
+/// Findings in their order: the code of each, whether it is an error, and the bytes at which it starts and ends.
+fn listed(alloc: Global, notes: &Notes) -> Result<String, OutOfMemory> {
+    let mut text = String::new(alloc);
+    for finding in &notes.findings(alloc)? {
+        let (code, start, end) = (finding.code.text(), finding.place.start, finding.place.end);
+        let kind = if finding.code.is_error() {
+            "error"
+        } else {
+            "dynamic"
+        };
+        write!(text, "{code} {kind} {start} {end}; ")?;
+    }
+    Ok(text)
+}
+
+/// What the check of a module finds, but for what is found of its names and of its classes.
+fn checked_text<S: TypeStore>(
+    store: &mut S,
+    alloc: Global,
+    tree: &Module,
+    scopes: &Scopes,
+    parents: &Parents,
+) -> Result<String, OutOfMemory>
+    requires scopes { AreScopes (module_of tree.now) scopes.now }
+    requires parents { parents.now ≡ bases_of (module_of tree.now) }
+{
+    let mut aside = Vec::new(alloc);
+    let classes = class_table(store, alloc, parents, tree, scopes, &mut aside)?;
+    let mut notes = Notes::new(alloc);
+    check_module(store, alloc, tree, scopes, &classes, &mut notes)?;
+    listed(alloc, &notes)
+}
+
+/// How many constants and functions the signatures of a module are of, and what is found in them.
+fn signed_text<S: TypeStore>(
+    store: &mut S,
+    alloc: Global,
+    tree: &Module,
+    scopes: &Scopes,
+    parents: &Parents,
+) -> Result<String, OutOfMemory>
+    requires scopes { AreScopes (module_of tree.now) scopes.now }
+    requires parents { parents.now ≡ bases_of (module_of tree.now) }
+{
+    let mut aside = Vec::new(alloc);
+    let classes = class_table(store, alloc, parents, tree, scopes, &mut aside)?;
+    let mut notes = Notes::new(alloc);
+    let mut checker = Checker {
+        store,
+        alloc,
+        found: &mut notes,
+    };
+    let signed = read_signatures(&mut checker, parents, tree, scopes, &classes)?;
+    let (constants, functions) = (signed.constants().len(), signed.functions().len());
+    let found = listed(alloc, &notes)?;
+    Ok(format!(in alloc; "{constants} {functions}; {found}")?)
+}
+
+/// What a store answers to a module in a part of this name: the flow at a place, what is found in the module, or what
+/// its signatures are.
+fn answer<S: TypeStore>(
+    store: &mut S,
+    alloc: Global,
+    tree: &Module,
+    part: &str,
+    place: Place,
+) -> Result<String, OutOfMemory> {
+    let scopes = scopes(alloc, tree)?;
+    let parents = parents_of(alloc, tree, &scopes)?;
+    match part {
+        "FLOWS" => flow_text(store, alloc, tree, &scopes, &parents, place),
+        "FOUND" => checked_text(store, alloc, tree, &scopes, &parents),
+        _ => signed_text(store, alloc, tree, &scopes, &parents),
+    }
+}
+
+/// The answers of both stores to a module, or the one that both give.
+fn answers(alloc: Global, tree: &Module, part: &str, place: Place) -> Result<String, OutOfMemory> {
+    let parents = parents_of(alloc, tree, &scopes(alloc, tree)?)?;
+    let by_numbers = answer(
+        &mut InternStore::new(alloc, parents)?,
+        alloc,
+        tree,
+        part,
+        place,
+    )?;
+    let by_boxes = answer(&mut BoxStore::new(), alloc, tree, part, place)?;
+    if by_numbers.as_str() == by_boxes.as_str() {
+        return Ok(by_numbers);
+    }
+    Ok(format!(in alloc; "{by_numbers} by numbers, {by_boxes} by boxes")?)
+}
+
+/// The place that the first line of a row names, `187 188`.
+fn place_of(line: &str) -> Option<Place> {
+    let (start, end) = line.split_once(' ')?;
+    Some(Place {
+        start: start.parse().ok()?,
+        end: end.parse().ok()?,
+    })
+}
+
+/// What both stores answer to the module of a row, in a part of this name. In the first line stands a place.
+pub fn checked(alloc: Global, part: &str, row: &str) -> Result<String, Fault> {
+    let (line, text) = row.split_once('\n').unwrap_or(("", ""));
+    let Some(place) = place_of(line) else {
+        return Ok(String::from_str(alloc, "no place")?);
+    };
+    let module = read_module(alloc, text.as_bytes())?;
+    Ok(answers(alloc, &module, part, place)?)
+}
