@@ -30,8 +30,8 @@ abbrev pub FlowsDynamically : Module → Place → (from into : Tree) → Type 0
 FlowsDynamically m p s t = (marks : Labelling m) → IsLawful m marks → IsFirstAt p s t (dynamic_flows m marks)
 
 -- notes tell of just the dynamic flows of a module: at each place, of the two types of the dynamic flow there
-abbrev pub TellsFlows : Module → List Note → Type 0
-TellsFlows m notes = (p : Place) (s t : Tree) → flow_noted p notes ≡ Some (s, t) ↔ FlowsDynamically m p s t
+pub record TellsFlows (m : Module) (notes : List Note) : Type 0 where
+  pub just : (p : Place) (s t : Tree) → flow_noted p notes ≡ Some (s, t) ↔ FlowsDynamically m p s t
 
 -- some type flows dynamically at this place
 pub record HasDynamicFlow (m : Module) (place : Place) : Type 0 where

@@ -67,13 +67,13 @@ module _ (m : Module) (notes : List Note) (texts : List FlowText) (are : AreFlow
   read_as : (p : Place) (o : Option (Tree × Tree)) (t : FlowText) (shown : FlowTexts) → flow_noted p notes ≡ o → string_bytes shown.from ≡ string_bytes t.1 → string_bytes shown.to ≡ string_bytes t.2
       → MatchOption o ⊥ (λ f. (string_bytes t.1 ≡ type_text m f.0) × (string_bytes t.2 ≡ type_text m f.1)) → AreTextsOfFlow m p shown
   read_as p None t shown is from to h = absurd h
-  read_as p (Some f) t shown is from to h = record { from = f.0; into = f.1; flows = (flows p f.0 f.1).0 is; from_text = from ∙ h.0; into_text = to ∙ h.1 }
+  read_as p (Some f) t shown is from to h = record { from = f.0; into = f.1; flows = (flows.just p f.0 f.1).0 is; from_text = from ∙ h.0; into_text = to ∙ h.1 }
 
   explained : (f : Finding) (shown : Option FlowTexts) → IsFinding m f → IsExplained texts f shown
       → MatchOption shown (¬ (f.code ≡ A1)) (λ t. (f.code ≡ A1) × AreTextsOfFlow m f.place t)
   explained f None found h = λ code.
       let d : HasDynamicFlow m f.place = (flows_found m f.place).0 (subst (IsFinding m) (with_code f code) found) in
-      let noted : flow_noted f.place notes ≡ Some (d.from, d.into) = (flows f.place d.from d.into).1 d.flows in
+      let noted : flow_noted f.place notes ≡ Some (d.from, d.into) = (flows.just f.place d.from d.into).1 d.flows in
       h code (listed_place texts f.place (are.all f.place (subst IsSome (sym noted) refl)))
   explained finding (Some shown) found h =
       let t = h.1.0 in

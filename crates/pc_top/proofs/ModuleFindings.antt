@@ -92,4 +92,4 @@ same_flows p notes first xs ys is = ap (flow_noted p) is ∙ flows_stay p (first
 
 -- what is computed at each place is the dynamic flow there
 pub told_flows : (m : Module) (notes : List Note) → ((p : Place) → flow_noted p notes ≡ dynamic_flow m p) → TellsFlows m notes
-told_flows m notes same p s t = (λ e. (flows_computed m p s t).0 (sym (same p) ∙ e), λ h. same p ∙ (flows_computed m p s t).1 h)
+told_flows m notes same = record { just = λ p s t. (λ e. (flows_computed m p s t).0 (sym (same p) ∙ e), λ h. same p ∙ (flows_computed m p s t).1 h) }
