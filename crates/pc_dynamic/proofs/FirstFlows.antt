@@ -1,5 +1,5 @@
 -- The first dynamic flow at a place; notes that tell of just the dynamic flows of a list, at each place of the first one there.
-use Rattle.std.proofs.Common.{◌≡◌, ℕ, zero, suc, List, [], ◌∷◌, ◌++◌, Option, Some, None, refl, sym, ap, ◌∙◌, subst, inl, inr, map, arith, append_assoc, Contains}
+use Rattle.std.proofs.Common.{◌≡◌, List, [], ◌∷◌, ◌++◌, Option, Some, None, refl, sym, ap, ◌∙◌, subst, inl, inr, map, append_assoc, Contains}
 use Rattle.std.specs.Prelude.{Bool as Test, true, false, if◌then◌else◌, unwrap_or}
 use Rattle.std.proofs.lemmas.Bool.{false≢true}
 use Rattle.pc_source.specs.declared.place.Place.{Place}

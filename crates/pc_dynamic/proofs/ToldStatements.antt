@@ -42,7 +42,7 @@ use Rattle.pc_labels.proofs.WalkedExpressions.{told, iterable_told, flows_told}
 use Rattle.pc_labels.proofs.WalkedBindings.{target_says}
 use Rattle.pc_labels.proofs.WalkedStatements.{stmt_says, suite_says}
 use Rattle.pc_dynamic.specs.FlowsOfExpressions.{DynamicFlow, dynamic_at, dynamic_in}
-use Rattle.pc_dynamic.specs.FlowsOfStatements.{dynamic_in_option, dynamic_in_value, dynamic_in_target, dynamic_in_stmt, dynamic_in_suite, dynamic_in_branches}
+use Rattle.pc_dynamic.specs.FlowsOfStatements.{dynamic_in_option, dynamic_in_value, dynamic_in_stmt, dynamic_in_suite, dynamic_in_branches}
 use Rattle.pc_dynamic.proofs.FirstFlows.{Tells, tell_plain, Grows, grow_none, grow, grow_then, grow_behind}
 use Rattle.pc_dynamic.proofs.ToldFlows.{tell_codes, tell_flows}
 use Rattle.pc_dynamic.proofs.ToldExpressions.{tell_in, tell_iterable, tell_store, tell_option, tell_return}
