@@ -6,8 +6,7 @@ ghost use Rattle.pc_scope.specs.ModuleScopes.{AreScopes};
 ghost use Rattle.pc_types.specs.Store.{KeepsTypes};
 ghost use Rattle.pc_class.specs.Facts.{classes_of};
 ghost use Rattle.pc_class.specs.Tables.{HasEntries, classes_with};
-ghost use Rattle.pc_notes.specs.Notes.{ExplainsFlow};
-ghost use Rattle.pc_labels.specs.DynamicFlows.{dynamic_flow};
+ghost use Rattle.pc_dynamic.specs.FlowLaw.{ExplainsPlace};
 
 use crate::modules::check_module;
 use pc_class::ClassTable;
@@ -18,14 +17,16 @@ use pc_tree::Module;
 use pc_types::TypeStore;
 use std::alloc::Global;
 
-/// The two types of the dynamic flow at a place of a module: the type that flows, and the one that it flows into. Where
-/// several flow dynamically at one place, those of the first; none where none does. It types the whole module anew.
+/// The two types of the dynamic flow at a place of a module: the type that flows, and the one that it flows into, under
+/// the lawful labelling of the module. Where several flow dynamically at one place, those of the first; none exactly
+/// where A1 is not found there. It types the whole module anew.
 ///
 /// Typing specification, "Type system concepts", on gradual types; own rule of the profile.
 ///
 /// # Errors
 ///
 /// `OutOfMemory` only when an allocation failed.
+#[tactic(auto, using(pc_dynamic::proofs::StandingFlows::explains))]
 pub fn explain_flow<S: TypeStore>(
     store: &mut S,
     alloc: Global,
@@ -37,8 +38,7 @@ pub fn explain_flow<S: TypeStore>(
     requires scopes { AreScopes (module_of tree.now) scopes.now }
     requires classes { classes_with S.tree classes.now ≡ classes_of (module_of tree.now) }
     requires entries { HasEntries (S.has store.old) classes.now }
-    ensures explained { IfOk result
-        (λ found. ExplainsFlow S.has S.tree store.new found (dynamic_flow (module_of tree.now) place)) }
+    ensures explained { IfOk result (ExplainsPlace S.has S.tree (module_of tree.now) place store.new) }
     ensures kept { KeepsTypes S.has store.old store.new }
 {
     let mut found = Notes::new(alloc);

@@ -1,4 +1,5 @@
 pub mod EnteredTables
+pub mod FirstFlows
 pub mod Places
 pub mod PlainCodes
 pub mod RightFlows

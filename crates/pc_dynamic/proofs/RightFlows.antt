@@ -1,5 +1,5 @@
--- The dynamic flows of a module are found, and the other way round; they are dynamic, and of well-formed types.
-use Rattle.std.proofs.Common.{◌≡◌, Bool as Test, true, false, List, [], ◌∷◌, Option, Some, None, refl, sym, ap, ◌∙◌, subst, inl, inr, Contains}
+-- The dynamic flows that are computed of a module are found, and the other way round; they are dynamic, and of well-formed types.
+use Rattle.std.proofs.Common.{◌≡◌, Bool as Test, true, false, List, [], ◌∷◌, Option, Some, None, refl, sym, ap, ◌∙◌, subst, inl, inr, Contains, ◌↔◌}
 use Rattle.std.specs.Prelude.{if◌then◌else◌, IsSome}
 use Rattle.std.proofs.lemmas.Bool.{false≢true}
 use Rattle.pc_source.specs.declared.place.Place.{Place}
@@ -11,7 +11,8 @@ use Rattle.pc_tree.specs.Tree.{Module}
 use Rattle.pc_scope_findings.specs.Findings.{IsScopeCode, IsUnknown, in_constant, in_body, decorator, ScopeFinds, stopping, unknown, early, unreachable}
 use Rattle.pc_tree.proofs.Among.{none_among, first_among, later_among, among_first}
 use Rattle.pc_types.specs.Tree.{Tree}
-use Rattle.pc_types.specs.Below.{Bases}
+use Rattle.pc_types.specs.Assignable.{Assignable}
+use Rattle.pc_types.specs.Below.{Bases, Static}
 use Rattle.pc_types.specs.Computed.{static_test, assignable_test}
 use Rattle.pc_types.specs.WellFormed.{IsWellFormed}
 use Rattle.pc_types.proofs.DecidedSubtyping.{static_decided, assignable_decided}
@@ -26,7 +27,6 @@ use Rattle.pc_dynamic.proofs.PlainCodes.{IsPlain, IsPlainIfAny}
 use Rattle.pc_dynamic.proofs.RightNotes.{IsTestedFlow, IsFormedFlow, AreRight}
 use Rattle.pc_labels.specs.ComputedModules.{module_finds}
 use Rattle.pc_labels.specs.DynamicFlows.{dynamic_flow}
-use Rattle.pc_dynamic.specs.FlowLaw.{DynamicFlowsAreFound, DynamicFlowsAreDynamic, DynamicFlowsAreWellFormed}
 use Rattle.pc_labels.specs.Modules.{IsFinding}
 use Rattle.pc_dynamic.proofs.RightModules.{right_module}
 use Rattle.pc_labels.proofs.WalkedModule.{findings_computed}
@@ -116,13 +116,13 @@ module _ (bases : Bases) (p : Place) where
   stands_of notes None h some = absurd (cc some)
   stands_of notes (Some f) h some = h.stands
 
--- ---- the laws
+-- ---- the flow that is computed at a place
 
 all_right : (m : Module) → AreRight (bases_of m) (module_finds m [])
 all_right m = right_module m [] tt
 
-pub flows_found : DynamicFlowsAreFound
-flows_found m p = (to, from)
+pub flow_found : (m : Module) (p : Place) → IsFinding m (finding p A1) ↔ IsSome (dynamic_flow m p)
+flow_found m p = (to, from)
   where
     to : IsFinding m (finding p A1) → IsSome (dynamic_flow m p)
     to h = elim ((findings_computed m (finding p A1)).0 h) [
@@ -139,10 +139,10 @@ flows_found m p = (to, from)
 told_of : (m : Module) (p : Place) (s t : Tree) → dynamic_flow m p ≡ Some (s, t) → Told (bases_of m) p (module_finds m []) (s, t)
 told_of m p s t e = subst (ToldIfAny (bases_of m) p (module_finds m [])) e (told (bases_of m) p (module_finds m []) (all_right m))
 
-pub flows_dynamic : DynamicFlowsAreDynamic
-flows_dynamic m p s t e =
+pub flow_dynamic : (m : Module) (p : Place) (s t : Tree) → dynamic_flow m p ≡ Some (s, t) → Assignable (bases_of m) s t × ¬ (Static (bases_of m) s t)
+flow_dynamic m p s t e =
     let h = told_of m p s t e in
     ((assignable_decided (bases_of m) s t (smaller m) h.from.0 h.into.0).0 h.assignable, λ q. false≢true (sym h.static ∙ (static_decided (bases_of m) s t (smaller m) h.from.0 h.into.0).1 q))
 
-pub flows_well_formed : DynamicFlowsAreWellFormed
-flows_well_formed m p s t e = let h = told_of m p s t e in (h.from, h.into)
+pub flow_well_formed : (m : Module) (p : Place) (s t : Tree) → dynamic_flow m p ≡ Some (s, t) → IsWellFormed (bases_of m) s × IsWellFormed (bases_of m) t
+flow_well_formed m p s t e = let h = told_of m p s t e in (h.from, h.into)

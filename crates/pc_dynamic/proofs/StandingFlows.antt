@@ -1,28 +1,52 @@
--- The two types of a dynamic flow of a module stand under its lawful labelling.
-use Rattle.std.proofs.Common.{◌≡◌, List, [], ◌∷◌, Option, Some, None, refl, sym, subst}
-use Rattle.std.specs.Prelude.{Bool as Test, true, false, if◌then◌else◌}
+-- The laws on dynamic flows, of those that are computed: what is computed at a place is the first flow there under the lawful labelling.
+use Rattle.std.proofs.Common.{◌≡◌, Option, Some, None, refl, sym, ap, ◌∙◌, subst}
+use Rattle.std.specs.Prelude.{IsSome, unwrap_or}
 use Rattle.pc_source.specs.declared.place.Place.{Place}
+use Rattle.pc_tree.specs.Tree.{Module}
 use Rattle.pc_types.specs.Tree.{Tree}
-use Rattle.pc_notes.specs.Notes.{Note, is_same_place, or_else, flow_noted}
-use Rattle.pc_labels.specs.ComputedModules.{module_finds}
-use Rattle.pc_dynamic.specs.FlowLaw.{DynamicFlowsStandUnderLabels}
-use Rattle.pc_dynamic.specs.FlowsOfExpressions.{DynamicFlow}
-use Rattle.pc_dynamic.specs.FlowsOfModules.{DynamicUnder}
-use Rattle.pc_dynamic.proofs.Places.{same_place}
-use Rattle.pc_dynamic.proofs.ToldFlows.{TellsOf, AllTell}
+use Rattle.pc_notes.specs.Notes.{ExplainsFlow}
+use Rattle.pc_labels.specs.DynamicFlows.{dynamic_flow}
+use Rattle.pc_labels.specs.Modules.{Labelling, IsLawful}
+use Rattle.pc_labels.proofs.LabelledModule.{every_module_has_a_labelling}
+use Rattle.pc_dynamic.specs.FlowLaw.{ExplainsPlace, HasDynamicFlow, DynamicFlowsAreFound, DynamicFlowsAreDynamic, DynamicFlowsAreWellFormed, DynamicFlowsAreUnique, DynamicFlowsAreComputed}
+use Rattle.pc_dynamic.specs.FlowsOfModules.{dynamic_flows}
+use Rattle.pc_dynamic.proofs.FirstFlows.{Pair, first_at, first_is, is_first}
+use Rattle.pc_dynamic.proofs.RightFlows.{flow_found, flow_dynamic, flow_well_formed}
 use Rattle.pc_dynamic.proofs.ToldModules.{module_tells}
 
--- what holds of each flow that notes tell of holds of the first one at a place
-module _ (P : DynamicFlow → Type 0) (p : Place) where
-  first_of : (q : Place) (b : Test) → is_same_place p q ≡ b → (o rest : Option (Tree × Tree)) → TellsOf P q o → TellsOf P p rest → TellsOf P p (if b then or_else o rest else rest)
-  first_of q true e (Some f) rest h k = subst (λ (x : Place). P (record { place = x; from = f.0; into = f.1 })) (sym (same_place p q e)) h
-  first_of q true e None rest h k = k
-  first_of q false e o rest h k = k
+-- what is computed at a place is the first flow there under a lawful labelling
+computed_is : (m : Module) (marks : Labelling m) → IsLawful m marks → (p : Place) → dynamic_flow m p ≡ first_at p (dynamic_flows m marks)
+computed_is m marks l p = module_tells m marks l p
 
-  noted_tells : (notes : List Note) → AllTell P notes → TellsOf P p (flow_noted p notes)
-  noted_tells [] h = tt
-  noted_tells (n ∷ ns) h = first_of n.finding.place (is_same_place p n.finding.place) refl n.flow (flow_noted p ns) h.0 (noted_tells ns h.1)
+pub flows_computed : DynamicFlowsAreComputed
+flows_computed m p s t = (
+  λ e marks l. is_first p s t (dynamic_flows m marks) (sym (computed_is m marks l p) ∙ e),
+  λ h. let k = every_module_has_a_labelling m in computed_is m k.marks k.lawful p ∙ first_is p s t (dynamic_flows m k.marks) (h k.marks k.lawful),
+)
 
-pub flows_stand : DynamicFlowsStandUnderLabels
-flows_stand m marks l p s t e =
-    subst (TellsOf (DynamicUnder m marks) p) e (noted_tells (DynamicUnder m marks) p (module_finds m []) (module_tells m marks l))
+-- a flow that is computed is one under every lawful labelling
+has_flow : (m : Module) (p : Place) (o : Pair) → dynamic_flow m p ≡ o → IsSome o → HasDynamicFlow m p
+has_flow m p None e h = absurd (cc h)
+has_flow m p (Some f) e h = record { from = f.0; into = f.1; flows = (flows_computed m p f.0 f.1).0 e }
+
+pub flows_found : DynamicFlowsAreFound
+flows_found m p = (
+  λ h. has_flow m p (dynamic_flow m p) refl ((flow_found m p).0 h),
+  λ h. (flow_found m p).1 (subst IsSome (sym ((flows_computed m p h.from h.into).1 h.flows)) refl),
+)
+
+pub flows_dynamic : DynamicFlowsAreDynamic
+flows_dynamic m p s t h = flow_dynamic m p s t ((flows_computed m p s t).1 h)
+
+pub flows_well_formed : DynamicFlowsAreWellFormed
+flows_well_formed m p s t h = flow_well_formed m p s t ((flows_computed m p s t).1 h)
+
+pub flows_unique : DynamicFlowsAreUnique
+flows_unique m p s t u v h k =
+    let types : (s, t) ≡ (u, v) = ap (λ (o : Pair). unwrap_or o (s, t)) (sym ((flows_computed m p s t).1 h) ∙ (flows_computed m p u v).1 k) in
+    (ap (λ (f : Tree × Tree). f.0) types, ap (λ (f : Tree × Tree). f.1) types)
+
+-- what explains the flow that is computed at a place explains the place
+pub explains : {Store Ty : Type 0} (has : Store → Ty → Type 0) (tree : Ty → Tree) (m : Module) (p : Place) (store : Store) (found : Option (Ty × Ty)) → ExplainsFlow has tree store found (dynamic_flow m p) → ExplainsPlace has tree m p store found
+explains has tree m p store None h = λ f. absurd (cc (subst IsSome h ((flow_found m p).0 f)))
+explains has tree m p store (Some pair) h = (h.0, h.1, (flows_computed m p (tree pair.0) (tree pair.1)).0 h.2)

@@ -1,5 +1,5 @@
--- What a walk finds in an expression, of its flows and in what a `for` goes over tells of dynamic flows that stand under lawful labels.
-use Rattle.std.proofs.Common.{◌≡◌, List, [], ◌∷◌, ◌++◌, Option, Some, None, sym, ap, ◌∙◌, subst, inl, inr, append-nil, append_assoc}
+-- What a walk finds in an expression, of its flows and in what a `for` goes over tells of just the dynamic flows under lawful labels.
+use Rattle.std.proofs.Common.{◌≡◌, List, [], ◌∷◌, ◌++◌, Option, Some, None, refl, sym, ap, ◌∙◌, subst, append-nil, append_assoc}
 use Rattle.std.specs.Prelude.{Bool as Test, true, false, if◌then◌else◌}
 use Rattle.pc_source.specs.declared.place.Place.{Place}
 use Rattle.pc_tree.specs.Depth.{place_of}
@@ -33,11 +33,12 @@ use Rattle.pc_labels.specs.WalkLaw.{EnvFits, frame_in}
 use Rattle.pc_labels.proofs.StoredTypes.{fields_stored, items_stored, keys_stored, only_well_formed}
 use Rattle.pc_labels.proofs.WalkedTables.{types_well_formed}
 use Rattle.pc_labels.proofs.WalkedExpressions.{here, ExpressionTold, told, flows_told}
-use Rattle.pc_dynamic.specs.FlowsOfExpressions.{DynamicFlow, IsDynamicAt, DynamicIn}
-use Rattle.pc_dynamic.specs.FlowsOfStatements.{DynamicInOption, DynamicInValue, DynamicInTarget}
-use Rattle.pc_dynamic.proofs.ToldFlows.{AllTell, tell_then, tell_codes, tell_flows, tell_expression}
+use Rattle.pc_dynamic.specs.FlowsOfExpressions.{dynamic_at, dynamic_in}
+use Rattle.pc_dynamic.specs.FlowsOfStatements.{dynamic_in_option, dynamic_in_value, dynamic_in_target}
+use Rattle.pc_dynamic.proofs.FirstFlows.{Tells, tell_then, tell_grouped}
+use Rattle.pc_dynamic.proofs.ToldFlows.{tell_codes, tell_flows, tell_expression}
 
-module _ (P : DynamicFlow → Type 0) (setting : Setting) (returned : Tree) (kr : IsWellFormed setting.context.bases returned) (declared : List Tree) (table : Table) (kt : IsWellFormedEnv setting.context.bases table) (env : Env) (h : EnvFits setting declared table env) where
+module _ (setting : Setting) (returned : Tree) (kr : IsWellFormed setting.context.bases returned) (declared : List Tree) (table : Table) (kt : IsWellFormedEnv setting.context.bases table) (env : Env) (h : EnvFits setting declared table env) where
   open setting use {whole as m, context as ctx, context_well_formed as ck}
 
   abbrev frame : BodyFrame
@@ -48,10 +49,6 @@ module _ (P : DynamicFlow → Type 0) (setting : Setting) (returned : Tree) (kr 
 
   ds : AreWellFormed ctx.bases (type_table table)
   ds = types_well_formed ctx.bases table kt
-
-  -- this holds of each flow of which something is said
-  abbrev Covers : (DynamicFlow → Type 0) → Type 0
-  Covers Says = (d : DynamicFlow) → Says d → P d
 
   -- ---- expressions
 
@@ -69,22 +66,22 @@ module _ (P : DynamicFlow → Type 0) (setting : Setting) (returned : Tree) (kr 
       let k = labels_are_lawful ctx (type_table table) env want e ck ds h.well_formed kw in
       ap (notes_under e) (sym (one ctx declared (type_table table) env h.same want e marks labels l k.0))
 
-  pub tell_in : (want : Option Tree) → IsWellFormedIfAny ctx.bases want → (e : Expr) (marks : Marks e) → Lawful ctx declared env want e marks → Covers (DynamicIn e marks) → AllTell P (finds_in at_env want e)
-  tell_in want kw e marks l k = subst (AllTell P) (sym (found_is want kw e marks l)) (tell_expression P e marks k)
+  pub tell_in : (want : Option Tree) → IsWellFormedIfAny ctx.bases want → (e : Expr) (marks : Marks e) → Lawful ctx declared env want e marks → Tells (finds_in at_env want e) (dynamic_in e marks)
+  tell_in want kw e marks l = subst (λ xs. Tells xs (dynamic_in e marks)) (sym (found_is want kw e marks l)) (tell_expression e marks)
 
   -- its flows into several types
-  pub tell_flowing : (want : Option Tree) (e : Expr) (marks : Marks e) (ts : List Tree) (flows : FlowMarks) → IsWellFormedIfAny ctx.bases want → Lawful ctx declared env want e marks → AreWellFormed ctx.bases ts → FlowsInto ctx.bases (mark_of e marks) ts flows → Covers (IsDynamicAt (place_of e) flows)
-      → AllTell P (flows_at (place_of e) (flows_of ctx.bases (mark_in at_env want e) ts))
-  tell_flowing want e marks ts flows kw l ks fl k =
+  pub tell_flowing : (want : Option Tree) (e : Expr) (marks : Marks e) (ts : List Tree) (flows : FlowMarks) → IsWellFormedIfAny ctx.bases want → Lawful ctx declared env want e marks → AreWellFormed ctx.bases ts → FlowsInto ctx.bases (mark_of e marks) ts flows
+      → Tells (flows_at (place_of e) (flows_of ctx.bases (mark_in at_env want e) ts)) (dynamic_at (place_of e) flows)
+  tell_flowing want e marks ts flows kw l ks fl =
       let v = read want kw e marks l in
       let is : flows_of ctx.bases (mark_in at_env want e) ts ≡ flows = ap (λ x. flows_of ctx.bases x ts) v.mark ∙ flows_told setting (mark_of e marks) ts flows v.well_formed ks fl in
-      subst (λ fs. AllTell P (flows_at (place_of e) fs)) (sym is) (tell_flows P (place_of e) flows k)
+      subst (λ fs. Tells (flows_at (place_of e) fs) (dynamic_at (place_of e) flows)) (sym is) (tell_flows (place_of e) flows)
 
   -- an expression, and then its flows
-  tell_both : (want : Option Tree) (e : Expr) (marks : Marks e) (ts : List Tree) (flows : FlowMarks) → IsWellFormedIfAny ctx.bases want → Lawful ctx declared env want e marks → AreWellFormed ctx.bases ts → FlowsInto ctx.bases (mark_of e marks) ts flows → Covers (IsDynamicAt (place_of e) flows) → Covers (DynamicIn e marks)
-      → AllTell P (finds_in at_env want e ++ flows_at (place_of e) (flows_of ctx.bases (mark_in at_env want e) ts))
-  tell_both want e marks ts flows kw l ks fl k k' =
-      tell_then P (finds_in at_env want e) (flows_at (place_of e) (flows_of ctx.bases (mark_in at_env want e) ts)) (tell_in want kw e marks l k') (tell_flowing want e marks ts flows kw l ks fl k)
+  tell_both : (want : Option Tree) (e : Expr) (marks : Marks e) (ts : List Tree) (flows : FlowMarks) → IsWellFormedIfAny ctx.bases want → Lawful ctx declared env want e marks → AreWellFormed ctx.bases ts → FlowsInto ctx.bases (mark_of e marks) ts flows
+      → Tells (finds_in at_env want e ++ flows_at (place_of e) (flows_of ctx.bases (mark_in at_env want e) ts)) (dynamic_in e marks ++ dynamic_at (place_of e) flows)
+  tell_both want e marks ts flows kw l ks fl =
+      tell_then (finds_in at_env want e) (flows_at (place_of e) (flows_of ctx.bases (mark_in at_env want e) ts)) (dynamic_in e marks) (dynamic_at (place_of e) flows) (tell_in want kw e marks l) (tell_flowing want e marks ts flows kw l ks fl)
 
   -- ---- what a `for` goes over
 
@@ -122,38 +119,38 @@ module _ (P : DynamicFlow → Type 0) (setting : Setting) (returned : Tree) (kr 
 
     tell_call : (b : Test) (marks : Marks (call p (name n) args kws)) (item : Mark)
         → RangeOrValues m ctx declared b (LawfulRange m ctx declared env (name n) args kws p marks × (item ≡ range_item (arguments_given args kws))) (LawfulValues m ctx declared env (call p (name n) args kws) marks item)
-        → Covers (DynamicIn (call p (name n) args kws) marks)
-        → AllTell P (if b then range_finds at_env p (name n) args kws else finds_in at_env None (call p (name n) args kws))
-    tell_call true marks item l k =
-        subst (AllTell P) (sym (ap (notes_under (call p (name n) args kws)) (range_lawful marks l.0)) ∙ range_listed) (tell_expression P (call p (name n) args kws) marks k)
-    tell_call false marks item l k = tell_in None tt (call p (name n) args kws) marks l.0 k
+        → Tells (if b then range_finds at_env p (name n) args kws else finds_in at_env None (call p (name n) args kws)) (dynamic_in (call p (name n) args kws) marks)
+    tell_call true marks item l =
+        subst (λ xs. Tells xs (dynamic_in (call p (name n) args kws) marks)) (sym (ap (notes_under (call p (name n) args kws)) (range_lawful marks l.0)) ∙ range_listed) (tell_expression (call p (name n) args kws) marks)
+    tell_call false marks item l = tell_in None tt (call p (name n) args kws) marks l.0
 
-  pub tell_iterable : (e : Expr) (marks : Marks e) (item : Mark) → LawfulIterable m ctx declared env e marks item → Covers (DynamicIn e marks) → AllTell P (iterable_finds frame at_env e)
-  tell_iterable (call p (name n) args kws) marks item l k = tell_call p n args kws (is_range (ctx.resolve n.text)) marks item l k
-  tell_iterable e marks item l k = tell_in None tt e marks l.0 k
+  pub tell_iterable : (e : Expr) (marks : Marks e) (item : Mark) → LawfulIterable m ctx declared env e marks item → Tells (iterable_finds frame at_env e) (dynamic_in e marks)
+  tell_iterable (call p (name n) args kws) marks item l = tell_call p n args kws (is_range (ctx.resolve n.text)) marks item l
+  tell_iterable e marks item l = tell_in None tt e marks l.0
 
   -- ---- stores
 
   -- at the store, and of the value
   tell_stored : (os : List StoreOffer) → AreWellFormed ctx.bases (stored_types os) → (p : Place) (e : Expr) (marks : Marks e) (flows : FlowMarks) → Lawful ctx declared env (only_type os (stored_types os)) e marks → FlowsInto ctx.bases (mark_of e marks) (stored_types os) flows
-      → Covers (IsDynamicAt (place_of e) flows) → Covers (DynamicIn e marks) → AllTell P (stored_finds frame at_env os p e)
-  tell_stored os ks p e marks flows l fl k k' =
+      → Tells (stored_finds frame at_env os p e) (dynamic_in e marks ++ dynamic_at (place_of e) flows)
+  tell_stored os ks p e marks flows l fl =
       let want = only_type os (stored_types os) in
-      tell_then P (codes_at p (store_codes os)) (finds_in at_env want e ++ flows_at (place_of e) (flows_of ctx.bases (mark_in at_env want e) (stored_types os)))
-      (tell_codes P p (store_codes os))
-      (tell_both want e marks (stored_types os) flows (only_well_formed ctx.bases os (stored_types os) ks) l ks fl k k')
+      tell_then (codes_at p (store_codes os)) (finds_in at_env want e ++ flows_at (place_of e) (flows_of ctx.bases (mark_in at_env want e) (stored_types os))) [] (dynamic_in e marks ++ dynamic_at (place_of e) flows)
+      (tell_codes p (store_codes os))
+      (tell_both want e marks (stored_types os) flows (only_well_formed ctx.bases os (stored_types os) ks) l ks fl)
 
   pub tell_store : (t : Target) (target : TargetMarks t) (e : Expr) (marks : Marks e) (flows : FlowMarks) → LawfulStore m ctx declared env t target e marks flows
-      → Covers (IsDynamicAt (place_of e) flows) → Covers (DynamicIn e marks) → Covers (DynamicInTarget t target) → AllTell P (store_finds frame at_env t e)
-  tell_store (to_name n) target e marks flows l k k' kt' = absurd l
-  tell_store (to_attribute p o field) target e marks flows l k k' kt' =
+      → Tells (store_finds frame at_env t e) (dynamic_in_target t target ++ (dynamic_in e marks ++ dynamic_at (place_of e) flows))
+  tell_store (to_name n) target e marks flows l = absurd l
+  tell_store (to_attribute p o field) target e marks flows l =
       let v = read None tt o target.object l.object in
       let os = attribute_offers m ctx declared field.text (type_of o target.object) in
       let ks : AreWellFormed ctx.bases (stored_types os) = fields_stored ctx.bases ctx.classes ck.classes field.text (type_of o target.object) v.well_formed in
       let offers : os ≡ attribute_stores frame field.text (mark_in at_env None o).type = ap (λ x. attribute_stores frame field.text x.type) (sym v.mark) in
-      subst (λ q. AllTell P (finds_in at_env None o ++ stored_finds frame at_env q p e)) offers
-      (tell_then P (finds_in at_env None o) (stored_finds frame at_env os p e) (tell_in None tt o target.object l.object kt') (tell_stored os ks p e marks flows l.value l.flow k k'))
-  tell_store (to_index p o i) target e marks flows l k k' kt' =
+      let ds = dynamic_in e marks ++ dynamic_at (place_of e) flows in
+      subst (λ q. Tells (finds_in at_env None o ++ stored_finds frame at_env q p e) (dynamic_in o target.object ++ ds)) offers
+      (tell_then (finds_in at_env None o) (stored_finds frame at_env os p e) (dynamic_in o target.object) ds (tell_in None tt o target.object l.object) (tell_stored os ks p e marks flows l.value l.flow))
+  tell_store (to_index p o i) target e marks flows l =
       let v = read None tt o target.object l.object in
       let os = index_offers m ctx declared (type_of o target.object) in
       let ks : AreWellFormed ctx.bases (stored_types os) = items_stored ctx.bases (type_of o target.object) v.well_formed in
@@ -162,20 +159,24 @@ module _ (P : DynamicFlow → Type 0) (setting : Setting) (returned : Tree) (kr 
       let xs = finds_in at_env None o in
       let ys = finds_in at_env None i in
       let zs = flows_at (place_of i) (flows_of ctx.bases (mark_in at_env None i) (store_index_types os)) in
-      subst (λ q. AllTell P (xs ++ (ys ++ (flows_at (place_of i) (flows_of ctx.bases (mark_in at_env None i) (store_index_types q)) ++ stored_finds frame at_env q p e)))) offers
-      (tell_then P xs (ys ++ (zs ++ stored_finds frame at_env os p e)) (tell_in None tt o target.object l.object (λ d x. kt' d (inr (inl x))))
-      (tell_then P ys (zs ++ stored_finds frame at_env os p e) (tell_in None tt i target.key l.key (λ d x. kt' d (inr (inr x))))
-      (tell_then P zs (stored_finds frame at_env os p e) (tell_flowing None i target.key (store_index_types os) target.key_flows tt l.key kk l.key_flow (λ d x. kt' d (inl x)))
-      (tell_stored os ks p e marks flows l.value l.flow k k'))))
+      let a = dynamic_in o target.object in
+      let b = dynamic_in i target.key in
+      let c = dynamic_at (place_of i) target.key_flows in
+      let ds = dynamic_in e marks ++ dynamic_at (place_of e) flows in
+      let rest = ys ++ (zs ++ stored_finds frame at_env os p e) in
+      let told_rest : Tells rest (b ++ (c ++ ds)) = tell_then ys (zs ++ stored_finds frame at_env os p e) b (c ++ ds) (tell_in None tt i target.key l.key)
+      (tell_then zs (stored_finds frame at_env os p e) c ds (tell_flowing None i target.key (store_index_types os) target.key_flows tt l.key kk l.key_flow) (tell_stored os ks p e marks flows l.value l.flow)) in
+      subst (λ q. Tells (xs ++ (ys ++ (flows_at (place_of i) (flows_of ctx.bases (mark_in at_env None i) (store_index_types q)) ++ stored_finds frame at_env q p e))) ((a ++ (b ++ c)) ++ ds)) offers
+      (tell_grouped (xs ++ rest) a (b ++ c) ds (tell_then xs rest a ((b ++ c) ++ ds) (tell_in None tt o target.object l.object) (tell_grouped rest b c ds told_rest)))
 
   -- ---- what may be missing
 
-  pub tell_option : (e : Option Expr) (marks : OptionMarks e) → LawfulOption m ctx declared returned env e marks → Covers (DynamicInOption e marks) → AllTell P (option_finds frame at_env None e)
-  tell_option None marks l k = tt
-  tell_option (Some e) marks l k = tell_in None tt e marks l k
+  pub tell_option : (e : Option Expr) (marks : OptionMarks e) → LawfulOption m ctx declared returned env e marks → Tells (option_finds frame at_env None e) (dynamic_in_option e marks)
+  tell_option None marks l = λ q. refl
+  tell_option (Some e) marks l = tell_in None tt e marks l
 
-  pub tell_return : (p : Place) (e : Option Expr) (marks : OptionMarks e) (flows : FlowMarks) → LawfulReturn m ctx declared returned env e marks flows → Covers (DynamicInValue p e marks flows) → AllTell P (return_finds frame at_env p e)
-  tell_return p None marks flows l k =
+  pub tell_return : (p : Place) (e : Option Expr) (marks : OptionMarks e) (flows : FlowMarks) → LawfulReturn m ctx declared returned env e marks flows → Tells (return_finds frame at_env p e) (dynamic_in_value p e marks flows)
+  tell_return p None marks flows l =
       let is = flows_told setting (clean NoneType) (returned ∷ []) flows (none_well_formed ctx.bases) (kr, tt) l in
-      subst (λ fs. AllTell P (flows_at p fs)) (sym is) (tell_flows P p flows k)
-  tell_return p (Some e) marks flows l k = tell_both (Some returned) e marks (returned ∷ []) flows kr l.0 (kr, tt) l.1 (λ d x. k d (inl x)) (λ d x. k d (inr x))
+      subst (λ fs. Tells (flows_at p fs) (dynamic_at p flows)) (sym is) (tell_flows p flows)
+  tell_return p (Some e) marks flows l = tell_both (Some returned) e marks (returned ∷ []) flows kr l.0 (kr, tt) l.1

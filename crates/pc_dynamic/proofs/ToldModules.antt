@@ -1,5 +1,5 @@
--- What is found of a module tells of dynamic flows that stand under its lawful labelling: of its signatures, its constants and its bodies.
-use Rattle.std.proofs.Common.{◌≡◌, ℕ, suc, List, [], ◌∷◌, ◌++◌, length, refl, sym, ap, ◌∙◌, subst, inl, inr, arith}
+-- What is found of a module tells of just the dynamic flows under its lawful labelling: of its signatures, its constants and its bodies.
+use Rattle.std.proofs.Common.{◌≡◌, ℕ, suc, List, [], ◌∷◌, ◌++◌, length, refl, sym, ap, ◌∙◌, subst, arith, append-nil}
 use Rattle.std.specs.Prelude.{Bool as Test, true, false, Option, Some, None, map, slice_get, codes}
 use Rattle.pc_source.specs.declared.place.Place.{Place}
 use Rattle.pc_tree.specs.declared.code.Code.TheVariants.{E21}
@@ -47,12 +47,13 @@ use Rattle.pc_labels.proofs.LabelledModule.{wants_well_formed, first_well_formed
 use Rattle.pc_labels.proofs.LocalNames.{names_are}
 use Rattle.pc_labels.proofs.WalkedItems.{reached_at, ClassesFrom}
 use Rattle.pc_labels.proofs.WalkedModule.{constants_have_types, constants_well_formed}
-use Rattle.pc_dynamic.specs.FlowsOfExpressions.{DynamicFlow}
-use Rattle.pc_dynamic.specs.FlowsOfModules.{DynamicAtDefault, DynamicInParams, DynamicInMembers, DynamicInItem, DynamicInItems, DynamicUnder}
-use Rattle.pc_dynamic.specs.FlowsOfStatements.{DynamicInSuite}
+use Rattle.pc_dynamic.specs.FlowsOfExpressions.{dynamic_at, dynamic_in}
+use Rattle.pc_dynamic.specs.FlowsOfModules.{dynamic_at_default, dynamic_in_params, dynamic_in_members, dynamic_in_methods, dynamic_in_function, dynamic_in_item, dynamic_in_body, dynamic_in_each, dynamic_flows}
+use Rattle.pc_dynamic.specs.FlowsOfStatements.{dynamic_in_suite}
 use Rattle.pc_dynamic.proofs.EnteredTables.{all_entered, none_fits, none_assigned_fits}
+use Rattle.pc_dynamic.proofs.FirstFlows.{Tells, tell_then, tell_behind, tell_plain, Grows, grow_none, grow, grow_then, tell_grown}
 use Rattle.pc_dynamic.proofs.PlainCodes.{in_both}
-use Rattle.pc_dynamic.proofs.ToldFlows.{AllTell, tell_then, tell_plain, tell_flows, tell_expression}
+use Rattle.pc_dynamic.proofs.ToldFlows.{tell_flows, tell_expression}
 use Rattle.pc_dynamic.proofs.ToldStatements.{suite_tells}
 
 literal_well_formed : (bases : Bases) (l : Literal) → IsWellFormed bases (literal_type l)
@@ -62,59 +63,50 @@ literal_well_formed bases (text_literal p d) = (tt, tt, omega arith)
 literal_well_formed bases (truth_literal p v) = (tt, tt, omega arith)
 literal_well_formed bases (none_literal p) = (tt, tt, omega arith)
 
-module _ (P : DynamicFlow → Type 0) (m : Module) where
+module _ (m : Module) where
   abbrev bases : Bases
   bases = bases_of m
 
-  -- this holds of each flow of which something is said
-  abbrev Covers : (DynamicFlow → Type 0) → Type 0
-  Covers Says = (d : DynamicFlow) → Says d → P d
-
-  -- this holds of each flow that notes tell of
-  abbrev Told : List Note → Type 0
-  Told notes = AllTell P notes
-
-  both : (xs ys : List Note) → Told xs → Told ys → Told (xs ++ ys)
-  both xs ys h k = tell_then P xs ys h k
-
   -- ---- signatures
 
-  default_tells : (binds : Test) (l : Option Literal) (t : Tree) (flows : FlowMarks) → IsWellFormed bases t → LawfulDefault bases binds l t flows → Covers (DynamicAtDefault l flows) → Told (default_findings bases binds l t)
-  default_tells binds None t flows kw h k = tt
-  default_tells false (Some l) t flows kw h k = tt
-  default_tells true (Some l) t flows kw h k =
+  default_tells : (binds : Test) (l : Option Literal) (t : Tree) (flows : FlowMarks) → IsWellFormed bases t → LawfulDefault bases binds l t flows → Tells (default_findings bases binds l t) (dynamic_at_default l flows)
+  default_tells binds None t flows kw h = λ q. refl
+  default_tells false (Some l) t flows kw h = subst (λ (fs : FlowMarks). Tells [] (dynamic_at (literal_place l) fs)) (sym h) (λ q. refl)
+  default_tells true (Some l) t flows kw h =
       let from = clean (literal_type l) in
       let e : flows_of bases from (t ∷ []) ≡ flows = into_one bases from (t ∷ []) (flows_of bases from (t ∷ [])) flows (flows_are_lawful bases from (t ∷ []) (smaller m) (literal_well_formed bases l) (kw, tt)) h in
-      subst (λ fs. Told (flows_at (literal_place l) fs)) (sym e) (tell_flows P (literal_place l) flows k)
+      subst (λ fs. Tells (flows_at (literal_place l) fs) (dynamic_at (literal_place l) flows)) (sym e) (tell_flows (literal_place l) flows)
 
-  params_tell : (before : List (List ℕ)) (ps : List Param) (marks : ParamsMarks ps) → LawfulParams m before ps marks → Covers (DynamicInParams ps marks) → Told (params_findings m (λ t. is_one_of t before) ps)
-  params_tell before [] marks h k = tt
-  params_tell before (p ∷ ps) marks h k =
+  params_tell : (before : List (List ℕ)) (ps : List Param) (marks : ParamsMarks ps) → LawfulParams m before ps marks → Tells (params_findings m (λ t. is_one_of t before) ps) (dynamic_in_params ps marks)
+  params_tell before [] marks h = λ q. refl
+  params_tell before (p ∷ ps) marks h =
       let notes = map plain_note (option_findings m bases p.annotation) in
       let default = default_findings bases (binds_name before p.name) p.default (read_option m bases p.annotation) in
-      both (notes ++ default) (params_findings m (λ t. is_one_of t (p.name.text ∷ before)) ps)
-      (both notes default (tell_plain P (option_findings m bases p.annotation))
-      (default_tells (binds_name before p.name) p.default (read_option m bases p.annotation) marks.default (read_option_well_formed m bases (smaller m) p.annotation) h.default (λ d x. k d (inl x))))
-      (params_tell (p.name.text ∷ before) ps marks.rest h.rest (λ d x. k d (inr x)))
+      let ds = dynamic_at_default p.default marks.default in
+      tell_then (notes ++ default) (params_findings m (λ t. is_one_of t (p.name.text ∷ before)) ps) ds (dynamic_in_params ps marks.rest)
+      (tell_then notes default [] ds (tell_plain (option_findings m bases p.annotation))
+      (default_tells (binds_name before p.name) p.default (read_option m bases p.annotation) marks.default (read_option_well_formed m bases (smaller m) p.annotation) h.default))
+      (params_tell (p.name.text ∷ before) ps marks.rest h.rest)
 
-  def_tells : (before : List (List ℕ)) (f : FuncDef) (marks : ParamsMarks f.params) → LawfulParams m before f.params marks → Covers (DynamicInParams f.params marks) → Told (def_findings m (λ t. is_one_of t before) f)
-  def_tells before f marks h k =
-      both (params_findings m (λ t. is_one_of t before) f.params) (map plain_note (option_findings m bases f.returns)) (params_tell before f.params marks h k) (tell_plain P (option_findings m bases f.returns))
+  def_tells : (before : List (List ℕ)) (f : FuncDef) (marks : ParamsMarks f.params) → LawfulParams m before f.params marks → Tells (def_findings m (λ t. is_one_of t before) f) (dynamic_in_params f.params marks)
+  def_tells before f marks h =
+      tell_behind (params_findings m (λ t. is_one_of t before) f.params) (map plain_note (option_findings m bases f.returns)) (dynamic_in_params f.params marks) (params_tell before f.params marks h) (tell_plain (option_findings m bases f.returns))
 
   -- members, behind these names
-  members_tell : (all : List Tree) (base : ClassFacts) (c number : ℕ) (before : List (List ℕ)) (ms : List Member) (marks : MembersMarks ms) → LawfulMembers m all base c number before ms marks → Covers (DynamicInMembers ms marks) → Told (members_findings m base (λ t. is_one_of t before) ms)
-  members_tell all base c number before [] marks l k = tt
-  members_tell all base c number before (field_member d ∷ rest) marks l k =
+  members_tell : (all : List Tree) (base : ClassFacts) (c number : ℕ) (before : List (List ℕ)) (ms : List Member) (marks : MembersMarks ms) → LawfulMembers m all base c number before ms marks → Tells (members_findings m base (λ t. is_one_of t before) ms) (dynamic_in_members ms marks)
+  members_tell all base c number before [] marks l = λ q. refl
+  members_tell all base c number before (field_member d ∷ rest) marks l =
       let notes = map plain_note (ann_findings m bases d.annotation) in
       let default = default_findings bases (binds_field base before d.name.text) d.default (read_ann m bases d.annotation) in
-      both (notes ++ default) (members_findings m base (λ t. is_one_of t (d.name.text ∷ before)) rest)
-      (both notes default (tell_plain P (ann_findings m bases d.annotation))
-      (default_tells (binds_field base before d.name.text) d.default (read_ann m bases d.annotation) marks.default (read_ann_well_formed m bases (smaller m) d.annotation) l.default (λ d x. k d (inl x))))
-      (members_tell all base c number (d.name.text ∷ before) rest marks.rest l.others (λ d x. k d (inr x)))
-  members_tell all base c number before (method_member d ∷ rest) marks l k =
-      both (def_findings m (λ t. is_one_of t (codes "self" ∷ [])) d) (members_findings m base (λ t. is_one_of t (d.name.text ∷ before)) rest)
-      (def_tells (codes "self" ∷ []) d marks.method.params l.method.params (λ d x. k d (inl (inl x))))
-      (members_tell all base c (suc number) (d.name.text ∷ before) rest marks.rest l.others (λ d x. k d (inr x)))
+      let ds = dynamic_at_default d.default marks.default in
+      tell_then (notes ++ default) (members_findings m base (λ t. is_one_of t (d.name.text ∷ before)) rest) ds (dynamic_in_members rest marks.rest)
+      (tell_then notes default [] ds (tell_plain (ann_findings m bases d.annotation))
+      (default_tells (binds_field base before d.name.text) d.default (read_ann m bases d.annotation) marks.default (read_ann_well_formed m bases (smaller m) d.annotation) l.default))
+      (members_tell all base c number (d.name.text ∷ before) rest marks.rest l.others)
+  members_tell all base c number before (method_member d ∷ rest) marks l =
+      tell_then (def_findings m (λ t. is_one_of t (codes "self" ∷ [])) d) (members_findings m base (λ t. is_one_of t (d.name.text ∷ before)) rest) (dynamic_in_params d.params marks.method.params) (dynamic_in_members rest marks.rest)
+      (def_tells (codes "self" ∷ []) d marks.method.params l.method.params)
+      (members_tell all base c (suc number) (d.name.text ∷ before) rest marks.rest l.others)
 
   -- ---- constants
 
@@ -157,58 +149,61 @@ module _ (P : DynamicFlow → Type 0) (m : Module) where
         ap (λ (x : Mark). flows_of bases x into) mark_is
         ∙ into_one bases (mark_of c.value marks.value) into (flows_of bases (mark_of c.value marks.value) into) marks.flows (flows_are_lawful bases (mark_of c.value marks.value) into (smaller m) k into_well_formed) l.flow
 
-    constant_tells : Covers (DynamicInItem (constant_item p c) marks) → Told (constant_findings m (reached_at b) c)
-    constant_tells k =
+    constant_tells : Tells (constant_findings m (reached_at b) c) (dynamic_in_item (constant_item p c) marks)
+    constant_tells =
         let notes = map plain_note (option_findings m bases c.annotation) in
         let q = place_of c.value in
+        let ds = dynamic_in c.value marks.value in
+        let es = dynamic_at q marks.flows in
         let is : value_findings m (reached_at b) into c.value ≡ notes_under c.value marks.value ++ flows_at q marks.flows = λ i. found_is i ++ flows_at q (flows_are i) in
-        both notes (value_findings m (reached_at b) into c.value) (tell_plain P (option_findings m bases c.annotation))
-        (subst Told (sym is) (both (notes_under c.value marks.value) (flows_at q marks.flows) (tell_expression P c.value marks.value (λ d x. k d (inr x))) (tell_flows P q marks.flows (λ d x. k d (inl x)))))
+        tell_then notes (value_findings m (reached_at b) into c.value) [] (ds ++ es) (tell_plain (option_findings m bases c.annotation))
+        (subst (λ xs. Tells xs (ds ++ es)) (sym is) (tell_then (notes_under c.value marks.value) (flows_at q marks.flows) ds es (tell_expression c.value marks.value) (tell_flows q marks.flows)))
 
   -- ---- items
 
   -- the signatures of functions
-  functions_tell : (all : List Tree) (b : BeforeItem) (items : List Item) (marks : ItemsMarks items) → LawfulModuleItems m all b items marks → Covers (DynamicInItems items marks) → Told (functions_findings m items)
-  functions_tell all b [] marks l k = tt
-  functions_tell all b (i ∷ rest) marks l k =
-      both (function_findings m i) (functions_findings m rest) (one i marks.first l.0 (λ d x. k d (inl x))) (functions_tell all (before_next m b i marks.first) rest marks.rest l.1 (λ d x. k d (inr x)))
+  functions_tell : (all : List Tree) (b : BeforeItem) (items : List Item) (marks : ItemsMarks items) → LawfulModuleItems m all b items marks → Tells (functions_findings m items) (dynamic_in_each dynamic_in_function items marks)
+  functions_tell all b [] marks l = λ q. refl
+  functions_tell all b (i ∷ rest) marks l =
+      tell_then (function_findings m i) (functions_findings m rest) (dynamic_in_function i marks.first) (dynamic_in_each dynamic_in_function rest marks.rest) (one i marks.first l.0) (functions_tell all (before_next m b i marks.first) rest marks.rest l.1)
     where
-      one : (i : Item) (mk : ItemMarks i) → LawfulItem m all b i mk → Covers (DynamicInItem i mk) → Told (function_findings m i)
-      one (constant_item p c) mk h k = tt
-      one (class_item p c) mk h k = tt
-      one (def_item p f) mk h k = def_tells [] f mk.params h.params (λ d x. k d (inl x))
+      one : (i : Item) (mk : ItemMarks i) → LawfulItem m all b i mk → Tells (function_findings m i) (dynamic_in_function i mk)
+      one (constant_item p c) mk h = λ q. refl
+      one (class_item p c) mk h = λ q. refl
+      one (def_item p f) mk h = def_tells [] f mk.params h.params
 
   -- constants and classes
-  class_tells : (all : List Tree) (b : BeforeItem) (p : _) (c : ClassDef) (marks : ItemMarks (class_item p c)) → slice_get (classes_in m.items) b.classes ≡ Some c → LawfulItem m all b (class_item p c) marks → Covers (DynamicInMembers c.members marks) → Told (class_notes m b.classes c)
-  class_tells all b p c marks is l k =
+  class_tells : (all : List Tree) (b : BeforeItem) (p : _) (c : ClassDef) (marks : ItemMarks (class_item p c)) → slice_get (classes_in m.items) b.classes ≡ Some c → LawfulItem m all b (class_item p c) marks → Tells (class_notes m b.classes c) (dynamic_in_members c.members marks)
+  class_tells all b p c marks is l =
       let same : base_at m b.classes ≡ base_class m b.classes c = ap (base_facts (classes_of m)) (base_here m b.classes c is) in
-      subst (λ (x : ClassFacts). Told (members_findings m x no_name c.members)) (sym same) (members_tell all (base_class m b.classes c) b.classes 0 [] c.members marks l k)
+      subst (λ (x : ClassFacts). Tells (members_findings m x no_name c.members) (dynamic_in_members c.members marks)) (sym same) (members_tell all (base_class m b.classes c) b.classes 0 [] c.members marks l)
 
-  items_tell : (all : List Tree) (b : BeforeItem) → AreWellFormed bases b.constants → (items : List Item) → ClassesFrom m b.classes (classes_in items) → (marks : ItemsMarks items) → LawfulModuleItems m all b items marks → Covers (DynamicInItems items marks) → Told (items_findings m (reached_at b) items)
-  items_tell all b kb [] from marks l k = tt
-  items_tell all b kb (constant_item p c ∷ rest) from marks l k =
+  items_tell : (all : List Tree) (b : BeforeItem) → AreWellFormed bases b.constants → (items : List Item) → ClassesFrom m b.classes (classes_in items) → (marks : ItemsMarks items) → LawfulModuleItems m all b items marks → Tells (items_findings m (reached_at b) items) (dynamic_in_each dynamic_in_item items marks)
+  items_tell all b kb [] from marks l = λ q. refl
+  items_tell all b kb (constant_item p c ∷ rest) from marks l =
       let mk = marks.first in
       let t = constant_type m c.annotation (type_of c.value mk.value) in
       let next = before_next m b (constant_item p c) mk in
+      let others = dynamic_in_each dynamic_in_item rest marks.rest in
       let here : behind m (reached_at b) (constant_item p c) ≡ reached_at next = ap (λ x. record { constants = b.constants ++ x ∷ []; classes = b.classes; bound = λ w. is_one_of w next.names }) (constant_is b kb p c mk all l.0) in
-      both (constant_findings m (reached_at b) c) (items_findings m (behind m (reached_at b) (constant_item p c)) rest) (constant_tells b kb p c mk all l.0 (λ d x. k d (inl x)))
-      (subst (λ (x : ItemsReached). Told (items_findings m x rest)) (sym here) (items_tell all next (one_more m b.constants t kb (type_well_formed b kb p c mk all l.0)) rest from marks.rest l.1 (λ d x. k d (inr x))))
-  items_tell all b kb (class_item p c ∷ rest) from marks l k =
+      tell_then (constant_findings m (reached_at b) c) (items_findings m (behind m (reached_at b) (constant_item p c)) rest) (dynamic_in_item (constant_item p c) mk) others (constant_tells b kb p c mk all l.0)
+      (subst (λ (x : ItemsReached). Tells (items_findings m x rest) others) (sym here) (items_tell all next (one_more m b.constants t kb (type_well_formed b kb p c mk all l.0)) rest from marks.rest l.1))
+  items_tell all b kb (class_item p c ∷ rest) from marks l =
       let next = before_next m b (class_item p c) marks.first in
-      both (class_notes m b.classes c) (items_findings m (reached_at next) rest)
-      (class_tells all b p c marks.first (ap (slice_get (classes_in m.items)) (omega arith) ∙ from 0) l.0 (λ d x. k d (inl x)))
-      (items_tell all next kb rest (λ i. ap (slice_get (classes_in m.items)) (omega arith) ∙ from (suc i)) marks.rest l.1 (λ d x. k d (inr x)))
-  items_tell all b kb (def_item p f ∷ rest) from marks l k = items_tell all (before_next m b (def_item p f) marks.first) kb rest from marks.rest l.1 (λ d x. k d (inr x))
+      tell_then (class_notes m b.classes c) (items_findings m (reached_at next) rest) (dynamic_in_members c.members marks.first) (dynamic_in_each dynamic_in_item rest marks.rest)
+      (class_tells all b p c marks.first (ap (slice_get (classes_in m.items)) (omega arith) ∙ from 0) l.0)
+      (items_tell all next kb rest (λ i. ap (slice_get (classes_in m.items)) (omega arith) ∙ from (suc i)) marks.rest l.1)
+  items_tell all b kb (def_item p f ∷ rest) from marks l = items_tell all (before_next m b (def_item p f) marks.first) kb rest from marks.rest l.1
 
   -- ---- bodies
 
-  end_tells : (t : Tree) (p : Place) (out : Option Env) → Told (end_finds bases t p out)
-  end_tells t p None = tt
-  end_tells t p (Some env) = in_both Told (static_test bases NoneType t) [] (plain_note (finding p E21) ∷ []) tt (tt, tt)
+  end_tells : (t : Tree) (p : Place) (out : Option Env) → Tells (end_finds bases t p out) []
+  end_tells t p None = λ q. refl
+  end_tells t p (Some env) = in_both (λ (xs : List Note). Tells xs []) (static_test bases NoneType t) [] (plain_note (finding p E21) ∷ []) (λ q. refl) (tell_plain (finding p E21 ∷ []))
 
   module _ (all : List Tree) (ka : AreWellFormed bases all) where
-    function_tells : (owner : Owner) (f : FuncDef) (marks : FunctionMarks f) → LawfulFunction m all owner f marks → (found : List Note) → Told found → Covers (DynamicInSuite f.body marks.body) → Told (function_finds m all owner f found)
-    function_tells owner f marks l found hf k =
+    function_tells : (owner : Owner) (f : FuncDef) (marks : FunctionMarks f) → LawfulFunction m all owner f marks → (found : List Note) → Grows found (function_finds m all owner f found) (dynamic_in_suite f.body marks.body)
+    function_tells owner f marks l found =
         let names = locals owner f in
         let setting : Setting = record { whole = m; context = body_context m all names; context_well_formed = bodies_well_formed m all names ka; count = length names; locals = names_are m all names } in
         let ds = marks.declared in
@@ -219,38 +214,43 @@ module _ (P : DynamicFlow → Type 0) (m : Module) where
         let e = all_entered setting ds [] none none (none_fits setting ds) (none_assigned_fits setting ds l.each_local) entries (entries_well_formed m owner f) l.entry in
         let w : Walk = record { table = start.0; env = Some start.1; broken = None; found = found } in
         let body = walk_suite (frame_in setting (return_type m f)) w f.body in
-        both body.found (end_finds bases (return_type m f) f.name.place body.env)
-        (suite_tells P setting (return_type m f) (returned_well_formed m f) ds (names_entered [] entries) f.body w env (ap Some e.env_is) e.fits e.env_fits tt marks.body marks.out l.body hf k)
-        (end_tells (return_type m f) f.name.place body.env)
+        let at_end = end_finds bases (return_type m f) f.name.place body.env in
+        let told = suite_tells setting (return_type m f) (returned_well_formed m f) ds (names_entered [] entries) f.body w env (ap Some e.env_is) e.fits e.env_fits tt marks.body marks.out l.body in
+        subst (λ flows. Grows found (body.found ++ at_end) flows) (append-nil (dynamic_in_suite f.body marks.body))
+        (grow_then found body.found (body.found ++ at_end) (dynamic_in_suite f.body marks.body) [] told (grow body.found at_end [] (end_tells (return_type m f) f.name.place body.env)))
 
-    methods_tell : (base : ClassFacts) (c number : ℕ) (before : List (List ℕ)) (ms : List Member) (marks : MembersMarks ms) → LawfulMembers m all base c number before ms marks → (found : List Note) → Told found → Covers (DynamicInMembers ms marks) → Told (methods_find m all c number ms found)
-    methods_tell base c number before [] marks l found hf k = hf
-    methods_tell base c number before (field_member d ∷ rest) marks l found hf k = methods_tell base c number (d.name.text ∷ before) rest marks.rest l.others found hf (λ d x. k d (inr x))
-    methods_tell base c number before (method_member f ∷ rest) marks l found hf k =
-        methods_tell base c (suc number) (f.name.text ∷ before) rest marks.rest l.others (function_finds m all (owners.Method c number) f found)
-        (function_tells (owners.Method c number) f marks.method l.method found hf (λ d x. k d (inl (inr x)))) (λ d x. k d (inr x))
+    methods_tell : (base : ClassFacts) (c number : ℕ) (before : List (List ℕ)) (ms : List Member) (marks : MembersMarks ms) → LawfulMembers m all base c number before ms marks → (found : List Note) → Grows found (methods_find m all c number ms found) (dynamic_in_methods ms marks)
+    methods_tell base c number before [] marks l found = grow_none found
+    methods_tell base c number before (field_member d ∷ rest) marks l found = methods_tell base c number (d.name.text ∷ before) rest marks.rest l.others found
+    methods_tell base c number before (method_member f ∷ rest) marks l found =
+        let one = function_finds m all (owners.Method c number) f found in
+        grow_then found one (methods_find m all c (suc number) rest one) (dynamic_in_suite f.body marks.method.body) (dynamic_in_methods rest marks.rest)
+        (function_tells (owners.Method c number) f marks.method l.method found) (methods_tell base c (suc number) (f.name.text ∷ before) rest marks.rest l.others one)
 
-    bodies_tell : (b : BeforeItem) (items : List Item) (marks : ItemsMarks items) → LawfulModuleItems m all b items marks → (found : List Note) → Told found → Covers (DynamicInItems items marks) → Told (bodies_find m all b.classes b.functions items found)
-    bodies_tell b [] marks l found hf k = hf
-    bodies_tell b (constant_item p c ∷ rest) marks l found hf k = bodies_tell (before_next m b (constant_item p c) marks.first) rest marks.rest l.1 found hf (λ d x. k d (inr x))
-    bodies_tell b (class_item p c ∷ rest) marks l found hf k =
-        bodies_tell (before_next m b (class_item p c) marks.first) rest marks.rest l.1 (methods_find m all b.classes 0 c.members found)
-        (methods_tell (base_class m b.classes c) b.classes 0 [] c.members marks.first l.0 found hf (λ d x. k d (inl x))) (λ d x. k d (inr x))
-    bodies_tell b (def_item p f ∷ rest) marks l found hf k =
-        bodies_tell (before_next m b (def_item p f) marks.first) rest marks.rest l.1 (function_finds m all (owners.Func b.functions) f found)
-        (function_tells (owners.Func b.functions) f marks.first l.0 found hf (λ d x. k d (inl (inr x)))) (λ d x. k d (inr x))
+    bodies_tell : (b : BeforeItem) (items : List Item) (marks : ItemsMarks items) → LawfulModuleItems m all b items marks → (found : List Note) → Grows found (bodies_find m all b.classes b.functions items found) (dynamic_in_each dynamic_in_body items marks)
+    bodies_tell b [] marks l found = grow_none found
+    bodies_tell b (constant_item p c ∷ rest) marks l found = bodies_tell (before_next m b (constant_item p c) marks.first) rest marks.rest l.1 found
+    bodies_tell b (class_item p c ∷ rest) marks l found =
+        let one = methods_find m all b.classes 0 c.members found in
+        grow_then found one (bodies_find m all (suc b.classes) b.functions rest one) (dynamic_in_methods c.members marks.first) (dynamic_in_each dynamic_in_body rest marks.rest)
+        (methods_tell (base_class m b.classes c) b.classes 0 [] c.members marks.first l.0 found) (bodies_tell (before_next m b (class_item p c) marks.first) rest marks.rest l.1 one)
+    bodies_tell b (def_item p f ∷ rest) marks l found =
+        let one = function_finds m all (owners.Func b.functions) f found in
+        grow_then found one (bodies_find m all b.classes (suc b.functions) rest one) (dynamic_in_suite f.body marks.first.body) (dynamic_in_each dynamic_in_body rest marks.rest)
+        (function_tells (owners.Func b.functions) f marks.first l.0 found) (bodies_tell (before_next m b (def_item p f) marks.first) rest marks.rest l.1 one)
 
--- each note of a module that has two types tells of a dynamic flow under its lawful labelling
-pub module_tells : (m : Module) (marks : Labelling m) → IsLawful m marks → AllTell (DynamicUnder m marks) (module_finds m [])
+-- what is found of a module tells of just the dynamic flows under its lawful labelling
+pub module_tells : (m : Module) (marks : Labelling m) → IsLawful m marks → Tells (module_finds m []) (dynamic_flows m marks)
 unfolding module_finds signatures_find
 module_tells m marks l =
-    let P = DynamicUnder m marks in
     let all = constant_types m m.items marks in
     let same : constants_of m ≡ all = constants_have_types m marks l in
     let ka : AreWellFormed (bases_of m) all = subst (AreWellFormed (bases_of m)) same (constants_well_formed m) in
-    let k : (d : DynamicFlow) → DynamicUnder m marks d → DynamicUnder m marks d = λ d x. x in
-    let signed = tell_then P (functions_findings m m.items) (items_findings m nothing_reached m.items)
-    (functions_tell P m all nothing_before m.items marks l k)
-    (items_tell P m all nothing_before tt m.items (λ i. ap (slice_get (classes_in m.items)) (omega arith)) marks l k) in
-    subst (λ ts. AllTell P (bodies_find m ts 0 0 m.items (functions_findings m m.items ++ items_findings m nothing_reached m.items))) (sym same)
-    (bodies_tell P m all ka nothing_before m.items marks l (functions_findings m m.items ++ items_findings m nothing_reached m.items) signed k)
+    let first = functions_findings m m.items ++ items_findings m nothing_reached m.items in
+    let ds = dynamic_in_each dynamic_in_function m.items marks ++ dynamic_in_each dynamic_in_item m.items marks in
+    let es = dynamic_in_each dynamic_in_body m.items marks in
+    let signed : Tells first ds = tell_then (functions_findings m m.items) (items_findings m nothing_reached m.items) (dynamic_in_each dynamic_in_function m.items marks) (dynamic_in_each dynamic_in_item m.items marks)
+    (functions_tell m all nothing_before m.items marks l)
+    (items_tell m all nothing_before tt m.items (λ i. ap (slice_get (classes_in m.items)) (omega arith)) marks l) in
+    subst (λ ts. Tells (bodies_find m ts 0 0 m.items first) (ds ++ es)) (sym same)
+    (tell_grown first (bodies_find m all 0 0 m.items first) ds es signed (bodies_tell m all ka nothing_before m.items marks l first))

@@ -1,23 +1,25 @@
 //! The laws, each a function whose contract it is.
 
-ghost use Rattle.pc_dynamic.specs.FlowLaw.{DynamicFlowsAreDynamic, DynamicFlowsAreFound, DynamicFlowsAreWellFormed};
-ghost use Rattle.pc_dynamic.specs.FlowLaw.{DynamicFlowsStandUnderLabels};
+ghost use Rattle.pc_dynamic.specs.FlowLaw.{DynamicFlowsAreComputed, DynamicFlowsAreDynamic, DynamicFlowsAreFound};
+ghost use Rattle.pc_dynamic.specs.FlowLaw.{DynamicFlowsAreUnique, DynamicFlowsAreWellFormed};
 
-/// The law that A1 is found at a place of a module exactly where the flow there is dynamic.
+/// The law that A1 is found at a place of a module exactly where a type flows dynamically there: where a flow under its
+/// lawful labelling has that code.
 pub fn dynamic_flows_are_found()
     ensures { DynamicFlowsAreFound }
 {}
 
-/// The law that of a dynamic flow of a module the type that flows is assignable to the one that it flows into, and is
-/// not static to it; and that both are in normal form, without absorbed members and of at most 256 nodes.
+/// The law that where a type flows dynamically into another, it is assignable to that one and is not static to it; and
+/// that both are in normal form, without absorbed members and of at most 256 nodes.
 pub fn dynamic_flows_are_dynamic()
     ensures flows { DynamicFlowsAreDynamic }
     ensures types { DynamicFlowsAreWellFormed }
 {}
 
-/// The law that the two types of a dynamic flow of a module are those of a flow under any lawful labelling of it: of
-/// the first dynamic one among the flows of a value at its place. So the pair that is computed is one that the rules
-/// themselves speak of.
+/// The law that the two types that are computed at a place of a module, by a walk over it, are those that flow
+/// dynamically there under its lawful labelling, the first ones there; and that no other two do. So the pair that is
+/// computed is the one that the rules themselves speak of.
 pub fn dynamic_flows_stand_under_labels()
-    ensures { DynamicFlowsStandUnderLabels }
+    ensures computed { DynamicFlowsAreComputed }
+    ensures unique { DynamicFlowsAreUnique }
 {}

@@ -11,14 +11,14 @@ use Rattle.pc_types.specs.Tree.{Tree}
 use Rattle.pc_ann.specs.Text.{type_text}
 use Rattle.pc_notes.specs.Notes.{Note, flow_noted}
 use Rattle.pc_notes.specs.Texts.{FlowText, IsFlowText, places_of, AreFlowTexts}
-use Rattle.pc_labels.specs.DynamicFlows.{dynamic_flow}
 use Rattle.pc_labels.specs.Modules.{IsFinding}
-use Rattle.pc_dynamic.proofs.RightFlows.{flows_found}
+use Rattle.pc_dynamic.specs.FlowLaw.{HasDynamicFlow, TellsFlows}
+use Rattle.pc_dynamic.proofs.StandingFlows.{flows_found}
 use Rattle.pc_report.specs.declared.flow.FlowTexts.{FlowTexts}
 use Rattle.pc_report.specs.declared.report.Row.{Row}
 use Rattle.pc_report.specs.Flows.{FlowEntry, IsListed, IsExplained}
 use Rattle.pc_report.specs.Report.{ExplainsRows, row_findings}
-use Rattle.pc_top.specs.Headline.{AreTextsOf, IsExplainedRow}
+use Rattle.pc_top.specs.Headline.{AreTextsOfFlow, IsExplainedRow}
 
 -- membership in lists
 module _ {X : Type 0} where
@@ -62,24 +62,25 @@ each_of_both : {X : Type 0} (P Q R : X → Type 0) (xs : List X) → ((x : X) �
 each_of_both P Q R [] f all others = tt
 each_of_both P Q R (x ∷ xs) f all others = (f x all.0 others.0, each_of_both P Q R xs f all.1 others.1)
 
-module _ (m : Module) (notes : List Note) (texts : List FlowText) (are : AreFlowTexts m notes texts) (flows : (p : Place) → flow_noted p notes ≡ dynamic_flow m p) where
-  read_as : (o : Option (Tree × Tree)) (t : FlowText) (shown : FlowTexts) → string_bytes shown.from ≡ string_bytes t.1 → string_bytes shown.to ≡ string_bytes t.2
-      → MatchOption o ⊥ (λ f. (string_bytes t.1 ≡ type_text m f.0) × (string_bytes t.2 ≡ type_text m f.1)) → AreTextsOf m o shown
-  read_as None t shown from to h = h
-  read_as (Some f) t shown from to h = (from ∙ h.0, to ∙ h.1)
+module _ (m : Module) (notes : List Note) (texts : List FlowText) (are : AreFlowTexts m notes texts) (flows : TellsFlows m notes) where
+  -- texts of what notes tell of at a place are those of the dynamic flow there
+  read_as : (p : Place) (o : Option (Tree × Tree)) (t : FlowText) (shown : FlowTexts) → flow_noted p notes ≡ o → string_bytes shown.from ≡ string_bytes t.1 → string_bytes shown.to ≡ string_bytes t.2
+      → MatchOption o ⊥ (λ f. (string_bytes t.1 ≡ type_text m f.0) × (string_bytes t.2 ≡ type_text m f.1)) → AreTextsOfFlow m p shown
+  read_as p None t shown is from to h = absurd h
+  read_as p (Some f) t shown is from to h = record { from = f.0; into = f.1; flows = (flows.just p f.0 f.1).0 is; from_text = from ∙ h.0; into_text = to ∙ h.1 }
 
   explained : (f : Finding) (shown : Option FlowTexts) → IsFinding m f → IsExplained texts f shown
-      → MatchOption shown (¬ (f.code ≡ A1)) (λ t. (f.code ≡ A1) × AreTextsOf m (dynamic_flow m f.place) t)
+      → MatchOption shown (¬ (f.code ≡ A1)) (λ t. (f.code ≡ A1) × AreTextsOfFlow m f.place t)
   explained f None found h = λ code.
-      let dynamic : IsSome (dynamic_flow m f.place) = (flows_found m f.place).0 (subst (IsFinding m) (with_code f code) found) in
-      h code (listed_place texts f.place (are.all f.place (subst IsSome (sym (flows f.place)) dynamic)))
+      let d : HasDynamicFlow m f.place = (flows_found m f.place).0 (subst (IsFinding m) (with_code f code) found) in
+      let noted : flow_noted f.place notes ≡ Some (d.from, d.into) = (flows.just f.place d.from d.into).1 d.flows in
+      h code (listed_place texts f.place (are.all f.place (subst IsSome (sym noted) refl)))
   explained finding (Some shown) found h =
       let t = h.1.0 in
       let own : IsFlowText m notes t = holds_of (IsFlowText m notes) texts t are.each h.1.1 in
-      let here : t.0 ≡ finding.place = h.1.2 in
-      let noted : flow_noted t.0 notes ≡ dynamic_flow m finding.place = ap (λ p. flow_noted p notes) here ∙ flows finding.place in (
+      let noted : flow_noted t.0 notes ≡ flow_noted finding.place notes = ap (λ p. flow_noted p notes) h.1.2 in (
         h.0,
-        read_as (dynamic_flow m finding.place) t shown h.1.3 h.1.4
+        read_as finding.place (flow_noted finding.place notes) t shown refl h.1.3 h.1.4
             (subst (λ (o : Option (Tree × Tree)). MatchOption o ⊥ (λ f. (string_bytes t.1 ≡ type_text m f.0) × (string_bytes t.2 ≡ type_text m f.1))) noted own),
       )
 

@@ -14,9 +14,12 @@ use Rattle.pc_class.specs.Findings.{ClassFinds}
 use Rattle.pc_class.specs.OverrideFindings.{override_findings}
 use Rattle.pc_class.proofs.FoundClashes.{just_their_lists}
 use Rattle.pc_notes.specs.Notes.{Note, plain_note, findings_of, is_same_place, flow_or, flow_noted}
+use Rattle.pc_labels.specs.DynamicFlows.{dynamic_flow}
 use Rattle.pc_labels.specs.Modules.{IsFinding}
 use Rattle.pc_labels.specs.ComputedModules.{module_finds}
 use Rattle.pc_labels.proofs.WalkedModule.{findings_computed}
+use Rattle.pc_dynamic.specs.FlowLaw.{TellsFlows}
+use Rattle.pc_dynamic.proofs.StandingFlows.{flows_computed}
 
 -- ---- findings
 
@@ -86,3 +89,7 @@ flows_stay p (n ∷ ns) fs = ap (flow_or p n) (flows_stay p ns fs)
 
 pub same_flows : (p : Place) (notes first : List Note) (xs ys : List Finding) → notes ≡ (first ++ map plain_note xs) ++ map plain_note ys → flow_noted p notes ≡ flow_noted p first
 same_flows p notes first xs ys is = ap (flow_noted p) is ∙ flows_stay p (first ++ map plain_note xs) ys ∙ flows_stay p first xs
+
+-- what is computed at each place is the dynamic flow there
+pub told_flows : (m : Module) (notes : List Note) → ((p : Place) → flow_noted p notes ≡ dynamic_flow m p) → TellsFlows m notes
+told_flows m notes same = record { just = λ p s t. (λ e. (flows_computed m p s t).0 (sym (same p) ∙ e), λ h. same p ∙ (flows_computed m p s t).1 h) }

@@ -1,5 +1,5 @@
 -- The main theorem's statement: what a report says of the bytes, and what a refusal does.
-use Rattle.std.specs.Prelude.{◌≡◌, ℕ, List, Contains, Option, None, Some, MatchOption, string_bytes}
+use Rattle.std.specs.Prelude.{◌≡◌, ℕ, List, Contains, MatchOption, string_bytes}
 use Rattle.std.specs.List.{AllByRecursion}
 use Rattle.pc_source.specs.declared.place.Place.{Place}
 use Rattle.pc_source.specs.declared.fault.Fault.{Fault}
@@ -11,8 +11,8 @@ use Rattle.pc_tree.specs.Code.{IsError}
 use Rattle.pc_tree.specs.Tree.{Module}
 use Rattle.pc_types.specs.Tree.{Tree}
 use Rattle.pc_ann.specs.Text.{type_text}
-use Rattle.pc_labels.specs.DynamicFlows.{dynamic_flow}
 use Rattle.pc_labels.specs.Modules.{HasLabelling, IsFinding}
+use Rattle.pc_dynamic.specs.FlowLaw.{FlowsDynamically}
 use Rattle.pc_machine.specs.Runs.{Run, End, IsFaultyEnd}
 use Rattle.pc_front.specs.Bytes.{IsModuleOf}
 use Rattle.pc_report.specs.declared.flow.FlowTexts.{FlowTexts}
@@ -32,17 +32,20 @@ pub record HasEvaluatedRow (rows : List Row) (events : List Place) : Type 0 wher
   pub dynamic : ¬ (IsError finding.code)
   pub event : Contains events finding.place
 
--- the texts are those of the two types of a dynamic flow
-abbrev pub AreTextsOf : Module → Option (Tree × Tree) → FlowTexts → Type 0
-AreTextsOf m None texts = ⊥
-AreTextsOf m (Some flow) texts = (string_bytes texts.from ≡ type_text m flow.0)
-    × (string_bytes texts.to ≡ type_text m flow.1)
+-- the texts are those of two types of which the first flows dynamically into the second at this place, under every
+-- lawful labelling of the module
+pub record AreTextsOfFlow (m : Module) (place : Place) (texts : FlowTexts) : Type 0 where
+  pub from : Tree
+  pub into : Tree
+  pub flows : FlowsDynamically m place from into
+  pub from_text : string_bytes texts.from ≡ type_text m from
+  pub into_text : string_bytes texts.to ≡ type_text m into
 
 -- a row of a dynamic flow has the texts of its two types, and no other row has texts
 abbrev pub IsExplainedRow : Module → Row → Type 0
 IsExplainedRow m row =
     MatchOption row.flow (¬ (row.finding.code ≡ A1))
-    (λ texts. (row.finding.code ≡ A1) × AreTextsOf m (dynamic_flow m row.finding.place) texts)
+    (λ texts. (row.finding.code ≡ A1) × AreTextsOfFlow m row.finding.place texts)
 
 -- What a report says. The bytes spell exactly one module; the rows list exactly the findings of its typing, each
 -- dynamic flow with its two types; and where no row is an error, each run of the module that ends in a fault has by

@@ -1,6 +1,6 @@
 -- Each dynamic flow of a module is needed: it is assignable, not static, and some value may show that it is not static.
 -- Own rule of the profile.
-use Rattle.std.specs.Prelude.{◌≡◌, ℕ, List, Some}
+use Rattle.std.specs.Prelude.{ℕ, List}
 use Rattle.pc_source.specs.declared.place.Place.{Place}
 use Rattle.pc_tree.specs.Tree.{Module}
 use Rattle.pc_types.specs.Tree.{Tree}
@@ -8,7 +8,7 @@ use Rattle.pc_ann.specs.Bases.{bases_of}
 use Rattle.pc_types.specs.Below.{Static}
 use Rattle.pc_types.specs.Assignable.{Assignable}
 use Rattle.pc_class.specs.Facts.{classes_of}
-use Rattle.pc_labels.specs.DynamicFlows.{dynamic_flow}
+use Rattle.pc_dynamic.specs.FlowLaw.{FlowsDynamically}
 use Rattle.pc_sound.specs.Needed.{HasNoNever, IsNeeded}
 use Rattle.pc_front.specs.Bytes.{IsModuleOf}
 
@@ -19,7 +19,7 @@ pub record IsNeededFlow (m : Module) (s t : Tree) : Type 0 where
   pub not_static : ¬ (Static (bases_of m) s t)
   pub needed : HasNoNever s → IsNeeded (bases_of m) (classes_of m) s t
 
--- each dynamic flow of a module that bytes spell is needed
+-- where a type flows dynamically into another in a module that bytes spell, under its lawful labelling, that is needed
 abbrev pub NoNeedlessFlow : Type 0
 NoNeedlessFlow = (bytes : List ℕ) (m : Module) → IsModuleOf bytes m → (p : Place) (s t : Tree)
-    → dynamic_flow m p ≡ Some (s, t) → IsNeededFlow m s t
+    → FlowsDynamically m p s t → IsNeededFlow m s t

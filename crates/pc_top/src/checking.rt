@@ -1,15 +1,14 @@
 //! What is found in a module.
 
 ghost use Rattle.std.specs.Prelude.{◌≡◌, ◌↔◌, Contains, IfOk};
-ghost use Rattle.pc_source.specs.declared.place.Place.{Place};
 ghost use Rattle.pc_tree.specs.declared.code.Finding.{Finding};
 ghost use Rattle.pc_tree.specs.Tree.{module_of};
 ghost use Rattle.pc_scope.specs.ModuleScopes.{AreScopes};
 ghost use Rattle.pc_types.specs.Store.{KeepsTypes};
 ghost use Rattle.pc_class.specs.Bases.{bases_of};
-ghost use Rattle.pc_notes.specs.Notes.{findings_of, flow_noted, notes_of};
-ghost use Rattle.pc_labels.specs.DynamicFlows.{dynamic_flow};
+ghost use Rattle.pc_notes.specs.Notes.{findings_of, notes_of};
 ghost use Rattle.pc_labels.specs.Modules.{IsFinding};
+ghost use Rattle.pc_dynamic.specs.FlowLaw.{TellsFlows};
 
 use pc_ann::parents_of;
 use pc_check::check_module;
@@ -24,8 +23,8 @@ use pc_types::{Parents, TypeStore};
 use std::alloc::Global;
 
 /// What is found in a module, over any store of types: in its signatures, constants and bodies, each dynamic flow with
-/// its types; of its names; of its classes. It is the same over each store, since the contract names none. Own rule of
-/// the profile.
+/// its types, which are those under the module's lawful labelling; of its names; of its classes. It is the same over
+/// each store, since the contract names none. Own rule of the profile.
 ///
 /// # Errors
 ///
@@ -41,8 +40,7 @@ pub fn findings_by<S: TypeStore>(
     requires parents { parents.now ≡ bases_of (module_of «module».now) }
     ensures found { IfOk result
         (λ v. (f : Finding) → Contains (findings_of (notes_of v)) f ↔ IsFinding (module_of «module».now) f) }
-    ensures flows { IfOk result
-        (λ v. (p : Place) → flow_noted p (notes_of v) ≡ dynamic_flow (module_of «module».now) p) }
+    ensures flows { IfOk result (λ v. TellsFlows (module_of «module».now) (notes_of v)) }
     ensures kept { KeepsTypes S.has store.old store.new }
 {
     let mut of_classes = Vec::new(alloc);
@@ -60,8 +58,7 @@ pub fn findings_by<S: TypeStore>(
 pub(crate) fn findings(alloc: Global, module: &Module) -> Result<Notes, OutOfMemory>
     ensures found { IfOk result
         (λ v. (f : Finding) → Contains (findings_of (notes_of v)) f ↔ IsFinding (module_of «module».now) f) }
-    ensures flows { IfOk result
-        (λ v. (p : Place) → flow_noted p (notes_of v) ≡ dynamic_flow (module_of «module».now) p) }
+    ensures flows { IfOk result (λ v. TellsFlows (module_of «module».now) (notes_of v)) }
 {
     let scopes = scopes(alloc, module)?;
     let parents = parents_of(alloc, module, &scopes)?;

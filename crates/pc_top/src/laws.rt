@@ -2,10 +2,10 @@
 
 ghost use Rattle.pc_top.specs.NoNeedlessFlow.{NoNeedlessFlow};
 
-/// The law that no flow is listed for caution alone: of each dynamic flow of a module that bytes spell, the type that
-/// flows is assignable to the one that it flows into and is not static to it; and where the first holds no `Never`,
-/// some well-typed heap of the module's classes has a value of the first that is not of the second. Nothing is claimed
-/// of the heaps that runs reach.
+/// The law that no flow is listed for caution alone: where a type flows dynamically into another one in a module that
+/// bytes spell, under its lawful labelling, the first is assignable to the second and is not static to it; and where
+/// the first holds no `Never`, some well-typed heap of the module's classes has a value of the first that is not of the
+/// second. Nothing is claimed of the heaps that runs reach.
 pub fn no_needless_flow()
     ensures { NoNeedlessFlow }
 {}

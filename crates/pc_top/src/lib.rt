@@ -1,4 +1,4 @@
-//! From bytes to a report, and what the report promises of the module's runs; and the same of streams.
+//! From bytes to their module and its report, and what the report promises of the module's runs; the same of streams.
 #![tactic(auto)]
 
 mod checking;
@@ -10,6 +10,7 @@ mod top;
 pub use checking::findings_by;
 pub use fault::CheckFault;
 pub use laws::no_needless_flow;
+pub use pc_front::read_module;
 pub use pc_report::{Format, Report, Row};
 pub use stream::check_stream;
 pub use top::check;

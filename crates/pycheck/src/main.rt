@@ -4,9 +4,8 @@
 ghost use Rattle.std.specs.Prelude.{◌≡◌};
 ghost use Rattle.pycheck.specs.Status.{status};
 
-use pc_commands::{
-    CheckOptions, Explained, OptionFault, check_options, given_words, reason_of, tell,
-};
+use pc_commands::{Explained, given_words, reason_of, tell};
+pub use pc_commands::{CheckOptions as Options, OptionFault, check_options as options};
 use pc_source::Counted;
 use pc_top::{CheckFault, check_stream};
 use std::fs::File;
@@ -29,10 +28,10 @@ pub fn status_of(outcome: &Result<(u64, u64), CheckFault>) -> u8
 }
 
 /// What the words of the command line ask for.
-fn asked_for<R: Env + AllocGlobal>(rt: &R) -> Result<CheckOptions, OptionFault> {
+fn asked_for<R: Env + AllocGlobal>(rt: &R) -> Result<Options, OptionFault> {
     let given = given_words(rt)?;
     let words: Vec<&str> = given.iter().map(|word| word.as_str()).collect(rt.alloc())?;
-    check_options(rt.alloc(), words.as_slice())
+    options(rt.alloc(), words.as_slice())
 }
 
 /// Says why there is no report: of a file or of standard output with the system's reason, where it gave one.
@@ -54,7 +53,7 @@ fn explain<R: Eprint + AllocGlobal>(
 /// Checks what a file has, and writes its report to standard output.
 fn checked<R: Print + Eprint + Files + AllocGlobal>(
     rt: &R,
-    options: &CheckOptions,
+    options: &Options,
     file: R::File,
 ) -> Result<(u64, u64), CheckFault> {
     let mut input = Counted::new(Explained::new(file));

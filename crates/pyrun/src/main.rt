@@ -1,9 +1,8 @@
 //! Runs a module: `pyrun --fuel N FILE`.
 #![tactic(auto)]
 
-use pc_commands::{
-    OptionFault, RunOptions, given_words, reason_of, run_options, status_of, tell, traced,
-};
+use pc_commands::{given_words, reason_of, tell, traced};
+pub use pc_commands::{OptionFault, RunOptions as Options, run_options as options, status_of};
 use pc_run::{Trace, trace_text};
 use pc_source::Fault;
 use std::alloc::AllocError;
@@ -15,10 +14,10 @@ use std::rt::{Env, Files};
 use std::{fs, io};
 
 /// What the words of the command line ask for.
-fn asked_for<R: Env + AllocGlobal>(rt: &R) -> Result<RunOptions, OptionFault> {
+fn asked_for<R: Env + AllocGlobal>(rt: &R) -> Result<Options, OptionFault> {
     let given = given_words(rt)?;
     let words: Vec<&str> = given.iter().map(|word| word.as_str()).collect(rt.alloc())?;
-    run_options(rt.alloc(), words.as_slice())
+    options(rt.alloc(), words.as_slice())
 }
 
 /// Prints a trace.

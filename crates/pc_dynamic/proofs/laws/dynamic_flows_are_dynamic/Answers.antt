@@ -1,4 +1,4 @@
-use Rattle.pc_dynamic.proofs.RightFlows.{flows_dynamic, flows_well_formed}
+use Rattle.pc_dynamic.proofs.StandingFlows.{flows_dynamic, flows_well_formed}
 use Rattle.pc_dynamic.proofs.laws.dynamic_flows_are_dynamic.Goals as goal
 
 pub returns : goal.returns
