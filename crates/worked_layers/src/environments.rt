@@ -8,8 +8,8 @@ ghost use Rattle.pc_flow.specs.Stored.{HasOne, HasEach};
 
 use pc_ann::{parents_of, read_option, type_text};
 use pc_flow::{
-    Declarations, DeclaredTypes, Env, OwnerNames, assigned_type, copy_env, join_env, join_or_object,
-    loop_head,
+    Declarations, DeclaredTypes, Env, OwnerNames, assigned_type, copy_env, join_env,
+    join_or_object, loop_head,
 };
 use pc_front::read_module;
 use pc_scope::{Owner, Res, Scopes, scopes};
