@@ -229,8 +229,9 @@ fn make<S: TypeStore>(
             store.dict(alloc, &int, &int)
         }
         "tuple" => {
-            let int = store.int(alloc)?;
-            store.tuple(alloc, &[int])
+            let mut parts = Vec::new(alloc);
+            parts.push(store.int(alloc)?)?;
+            store.tuple(alloc, &parts)
         }
         "union" => store.union(alloc, &[]),
         _ => Ok(Some(store.int(alloc)?)),
