@@ -12,20 +12,24 @@ pub fn report_text(alloc: Global, text: &str) -> Result<String, TableFault> {
     Ok(in_one_line(alloc, answer.as_str())?)
 }
 
+/// How many bytes of a text stand before its last line, if it has several.
+fn before_last(text: &str) -> Option<usize> {
+    match text.rsplit_once(" / ") {
+        Some((before, _)) => Some(before.len()),
+        None => None,
+    }
+}
+
 /// How the report or the refusal of a text ends: with its last two lines, or its only one.
 pub fn end_text(alloc: Global, text: &str) -> Result<String, TableFault> {
     let report = report_text(alloc, text)?;
-    let before = match report.as_str().rsplit_once(" / ") {
-        Some((before, _)) => before.rsplit_once(" / "),
-        None => None,
+    let whole = report.as_str();
+    let last = before_last(whole).unwrap_or(0);
+    let start = match before_last(whole.get(..last).unwrap_or("")) {
+        Some(before) => before.saturating_add(3),
+        None => 0,
     };
-    let end = match before {
-        Some((first, _)) => report
-            .as_str()
-            .get(first.len().saturating_add(3)..)
-            .unwrap_or(""),
-        None => report.as_str(),
-    };
+    let end = whole.get(start..).unwrap_or("");
     Ok(String::from_str(alloc, end)?)
 }
 
