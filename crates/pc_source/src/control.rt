@@ -9,7 +9,12 @@ fn is_control(bytes: &[u8], byte: usize) -> bool
     if byte >= bytes.len() {
         return false;
     }
-    match bytes[byte] {
+    let found = bytes[byte];
+    // Most bytes are told by this one comparison.
+    if found > b'\r' {
+        return false;
+    }
+    match found {
         0 | 12 => true,
         b'\r' => bytes.get(byte + 1).copied() != Some(b'\n'),
         _ => false,
