@@ -1,12 +1,11 @@
 -- What comes from the iterator over logical lines, for the layers above.
-use Rattle.std.proofs.Common.{◌≡◌, List, [], ◌∷◌, ◌++◌, map, Result, Ok, Err}
+use Rattle.std.proofs.Common.{List, [], ◌∷◌, ◌++◌, map, Result, Ok, Err}
 use Rattle.pc_source.specs.Stream.{Yields}
 use Rattle.pc_source.specs.declared.fault.Fault.{Fault}
 use Rattle.pc_source.specs.declared.fault.Fault.TheVariants as fault
 use Rattle.pc_source.specs.declared.fault.Refusal.{Refusal}
 use Rattle.pc_token.specs.declared.stream.Lines.{Lines}
 use Rattle.pc_token.specs.declared.token.Line.{Line}
-use Rattle.pc_token.specs.Lexeme.{LogicalLine, line_of}
 use Rattle.pc_token.specs.Remaining.{HasLeft, gives, all_read}
 
 -- lines that come up to the end are those that were left

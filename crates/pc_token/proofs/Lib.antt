@@ -24,3 +24,5 @@ pub mod Turns
 pub mod WithinText
 pub mod ListSearch
 pub mod PiecesAtBytes
+pub mod FirstBytes
+pub mod WordBytes

@@ -1,5 +1,5 @@
 //! Bytes and characters of a text.
-ghost use Rattle.std.specs.Prelude.{◌≡◌, ◌≤◌, length, drop, slice_index, slice_get, chars};
+ghost use Rattle.std.specs.Prelude.{◌≡◌, ◌+◌, ◌≤◌, length, drop, slice_index, slice_get, chars};
 ghost use Rattle.std.specs.Str.{IsCharBoundary};
 
 /// The byte at an index, or 0 past the end.
@@ -7,6 +7,15 @@ pub(crate) fn byte_at(bytes: &[u8], index: usize) -> u8
     ensures { result ≡ slice_index bytes.now index }
 {
     if index < bytes.len() { bytes[index] } else { 0 }
+}
+
+/// The bytes from an index on.
+pub(crate) fn bytes_from(bytes: &[u8], index: usize) -> &[u8]
+    requires { index ≤ length bytes.now }
+    ensures value { result.now ≡ drop index bytes.now }
+    ensures len { index + length result.now ≡ length bytes.now }
+{
+    &bytes[index..]
 }
 
 /// The character that begins at a byte.

@@ -3,10 +3,10 @@ ghost use Rattle.std.specs.Prelude.{◌≡◌, ◌+◌, ◌≤◌, ◌==◌, not
 ghost use Rattle.std.specs.List.{prefix_len};
 ghost use Rattle.pc_token.specs.Gaps.{is_blank, is_line_byte, starts_line_end, ends_line};
 
-use crate::bytes::byte_at;
+use crate::bytes::{byte_at, bytes_from};
 
 /// How many spaces and tabs stand at the front.
-pub(crate) fn blank_len(bytes: &[u8]) -> usize
+fn run_len(bytes: &[u8]) -> usize
     ensures len { result ≡ prefix_len is_blank bytes.now }
     ensures within { result ≤ length bytes.now }
 {
@@ -14,6 +14,17 @@ pub(crate) fn blank_len(bytes: &[u8]) -> usize
         .iter()
         .take_while(|b| **b == b' ' || **b == b'\t')
         .count()
+}
+
+/// How many spaces and tabs stand at the front, where so many spaces do: those are not looked at again.
+pub(crate) fn blank_len(bytes: &[u8], spaces: usize) -> usize
+    requires { spaces ≡ prefix_len (λ b. b == 32) bytes.now }
+    ensures len { result ≡ prefix_len is_blank bytes.now }
+    ensures within { result ≤ length bytes.now }
+{
+    let rest = bytes_from(bytes, spaces);
+    let more = run_len(rest);
+    spaces + more
 }
 
 /// How many spaces stand at the front.

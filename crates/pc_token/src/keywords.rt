@@ -1,47 +1,10 @@
 //! Keywords and reserved names.
-ghost use Rattle.std.specs.Prelude.{◌≡◌, find, bytes_eq};
+ghost use Rattle.std.specs.Prelude.{◌≡◌, ◌==◌, find, bytes_eq, slice_index};
+ghost use Rattle.std.specs.List.{filter};
 ghost use Rattle.pc_token.specs.Keywords.{keyword_text, keywords, is_keyword, is_reserved};
 
 use crate::bytes::byte_at;
 use crate::token::Keyword;
-
-const KEYWORDS: [Keyword; 35] = [
-    Keyword::False,
-    Keyword::None,
-    Keyword::True,
-    Keyword::And,
-    Keyword::As,
-    Keyword::Assert,
-    Keyword::Async,
-    Keyword::Await,
-    Keyword::Break,
-    Keyword::Class,
-    Keyword::Continue,
-    Keyword::Def,
-    Keyword::Del,
-    Keyword::Elif,
-    Keyword::Else,
-    Keyword::Except,
-    Keyword::Finally,
-    Keyword::For,
-    Keyword::From,
-    Keyword::Global,
-    Keyword::If,
-    Keyword::Import,
-    Keyword::In,
-    Keyword::Is,
-    Keyword::Lambda,
-    Keyword::Nonlocal,
-    Keyword::Not,
-    Keyword::Or,
-    Keyword::Pass,
-    Keyword::Raise,
-    Keyword::Return,
-    Keyword::Try,
-    Keyword::While,
-    Keyword::With,
-    Keyword::Yield,
-];
 
 impl Keyword {
     /// The keyword as it is spelled.
@@ -88,28 +51,68 @@ impl Keyword {
     }
 }
 
-/// Whether a keyword is spelled so. Most are told by their length or their first byte.
+/// The keywords that begin with a byte.
+fn beginning_with(byte: u8) -> &'static [Keyword]
+    ensures { result.now ≡ filter (λ k. slice_index (keyword_text k) 0 == byte) keywords }
+{
+    match byte {
+        b'F' => &[Keyword::False],
+        b'N' => &[Keyword::None],
+        b'T' => &[Keyword::True],
+        b'a' => &[
+            Keyword::And,
+            Keyword::As,
+            Keyword::Assert,
+            Keyword::Async,
+            Keyword::Await,
+        ],
+        b'b' => &[Keyword::Break],
+        b'c' => &[Keyword::Class, Keyword::Continue],
+        b'd' => &[Keyword::Def, Keyword::Del],
+        b'e' => &[Keyword::Elif, Keyword::Else, Keyword::Except],
+        b'f' => &[Keyword::Finally, Keyword::For, Keyword::From],
+        b'g' => &[Keyword::Global],
+        b'i' => &[Keyword::If, Keyword::Import, Keyword::In, Keyword::Is],
+        b'l' => &[Keyword::Lambda],
+        b'n' => &[Keyword::Nonlocal, Keyword::Not],
+        b'o' => &[Keyword::Or],
+        b'p' => &[Keyword::Pass],
+        b'r' => &[Keyword::Raise, Keyword::Return],
+        b't' => &[Keyword::Try],
+        b'w' => &[Keyword::While, Keyword::With],
+        b'y' => &[Keyword::Yield],
+        _ => &[],
+    }
+}
+
+/// Whether a keyword is spelled so. Most are told by their length.
 fn is_spelled(keyword: Keyword, name: &str) -> bool
     ensures { result ≡ bytes_eq (keyword_text keyword) name.now }
 {
     let text = keyword.text();
-    text.len() == name.len()
-        && byte_at(text.as_bytes(), 0) == byte_at(name.as_bytes(), 0)
-        && text == name
+    text.len() == name.len() && text == name
 }
 
-/// The keyword that is spelled so.
+/// The first of some keywords that is spelled so.
+fn first_spelled(candidates: &[Keyword], name: &str) -> Option<Keyword>
+    ensures { result ≡ find (λ k. bytes_eq (keyword_text k) name.now) candidates.now }
+{
+    candidates.iter().copied().find(|k| is_spelled(*k, name))
+}
+
+/// The keyword that is spelled so, sought among those that begin as the name does.
 pub(crate) fn keyword_of(name: &str) -> Option<Keyword>
     ensures { result ≡ find (λ k. bytes_eq (keyword_text k) name.now) keywords }
 {
-    KEYWORDS.iter().copied().find(|k| is_spelled(*k, name))
+    let first = byte_at(name.as_bytes(), 0);
+    first_spelled(beginning_with(first), name)
 }
 
 /// Whether a name is a keyword's.
 pub(crate) fn is_keyword(name: &str) -> bool
     ensures { result ≡ is_keyword name.now }
 {
-    KEYWORDS.iter().any(|k| k.text() == name)
+    keyword_of(name).is_some()
 }
 
 /// Whether a name is reserved.

@@ -1,14 +1,16 @@
 //! Names and their forms.
-ghost use Rattle.std.specs.Prelude.{◌≡◌, ℕ, ◌+◌, ◌-◌, ◌≤◌, ◌<◌, ◌==◌, ◌||◌, List, [], ◌++◌, true, false, length, drop};
-ghost use Rattle.std.specs.Prelude.{take, slice_get, slice_range, chars, encode_utf8_all, IfOk, MatchOption, IsUtf8};
-ghost use Rattle.std.specs.List.{list_all};
+ghost use Rattle.std.specs.Prelude.{◌≡◌, ℕ, ◌+◌, ◌-◌, ◌≤◌, ◌<◌, ◌==◌, ◌||◌, not, List, [], ◌++◌, true, false, length};
+ghost use Rattle.std.specs.Prelude.{drop, take, slice_get, slice_range, chars, encode_utf8_all, IfOk, MatchOption, IsUtf8};
+ghost use Rattle.std.specs.Prelude.{is_some};
+ghost use Rattle.std.specs.List.{list_all, prefix_len};
 ghost use Rattle.std.specs.Str.{IsCharBoundary};
 ghost use Rattle.unicode_ident.specs.Ident.{is_xid_continue};
 ghost use Rattle.pc_token.specs.Lexeme.{form_of};
 ghost use Rattle.pc_token.specs.Names.{begins_name, begins_word, continues_word, name_form, is_ascii, is_from};
 ghost use Rattle.pc_token.specs.Names.{is_bad_name};
+ghost use Rattle.pc_token.specs.Internal.WordBytes.{is_word_byte};
 
-use crate::bytes::char_at;
+use crate::bytes::{bytes_from, char_at};
 use crate::keywords::{is_keyword, is_reserved};
 use crate::token::{Keyword, TokenKind};
 use std::alloc::{AllocError, Global};
@@ -44,6 +46,17 @@ pub fn continues_word(text: &str, at: usize) -> bool
     }
 }
 
+/// How many ASCII letters, digits and underscores stand at the front.
+fn ascii_len(bytes: &[u8]) -> usize
+    ensures len { result ≡ prefix_len is_word_byte bytes.now }
+    ensures within { result ≤ length bytes.now }
+{
+    bytes
+        .iter()
+        .take_while(|b| b.is_ascii_alphanumeric() || **b == b'_')
+        .count()
+}
+
 /// Where the characters that may continue a name end.
 pub(crate) fn name_end(text: &str, start: usize) -> usize
     requires { IsCharBoundary text.now start }
@@ -55,7 +68,10 @@ pub(crate) fn name_end(text: &str, start: usize) -> usize
     ensures all { MatchOption (slice_get (chars (drop result text.now)) 0) (length text.now ≡ result)
         (λ c. is_xid_continue c ≡ false) }
 {
-    let mut end = start;
+    let bytes = text.as_bytes();
+    let rest = bytes_from(bytes, start);
+    let len = ascii_len(rest);
+    let mut end = start + len;
     while let Some(c) = char_at(text, end) {
         if !is_xid_continue(c) {
             return end;
@@ -73,7 +89,8 @@ fn is_ascii(bytes: &[u8]) -> bool
 
 /// The form of a name, where the name is not ASCII.
 pub(crate) fn form_of(alloc: Global, name: &str) -> Result<Option<String>, AllocError>
-    ensures { IfOk result (λ form. form_of name.now form ≡ name_form name.now) }
+    ensures form { IfOk result (λ form. form_of name.now form ≡ name_form name.now) }
+    ensures ascii { IfOk result (λ form. is_some form ≡ not (is_ascii name.now)) }
 {
     if is_ascii(name.as_bytes()) {
         return Ok(None);
@@ -90,7 +107,8 @@ fn is_from(last: Option<TokenKind>) -> bool
 
 /// Whether a name of this form may not stand after the last token.
 pub(crate) fn is_bad_name(last: Option<TokenKind>, name: &str, form: &Option<String>) -> bool
-    requires { form_of name.now form.now ≡ name_form name.now }
+    requires form { form_of name.now form.now ≡ name_form name.now }
+    requires ascii { is_some form.now ≡ not (is_ascii name.now) }
     ensures { result ≡ is_bad_name last name.now }
 {
     let compared = match form {
@@ -100,5 +118,5 @@ pub(crate) fn is_bad_name(last: Option<TokenKind>, name: &str, form: &Option<Str
     if compared.as_bytes().starts_with(b"__") && !(is_from(last) && name == "__future__") {
         return true;
     }
-    !is_ascii(name.as_bytes()) && (is_keyword(compared) || is_reserved(compared))
+    form.is_some() && (is_keyword(compared) || is_reserved(compared))
 }

@@ -1,61 +1,10 @@
 //! Operators and delimiters.
-ghost use Rattle.std.specs.Prelude.{◌≡◌, find, nat_eq};
-ghost use Rattle.std.specs.List.{starts_with};
+ghost use Rattle.std.specs.Prelude.{◌≡◌, ◌==◌, find, nat_eq, slice_index};
+ghost use Rattle.std.specs.List.{filter, starts_with};
 ghost use Rattle.pc_token.specs.Operators.{operator_text, operators, role_of};
 
 use crate::bytes::byte_at;
 use crate::token::Operator;
-
-/// The longer before the shorter.
-const OPERATORS: [Operator; 47] = [
-    Operator::DoubleSlashEqual,
-    Operator::DoubleStarEqual,
-    Operator::LeftShiftEqual,
-    Operator::RightShiftEqual,
-    Operator::Ellipsis,
-    Operator::DoubleSlash,
-    Operator::EqualEqual,
-    Operator::NotEqual,
-    Operator::LessEqual,
-    Operator::GreaterEqual,
-    Operator::Arrow,
-    Operator::DoubleStar,
-    Operator::LeftShift,
-    Operator::RightShift,
-    Operator::ColonEqual,
-    Operator::PlusEqual,
-    Operator::MinusEqual,
-    Operator::StarEqual,
-    Operator::SlashEqual,
-    Operator::PercentEqual,
-    Operator::AmpersandEqual,
-    Operator::BarEqual,
-    Operator::CircumflexEqual,
-    Operator::AtEqual,
-    Operator::Plus,
-    Operator::Minus,
-    Operator::Star,
-    Operator::Percent,
-    Operator::Less,
-    Operator::Greater,
-    Operator::Equal,
-    Operator::LeftParenthesis,
-    Operator::RightParenthesis,
-    Operator::LeftBracket,
-    Operator::RightBracket,
-    Operator::LeftBrace,
-    Operator::RightBrace,
-    Operator::Comma,
-    Operator::Colon,
-    Operator::Dot,
-    Operator::Bar,
-    Operator::At,
-    Operator::Slash,
-    Operator::Ampersand,
-    Operator::Circumflex,
-    Operator::Tilde,
-    Operator::Semicolon,
-];
 
 impl Operator {
     /// The operator as it is spelled.
@@ -114,22 +63,94 @@ impl Operator {
     }
 }
 
-/// Whether an operator stands at the front. Most are told by their first byte.
+/// The operators that begin with `*`, the longer before the shorter.
+const STARS: [Operator; 4] = [
+    Operator::DoubleStarEqual,
+    Operator::DoubleStar,
+    Operator::StarEqual,
+    Operator::Star,
+];
+
+/// Those that begin with `/`.
+const SLASHES: [Operator; 4] = [
+    Operator::DoubleSlashEqual,
+    Operator::DoubleSlash,
+    Operator::SlashEqual,
+    Operator::Slash,
+];
+
+/// Those that begin with `<`.
+const LESSES: [Operator; 4] = [
+    Operator::LeftShiftEqual,
+    Operator::LessEqual,
+    Operator::LeftShift,
+    Operator::Less,
+];
+
+/// Those that begin with `>`.
+const GREATERS: [Operator; 4] = [
+    Operator::RightShiftEqual,
+    Operator::GreaterEqual,
+    Operator::RightShift,
+    Operator::Greater,
+];
+
+/// The operators that begin with a byte, the longer before the shorter.
+fn beginning_with(byte: u8) -> &'static [Operator]
+    ensures { result.now ≡ filter (λ o. slice_index (operator_text o) 0 == byte) operators }
+{
+    match byte {
+        b'!' => &[Operator::NotEqual],
+        b'%' => &[Operator::PercentEqual, Operator::Percent],
+        b'&' => &[Operator::AmpersandEqual, Operator::Ampersand],
+        b'(' => &[Operator::LeftParenthesis],
+        b')' => &[Operator::RightParenthesis],
+        b'*' => &STARS,
+        b'+' => &[Operator::PlusEqual, Operator::Plus],
+        b',' => &[Operator::Comma],
+        b'-' => &[Operator::Arrow, Operator::MinusEqual, Operator::Minus],
+        b'.' => &[Operator::Ellipsis, Operator::Dot],
+        b'/' => &SLASHES,
+        b':' => &[Operator::ColonEqual, Operator::Colon],
+        b';' => &[Operator::Semicolon],
+        b'<' => &LESSES,
+        b'=' => &[Operator::EqualEqual, Operator::Equal],
+        b'>' => &GREATERS,
+        b'@' => &[Operator::AtEqual, Operator::At],
+        b'[' => &[Operator::LeftBracket],
+        b']' => &[Operator::RightBracket],
+        b'^' => &[Operator::CircumflexEqual, Operator::Circumflex],
+        b'{' => &[Operator::LeftBrace],
+        b'|' => &[Operator::BarEqual, Operator::Bar],
+        b'}' => &[Operator::RightBrace],
+        b'~' => &[Operator::Tilde],
+        _ => &[],
+    }
+}
+
+/// Whether an operator stands at the front.
 fn stands_at(bytes: &[u8], operator: Operator) -> bool
     ensures { result ≡ starts_with nat_eq bytes.now (operator_text operator) }
 {
-    let text = operator.text().as_bytes();
-    byte_at(bytes, 0) == byte_at(text, 0) && bytes.starts_with(text)
+    bytes.starts_with(operator.text().as_bytes())
 }
 
-/// The longest operator at the front.
-pub(crate) fn operator_at(bytes: &[u8]) -> Option<Operator>
-    ensures { result ≡ find (λ o. starts_with nat_eq bytes.now (operator_text o)) operators }
+/// The first of some operators that stands at the front.
+fn first_standing(bytes: &[u8], candidates: &[Operator]) -> Option<Operator>
+    ensures { result ≡ find (λ o. starts_with nat_eq bytes.now (operator_text o)) candidates.now }
 {
-    OPERATORS
+    candidates
         .iter()
         .copied()
         .find(|operator| stands_at(bytes, *operator))
+}
+
+/// The longest operator at the front, sought among those that begin as the bytes do.
+pub(crate) fn operator_at(bytes: &[u8]) -> Option<Operator>
+    ensures { result ≡ find (λ o. starts_with nat_eq bytes.now (operator_text o)) operators }
+{
+    let first = byte_at(bytes, 0);
+    first_standing(bytes, beginning_with(first))
 }
 
 /// What an operator is as a bracket.

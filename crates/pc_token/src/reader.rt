@@ -13,8 +13,9 @@ use crate::token::{Line, Operator, Token, TokenKind};
 use pc_source::{Fault, Place, Refusal, RefusalCode};
 use std::alloc::{AllocError, Global};
 
-/// For how many tokens a line has room from its first one on. Few lines have more.
-const FIRST_ROOM: usize = 16;
+/// For how many tokens a line has room from its first one on. Few lines have more, and the room is less than
+/// a kilobyte: an allocator keeps pieces of that size at hand.
+const FIRST_ROOM: usize = 14;
 
 /// Puts an item behind others. The first one makes room for as many as most lines have.
 fn put<T: Drop>(items: &mut Vec<T>, item: T) -> Result<(), AllocError>

@@ -108,8 +108,8 @@ impl<'a> Reading<'a> {
         ensures refused { IfErr result (OnRefusal (IsRefusedHere (context_of self.now) self.now.text.now)) }
     {
         let bytes = self.rest();
-        let len = blank_len(bytes);
         let spaces = space_len(bytes);
+        let len = blank_len(bytes, spaces);
         if self.last.is_none() && is_bad_tab(bytes, spaces, len) {
             return Err(Fault::refused_at(RefusalCode::L7, self.at + spaces));
         }

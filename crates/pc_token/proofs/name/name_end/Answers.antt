@@ -1,7 +1,22 @@
-use Rattle.std.proofs.Common.{◌≡◌, Some, ◌∙◌, sym, arith, rules, drop, chars}
+use Rattle.std.proofs.Common.{◌≡◌, Some, ◌∙◌, sym, ap, arith, rules, drop, chars}
 use Rattle.std.specs.Prelude.{slice_get}
 use Rattle.pc_token.proofs.Characters.{no_char_here, next_boundary, run_more}
+use Rattle.std.specs.List.{prefix_len}
+use Rattle.pc_token.specs.Internal.WordBytes.{is_word_byte}
+use Rattle.pc_token.proofs.WordBytes.{word_edge, word_run}
 use Rattle.pc_token.proofs.name.name_end.Goals as goal
+
+pub bytes_from-rest-requires : goal.bytes_from-rest-requires
+bytes_from-rest-requires c = omega (arith, c.requires.0, c.as_bytes-bytes.ensures.len)
+
+pub loop-c-init : goal.loop-c-init
+loop-c-init c =
+    let is = c.ascii_len-len.ensures.len ∙ ap (prefix_len is_word_byte) (c.bytes_from-rest.ensures.value ∙ ap (drop c.args.start) c.as_bytes-bytes.ensures.value) in
+    record {
+      boundary = word_edge c.args.text.now c.args.start c.ascii_len-len.result c.utf8.text c.requires is;
+      later = omega arith;
+      run = word_run c.args.text.now c.args.start c.ascii_len-len.result c.utf8.text c.requires is;
+    }
 
 pub loop-c-smaller : goal.loop-c-smaller
 loop-c-smaller c =
