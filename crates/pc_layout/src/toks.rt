@@ -1,6 +1,6 @@
 //! The tokens of lines, one at a time.
 ghost use Rattle.std.specs.Prelude.{◌≡◌, ℕ, ◌+◌, ◌<◌, ◌≤◌, ◌*◌, ◌^◌, true, false, List, [], ◌∷◌, length, map, Ok, Err};
-ghost use Rattle.std.specs.Iterator.{IsFinite};
+ghost use Rattle.std.specs.Iterator.{IsFinite, MakesProgress};
 ghost use Rattle.pc_source.specs.Stream.{ComesAs, RefusesWithin};
 ghost use Rattle.pc_token.specs.Lexeme.{line_of};
 ghost use Rattle.pc_token.specs.Within.{LinesWithin};
@@ -21,6 +21,10 @@ pub struct Toks<'a, I: Drop> {
 }
 
 impl<'a, I: Iterator<Item = Result<Line<'a>, Fault>> + Drop> Toks<'a, I> {
+    ghost use Rattle.pc_layout.specs.TokenIterator.PendingTokens.{asks};
+    ghost use Rattle.pc_layout.specs.TokenIterator.Items.{tokens_left};
+    ghost use Rattle.pc_layout.specs.TokenIterator.NextToken.{gives_next_token};
+
     /// What a refusal comes to: it counts once the other lines were read without a fault.
     fn settle(&mut self, refusal: Refusal) -> Fault
         requires can { I.can_next self.old.lines }
@@ -33,6 +37,38 @@ impl<'a, I: Iterator<Item = Result<Line<'a>, Fault>> + Drop> Toks<'a, I> {
             }
         }
         Fault::Refused(refusal)
+    }
+
+    /// The first token of the next line, or of what follows the last line, or the fault that comes in its place. It
+    /// stands apart so that a token at hand, which most calls of `next` take, costs no more than itself.
+    #[inline(never)]
+    fn ask(&mut self) -> Option<Result<Tok<'a>, Fault>>
+        requires due { self.old.hand.due ≡ Due.Lines }
+        requires can { I.can_next self.old.lines }
+        requires ends { IsFinite (I.remaining self.old.lines) }
+        ensures steps { gives_next_token I.next_gives self.old.hand self.old.lines result self.new.hand self.new.lines }
+        ensures goes { MakesProgress
+            (λ s. asks s.hand.due ≡ true → I.can_next s.lines × IsFinite (I.remaining s.lines))
+            (λ s. tokens_left s.hand (I.remaining s.lines)) self.old result self.new }
+    {
+        match self.lines.next() {
+            None => {
+                self.hand.finish();
+                Some(Ok(self.hand.take()))
+            }
+            Some(Err(fault)) => {
+                self.hand.due = Due::Nothing;
+                Some(Err(fault))
+            }
+            Some(Ok(line)) => match self.hand.begin(line) {
+                Ok(()) => Some(Ok(self.hand.take())),
+                Err(refusal) => {
+                    let fault = self.settle(refusal);
+                    self.hand.due = Due::Nothing;
+                    Some(Err(fault))
+                }
+            },
+        }
     }
 }
 
@@ -57,24 +93,7 @@ impl<'a, I: Iterator<Item = Result<Line<'a>, Fault>> + Drop> Iterator for Toks<'
         match self.hand.due {
             Due::Nothing => None,
             Due::Line | Due::End => Some(Ok(self.hand.take())),
-            Due::Lines => match self.lines.next() {
-                None => {
-                    self.hand.finish();
-                    Some(Ok(self.hand.take()))
-                }
-                Some(Err(fault)) => {
-                    self.hand.due = Due::Nothing;
-                    Some(Err(fault))
-                }
-                Some(Ok(line)) => match self.hand.begin(line) {
-                    Ok(()) => Some(Ok(self.hand.take())),
-                    Err(refusal) => {
-                        let fault = self.settle(refusal);
-                        self.hand.due = Due::Nothing;
-                        Some(Err(fault))
-                    }
-                },
-            },
+            Due::Lines => self.ask(),
         }
     }
 }
