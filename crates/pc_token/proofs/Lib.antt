@@ -26,3 +26,4 @@ pub mod ListSearch
 pub mod PiecesAtBytes
 pub mod FirstBytes
 pub mod WordBytes
+pub mod AsciiHere

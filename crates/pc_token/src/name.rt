@@ -2,6 +2,7 @@
 ghost use Rattle.std.specs.Prelude.{◌≡◌, ℕ, ◌+◌, ◌-◌, ◌≤◌, ◌<◌, ◌==◌, ◌||◌, not, List, [], ◌++◌, true, false, length};
 ghost use Rattle.std.specs.Prelude.{drop, take, slice_get, slice_range, chars, encode_utf8_all, IfOk, MatchOption, IsUtf8};
 ghost use Rattle.std.specs.Prelude.{is_some};
+ghost use Rattle.std.specs.Char.{is_ascii_alphabetic};
 ghost use Rattle.std.specs.List.{list_all, prefix_len};
 ghost use Rattle.std.specs.Str.{IsCharBoundary};
 ghost use Rattle.unicode_ident.specs.Ident.{is_xid_continue};
@@ -10,7 +11,7 @@ ghost use Rattle.pc_token.specs.Names.{begins_name, begins_word, continues_word,
 ghost use Rattle.pc_token.specs.Names.{is_bad_name};
 ghost use Rattle.pc_token.specs.Internal.WordBytes.{is_word_byte};
 
-use crate::bytes::{bytes_from, char_at};
+use crate::bytes::{byte_at, bytes_from, char_at};
 use crate::keywords::{is_keyword, is_reserved};
 use crate::token::{Keyword, TokenKind};
 use std::alloc::{AllocError, Global};
@@ -24,11 +25,22 @@ fn begins_name(c: char) -> bool
     is_xid_start(c) || c == '_'
 }
 
-/// Whether a character that may begin a name stands at a byte.
+/// Whether an ASCII byte may begin a name.
+fn is_word_start(byte: u8) -> bool
+    ensures { result ≡ (is_ascii_alphabetic byte || byte == 95) }
+{
+    byte.is_ascii_alphabetic() || byte == b'_'
+}
+
+/// Whether a character that may begin a name stands at a byte. An ASCII one is told by the byte.
 pub(crate) fn begins_word(text: &str, at: usize) -> bool
     requires { IsCharBoundary text.now at }
     ensures { result ≡ begins_word (drop at text.now) }
 {
+    let byte = byte_at(text.as_bytes(), at);
+    if byte < 128 {
+        return is_word_start(byte);
+    }
     match char_at(text, at) {
         Some(c) => begins_name(c),
         None => false,
@@ -72,6 +84,10 @@ pub(crate) fn name_end(text: &str, start: usize) -> usize
     let rest = bytes_from(bytes, start);
     let len = ascii_len(rest);
     let mut end = start + len;
+    let next = byte_at(bytes, end);
+    if next < 128 {
+        return end;
+    }
     while let Some(c) = char_at(text, end) {
         if !is_xid_continue(c) {
             return end;
