@@ -76,7 +76,7 @@ all_listed m bases a f = listed m bases f a
 pub all_listed_options : OptionalFindingsAreListed
 all_listed_options m bases a f = listed_option m bases f a
 
--- what stands in a list once the findings were put behind it
+-- what stands in a list once the findings were put after it
 pub found_behind : {T E : Type 0} (m : Module) (bases : Bases) (a : Ann) (r : Result T E) (old new : List Finding) → OnOk r (new ≡ old ++ ann_findings m bases a) → OnOk r ((f : Finding) → Contains new f ↔ (Contains old f ⊎ AnnFinds m bases a f))
 found_behind m bases a (Ok x) old new e =
     λ f. subst (λ l. Contains l f ↔ (Contains old f ⊎ AnnFinds m bases a f)) (sym e) (in_both old (ann_findings m bases a) f (λ h. h, λ h. h) (listed m bases f a))

@@ -48,6 +48,6 @@ module _ (m : Module) (bases : Bases) where
   pub union_found : (a : Ann) (p : Place) (anns : Anns) (f : Option Tree) → a ≡ union p anns → union_type bases (readings m bases anns) ≡ f → part_findings m bases a ≡ parts_findings m bases anns ++ without_type f p E10
   union_found a p anns f e k = ap (part_findings m bases) e ∙ ap (λ x. parts_findings m bases anns ++ without_type x p E10) k
 
--- what was pushed behind a list is cut off
+-- what was pushed after a list is cut off
 pub truncated : (old all behind : List Finding) (n : ℕ) → n ≡ length old → all ≡ old ++ behind → take n all ≡ old
 truncated old all behind n e h = (λ i. take (e i) (h i)) ∙ take-append_seam old behind

@@ -14,7 +14,7 @@ use Rattle.pc_types.specs.declared.head.Head.{Head}
 use Rattle.pc_types.specs.declared.head.Head.TheVariants as heads
 use Rattle.pc_ann.specs.Text.{type_text, parts_text, others_text, each_behind, with_separator, texts_with, before, plain_text, text_by_head}
 
--- what stands behind a member is not Never
+-- what stands after a member is not Never
 not_never : (a b : Tree) → IsAfter a b → b ≡ Never → ⊥
 not_never a b h e = let P : Tree → Type 0 = IsAfter a in (subst P e h).0
 
@@ -30,7 +30,7 @@ module _ (m : Module) where
   parts_are Rattle.pc_types.specs.Tree.end = refl
   parts_are (more t ts) = ap (λ l. type_text m t ++ l) (others_are ts)
 
-  -- the members of a union behind a first one
+  -- the members of a union after a first one
   behind_member : (t : Tree) → IsNormal t → (t ≡ Never → ⊥) → codes " | " ++ type_text m t ≡ each_behind (codes " | ") (texts (members t))
   behind_member Never n h = absurd (h refl)
   behind_member (Union a b) n h =

@@ -30,7 +30,7 @@ atom imports_any builtin.Object = Some Object
 atom imports_any builtin.Any = if imports_any then Some Any else None
 atom imports_any _ = None
 
--- those, and a class of the module
+-- the type that a name means: one of the built-in types that stand alone, or a class of the module
 abbrev pub named_type : (imports_any : Test) → Res → Option Tree
 named_type imports_any (res.Builtin b) = atom imports_any b
 named_type imports_any (res.Class c) = Some (Class c)

@@ -66,7 +66,7 @@ abbrev pub AnnFindingsAreListed : Type 0
 AnnFindingsAreListed = (m : Module) (bases : Bases) (a : Ann) (f : Finding)
     → Contains (ann_findings m bases a) f ↔ AnnFinds m bases a f
 
--- and so where an annotation may be left out
+-- where an annotation may be left out, the list of its findings has exactly those
 abbrev pub OptionalFindingsAreListed : Type 0
 OptionalFindingsAreListed = (m : Module) (bases : Bases) (a : Option Ann) (f : Finding)
     → Contains (option_findings m bases a) f ↔ OptionAnnFinds m bases a f

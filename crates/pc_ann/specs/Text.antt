@@ -41,7 +41,7 @@ module _ (m : Module) where
     parts_text end = codes "()"
     parts_text (more t ts) = type_text t ++ others_text ts
 
-    -- further parts of a tuple, each behind a comma
+    -- further parts of a tuple, each after a comma
     pub others_text : Trees → List ℕ
     others_text end = []
     others_text (more t ts) = codes ", " ++ (type_text t ++ others_text ts)
@@ -57,7 +57,7 @@ abbrev pub before : ℕ → List ℕ → List ℕ
 before zero separator = []
 before (suc n) separator = separator
 
--- texts, each behind a separator
+-- texts, each after a separator
 abbrev pub each_behind : List ℕ → List (List ℕ) → List ℕ
 each_behind separator [] = []
 each_behind separator (x ∷ xs) = separator ++ (x ++ each_behind separator xs)
@@ -67,7 +67,7 @@ abbrev pub with_separator : List ℕ → List (List ℕ) → List ℕ
 with_separator separator [] = []
 with_separator separator (x ∷ xs) = x ++ each_behind separator xs
 
--- the same, `()` where there is none
+-- texts with a separator between them, `()` where there is none
 abbrev pub texts_with : List ℕ → List (List ℕ) → List ℕ
 texts_with separator [] = codes "()"
 texts_with separator (x ∷ xs) = with_separator separator (x ∷ xs)

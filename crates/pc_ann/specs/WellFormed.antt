@@ -10,7 +10,7 @@ abbrev pub AnnotationsAreWellFormed : Type 0
 AnnotationsAreWellFormed = (m : Module) (bases : Bases) → AreSmaller bases → (a : Ann)
     → IsWellFormed bases (read_ann m bases a)
 
--- and so is what stands for an annotation that is left out
+-- what stands for an annotation that is left out is well-formed
 abbrev pub OptionalAnnotationsAreWellFormed : Type 0
 OptionalAnnotationsAreWellFormed = (m : Module) (bases : Bases) → AreSmaller bases → (a : Option Ann)
     → IsWellFormed bases (read_option m bases a)

@@ -118,6 +118,7 @@ pub(crate) fn read<S: TypeStore>(
             match apply(setting, store, alloc, meaning, arguments, &types)? {
                 Some(reading) => Ok(reading),
                 None => {
+                    // An annotation of another form is one fault as a whole: what its parts had is taken back.
                     found.truncate(before);
                     fault(store, alloc, found, *place, Code::E09)
                 }
@@ -168,7 +169,7 @@ fn read_each<S: TypeStore>(
     Ok(Readings { heads, types })
 }
 
-/// One type more, where there are all of them.
+/// Adds a type to a list of types; there is no list where one of them is missing.
 fn with_type<Ty: Drop>(
     types: Option<Vec<Ty>>,
     ty: Option<Ty>,

@@ -43,7 +43,7 @@ fn plain_text(tree: &Module, head: Head) -> Option<&str>
     }
 }
 
-/// A separator behind a text, but for the first of several.
+/// A separator after a text, but for the first of several.
 fn separate(out: &mut String, number: usize, separator: &str) -> Result<(), OutOfMemory>
     ensures { OnOk result (string_bytes out.new ≡ string_bytes out.old ++ before number separator.now) }
 {
@@ -53,7 +53,7 @@ fn separate(out: &mut String, number: usize, separator: &str) -> Result<(), OutO
     Ok(())
 }
 
-/// The text of a type, put behind a text.
+/// The text of a type, put after a text.
 #[cycle(write)]
 fn write_type<S: TypeStore>(
     store: &S,
@@ -79,7 +79,7 @@ fn write_type<S: TypeStore>(
     }
 }
 
-/// The texts of the parts of a type behind a name with its bracket, and the bracket that ends them.
+/// The texts of the parts of a type after a name with its bracket, and the bracket that ends them.
 #[cycle(write)]
 fn write_applied<S: TypeStore>(
     store: &S,

@@ -15,7 +15,7 @@ use pc_tree::{Ann, Code, Finding, Findings, Module};
 use pc_types::{Parents, TypeStore};
 use std::alloc::Global;
 
-/// The type of an annotation, with its findings put behind `found`.
+/// The type of an annotation, with its findings appended to `found`.
 fn read_whole<S: TypeStore>(
     setting: &Setting,
     store: &mut S,
@@ -46,7 +46,7 @@ fn read_whole<S: TypeStore>(
 }
 
 /// The type that an annotation of a module is read as, `Any` where it is too large, with what is found in
-/// it put behind `found`: E09, E10 and E26. The list of its findings stands in their order.
+/// it appended to `found`: E09, E10 and E26. The list of its findings stands in their order.
 ///
 /// Typing specification, "Type annotations"; PEP 604; the codes are own rules of the profile.
 pub fn read_ann<S: TypeStore>(
@@ -77,7 +77,7 @@ pub fn read_ann<S: TypeStore>(
 }
 
 /// The type that an annotation is read as where there is one, and else `Any`, with what is found in it
-/// put behind `found`. Typing specification, "Type annotations".
+/// appended to `found`. Typing specification, "Type annotations".
 pub fn read_option<S: TypeStore>(
     store: &mut S,
     alloc: Global,

@@ -70,7 +70,7 @@ module _ {Store Ty : Type 0} (has : Store → Ty → Type 0) (tree : Ty → Tree
       → IsAdded start now (map value_offer (drop i (map tree ms))) (before ++ map value_offer (map tree ms)) offers → AreCallOffers has tree now offers (before ++ value_offers t)
   values_all start now before offers ms i t h e a = subst (λ (ts : List Tree). AreCallOffers has tree now offers (before ++ map value_offer ts)) e (added_all start now _ _ offers (ap (map value_offer) (mapped_end tree ms i h)) a)
 
-  -- what a call comes to on one more member, added behind the others
+  -- what a call comes to on one more member, added after the others
   pub pushed_one : (old new : Store) (t : CallOffer) (offers : List (RustCallOffer Ty)) (o : RustCallOffer Ty) → KeepsTypes has old new → All (HasCallOffer (has old)) offers → IsCallOffer has tree new o t → AreCallOffers has tree new (offers ++ o ∷ []) (map (offer_called tree) offers ++ t ∷ [])
   pushed_one old new t offers o k h is = record {
     given = All-push (HasCallOffer (has new)) offers o (offers_kept has old new k offers h) is.given;

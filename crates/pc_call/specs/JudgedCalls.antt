@@ -72,7 +72,7 @@ number_in m word = get_by (λ k. bytes_eq word k.now) m
 abbrev pub AreNumbers : {S : Type 0} → IndexMap (Bor (List ℕ)) ℕ S → List (List ℕ) → Type 0
 AreNumbers m names = (word : List ℕ) → number_in m word ≡ index_of word names
 
--- so has a map that there may be
+-- a map, if there is one, has at each name the place where the name stands first
 abbrev pub AreNumbersIfAny : {S : Type 0} → Option (IndexMap (Bor (List ℕ)) ℕ S) → List (List ℕ) → Type 0
 AreNumbersIfAny None names = Unit {0}
 AreNumbersIfAny (Some m) names = AreNumbers m names

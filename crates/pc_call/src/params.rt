@@ -178,7 +178,7 @@ fn are_filled<Ty: Drop>(given: &Given, params: &Params<'_, Ty>) -> bool
     true
 }
 
-/// Whether a parameter of this number is one that so many arguments by position don't fill.
+/// Whether a parameter of this number is past those that the arguments by position fill.
 fn is_free(positional: usize, number: Option<usize>) -> bool
     ensures { result ≡ is_free positional number }
 {
@@ -214,7 +214,7 @@ pub fn is_suited<Ty: Drop>(given: &Given, params: &Params<'_, Ty>) -> bool
     given.positional <= params.all.len() && (are_free(given, params) && are_filled(given, params))
 }
 
-/// Whether a call suits so many parameters of a built-in, which no name can fill.
+/// Whether a call suits a built-in with this many parameters, which no name can fill.
 pub fn is_suited_by(given: &Given, count: usize) -> bool
     ensures { (types : List Tree) (returns : Tree) → length types ≡ count
         → result ≡ is_suited (given_with given.now) (builtin_signature types returns) }

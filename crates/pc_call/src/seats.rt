@@ -277,7 +277,7 @@ pub fn named_seat<S: TypeStore>(
     seat_of(store, alloc, offers, Argument::Name(name))
 }
 
-/// The seat of an argument by name behind arguments of these names: of a name given twice the later argument flows
+/// The seat of an argument by name after arguments of these names: of a name given twice the later argument flows
 /// nowhere. Own rule of the profile.
 pub fn keyword_seat<S: TypeStore>(
     store: &S,

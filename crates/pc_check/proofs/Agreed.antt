@@ -96,12 +96,12 @@ module _ (frame : BodyFrame) (locals : List ℕ) where
       let out = walk_suite frame walk b in
       both_kept locals base ways out.env (as_kept locals base ways h) behind.env_here
 
-  -- behind the suite of `else`
+  -- after the suite of `else`
   pub otherwise_agrees : (f : BranchesResult) (o : Stmts) → IsWellFormedEnv frame.context.bases f.last → ForkAgrees locals f → AreAmong locals (touched_by frame.context.resolve o) →
       WaysAgree locals f.ways (walk_suite frame (record { table = f.table; env = Some f.last; broken = f.broken; found = f.found }) o).env
   otherwise_agrees f o w h a = ways_with_suite f.last f.table f.ways f.last f.broken f.found o w (sym h.last_long) h.ways_agree (record { long = refl; same = λ x k. refl }) a
 
-  -- behind the suite of a condition
+  -- after the suite of a condition
   pub branch_agrees : (f : BranchesResult) (c : Expr) (b : Stmts) (found : List Note) → IsWellFormedEnv frame.context.bases f.last → ForkAgrees locals f → AreAmong locals (touched_by_branches frame.context.resolve (more_branches c b no_branches)) →
       WaysAgree locals f.ways (walk_suite frame (record { table = f.table; env = Some (narrowed_at frame f.table true c f.last); broken = f.broken; found = found }) b).env
   branch_agrees f c b found w h a =
@@ -119,7 +119,7 @@ module _ (frame : BodyFrame) (locals : List ℕ) where
       let out = walk_suite frame start b in
       both_kept locals base f.ways out.env (as_kept locals base f.ways h.ways_agree) behind.env_here
 
-  -- behind branches
+  -- after branches
   pub branches_agree : (f : BranchesResult) (bs : Branches) → IsWellFormedEnv frame.context.bases f.last → ForkAgrees locals f → AreAmong locals (touched_by_branches frame.context.resolve bs) → ForkAgrees locals (walk_branches frame f bs)
   branches_agree f bs w h a =
       let kind = Outside locals in
@@ -305,7 +305,7 @@ module _ (frame : BodyFrame) (locals : List ℕ) where
       let start = narrowed_here frame (Outside locals) last (λ x o. current_well_formed frame.context.bases last x w) table true c last (sym l) (among_apart locals last (tested_locals resolved c) parts.0) (record { long = refl; same = λ x k. refl }) in
       record { among = parts.1; agree = λ x k. h.agree x k ∙ sym (start.same x k) }
 
-  -- behind a branch
+  -- after a branch
   pub branch_breaks : (table : Table) (last : Env) (ways broken : Option Env) (found : List Note) (c : Expr) (b : Stmts) (rest : Branches) →
       IsWellFormedEnv frame.context.bases last →
       length last ≡ length table →
@@ -330,7 +330,7 @@ module _ (frame : BodyFrame) (locals : List ℕ) where
         agree = both_kept locals last out.broken (Some (narrowed_at frame table false c last)) (behind.broken_here (record { long = g ∙ sym l; same = h.agree })) (narrowed_here frame kind last fine table false c last (sym l) tests same);
       }
 
-  -- behind all branches
+  -- after all branches
   branches_agree_breaks : (table : Table) (last : Env) (broken : Option Env) (found : List Note) (bs : Branches) →
       IsWellFormedEnv frame.context.bases last →
       length last ≡ length table →

@@ -45,7 +45,7 @@ module _ (m : Module) (constants : List Tree) where
   -- ---- members
 
   module _ (class : ℕ) (all : List FuncDef) (total : List Note) (before rest : List Member) (n next : ℕ) (old new : List Note) where
-    -- where a walk over members stands: behind so many methods, and what is found in all
+    -- where a walk over members stands: after so many methods, and what is found in all
     pub record MembersAt : Type 0 where
       pub stand : StandsFrom all next (methods_in rest)
       pub found : methods_find m constants class next rest new ≡ total
@@ -68,7 +68,7 @@ module _ (m : Module) (constants : List Tree) where
   -- ---- items
 
   module _ (classes : List ClassDef) (functions : List FuncDef) (total : List Note) (before rest : List Item) (c f next_class next_function : ℕ) (old new : List Note) where
-    -- where a walk over items stands: behind so many classes and functions, and what is found in all
+    -- where a walk over items stands: after so many classes and functions, and what is found in all
     pub record ItemsAt : Type 0 where
       pub classes_stand : StandsFrom classes next_class (classes_in rest)
       pub functions_stand : StandsFrom functions next_function (functions_in rest)

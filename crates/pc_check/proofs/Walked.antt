@@ -57,7 +57,7 @@ module _ (frame : BodyFrame) where
       let joined = ew ∙ ap (λ (w : Reached). with_way frame.context.bases w.table ways w.env) e in
       λ i. record { table = (e i).table; last = el i; ways = joined i; broken = (e i).broken; found = (e i).found }
 
-  -- behind an `if`, by what its branches come to
+  -- after an `if`, by what its branches come to
   pub branches_from : (fork result : BranchesResult) (o : Stmts) → fork ≡ result
       → behind_branches frame fork.ways
       (walk_suite frame (reached_by fork.table (Some fork.last) fork.broken fork.found) o)
@@ -66,7 +66,7 @@ module _ (frame : BodyFrame) where
   branches_from fork result o e = λ i. behind_branches frame (e i).ways
       (walk_suite frame (reached_by (e i).table (Some (e i).last) (e i).broken (e i).found) o)
 
-  -- behind the suite of `else`
+  -- after the suite of `else`
   pub otherwise_walked : (ways : Option Env) (out result : Reached) (joined : Option Env) → out ≡ result
       → joined ≡ with_way frame.context.bases out.table ways out.env
       → reached_by out.table joined out.broken out.found ≡ behind_branches frame ways result
@@ -78,7 +78,7 @@ module _ (frame : BodyFrame) where
 module _ {Store Ty : Type 0} (S : StoreOf Store Ty) where
   module _ (old new : Walk Store Ty) (env : List (Option Ty)) (finds : BodyFrame → Standing → List Note)
       (g : GoesOn S old new) (a : Found S old env new finds) where
-    -- what a walk has come to behind a step that found something
+    -- what a walk has come to after a step that found something
     pub found_reached : (behind way : Option (List (Option Ty)))
         → reached S new behind way
         ≡ reached_by (env_of S.tree old.declared.now) (option_map (env_of S.tree) behind)
@@ -108,7 +108,7 @@ module _ {Store Ty : Type 0} (S : StoreOf Store Ty) where
         (env_of S.tree (a.declared i)) holds c (env_of S.tree env)
 
   module _ (old new : Walk Store Ty) (g : GoesOn S old new) (q : IsQuiet S old new) where
-    -- behind a quiet step a walk stands as before it
+    -- after a quiet step a walk stands as before it
     pub quiet_stands : (env way : Option (List (Option Ty))) → StandsIn S old env way → StandsIn S new env way
     quiet_stands env way h = record {
       frame = frame_on S old new h.frame g;
@@ -141,7 +141,7 @@ module _ {Store Ty : Type 0} (S : StoreOf Store Ty) where
     finds_from env first e c = λ i. q.found i ++ finds_in (at (frame_with S.tree (g.frame i))
         (env_of S.tree (q.declared i)) (e i)) None c
 
-  -- what a walk comes to that began behind other steps
+  -- what a walk comes to that began after other steps
   pub walks_on : (old mid new : Walk Store Ty) (env way behind later : Option (List (Option Ty)))
       (walks : BodyFrame → Reached → Reached)
       → GoesOn S old mid → Walked S mid env way new behind later walks

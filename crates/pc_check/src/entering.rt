@@ -120,8 +120,9 @@ fn find_end<S: TypeStore>(
     Ok(())
 }
 
-/// Walks over the body of a function, which has so many locals, none of them declared so far, and finds that its end can
-/// be reached where it doesn't return `None`. Language Reference 8.7 "Function definitions"; own rules of the profile.
+/// Walks over the body of a function, which has so many locals, none of them declared so far, and finds that its end
+/// can be reached where it doesn't return `None`. Language Reference 8.7 "Function definitions"; own rules of the
+/// profile.
 fn walk_function<S: TypeStore>(
     walk: &mut Walk<'_, S>,
     owner: Owner,

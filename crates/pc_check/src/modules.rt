@@ -100,7 +100,7 @@ fn check_bodies<S: TypeStore>(
     Ok(())
 }
 
-/// Finds what stands under the labels of a module, put behind `found`: first what is found of its signatures and its
+/// Finds what stands under the labels of a module, appended to `found`: first what is found of its signatures and its
 /// constants, then in the bodies of its functions and methods, in text order.
 ///
 /// Language Reference 3.12, 7 "Simple statements" and 8 "Compound statements"; the codes are own rules of the profile.

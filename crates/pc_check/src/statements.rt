@@ -36,8 +36,9 @@ struct Fork<Ty: Drop> {
     ways: Option<Env<Ty>>,
 }
 
-/// Walks over statements, one after another, and answers the environment behind them, if a run comes there. At a `break`
-/// only the locals that the loop around them touches are joined onto the way out of it, since it agrees on every other one.
+/// Walks over statements, one after another, and answers the environment after them, if a run comes there. At a `break`
+/// only the locals that the loop around them touches are joined onto the way out of it, since it agrees on every other
+/// one.
 #[cycle(statements)]
 pub(crate) fn check_suite<S: TypeStore>(
     walk: &mut Walk<'_, S>,

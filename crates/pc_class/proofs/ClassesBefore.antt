@@ -48,7 +48,7 @@ constant_count (def_item p f ∷ before) = constant_count before
 abbrev names_of : List Item → List (List ℕ)
 names_of before = map (λ i. (name_of_item i).text) before
 
--- a class among the others has its number behind the classes before
+-- a class among the others has its number after the classes before
 pub class_numbered : (before rest : List Item) (i : ℕ) → slice_get (classes_in (onto before rest)) (class_count before + i) ≡ slice_get (classes_in rest) i
 class_numbered [] rest i = ap (slice_get (classes_in rest)) (omega arith)
 class_numbered (constant_item p c ∷ before) rest i = class_numbered before (constant_item p c ∷ rest) i
@@ -126,7 +126,7 @@ early (class_item p c ∷ before) rest w i e h = go (is_among (names_of before) 
         let same : class_count before ≡ i = ap number_of (same_Some (res.Class (class_count before)) (res.Class i) is) in
         omega arith
 
--- a class that is found behind others has a number behind theirs
+-- a class that is found after others has a number after theirs
 later : (k f c : ℕ) (items : List Item) (w : List ℕ) (i : ℕ) → bound_first k f c items w ≡ Some (res.Class i) → c ≤ i
 later k f c [] w i e = absurd (grind (arith, e))
 later k f c (constant_item p x ∷ rest) w i e = go (bytes_eq x.name.text w) e (later (suc k) f c rest w i)

@@ -1,4 +1,4 @@
--- The fields without default behind one with default are those that the rule finds.
+-- The fields without default after one with default are those that the rule finds.
 use Rattle.std.proofs.Common.{◌≡◌, ◌↔◌, ℕ, zero, suc, List, [], ◌∷◌, take, refl, sym, ap, ◌∙◌, subst, inl, inr, arith, Contains}
 use Rattle.std.specs.Prelude.{Bool, true, false, ◌&&◌, ◌||◌, not, if◌then◌else◌, is_some, Some, None, slice_get, bytes_eq}
 use Rattle.std.specs.List.{list_any}
@@ -20,7 +20,7 @@ use Rattle.pc_class.specs.Entries.{Inherited, inherited_by, member_binds, entry_
 use Rattle.pc_class.proofs.EntryWalk.{same_binds}
 use Rattle.pc_class.proofs.OwnMembers.{fields_are, defaults_are}
 
--- the names behind some names and members
+-- the names after some names and members
 abbrev pub names_after : List (List ℕ) → List Member → List (List ℕ)
 names_after before [] = before
 names_after before (x ∷ xs) = names_after ((name_of_member x).text ∷ before) xs
@@ -73,7 +73,7 @@ to_one true p e = first_among (finding p E08) []
 to_one false p e = absurd (false≢true e)
 
 module _ (h : Inherited) (f : Finding) where
-  -- a field at a number among members, behind these names and where there was a default or not
+  -- a field at a number among members, after these names and where there was a default or not
   record LateAt (before : List (List ℕ)) (n : ℕ) (d : Bool) (ms : List Member) : Type 0 where
     at : ℕ
     field : Field

@@ -110,7 +110,7 @@ module _ (m : Module) (base : ClassFacts) (c : ℕ) (f : Finding) where
   abbrev all_found : List Method → List Finding
   all_found xs = found_at_methods (bases_of m) base.methods xs
 
-  -- a method at a number among members, behind these names and so many methods
+  -- a method at a number among members, after these names and so many methods
   record OverrideAt (before : List (List ℕ)) (n : ℕ) (ms : List Member) : Type 0 where
     at : ℕ
     method : FuncDef

@@ -110,7 +110,7 @@ module _ (m : Module) (base : ClassFacts) (hs : List HeldMember) (tells : Tells 
       ∙ ap (λ b. is_builtin_name w || b) (clash_same before (method_member f))
       ∙ neither (is_builtin_name w) (is_one_of w before) (is_some (field_by_name base.fields w))
 
-  -- the members that are held of a class, behind a member that is held where this is so
+  -- the members that are held of a class, after a member that is held where this is so
   abbrev held_after : Bool → List (List ℕ) → Member → List Member → List HeldMember
   held_after b before x ms = (if b then [] else held_by x ∷ []) ++ own_members ((name_of_member x).text ∷ before) hs ms
 

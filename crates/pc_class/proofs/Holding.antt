@@ -52,7 +52,7 @@ module _ {X : Type 0} (name : X → List ℕ) where
       go n true = get_end all x
       go n false = at_left all (x ∷ []) (named_at d at n) (h.within n) ∙ h.same n
 
-  -- the first of a name among these and one more behind them
+  -- the first of a name among these and one more after them
   pub named_behind : (these : List X) (x : X) → first_named name these (name x) ≡ None → (n : List ℕ) → first_named name (these ++ x ∷ []) n ≡ (if bytes_eq n (name x) then Some x else first_named name these n)
   named_behind these x none n = find-append (λ y. bytes_eq n (name y)) these (x ∷ []) ∙ go (bytes_eq n (name x)) refl (first_named name these n) refl
     where

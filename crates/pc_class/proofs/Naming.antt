@@ -49,7 +49,7 @@ number_less t (n ∷ names) i e = go (bytes_eq t n) i e (λ j g. number_less t n
     go true (suc i) e rest = absurd (grind (arith, e))
     go false (suc i) e rest = let h = rest i (later_is (index_of t names) i e) in omega arith
 
--- a name that is not among others has no number, and the next one behind them
+-- a name that is not among others has no number, and the next one after them
 pub no_number : (t : List ℕ) (names : List (List ℕ)) → is_one_of t names ≡ false → index_of t names ≡ None
 no_number t [] e = refl
 no_number t (n ∷ names) e = go (bytes_eq t n) e (λ g. no_number t names g)

@@ -1,4 +1,4 @@
--- The methods of a name that a class has: the nearest one, and behind it those that the base of its owner has.
+-- The methods of a name that a class has: the nearest one, and after it those that the base of its owner has.
 use Rattle.std.proofs.Common.{◌≡◌, ◌<◌, ◌≤◌, ℕ, zero, suc, List, [], ◌∷◌, ◌++◌, refl, sym, ap, ◌∙◌, subst, arith}
 use Rattle.std.specs.Prelude.{Bool, true, false, ◌&&◌, ◌||◌, cond, if◌then◌else◌, Option, Some, None, find, filter, slice_get, bytes_eq, Contains}
 use Rattle.std.specs.Option.{option_or}
@@ -35,7 +35,7 @@ module _ (m : Module) (base : ClassFacts) (c : ℕ) (name : List ℕ) where
   abbrev named : Method → Bool
   named x = bytes_eq name x.name
 
-  -- behind a member of the name no method is of that name
+  -- after a member of the name no method is of that name
   none_again : (n : ℕ) (before : List (List ℕ)) (ms : List Member) → is_one_of name before ≡ true → filter named (own_methods m base c n before ms) ≡ []
   none_again n before [] e = refl
   none_again n before (field_member f ∷ ms) e = none_again n (f.name.text ∷ before) ms (second (bytes_eq name f.name.text) e)
@@ -83,7 +83,7 @@ module _ (m : Module) (name : List ℕ) where
   abbrev above : Option ℕ → List Method
   above o = overridden (base_facts (classes_of m) o).methods name
 
-  -- the nearest method, the others behind it, and the class that binds it
+  -- the nearest method, the others after it, and the class that binds it
   pub record IsNearest (c : ℕ) (x : Method) : Type 0 where
     pub owner : x.owner ≤ c
     pub all : above (Some c) ≡ x ∷ above (base_of (bases_of m) x.owner)

@@ -1,4 +1,4 @@
--- Maps that share their parts: a part that is put behind the others leaves each map as it was.
+-- Maps that share their parts: a part that is put after the others leaves each map as it was.
 use Rattle.std.proofs.Common.{◌≡◌, ◌<◌, ◌≤◌, ◌-◌, ◌/◌, ◌%◌, ◌==◌, ◌⊎◌, ℕ, zero, suc, List, [], ◌∷◌, ◌++◌, length, refl, sym, ap, ◌∙◌, subst, inl, inr, arith, length-append}
 use Rattle.std.specs.Prelude.{Bool, true, false, if◌then◌else◌, Option, Some, None, slice_index_or}
 use Rattle.std.proofs.lemmas.Bool.{false≢true}
@@ -153,7 +153,7 @@ put_zero old closed map key value node h is within zero_key nodes new e n k =
         ∙ sym (held_step old map (suc k) (omega arith))
         ∙ sym (ap (λ b. if b then Some value else held_at old map (suc k)) (other_zero (suc k) (omega arith)))
 
--- behind it, where the part of the number's kind was made anew
+-- after it, where the part of the number's kind was made anew
 put_behind : (old mid : List Node) → IsClosed old → IsClosed mid → KeepsMaps old mid → (map key value part : ℕ) (node : Node) → map < length old → 0 < key
     → IsPut old (next (key % 2 == 1) (node_at old map)) ((key - 1) / 2) value mid part
     → node.held ≡ (node_at old map).held → next (key % 2 == 1) node ≡ part → ((b : Bool) → (b ≡ (key % 2 == 1) → ⊥) → next b node ≡ next b (node_at old map)) → IsWithin mid node
@@ -256,7 +256,7 @@ none_below = record { nothing = λ map key h g. ap (λ i. held_at (empty_node �
 apart : (k key limit : ℕ) → key < limit → limit ≤ k → (k == key) ≡ false
 apart k key limit h g = grind (arith, nat_tests)
 
--- a map that is put in behind the others
+-- a map that is put in after the others
 pub put_below : (old mid nodes : List Node) → IsClosed mid → (map key value new limit : ℕ) (node : Node) → nodes ≡ mid ++ node ∷ [] → new ≡ length mid → IsPut old map key value nodes new → map < length old → key < limit
     → HasBelow limit old → HasBelow limit mid → HasBelow limit nodes
 put_below old mid nodes closed map key value new limit node e n put h less below below' = record { nothing = λ i k less' g. go i k less' g (cases i less') }

@@ -1,4 +1,4 @@
--- The fields of a class, put one behind another from the last of the class itself to the first of its first ancestor.
+-- The fields of a class, put one after another from the last of the class itself to the first of its first ancestor.
 use Rattle.std.proofs.Common.{◌≡◌, ◌<◌, ◌≤◌, ◌+◌, ◌-◌, ℕ, zero, suc, List, [], ◌∷◌, ◌++◌, length, map, take, drop, reverse, get_or, refl, sym, ap, ◌∙◌, arith, length-drop, append_assoc}
 use Rattle.std.specs.Prelude.{Option, Some, None, All, Contains, slice_get, slice_index_or}
 use Rattle.std.specs.Borrow.{Bor}

@@ -24,7 +24,7 @@ pub record IsSetting (s : Setting) : Type 0 where
   pub parents : s.parents.now ≡ bases_of (module_in s)
 
 -- what was added to a list means these, each with what is asked of it; a map tells it by names, between what it told in
--- front and behind
+-- front and after
 pub record Added {X Y : Type 0} (name : X → List ℕ) (has : X → Type 0) (meaning : X → Y) (d : NameMaps)
     (old new : List X) (at : ℕ) (front back : List X) (own : List Y) : Type 0 where
   pub these : List X

@@ -21,14 +21,14 @@ pub record Inherited : Type 0 where
   pub has_field : List ℕ → Bool
   pub has_method : List ℕ → Bool
 
--- those of a base
+-- which names a base gives a class as fields, and which as methods
 abbrev pub inherited_by : ClassFacts → Inherited
 inherited_by base = record {
   has_field = λ n. is_some (field_by_name base.fields n);
   has_method = λ n. is_some (method_by_name base.methods n);
 }
 
--- those that two maps have
+-- which names are fields by one map, and methods by another
 abbrev pub inherited_in : NameMaps → Held → Inherited
 inherited_in d held = record {
   has_field = λ n. is_some (named_at d held.fields n);
@@ -47,7 +47,7 @@ pub record MemberEntry : Type 0 where
   pub binds : Bool
   pub clashes : Bool
 
--- a member binds its name, behind members of these names
+-- a member binds its name, after members of these names
 abbrev pub member_binds : Inherited → List (List ℕ) → Member → Bool
 member_binds h before (field_member f) =
     not (is_builtin_name f.name.text || bytes_eq f.name.text (codes "mro"))
@@ -70,12 +70,12 @@ entry_of h before number x = record {
   clashes = member_clashes h before x;
 }
 
--- so many methods and a member
+-- how many methods there are after one more member
 abbrev pub number_after : ℕ → Member → ℕ
 number_after n (field_member f) = n
 number_after n (method_member f) = suc n
 
--- the entries of members, behind members of these names and so many methods
+-- the entries of members, after members of these names and so many methods
 abbrev pub entries_of : Inherited → List (List ℕ) → ℕ → List Member → List MemberEntry
 entries_of h before number [] = []
 entries_of h before number (x ∷ rest) =
@@ -131,7 +131,7 @@ abbrev pub member_default : Member → Option Bool
 member_default (field_member f) = Some (is_some f.default)
 member_default (method_member f) = None
 
--- so of the field that an entry binds
+-- whether the field that an entry binds has a default; none where it binds no field
 abbrev pub entry_default : MemberEntry → Option Bool
 entry_default e = if e.binds then member_default e.member else None
 
@@ -140,12 +140,12 @@ abbrev pub defaulted_after : Bool → Option Bool → Bool
 defaulted_after d None = d
 defaulted_after d (Some b) = d || b
 
--- whether a field stands behind one with default and has none
+-- whether a field stands after one with default and has none
 abbrev pub is_late : Bool → Option Bool → Bool
 is_late d None = false
 is_late d (Some b) = d && not b
 
--- the names of fields without default behind one with default
+-- the names of fields without default after one with default
 abbrev pub late_places : Bool → List MemberEntry → List Place
 late_places d [] = []
 late_places d (e ∷ es) = one_if (is_late d (entry_default e)) (name_of_member e.member).place

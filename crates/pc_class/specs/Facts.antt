@@ -27,7 +27,7 @@ pub record Method : Type 0 where
   pub parameters : List TypedParameter
   pub returns : Tree
 
--- a class: its base, its fields with those of its base first, and its methods with those of its base behind them
+-- a class: its base, its fields with those of its base first, and its methods with those of its base after them
 pub record ClassFacts : Type 0 where
   pub base : Option ℕ
   pub fields : List TypedParameter
@@ -99,7 +99,7 @@ method_made m c number f = record {
 }
 
 module _ (m : Module) (base : ClassFacts) where
-  -- the fields that members bind, behind members of these names
+  -- the fields that members bind, after members of these names
   abbrev pub own_fields : List (List ℕ) → List Member → List TypedParameter
   own_fields before [] = []
   own_fields before (field_member f ∷ rest) =
@@ -111,7 +111,7 @@ module _ (m : Module) (base : ClassFacts) where
       ++ own_fields (f.name.text ∷ before) rest
   own_fields before (method_member f ∷ rest) = own_fields (f.name.text ∷ before) rest
 
-  -- the methods that members of a class bind, behind so many methods
+  -- the methods that members of a class bind, after so many methods
   abbrev pub own_methods : ℕ → ℕ → List (List ℕ) → List Member → List Method
   own_methods c number before [] = []
   own_methods c number before (field_member f ∷ rest) = own_methods c number (f.name.text ∷ before) rest
@@ -119,7 +119,7 @@ module _ (m : Module) (base : ClassFacts) where
       (if binds_method base before f.name.text then method_made m c number f ∷ [] else [])
       ++ own_methods c (suc number) (f.name.text ∷ before) rest
 
--- a class of this number, behind earlier ones
+-- a class of this number, after earlier ones
 abbrev pub class_facts_behind : Module → List ClassFacts → ℕ → ClassDef → ClassFacts
 class_facts_behind m earlier c class =
     let base = base_facts earlier (base_named m c class.base) in

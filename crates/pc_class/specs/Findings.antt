@@ -43,7 +43,7 @@ abbrev pub has_default_before : Module → ClassFacts → List Member → Bool
 has_default_before m base members = list_any (λ p. p.has_default) base.fields
     || list_any (λ p. p.has_default) (own_fields m base [] members)
 
--- E08: a field without default stands behind one with default
+-- E08: a field without default stands after one with default
 pub record IsFieldBehind (m : Module) (class : ClassDef) (c : ℕ) (f : Finding) : Type 0 where
   pub at : ℕ
   pub field : Field

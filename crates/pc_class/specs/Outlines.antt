@@ -87,7 +87,7 @@ found_over base class =
     ++ at_code E08 (late_places (list_any (λ (p : TypedParameter). p.has_default) base.fields)
     (class_entries (inherited_by base) class))
 
--- so of the class of a number
+-- what is found of the members of the class with this number by their names: E06, E08
 abbrev pub class_found : Module → ℕ → ClassDef → List Finding
 class_found m c class = found_over (base_facts (classes_of m) (base_named m c class.base)) class
 

@@ -56,7 +56,7 @@ override_finding (Some code) place = finding place code ∷ []
 abbrev pub found_at_method : Bases → List Method → Method → List Finding
 found_at_method bases inherited x = override_finding (override_code bases (overridden inherited x.name) x) x.place
 
--- so of methods one after another
+-- what is found at the names of methods, one after another
 abbrev pub found_at_methods : Bases → List Method → List Method → List Finding
 found_at_methods bases inherited [] = []
 found_at_methods bases inherited (x ∷ xs) = found_at_method bases inherited x ++ found_at_methods bases inherited xs
@@ -67,7 +67,7 @@ class_overrides m c class =
     found_at_methods (bases_of m) (base_class m c class).methods
     (own_methods m (base_class m c class) c 0 [] class.members)
 
--- so of classes from this number on
+-- what is found of the methods that classes bind, from this number on
 abbrev pub overrides_from : Module → ℕ → List ClassDef → List Finding
 overrides_from m c [] = []
 overrides_from m c (class ∷ rest) = class_overrides m c class ++ overrides_from m (suc c) rest

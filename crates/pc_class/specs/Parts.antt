@@ -85,7 +85,7 @@ module _ {Ty : Type 0} where
     pub defaulted : n.defaulted
         ≡ list_any (λ (p : RustParameter Ty). p.has_default) (entry_over fields methods es n).fields
 
-  -- so of each class, and the map 0 is empty
+  -- each class of a table has its base before it and its names in its maps, and the map 0 is empty
   pub record AreNodes (d : NameMaps) (fields : List (RustParameter Ty)) (methods : List (RustMethod Ty))
       (ns : List ClassNode) (es : List (ClassEntry Ty)) : Type 0 where
     pub no_fields : IsMapOf parameter_name d fields 0 []
@@ -93,7 +93,7 @@ module _ {Ty : Type 0} where
     pub many : length es ≡ length ns
     pub each : (c : ℕ) (n : ClassNode) → slice_get ns c ≡ Some n → IsClassNode d fields methods es c n
 
-  -- so of a table
+  -- the parts of a table are a class table: what holds of each class holds of its list
   abbrev pub IsClassTable : TableParts Ty → Type 0
   IsClassTable p = AreNodes p.named p.fields.items p.methods.items p.classes.items (entries_in p)
 

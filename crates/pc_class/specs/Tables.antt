@@ -7,7 +7,7 @@ use Rattle.pc_class.specs.Facts.{TypedParameter, Method, ClassFacts}
 use Rattle.pc_class.specs.declared.table.Parameter.{Parameter as RustParameter}
 use Rattle.pc_class.specs.declared.table.Method.{Method as RustMethod}
 
--- a class of a table: its base, its fields with those of its base first, and its methods with those of its base behind
+-- a class of a table: its base, its fields with those of its base first, and its methods with those of its base after
 -- them
 pub record ClassEntry (Ty : Type 0) : Type 0 where
   pub base : Option ℕ
@@ -95,12 +95,12 @@ module _ {Ty : Type 0} (cs : List (ClassEntry Ty)) where
   abbrev pub IsLent : Bor (RustParameter Ty) → Type 0
   IsLent p = IsField p.now
 
-  -- so is one that there may be
+  -- a field that is lent, if there is one, is one of the table's
   abbrev pub IsFieldIfAny : Option (Bor (RustParameter Ty)) → Type 0
   IsFieldIfAny None = Unit {0}
   IsFieldIfAny (Some p) = IsField p.now
 
-  -- and a method that there may be
+  -- a method that is lent, if there is one, is one of the table's
   abbrev pub IsMethodIfAny : Option (Bor (RustMethod Ty)) → Type 0
   IsMethodIfAny None = Unit {0}
   IsMethodIfAny (Some x) = IsMethod x.now

@@ -18,7 +18,7 @@ pub record MethodWellFormed (bases : Bases) (m : Method) : Type 0 where
   pub parameters : ParametersWellFormed bases m.parameters
   pub returns : IsWellFormed bases m.returns
 
--- so of each method
+-- the types of what each of these methods takes and returns are well-formed
 abbrev pub MethodsWellFormed : Bases → List Method → Type 0
 MethodsWellFormed bases [] = Unit {0}
 MethodsWellFormed bases (m ∷ ms) = MethodWellFormed bases m × MethodsWellFormed bases ms
@@ -28,7 +28,7 @@ pub record ClassWellFormed (bases : Bases) (c : facts.ClassFacts) : Type 0 where
   pub fields : ParametersWellFormed bases c.fields
   pub methods : MethodsWellFormed bases c.methods
 
--- so of each class
+-- the types of the fields and methods of each of these classes are well-formed
 abbrev pub ClassesWellFormed : Bases → List facts.ClassFacts → Type 0
 ClassesWellFormed bases [] = Unit {0}
 ClassesWellFormed bases (c ∷ cs) = ClassWellFormed bases c × ClassesWellFormed bases cs

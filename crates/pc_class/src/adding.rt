@@ -54,7 +54,7 @@ fn own_method<'m>(entry: &Entry<'m>) -> Option<&'m FuncDef>
     }
 }
 
-/// One more field that a class binds, behind those that it has already; the map that tells it too.
+/// Adds a field of a class after those that it has, and to the map by name.
 fn add_field<Ty: Drop>(
     named: &mut NamedMaps,
     alloc: Allocator,
@@ -77,7 +77,7 @@ fn add_field<Ty: Drop>(
     Ok(new)
 }
 
-/// One more method that a class binds, ahead of those that it inherits; the map that tells it too.
+/// Adds a method of a class ahead of those that it inherits, and to the map by name.
 fn add_method<Ty: Drop>(
     named: &mut NamedMaps,
     alloc: Allocator,
@@ -101,7 +101,7 @@ fn add_method<Ty: Drop>(
     Ok(new)
 }
 
-/// So for the field that an entry binds, if it binds one.
+/// Adds the entry's field, if it declares one.
 fn add_own_field<S: TypeStore>(
     setting: &Setting,
     store: &mut S,
@@ -134,7 +134,7 @@ fn add_own_field<S: TypeStore>(
     }
 }
 
-/// So for the method that an entry of a class binds, if it binds one.
+/// Adds the entry's method, if it declares one.
 fn add_own_method<S: TypeStore>(
     setting: &Setting,
     store: &mut S,
@@ -168,7 +168,7 @@ fn add_own_method<S: TypeStore>(
     }
 }
 
-/// Adds the fields that the entries of a class bind, behind those that it inherits; the map that tells them all.
+/// Adds the fields that the entries of a class bind, after those that it inherits; the map that tells them all.
 fn add_fields<S: TypeStore>(
     setting: &Setting,
     store: &mut S,
@@ -265,7 +265,7 @@ fn places_between(start: usize, end: usize) -> Span
     Span { start, end }
 }
 
-/// One more class, over its base among those before it; what is found of its members by their names: E06, E08. Library
+/// Adds a class, over its base among those before it; finds what its members' names tell: E06, E08. Library
 /// reference, `dataclasses`; own rules of the profile.
 pub(crate) fn add_class<S: TypeStore>(
     setting: &Setting,

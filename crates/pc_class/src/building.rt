@@ -41,7 +41,7 @@ fn no_classes<Ty: Drop>(alloc: Allocator) -> Result<TableParts<Ty>, OutOfMemory>
     })
 }
 
-/// One more item of the module: the class, if it is one, and what is found of its members by their names.
+/// Adds an item of the module: the class, if it is one, and what is found of its members by their names.
 fn add_item<S: TypeStore>(
     setting: &Setting,
     store: &mut S,
@@ -102,8 +102,8 @@ fn all_classes<S: TypeStore>(
     Ok(parts)
 }
 
-/// The class table of a module, with what is found of its classes put behind `found`: E06, E07 and E08. The annotations
-/// of the members are read for their types alone.
+/// The class table of a module, with what is found of its classes appended to `found`: E06, E07 and E08. The
+/// annotations of the members are read for their types alone.
 ///
 /// Library reference, `dataclasses`; Language Reference 3.12, 8.8 "Class definitions"; the codes are own rules of the
 /// profile.

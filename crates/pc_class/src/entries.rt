@@ -165,7 +165,7 @@ fn default_of(entry: &Entry) -> Option<bool>
     }
 }
 
-/// Finds the fields without default behind one with default: E08; says whether there was a default. Library reference,
+/// Finds the fields without default after one with default: E08; says whether there was a default. Library reference,
 /// `dataclasses`.
 pub fn find_late_fields(
     found: &mut Findings,

@@ -7,7 +7,7 @@ ghost use Rattle.pc_tree.specs.Stopping.{one_if};
 use pc_source::{OutOfMemory, Place};
 use pc_tree::{Code, Finding, Findings};
 
-/// One more finding where a condition holds.
+/// Adds a finding where a condition holds.
 pub fn find_if(
     found: &mut Findings,
     condition: bool,

@@ -202,6 +202,7 @@ fn is_clear<S: TypeStore>(
         Some(class) => match judging.classes.method(class, method.name.as_str()) {
             None => true,
             Some(old) => {
+                // The old method may itself not fit one above it; the new one has to be judged against each then.
                 if !is_clean(clean, old.owner) {
                     return false;
                 }
@@ -245,7 +246,7 @@ fn find_override<S: TypeStore>(
     }
 }
 
-/// So of each method that a class binds, one after another.
+/// Finds how each method that a class binds overrides, one after another.
 fn find_class_overrides<S: TypeStore>(
     judging: &Judging<S::Ty>,
     store: &mut S,
@@ -271,7 +272,7 @@ fn find_class_overrides<S: TypeStore>(
     Ok(())
 }
 
-/// Puts what overriding finds in a module behind `found`: `E11` at a method that is not good against each of its name
+/// Appends what overriding finds in a module to `found`: `E11` at a method that is not good against each of its name
 /// that its class inherits, `A8` at one that is, but is not static to each.
 ///
 /// Typing specification, "Type system concepts", assignability of callables; the codes are own rules of the profile.

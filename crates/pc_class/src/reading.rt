@@ -56,7 +56,7 @@ fn read_param<S: TypeStore>(
     })
 }
 
-/// So for parameters one after another.
+/// Parameters with the types that their annotations say, one after another.
 fn read_params<S: TypeStore>(
     setting: &Setting,
     store: &mut S,

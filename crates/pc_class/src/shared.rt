@@ -59,7 +59,7 @@ impl SharedMaps {
         self.nodes[at]
     }
 
-    /// One more part, whose own parts are there; its number.
+    /// Adds a part, whose own parts are there already, and gives its number.
     fn add(&mut self, node: Node) -> Result<usize, OutOfMemory>
         requires { IsWithin self.old node }
         ensures added { OnOk result (self.new ≡ self.old ++ node ∷ []) }

@@ -38,7 +38,7 @@ pub struct Method<Ty: Drop> {
     pub ret: Ty,
 }
 
-/// Puts the fields of these places behind others, from the last to the first.
+/// Puts the fields of these places after others, from the last to the first.
 fn push_backwards<'t, Ty: Drop>(
     all: &mut Vec<&'t Parameter<Ty>>,
     fields: &'t [Parameter<Ty>],

@@ -115,6 +115,7 @@ pub fn check_options(alloc: Global, words: &[&str]) -> Result<CheckOptions, Opti
         Err(error) => return Err(fault_of(alloc, &error)),
     };
     let number = matches.get_str("format").unwrap_or("");
+    // `clap` would keep a list of possible values in memory of which no contract tells, so the value is tested here.
     let Some(format) = format_of(number) else {
         return Err(format_fault(alloc, number));
     };

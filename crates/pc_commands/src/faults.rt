@@ -11,13 +11,13 @@ use thiserror::Error;
 /// Why the words ask for nothing.
 #[derive(Debug, PartialEq, Eq, Drop, Error)]
 pub enum OptionFault {
-    /// They are not as the program is called; the text says so on standard error.
+    /// The words are mistaken; the text says so on standard error.
     #[error("{0}")]
     Usage(String),
-    /// They ask for help or for the version, which the text is, on standard output.
+    /// The words ask for help or for the version, which is the text, for standard output.
     #[error("{0}")]
     Help(String),
-    /// A growth of memory was refused.
+    /// An allocation failed.
     #[error("out of memory\n")]
     OutOfMemory,
 }

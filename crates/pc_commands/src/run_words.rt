@@ -10,7 +10,7 @@ use crate::faults::{OptionFault, fault_of};
 use clap::{Arg, ArgAction, ArgMatches, Command};
 use std::alloc::{AllocError, Global};
 
-/// What the words of the command line ask for: a run of a file, with so much fuel.
+/// What the words of the command line ask for: a run of a file, with an amount of fuel.
 #[derive(Debug, PartialEq, Eq, Drop)]
 pub struct RunOptions {
     pub fuel: u64,
@@ -34,6 +34,7 @@ fn has_digits_alone(word: &[u8]) -> bool
 fn fuel_of(word: &str) -> Option<u64>
     ensures { result ≡ fuel_in word.now }
 {
+    // `parse` takes a sign `+`, which no fuel has.
     if !has_digits_alone(word.as_bytes()) {
         return None;
     }

@@ -17,7 +17,7 @@ use std::hash::RandomState;
 ///
 /// # Errors
 ///
-/// The refusal of the bytes where they spell no module; `OutOfMemory` where a growth was refused.
+/// The refusal of the bytes where they spell no module; `OutOfMemory` where an allocation failed.
 pub fn traced(alloc: Global, keys: RandomState, bytes: &[u8], fuel: u64) -> Result<Trace, Fault>
     ensures runs { IfOk result (λ t. RunsPlainly bytes.now fuel t.events.items (end_of_rust t.end)) }
     ensures refused { IfErr result (OnRefusal (IsRefusalOf bytes.now)) }

@@ -90,7 +90,7 @@ module _ (bases : Bases) (p : Place) where
     told_one true e None t k rest h = told_behind rest h
     told_one false e o t k rest h = told_behind rest h
 
-    -- a flow behind a note, and one that the note tells of
+    -- a flow after a note, and one that the note tells of
     some_behind : (b : Test) (o rest : Option (Tree × Tree)) → IsSome rest → IsSome (if b then or_else o rest else rest)
     some_behind true (Some f) rest h = refl
     some_behind true None rest h = h

@@ -179,7 +179,7 @@ module _ (bases : Bases) where
   formed_code p None = tt
   formed_code p (Some c) = own_holds (IsFormed bases) p c tt
 
-  -- of two lists, one behind the other
+  -- of two lists, one after the other
   formed_then : (xs ys : List Note) → AllByRecursion (IsFormed bases) xs → AllByRecursion (IsFormed bases) ys → AllByRecursion (IsFormed bases) (xs ++ ys)
   formed_then xs ys h k = all_append (IsFormed bases) xs ys h k
 

@@ -154,7 +154,7 @@ module _ (m : Module) where
   one_more [] t k h = (h, tt)
   one_more (u ∷ ts) t k h = (k.0, one_more ts t k.1 h)
 
-  -- behind constants of well-formed types
+  -- after constants of well-formed types
   module _ (r : ItemsReached) (k : AreWellFormed bases r.constants) where
     stands_well : StandsWell (initial m r.constants r.classes)
     stands_well = record { context = initializers_well_formed m r.constants r.classes k; declared = tt; env = tt }

@@ -92,7 +92,7 @@ module _ (m : Module) where
   def_tells before f marks h =
       tell_behind (params_findings m (λ t. is_one_of t before) f.params) (map plain_note (option_findings m bases f.returns)) (dynamic_in_params f.params marks) (params_tell before f.params marks h) (tell_plain (option_findings m bases f.returns))
 
-  -- members, behind these names
+  -- members, after these names
   members_tell : (all : List Tree) (base : ClassFacts) (c number : ℕ) (before : List (List ℕ)) (ms : List Member) (marks : MembersMarks ms) → LawfulMembers m all base c number before ms marks → Tells (members_findings m base (λ t. is_one_of t before) ms) (dynamic_in_members ms marks)
   members_tell all base c number before [] marks l = λ q. refl
   members_tell all base c number before (field_member d ∷ rest) marks l =

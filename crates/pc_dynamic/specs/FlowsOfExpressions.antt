@@ -61,7 +61,7 @@ abbrev mutual
   dynamic_in_exprs (more_exprs e rest) m = dynamic_in e m.first
       ++ (dynamic_at (place_of e) m.flows ++ dynamic_in_exprs rest m.rest)
 
-  -- so in arguments; of a test of an instance what stands second is not looked at
+  -- in arguments: each argument itself, and what is in it; of a test of an instance the second is not looked at
   pub dynamic_in_arguments : (is_test : Test) → (es : Exprs) → ItemsMarks es → List DynamicFlow
   dynamic_in_arguments is_test no_exprs m = []
   dynamic_in_arguments true (more_exprs e rest) m = dynamic_in e m.first
@@ -77,7 +77,7 @@ abbrev mutual
       ++ (dynamic_in value m.value
       ++ (dynamic_at (place_of value) m.value_flows ++ dynamic_in_entries rest m.rest)))
 
-  -- so in arguments by name
+  -- in arguments by name: each value itself, and what is in it
   pub dynamic_in_keywords : (es : Keywords) → KeywordsMarks es → List DynamicFlow
   dynamic_in_keywords no_keywords m = []
   dynamic_in_keywords (more_keywords parameter value rest) m = dynamic_in value m.first

@@ -48,7 +48,7 @@ abbrev mutual
   dynamic_in_stmt (conditional p bs o) marks = dynamic_in_branches bs marks.branches
       ++ dynamic_in_suite o marks.otherwise
 
-  -- in a suite; behind a statement that cannot complete there are no labels
+  -- in a suite; after a statement that cannot complete there are no labels
   pub dynamic_in_suite : (b : Stmts) → SuiteMarks b → List DynamicFlow
   dynamic_in_suite no_stmts marks = []
   dynamic_in_suite (more_stmts s rest) marks = dynamic_in_stmt s marks.first

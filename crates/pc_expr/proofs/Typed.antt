@@ -117,7 +117,7 @@ module _ {T : Type 0} (tree : T → Tree) (k : Standing) (want : Option Tree) wh
   pub binary_found : (p : Place) (o : BinaryOperator) (a b : Expr) (old new last : List Note) → new ≡ old ++ finds_in k None a → last ≡ new ++ finds_in k None b → last ≡ old ++ parts_find k want (binary p o a b)
   binary_found p o a b old new last h j = two_found old new last (finds_in k None a) (finds_in k None b) h j ∙ ap (λ fs. old ++ fs) (sym (parts_binary k want p o a b))
 
--- the standing behind a condition, by the environment that it leaves
+-- the standing after a condition, by the environment that it leaves
 pub standing_after : (k : Standing) (env : Env) (holds : Test) (e : Expr) → env ≡ narrow k.context.bases k.declared k.context.resolve holds e k.env → (let s : Standing = record { context = k.context; declared = k.declared; env = env } in s) ≡ narrowed_standing k holds e
 standing_after k env holds e h = ap (λ (x : Env). let s : Standing = record { context = k.context; declared = k.declared; env = x } in s) h
 

@@ -30,7 +30,7 @@ is_among locals x = list_any (nat_eq x) locals
 abbrev pub AgreeOutside : (locals : List ℕ) → (a b : Env) → Type 0
 AgreeOutside locals a b = (x : ℕ) → is_among locals x ≡ false → current a x ≡ current b x
 
--- so for the locals below a number
+-- two environments agree at each local below a number that is not among some
 abbrev pub AgreeBelow : (n : ℕ) → (locals : List ℕ) → (a b : Env) → Type 0
 AgreeBelow n locals a b = (x : ℕ) → x < n → is_among locals x ≡ false → current a x ≡ current b x
 
@@ -41,7 +41,7 @@ ConditionsKeepUntested =
     → AreSmaller bases → AreWellFormed bases declared → IsWellFormedEnv bases env → length env ≡ length declared
     → AgreeOutside (tested_locals resolve e) (narrow bases declared resolve holds e env) env
 
--- and it keeps the number of locals
+-- a condition keeps the number of locals
 abbrev pub ConditionsKeepLocals : Type 0
 ConditionsKeepLocals =
     (bases : Bases) (declared : List Tree) (resolve : List ℕ → Res) (holds : Test) (e : Expr) (env : Env)

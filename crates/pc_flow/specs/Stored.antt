@@ -10,7 +10,7 @@ abbrev pub HasOne : {Ty : Type 0} → (has : Ty → Type 0) → Option Ty → Ty
 HasOne has None = Unit {0}
 HasOne has (Some ty) = has ty
 
--- so for each local
+-- the store gave the type of each local that has one
 abbrev pub HasEach : {Ty : Type 0} → (has : Ty → Type 0) → List (Option Ty) → Type 0
 HasEach has types = All (HasOne has) types
 

@@ -16,7 +16,7 @@ module _ {Store Ty : Type 0} (has : Store → Ty → Type 0) (tree : Ty → Tree
     pub where_true : GivesEnv has tree store n.where_true (env true)
     pub where_false : GivesEnv has tree store n.where_false (env false)
 
-  -- and their types are well-formed
+  -- the types in both environments are of the store and well-formed
   pub record GivesWellFormed (bases : Bases) (store : Store) (n : BothWays Ty)
       (env : (holds : Test) → Env) : Type 0 where
     pub both : GivesBoth store n env

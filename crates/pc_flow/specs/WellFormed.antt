@@ -39,7 +39,7 @@ abbrev pub PassingIsWellFormed : Type 0
 PassingIsWellFormed = (bases : Bases) (test : Tested) (t : Tree) → AreSmaller bases → IsTestable test
     → IsWellFormed bases t → IsWellFormed bases (type_where_true bases test t)
 
--- and where it is false, whatever is tested for
+-- what is left of a well-formed type where a test of it is false is well-formed, whatever is tested for
 abbrev pub FailingIsWellFormed : Type 0
 FailingIsWellFormed = (bases : Bases) (test : Tested) (t : Tree) → AreSmaller bases → IsWellFormed bases t
     → IsWellFormed bases (type_where_false bases test t)
@@ -67,7 +67,7 @@ ConditionsKeepWellFormed =
     → AreSmaller bases → AreWellFormed bases declared → IsWellFormedEnv bases env
     → IsWellFormedEnv bases (narrow bases declared resolve holds e env)
 
--- so does the head of a loop, whatever locals the loop binds
+-- the head of a loop keeps types well-formed, whatever locals the loop binds
 abbrev pub LoopHeadsKeepWellFormed : Type 0
 LoopHeadsKeepWellFormed = (bases : Bases) (bound : ℕ → Test) (declared : List Tree) (env : Env)
     → AreWellFormed bases declared → IsWellFormedEnv bases env → IsWellFormedEnv bases (loop_head bound declared env)

@@ -37,7 +37,7 @@ impl<Ty: Drop> Clone for Chunk<Ty> {
 }
 
 impl<Ty: Drop> Chunk<Ty> {
-    /// A chunk of so many locals, of which none is assigned.
+    /// A chunk of this number of locals, none of them assigned.
     fn empty(alloc: Global, width: usize) -> Result<Chunk<Ty>, OutOfMemory>
         ensures { IfOk result (λ c. c ≡ replicate width None) }
     {
@@ -70,8 +70,8 @@ impl<Ty: Drop> Chunk<Ty> {
     }
 }
 
-/// How many of so many locals stand in a chunk: about as many as there are chunks, so that neither a copy of an environment
-/// nor a change of one of its locals takes long.
+/// How many of a function's locals stand in a chunk: about as many as there are chunks, so that neither a copy of an
+/// environment nor a change of one of its locals takes long.
 pub(crate) fn chunk_width(locals: usize) -> usize
     ensures { 1 ≤ result }
 {
@@ -82,7 +82,7 @@ pub(crate) fn chunk_width(locals: usize) -> usize
     width
 }
 
-/// So many chunks of this width as these locals need, of which none is assigned.
+/// As many chunks of this width as these locals need; none of the locals is assigned.
 pub(crate) fn empty_chunks<Ty: Drop>(
     alloc: Global,
     locals: usize,

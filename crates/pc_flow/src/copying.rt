@@ -8,7 +8,7 @@ use pc_source::OutOfMemory;
 use pc_types::TypeStore;
 use std::alloc::Global;
 
-/// The same environment again, at the cost of one pointer for each chunk of locals.
+/// A copy of an environment, at the cost of one pointer for each chunk of locals.
 pub fn copy_env<S: TypeStore>(
     store: &S,
     alloc: Global,

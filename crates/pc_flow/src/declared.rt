@@ -24,7 +24,7 @@ impl<Ty: Drop> Model for DeclaredTypes<Ty> {
 }
 
 impl<Ty: Drop> DeclaredTypes<Ty> {
-    /// So many locals, of which no declared type is known.
+    /// A table for this number of locals, with no declared type known.
     pub fn new(alloc: Global, locals: usize) -> Result<DeclaredTypes<Ty>, OutOfMemory>
         ensures { IfOk result (λ d. d ≡ replicate locals None) }
     {

@@ -10,8 +10,8 @@ use std::marker::Model;
 use std::rc::Rc;
 
 /// For each local of a function, by its number, its current type, or none where it is not assigned. Contracts see it as
-/// that list. Environments share what they have in common by chunks of locals, of one width each, so that a copy costs one
-/// pointer a chunk.
+/// that list. Environments share what they have in common by chunks of locals, of one width each, so that a copy costs
+/// one pointer a chunk.
 ///
 /// Typing specification, "Type narrowing"; own rules of the profile.
 #[derive(Drop)]
@@ -34,7 +34,7 @@ impl<Ty: Drop> Model for Env<Ty> {
 }
 
 impl<Ty: Drop> Env<Ty> {
-    /// So many locals, of which none is assigned.
+    /// An environment of this number of locals, none of them assigned.
     pub fn new(alloc: Global, locals: usize) -> Result<Env<Ty>, OutOfMemory>
         ensures { IfOk result (λ e. e ≡ replicate locals None) }
     {
@@ -47,7 +47,7 @@ impl<Ty: Drop> Env<Ty> {
         })
     }
 
-    /// The same current types again.
+    /// A copy: the same current types.
     pub(crate) fn copied(&self, alloc: Global) -> Result<Env<Ty>, OutOfMemory>
         ensures { IfOk result (λ e. e ≡ self.now) }
     {
@@ -104,8 +104,8 @@ impl<Ty: Drop> Env<Ty> {
         set_in(chunk, alloc, local % self.width, ty)
     }
 
-    /// Assigns a local: it has this current type from now on. Where there is no local of this number nothing changes, nor
-    /// where there is no memory for the change.
+    /// Assigns a local: it has this current type from now on. Where there is no local of this number nothing changes,
+    /// nor where there is no memory for the change.
     pub fn assign(&mut self, alloc: Global, local: usize, ty: Ty) -> Result<(), OutOfMemory>
         ensures assigned { OnOk result (self.new ≡ slice_set self.old local (Some ty)) }
         ensures unchanged { OnErr result (self.new ≡ self.old) }

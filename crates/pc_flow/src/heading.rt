@@ -36,8 +36,8 @@ fn set_declared<S: TypeStore>(
     env.assign(alloc, local, ty)
 }
 
-/// The environment at the head of a loop, from the one before it and the locals that the loop's body binds: each of these
-/// that is assigned has its declared type there, the others their current one. Own rule of the profile.
+/// The environment at the head of a loop, from the one before it and the locals that the loop's body binds: each of
+/// these that is assigned has its declared type there, the others their current one. Own rule of the profile.
 pub fn loop_head<S: TypeStore>(
     store: &mut S,
     alloc: Global,
@@ -53,6 +53,7 @@ pub fn loop_head<S: TypeStore>(
     ensures kept { KeepsTypes S.has store.old store.new }
 {
     let mut head = env.copied(alloc)?.first(declared.types().len());
+    // A later turn may have assigned any value that the declared type allows.
     for local in bound {
         set_declared(store, alloc, declared, *local, &mut head)?;
     }

@@ -180,6 +180,7 @@ pub(crate) fn join_some<S: TypeStore>(
         (join_with S.tree declarations.now (env_of S.tree a) (env_of S.tree b.now))) }
     ensures kept { KeepsTypes S.has store.old store.new }
 {
+    // The types of before are read while they are replaced; a copy costs a pointer for each chunk.
     let before = a.copied(alloc)?;
     let mut met = a.first(declarations.declared.types().len().min(b.len()));
     for local in locals {

@@ -40,8 +40,8 @@ pub fn loops_begin_with_declared_types()
         → bound x ≡ false → current (loop_head bound declared env) x ≡ current env x }
 {}
 
-/// The law that a condition leaves each local that it does not test as it is, where it is true and where it is false, and
-/// keeps the number of locals.
+/// The law that a condition leaves each local that it does not test as it is, where it is true and where it is false,
+/// and keeps the number of locals.
 pub fn conditions_keep_untested_locals()
     ensures untested { ConditionsKeepUntested }
     ensures locals { ConditionsKeepLocals }

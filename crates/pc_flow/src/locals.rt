@@ -6,7 +6,7 @@ ghost use Rattle.std.specs.Option.{option_copied};
 use pc_source::OutOfMemory;
 use std::alloc::Global;
 
-/// So many locals without a type.
+/// A list for this number of locals, none with a type.
 pub(crate) fn no_types<Ty: Drop>(
     alloc: Global,
     locals: usize,
@@ -20,7 +20,7 @@ pub(crate) fn no_types<Ty: Drop>(
     Ok(types)
 }
 
-/// The type of a local, if it has one; behind the last local there is none.
+/// The type of a local, if it has one; after the last local there is none.
 pub(crate) fn type_of<Ty: Drop>(types: &[Option<Ty>], local: usize) -> Option<&Ty>
     ensures { option_copied result ≡ slice_index_or types.now local None }
 {
@@ -31,7 +31,7 @@ pub(crate) fn type_of<Ty: Drop>(types: &[Option<Ty>], local: usize) -> Option<&T
     }
 }
 
-/// Gives a local a type; behind the last local nothing changes.
+/// Gives a local a type; after the last local nothing changes.
 pub(crate) fn set_type<Ty: Drop>(types: &mut [Option<Ty>], local: usize, ty: Ty)
     ensures { types.new ≡ slice_set types.old local (Some ty) }
 {

@@ -52,8 +52,8 @@ fn add_tested_by_call(
     }
 }
 
-/// Adds the locals that a condition tests, against `None` or by `isinstance`, in text order; one that it tests more than
-/// once comes as often. Typing specification, "Type narrowing".
+/// Adds the locals that a condition tests, against `None` or by `isinstance`, in text order; one that it tests more
+/// than once comes as often. Typing specification, "Type narrowing".
 pub fn add_tested(
     names: &OwnerNames,
     condition: &Expr,

@@ -28,9 +28,9 @@ pub enum Test {
 /// How a member of a type stands to what is tested for.
 #[derive(Clone, Copy, Debug, PartialEq, Eq)]
 pub enum Standing {
-    /// It is what is tested for, or below it.
+    /// The member is what is tested for, or below it.
     Within,
-    /// It is above it.
+    /// The member is above what is tested for.
     Above,
     /// Neither.
     Beside,

@@ -159,13 +159,13 @@ module _ (frame : BodyFrame) (Kind : ℕ → Type 0) (base : Env) (fine : (x : �
 
   -- ---- statements
 
-  -- behind a walk: as many locals, and the environment and the way out of the loop are kept
+  -- after a walk: as many locals, and the environment and the way out of the loop are kept
   pub record WalkHere (before : Option Env) (w : Walk) : Type 0 where
     pub long : length w.table ≡ length base
     pub env_here : IsKeptIfAny Kind base w.env
     pub broken_here : IsKeptIfAny Kind base before → IsKeptIfAny Kind base w.broken
 
-  -- and behind branches
+  -- and after branches
   pub record ForkHere (before : Option Env) (f : BranchesResult) : Type 0 where
     pub long : length f.table ≡ length base
     pub last_here : IsKept Kind base f.last

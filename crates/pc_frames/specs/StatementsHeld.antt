@@ -42,18 +42,18 @@ pub record HoldsType {Ty : Type 0} (has : Ty → Type 0) (tree : Ty → Tree) (b
   pub given : has ty
   pub well_formed : IsWellFormed bases (tree ty)
 
--- so is a type that there may be
+-- a type, if there is one, is of the store and well-formed
 abbrev pub HoldsTypeIfAny : {Ty : Type 0} (has : Ty → Type 0) (tree : Ty → Tree) (bases : Bases) → Option Ty → Type 0
 HoldsTypeIfAny has tree bases None = Unit {0}
 HoldsTypeIfAny has tree bases (Some ty) = HoldsType has tree bases ty
 
--- so are the types of locals, declared or current, of each that has one
+-- the types of locals, declared or current, are of the store and well-formed, of each local that has one
 pub record HoldsTypes {Ty : Type 0} (has : Ty → Type 0) (tree : Ty → Tree) (bases : Bases)
     (types : List (Option Ty)) : Type 0 where
   pub given : HasEach has types
   pub well_formed : IsWellFormedEnv bases (env_of tree types)
 
--- so are those of an environment that there may be
+-- the types of an environment, if there is one, are of the store and well-formed
 abbrev pub HoldsTypesIfAny : {Ty : Type 0} (has : Ty → Type 0) (tree : Ty → Tree) (bases : Bases)
     → Option (List (Option Ty)) → Type 0
 HoldsTypesIfAny has tree bases None = Unit {0}

@@ -22,7 +22,7 @@ module _ (resolve : List ℕ → Res) where
     tested_in_stmt (conditional p branches otherwise) = tested_in_branches branches ++ tested_in otherwise
     tested_in_stmt _ = []
 
-    -- those that conditions in the statements of a suite test
+    -- the locals that conditions in the statements of a suite test
     pub tested_in : Stmts → List ℕ
     tested_in no_stmts = []
     tested_in (more_stmts s rest) = tested_in_stmt s ++ tested_in rest
@@ -41,19 +41,19 @@ module _ (resolve : List ℕ → Res) where
   abbrev pub touched_by : Stmts → List ℕ
   touched_by body = numbers_of resolve (bound_by body) ++ tested_in body
 
-  -- those that conditions and their suites touch
+  -- the locals that conditions and their suites touch
   abbrev pub touched_by_branches : Branches → List ℕ
   touched_by_branches branches = numbers_of resolve (bound_by_branches branches) ++ tested_in_branches branches
 
-  -- those that an `if` touches, with its suite of `else`
+  -- the locals that an `if` touches, with its suite of `else`
   abbrev pub touched_by_if : Branches → (otherwise : Stmts) → List ℕ
   touched_by_if branches otherwise = touched_by_branches branches ++ touched_by otherwise
 
-  -- those that a `while` touches
+  -- the locals that a `while` touches
   abbrev pub touched_by_while : (condition : Expr) → Stmts → List ℕ
   touched_by_while condition body =
       numbers_of resolve (bound_by body) ++ (tested_locals resolve condition ++ tested_in body)
 
-  -- those that a `for` touches, with its target
+  -- the locals that a `for` touches, with its target
   abbrev pub touched_by_for : (target : Name) → Stmts → List ℕ
   touched_by_for target body = numbers_of resolve (target ∷ bound_by body) ++ tested_in body

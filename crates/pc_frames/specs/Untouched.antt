@@ -1,4 +1,4 @@
--- A walk over statements leaves each local that they do not touch as it is, on the way behind them and on each way out of
+-- A walk over statements leaves each local that they do not touch as it is, on the way after them and on each way out of
 -- a loop. So where the ways out of an `if` meet, only the locals that it touches have to be joined, and at a `break` only
 -- those that its loop touches.
 -- Own rule of the profile.
@@ -31,7 +31,7 @@ pub record IsAsOutside (locals : List ℕ) (base env : Env) : Type 0 where
   pub long : length env ≡ length base
   pub same : AgreeOutside locals env base
 
--- so it is, if there is one
+-- an environment, if there is one, has as many locals as another one, and agrees with it outside some
 abbrev pub IsAsOutsideIfAny : (locals : List ℕ) → Env → Option Env → Type 0
 IsAsOutsideIfAny locals base None = Unit {0}
 IsAsOutsideIfAny locals base (Some env) = IsAsOutside locals base env

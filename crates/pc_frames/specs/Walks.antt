@@ -20,7 +20,7 @@ module _ {Store Ty : Type 0} (S : StoreOf Store Ty) where
   abbrev pub HoldsOne : Walk Store Ty → Ty → Type 0
   HoldsOne w ty = HoldsType (S.has w.store.now) S.tree w.frame.parents.now ty
 
-  -- so is a type that there may be
+  -- a type of the walk, if there is one: it is of the store and well-formed
   abbrev pub HoldsWant : Walk Store Ty → Option Ty → Type 0
   HoldsWant w ty = HoldsTypeIfAny (S.has w.store.now) S.tree w.frame.parents.now ty
 
@@ -28,7 +28,7 @@ module _ {Store Ty : Type 0} (S : StoreOf Store Ty) where
   abbrev pub HoldsEnv : Walk Store Ty → List (Option Ty) → Type 0
   HoldsEnv w env = HoldsTypes (S.has w.store.now) S.tree w.frame.parents.now env
 
-  -- so is an environment that there may be
+  -- an environment of the walk, if there is one: all types are of the store and well-formed
   abbrev pub HoldsWay : Walk Store Ty → Option (List (Option Ty)) → Type 0
   HoldsWay w way = HoldsTypesIfAny (S.has w.store.now) S.tree w.frame.parents.now way
 
@@ -44,7 +44,7 @@ module _ {Store Ty : Type 0} (S : StoreOf Store Ty) where
   abbrev pub IsEnv : Walk Store Ty → List (Option Ty) → Env → Type 0
   IsEnv w types env = GivesTypes S.has S.tree w.frame.parents.now w.store.now types env
 
-  -- so does an environment that there may be
+  -- an environment of the walk, if there is one, means this one; where there is none, there is none
   abbrev pub IsWay : Walk Store Ty → Option (List (Option Ty)) → Option Env → Type 0
   IsWay w types way = GivesTypesIfAny S.has S.tree w.frame.parents.now w.store.now types way
 

@@ -79,8 +79,9 @@ fn add_tested_in_branches(
     Ok(())
 }
 
-/// The locals that an `if` with this suite of `else` touches, each once and in order: those that its suites bind, at any
-/// depth, and those that a condition in it tests. Behind it every other local is as before it. Own rule of the profile.
+/// The locals that an `if` with this suite of `else` touches, each once and in order: those that its suites bind, at
+/// any depth, and those that a condition in it tests. After it every other local is as before it. Own rule of the
+/// profile.
 pub fn touched_by(
     alloc: Global,
     names: &OwnerNames,
@@ -102,7 +103,7 @@ pub fn touched_by(
 }
 
 /// The locals that a `while` touches, each once and in order: those that its body binds, at any depth, and those that a
-/// condition in it tests. Inside it and behind it every other local is as before it. Own rule of the profile.
+/// condition in it tests. Inside it and after it every other local is as before it. Own rule of the profile.
 pub fn touched_by_while(
     alloc: Global,
     names: &OwnerNames,
@@ -122,8 +123,9 @@ pub fn touched_by_while(
     Ok(locals)
 }
 
-/// The locals that a `for` touches, each once and in order: its target, those that its body binds, at any depth, and those
-/// that a condition in it tests. Inside it and behind it every other local is as before it. Own rule of the profile.
+/// The locals that a `for` touches, each once and in order: its target, those that its body binds, at any depth, and
+/// those that a condition in it tests. Inside it and after it every other local is as before it. Own rule of the
+/// profile.
 pub fn touched_by_for(
     alloc: Global,
     names: &OwnerNames,

@@ -62,6 +62,7 @@ pub fn declare_unreached<S: TypeStore>(
     let mut bound = Vec::new(walk.alloc);
     add_bound_by(&mut bound, kind)?;
     let locals = locals_of(walk.alloc, walk.frame.names, &bound)?;
+    // No value comes there, so any type is right, and later statements need one.
     declare_each(walk, &locals)?;
     Ok(())
 }

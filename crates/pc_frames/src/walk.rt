@@ -6,8 +6,8 @@ use pc_notes::Notes;
 use pc_types::TypeStore;
 use std::alloc::Global;
 
-/// A walk over the statements of a function, as far as it has come: the store of its types, what its statements stand in,
-/// the declared types of the locals so far, and what is found so far. Who makes a walk lends it what it changes.
+/// A walk over the statements of a function, as far as it has come: the store of its types, what its statements stand
+/// in, the declared types of the locals so far, and what is found so far. Who makes a walk lends it what it changes.
 ///
 /// Own rule of the profile.
 #[derive(Drop)]

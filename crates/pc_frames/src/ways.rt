@@ -15,8 +15,8 @@ use pc_flow::Env;
 use pc_source::OutOfMemory;
 use pc_types::TypeStore;
 
-/// Joins the environment at a `break` onto the way out of its loop, if it stands in one. They agree at each local that is
-/// not among these: so only these are joined. Language Reference 7.9 "The break statement".
+/// Joins the environment at a `break` onto the way out of its loop, if it stands in one. They agree at each local that
+/// is not among these: so only these are joined. Language Reference 7.9 "The break statement".
 pub fn break_out<S: TypeStore>(
     walk: &mut Walk<'_, S>,
     locals: &[usize],
@@ -42,8 +42,8 @@ pub fn break_out<S: TypeStore>(
     }
 }
 
-/// Joins the way out of a suite onto the ways out of those before it, if a run comes out of it. They agree at each local
-/// that is not among these: so only these are joined.
+/// Joins the way out of a suite onto the ways out of those before it, if a run comes out of it. They agree at each
+/// local that is not among these: so only these are joined.
 pub fn meet<S: TypeStore>(
     walk: &mut Walk<'_, S>,
     locals: &[usize],

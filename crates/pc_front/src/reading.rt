@@ -19,7 +19,7 @@ use std::alloc::Global;
 /// # Errors
 ///
 /// The refusal of the first of tokens, layout and grammar that has no answer, at its fault of the
-/// least byte; `OutOfMemory` where a growth was refused.
+/// least byte; `OutOfMemory` where an allocation failed.
 pub fn module_in(alloc: Global, source: &Source) -> Result<Module, Fault>
     requires { IsText source.now }
     ensures read { IfOk result (λ m. IsModuleOf source.now (module_of m)) }
@@ -34,7 +34,7 @@ pub fn module_in(alloc: Global, source: &Source) -> Result<Module, Fault>
 /// # Errors
 ///
 /// The refusal of the first of source, tokens, layout and grammar that has no answer, at its fault of the
-/// least byte; `OutOfMemory` where a growth was refused.
+/// least byte; `OutOfMemory` where an allocation failed.
 pub fn read_module(alloc: Global, bytes: &[u8]) -> Result<Module, Fault>
     ensures read { IfOk result (λ m. IsModuleOf bytes.now (module_of m)) }
     ensures refused { IfErr result (OnRefusal (IsRefusalOf bytes.now)) }

@@ -25,7 +25,7 @@ use Rattle.pc_intern.proofs.Standing.{tree_stays}
 use Rattle.pc_types.specs.Internal.Rebuilding.{rebuilt}
 use Rattle.pc_types.proofs.Rebuilt.{rebuilt_is}
 
--- a type is held still where types are put behind the others
+-- a type is held still where types are put after the others
 pub held_stays : (old new : List BoxType) → Grows old new → (ty : TypeId) → IsHeld old ty → IsHeld new ty
 held_stays old new g ty h =
     record { at = rw g.is (tree_stays old g.added ty.number (meaning ty) h.at); normal = h.normal; small = h.small }

@@ -7,7 +7,7 @@ use Rattle.std.proofs.lemmas.Map.{none_passes_from_lookup}
 use Rattle.std.proofs.lemmas.Option.{slice_get-map}
 
 module _ {X : Type 0} where
-  -- what stands at a place stays there when others are put behind
+  -- what stands at a place stays there when others are put after
   pub stays : (xs ys : List X) (n : ℕ) (x : X) → slice_get xs n ≡ Some x → slice_get (xs ++ ys) n ≡ Some x
   stays [] ys zero x h = cc
   stays [] ys (suc n) x h = cc
@@ -24,7 +24,7 @@ module _ {X : Type 0} where
       let g = each_stays xs ys ps us r in
       cc
 
-  -- where one item is put behind a list, an item is one of the list's, or that one
+  -- where one item is put after a list, an item is one of the list's, or that one
   pub pushed : (xs : List X) (y : X) (n : ℕ) (x : X) → slice_get (xs ++ y ∷ []) n ≡ Some x → (slice_get xs n ≡ Some x) ⊎ ((n ≡ length xs) × (y ≡ x))
   pushed [] y zero x h = inr (refl, cc)
   pushed [] y (suc zero) x h = cc

@@ -1,4 +1,4 @@
--- What stands in a table, and what a table keeps where a type is put behind the others.
+-- What stands in a table, and what a table keeps where a type is put after the others.
 use Rattle.std.proofs.Common.{◌≡◌, ◌<◌, ◌+◌, take, get_or, All, ℕ, Bool, true, true≢false, inl, inr, List, [], ◌∷◌, ◌++◌, length, map, Some, None, refl, sym, ap, subst, ◌∙◌, append_assoc}
 use Rattle.std.proofs.lemmas.List.{map-append, take_more}
 use Rattle.std.proofs.lemmas.List.Elements.{All-get_or}
@@ -15,7 +15,7 @@ use Rattle.pc_intern.proofs.Places.{each_push, stays, each_stays, pushed, IsOnce
 use Rattle.pc_types.proofs.Rebuilt.{told, part_fewer}
 use Rattle.pc_intern.proofs.Keys.{node_eq, node_decides}
 
--- the tree of a number stays where types are put behind the others
+-- the tree of a number stays where types are put after the others
 pub tree_stays : (old more : List BoxType) (n : ℕ) (t : Tree) → tree_at old n ≡ Some t → tree_at (old ++ more) n ≡ Some t
 tree_stays old more n t h =
     subst (λ (ts : List Tree). slice_get ts n ≡ Some t) (sym (map-append tree_of old more)) (stays (map tree_of old) (map tree_of more) n t h)
@@ -28,7 +28,7 @@ pub node_stays : (old more : List BoxType) (node : Node) (t : Tree) → IsNode o
 node_stays old more node t h =
     record { head = h.head; parts = trees_stay old more node.parts.items (parts t) h.parts }
 
--- an item is put behind items among which it isn't
+-- an item is put after items among which it isn't
 once_push : {X : Type 0} (ts : List X) (t : X) → IsOnce ts → ((n : ℕ) → slice_get ts n ≡ Some t → ⊥) → IsOnce (ts ++ t ∷ [])
 once_push ts t once new m n x a b =
     elim (pushed ts t m x a) [
@@ -57,7 +57,7 @@ not_yet es test node t table same h none n at =
     let s = same_node (values_of es) table.once node e.0.0 t h k in
     true≢false (sym (same e.0.0 s.0 s.1) ∙ fails test es none n e.0 e.1)
 
--- a type that doesn't stand in the table is put behind the others
+-- a type that doesn't stand in the table is put after the others
 pub added : (es : List (Node × BoxType)) (test : Node → Bool) (node : Node) (b : BoxType) → IsTable es → ((n : Node) → node.head ≡ n.head → node.parts.items ≡ n.parts.items → test n ≡ true) → IsGiven b → IsNode (values_of es) node (tree_of b) → lookup test es ≡ None → IsTable (es ++ (node, b) ∷ [])
 added es test node b table same g h none = record { given = given'; told = told'; once = once' }
   where
@@ -105,7 +105,7 @@ pub found_tree : (types : List BoxType) (node : Node) (n : ℕ) (b : BoxType) �
 found_tree types node n b w g h =
     map_at tree_of types n w.ty w.at ∙ ap Some (same_tree types node node w.ty b w.given g refl refl w.told h)
 
--- the tree of the type that was put behind the others
+-- the tree of the type that was put after the others
 pub pushed_tree : (es : List (Node × BoxType)) (node : Node) (b : BoxType) → tree_at (values_of (es ++ (node, b) ∷ [])) (length es) ≡ Some (tree_of b)
 pushed_tree [] node b = refl
 pushed_tree (e ∷ es) node b = pushed_tree es node b

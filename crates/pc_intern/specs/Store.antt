@@ -36,6 +36,6 @@ abbrev pub IsRightAt : Bases → List BoxType → Option Answers → Type 0
 IsRightAt bases types None = Unit {0}
 IsRightAt bases types (Some a) = IsRight bases types a
 
--- so does each place
+-- each place that keeps answers keeps right ones
 abbrev pub AreRight : Bases → List BoxType → List (Option Answers) → Type 0
 AreRight bases types places = All (IsRightAt bases types) places

@@ -25,7 +25,7 @@ pub record IsNodeAt (types : List BoxType) (node : Node) (n : ℕ) : Type 0 wher
   pub given : IsGiven ty
   pub told : IsNode types node (tree_of ty)
 
--- the second has the types of the first, and others behind them
+-- the second has the types of the first, and others after them
 pub record Grows (old new : List BoxType) : Type 0 where
   pub added : List BoxType
   pub is : new ≡ old ++ added

@@ -59,6 +59,7 @@ impl Memo {
         ensures { self.new.places.items
             ≡ slice_set self.old.places.items (((31 * answers.s) % 2 ^ 64 + answers.t) % 2 ^ 64 % 4096) (Some answers) }
     {
+        // An answer that is lost is found again from the types; so the memo never has to grow.
         let place = place_of(answers.s, answers.t);
         self.places[place] = Some(answers);
     }

@@ -178,7 +178,7 @@ impl Table {
         Ok(numbers)
     }
 
-    /// Puts the numbers of a type's members behind others, each member into the table where it isn't in it.
+    /// Puts the numbers of a type's members after others, each member into the table where it isn't in it.
     #[cycle(intern)]
     fn intern_members(
         &mut self,

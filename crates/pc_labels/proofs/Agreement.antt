@@ -229,7 +229,7 @@ not_below c n e = grind (arith, nat_tests)
 at_most_not_below : (c n : ℕ) → n ≤ c → nat_lt c n ≡ false
 at_most_not_below c n l = grind (arith, nat_tests)
 
--- what may not be named behind constants and classes, as an initializer sees it
+-- what may not be named after constants and classes, as an initializer sees it
 early_meaning : (m : Module) (constants : List Tree) (k c : ℕ) → length constants ≡ k → (r : Res) → IsEarlyHere (initializer_context m constants c) r → IsEarlyMeaning k c r
 early_meaning m constants k c n (res.Func i) h = tt
 early_meaning m constants k c n (res.Const i) h = let l = none_past constants i h in omega (arith, l, n)
@@ -376,7 +376,7 @@ module _ (m : Module) (marks : Labelling m) (f : Finding) (s : is_of_scopes f.co
         as_early (inr (record { place = place_of x; callee = of_given other_callee (parts_in false c.value) (call q x args kws) (place_of x) among (ap (λ b. if b then None else Some (place_of x)) says.0); is = says.2 }))
     part_in_constant judged _ among says = absurd says
 
--- ---- items behind those before them
+-- ---- items after those before them
 
 -- what stands before an item, as the items before it say
 pub record Reached (done : List Item) (b : BeforeItem) : Type 0 where

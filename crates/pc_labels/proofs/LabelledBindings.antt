@@ -116,7 +116,7 @@ module _ (setting : Setting) where
         first = λ F gF s. st.is F s x refl f;
       }
 
-  -- a name that is bound has a declared type, labels of its value, and an environment behind it
+  -- a name that is bound has a declared type, labels of its value, and an environment after it
   pub record BindingLabelled (ds : List Tree) (seen : NamesBound) (env : Env) (n : Name) (r : Res) (a : Option Tree) (e : Expr) : Type 0 where
     pub table : List Tree
     pub is_table : IsDeclaredTable setting table

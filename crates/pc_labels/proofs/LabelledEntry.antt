@@ -27,7 +27,7 @@ module _ (setting : Setting) where
   among_entered word seen [] h = h
   among_entered word seen (p ∷ ps) h = among_entered word (p.name ∷ seen) ps (or_right (bytes_eq word p.name) (is_one_of word seen) h)
 
-  -- the parameters of a function have declared types, and an environment behind them
+  -- the parameters of a function have declared types, and an environment after them
   pub record EntryLabelled (ds : List Tree) (seen : NamesBound) (env : Env) (ps : List TypedParameter) : Type 0 where
     pub table : List Tree
     pub is_table : IsDeclaredTable setting table

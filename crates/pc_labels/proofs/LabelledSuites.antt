@@ -1,4 +1,4 @@
--- A statement with what stands behind it, what is returned, and assignments.
+-- A statement with what stands after it, what is returned, and assignments.
 use Rattle.std.proofs.Common.{List, [], arith, refl, ◌++◌, ◌∷◌, ◌≡◌}
 use Rattle.std.specs.Prelude.{Bool as Test, None, Option, Some, false, is_some, option_to_list, true, ◌&&◌, ◌||◌}
 use Rattle.pc_source.specs.declared.place.Place.{Place}
@@ -68,7 +68,7 @@ module _ (setting : Setting) where
     empty_reaches no_stmts x = or_true x
     empty_reaches (more_stmts s rest) x = refl
 
-    -- a statement, and what stands behind it
+    -- a statement, and what stands after it
     pub record BehindLabelled (b : Test) (ds : List Tree) (seen : NamesBound) (env : Env) (s : Stmt) (rest : Stmts) : Type 0 where
       pub table : List Tree
       pub is_table : IsDeclaredTable setting table

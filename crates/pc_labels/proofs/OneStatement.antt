@@ -312,7 +312,7 @@ module _ (m : Module) (ctx : Context) (ds ds' : List Tree) where
   option_kept None h = tt
   option_kept (Some e) h = (h, tt)
 
-  -- what two lawful labellings of a statement have in common: the labels, the environment after it, and what is kept behind it
+  -- what two lawful labellings of a statement have in common: the labels, the environment after it, and what is kept after it
   pub record SameStmt {A : Type 0} (mk mk' : A) (out out' : Option Env) (broken : List Env) (after : NamesBound) : Type 0 where
     pub marks : mk ≡ mk'
     pub outs : out ≡ out'
@@ -341,7 +341,7 @@ module _ (m : Module) (ctx : Context) (ds ds' : List Tree) where
     abbrev StmtRule' : NamesBound → Env → (s : Stmt) → StmtMarks s → Option Env → Type 0
     StmtRule' seen env s mk out = LawfulStmt m ctx ds' returned seen env s mk out
 
-    -- what stands behind a statement
+    -- what stands after a statement
     behind_one : (seen : NamesBound) (env : Env) (s : Stmt) (rest : Stmts) (b : Test) (s0 s0' : StmtMarks s) (r r' : Behind b (Following (SuiteMarks rest))) (out out' : Option Env)
         → ((o o' : Option Env) → StmtRule seen env s s0 o → StmtRule' seen env s s0' o' → SameStmt s0 s0' o o' (breaks_in s s0) (texts (bound_by_stmt s) ++ seen))
         → ((mid : Env) → SameWhere ds ds' mid → SameSeen (texts (bound_by_stmt s) ++ seen) → (k k' : SuiteMarks rest) (o o' : Option Env) → LawfulSuite m ctx ds returned (texts (bound_by_stmt s) ++ seen) mid rest k o → LawfulSuite m ctx ds' returned (texts (bound_by_stmt s) ++ seen) mid rest k' o' → SameStmt k k' o o' (breaks_in_suite rest k) (texts (bound_by rest) ++ (texts (bound_by_stmt s) ++ seen)))

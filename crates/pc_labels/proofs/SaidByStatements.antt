@@ -248,7 +248,7 @@ module _ (m : Module) (ctx : Context) (declared : List Tree) (f : Finding) (s : 
     message_said env None marks law h = absurd h
     message_said env (Some e) marks law h = of_expr env None e marks [] law h
 
-    -- a statement, and those behind it where it can complete
+    -- a statement, and those after it where it can complete
     behind_said : (seen : NamesBound) (env : Env) (st : Stmt) (rest : Stmts) (b : Test) (s0 : StmtMarks st) (r : Behind b (Following (SuiteMarks rest))) (out : Option Env)
         → BehindRule b r (λ x. LawfulStmt m ctx declared returned seen env st s0 (Some x.env) × LawfulSuite m ctx declared returned (texts (bound_by_stmt st) ++ seen) x.env rest x.rest out) (LawfulStmt m ctx declared returned seen env st s0 None × AreUndeclared m ctx declared (texts (bound_by_stmt st) ++ seen) (bound_by rest) × (out ≡ None))
         → StmtFinds m ctx seen st s0 f ⊎ BehindRule b r (λ x. SuiteFinds m ctx (texts (bound_by_stmt st) ++ seen) rest x.rest f) ⊥

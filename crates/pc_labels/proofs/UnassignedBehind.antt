@@ -1,4 +1,4 @@
--- A local that is not assigned before a `for` is not assigned behind it.
+-- A local that is not assigned before a `for` is not assigned after it.
 use Rattle.std.proofs.Common.{◌≡◌, ℕ, zero, suc, List, [], ◌∷◌, refl, sym, subst}
 use Rattle.std.specs.Prelude.{Bool as Test, Some, None}
 use Rattle.std.proofs.lemmas.Option.{same_Some}

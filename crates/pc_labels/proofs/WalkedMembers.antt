@@ -64,7 +64,7 @@ module _ (m : Module) where
 
     -- ---- lists
 
-    -- what is found of members behind these names
+    -- what is found of members after these names
     pub members_listed : (base : ClassFacts) (c number : ℕ) (before : List (List ℕ)) (ms : List Member) (marks : MembersMarks ms) → LawfulMembers m constants base c number before ms marks → Lists (members_findings m base (λ t. is_one_of t before) ms) (MembersSay m ms marks)
     members_listed base c number before [] marks l = lists_nothing
     members_listed base c number before (field_member d ∷ rest) marks l =

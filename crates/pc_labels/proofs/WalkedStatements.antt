@@ -28,7 +28,7 @@ use Rattle.pc_labels.proofs.WalkedBindings.{BoundSays, binding_says, target_says
 use Rattle.pc_labels.proofs.WalkedStores.{store_says, option_says, return_says}
 
 -- A walk over branches has come to what labels say: to the environment where no condition was true, and with the ways out of the suites
--- joined behind those before.
+-- joined after those before.
 record ForkSays (setting : Setting) (declared : List Tree) (seen : NamesBound) (table : Table) (ways : List Env) (broken : Option Env) (found : List Note) (w : BranchesResult) (last : Env) (more envs : List Env) (Says : Finding → Type 0) : Type 0 where
   fits : TableFits setting declared seen w.table
   grows : (env : Env) → EnvFits setting declared table env → EnvFits setting declared w.table env
@@ -91,7 +91,7 @@ module _ (setting : Setting) (returned : Tree) (kr : IsWellFormed setting.contex
     found_is = a;
   }
 
-  -- a walk behind a name bound
+  -- a walk after a name bound
   bound_says : {P : Finding → Type 0} (seen : NamesBound) (n : Name) (table : Table) (broken : Option Env) (found : List Note) (b : BindingResult) (after : Env) (out : Option Env) → OutFits setting declared table broken → out ≡ Some after → BoundSays setting returned declared seen n table found b after P
       → WalkHere (n.text ∷ seen) table broken found (behind_binding frame broken b) out [] P
   bound_says seen n table broken found b after out k e h = record {
@@ -120,7 +120,7 @@ module _ (setting : Setting) (returned : Tree) (kr : IsWellFormed setting.contex
         found_is = adds_nothing w.found;
       })
 
-  -- a statement, and what stands behind it
+  -- a statement, and what stands after it
   behind_says : (b : Test) (seen : NamesBound) (table : Table) (env : Env) (broken : Option Env) (found : List Note) (s : Stmt) (rest : Stmts) (s0 : StmtMarks s) (r : Behind b (Following (SuiteMarks rest))) (out : Option Env)
       → ((o : Option Env) → LawfulHere seen env s s0 o → WalkHere (texts (bound_by_stmt s) ++ seen) table broken found (step frame table (Some env) broken found s) o (breaks_in s s0) (StmtFinds m ctx seen s s0))
       → ((w : Walk) (mid : Env) → w.env ≡ Some mid → TableHere (texts (bound_by_stmt s) ++ seen) w.table → EnvFits setting declared w.table mid → OutFits setting declared w.table w.broken → (k : SuiteMarks rest) (o : Option Env) → LawfulThere (texts (bound_by_stmt s) ++ seen) mid rest k o → WalkHere (texts (bound_by rest) ++ (texts (bound_by_stmt s) ++ seen)) w.table w.broken w.found (walk_suite frame w rest) o (breaks_in_suite rest k) (SuiteFinds m ctx (texts (bound_by_stmt s) ++ seen) rest k))

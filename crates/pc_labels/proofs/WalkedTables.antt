@@ -1,4 +1,4 @@
--- A walk's table goes with declared types behind each name that is bound, and what fits the table fits it when it has grown.
+-- A walk's table goes with declared types after each name that is bound, and what fits the table fits it when it has grown.
 use Rattle.std.proofs.Common.{◌≡◌, ◌<◌, ℕ, zero, suc, List, [], ◌∷◌, ◌++◌, refl, sym, ap, ◌∙◌, subst, inl, inr, arith}
 use Rattle.std.specs.Prelude.{Bool as Test, true, false, ◌||◌, not, Option, Some, None, bytes_eq, slice_set}
 use Rattle.std.proofs.lemmas.Bool.{or_cases, or_right}

@@ -11,14 +11,14 @@ use Rattle.pc_labels.specs.ComputedStatements.{function_finds}
 
 module _ (m : Module) (constants : List Tree) where
   -- what was found, and then what is found in the bodies of the methods among members of the class of this number,
-  -- behind so many methods
+  -- after so many methods
   abbrev pub methods_find : (class number : ℕ) → List Member → List Note → List Note
   methods_find class number [] found = found
   methods_find class number (field_member d ∷ rest) found = methods_find class number rest found
   methods_find class number (method_member d ∷ rest) found =
       methods_find class (suc number) rest (function_finds m constants (owners.Method class number) d found)
 
-  -- what was found, and then what is found in the bodies of the functions and methods of items, behind so many classes
+  -- what was found, and then what is found in the bodies of the functions and methods of items, after so many classes
   -- and functions
   abbrev pub bodies_find : (classes functions : ℕ) → List Item → List Note → List Note
   bodies_find classes functions [] found = found

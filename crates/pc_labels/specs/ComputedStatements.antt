@@ -80,7 +80,7 @@ pub record Walk : Type 0 where
   pub broken : Option Env
   pub found : List Note
 
--- what a name bound comes to: declared types, the environment behind it, and what was found
+-- what a name bound comes to: declared types, the environment after it, and what was found
 pub record BindingResult : Type 0 where
   pub table : Table
   pub env : Env
@@ -122,7 +122,7 @@ module _ (frame : BodyFrame) where
   unreached_name table (res.Local x) = with_declared (bound_type table x) table x Any
   unreached_name table r = table
 
-  -- so for each of several names
+  -- each of several locals that are first bound where no run comes has Any
   abbrev pub unreached_names : Table → List Name → Table
   unreached_names table [] = table
   unreached_names table (n ∷ ns) = unreached_names (unreached_name table (frame.context.resolve n.text)) ns
@@ -259,7 +259,7 @@ module _ (frame : BodyFrame) where
   return_finds k p (Some e) = finds_in k (Some frame.returned) e
       ++ flows_at (place_of e) (flows_of frame.context.bases (mark_in k (Some frame.returned) e) (frame.returned ∷ []))
 
-  -- behind a name that is bound
+  -- after a name that is bound
   abbrev pub behind_binding : (broken : Option Env) → BindingResult → Walk
   behind_binding broken b = record { table = b.table; env = Some b.env; broken = broken; found = b.found }
 
@@ -267,11 +267,11 @@ module _ (frame : BodyFrame) where
   abbrev pub inside_for : (head : Env) → BindingResult → Walk
   inside_for head b = record { table = b.table; env = Some b.env; broken = Some head; found = b.found }
 
-  -- behind a loop: the way out of it, with each `break`; the breaks of a loop around it are as before it
+  -- after a loop: the way out of it, with each `break`; the breaks of a loop around it are as before it
   abbrev pub behind_loop : (broken : Option Env) → Walk → Walk
   behind_loop broken body = record { table = body.table; env = body.broken; broken = broken; found = body.found }
 
-  -- behind an `if`: the ways out of its branches and of `else` joined
+  -- after an `if`: the ways out of its branches and of `else` joined
   abbrev pub behind_branches : (ways : Option Env) → Walk → Walk
   behind_branches ways last = record {
     table = last.table;

@@ -55,12 +55,12 @@ pub record GoesByNames (setting : Setting) (declared : List Tree) (seen : NamesB
   pub same : (others : List Tree) → IsDeclaredTable setting others → Agree setting.context declared others seen
       → SameWhere declared others env
 
--- so do several environments
+-- several environments go by the names bound so far
 abbrev pub SettledAll : Setting → List Tree → NamesBound → List Env → Type 0
 SettledAll setting declared seen [] = Unit {0}
 SettledAll setting declared seen (e ∷ es) = GoesByNames setting declared seen e × SettledAll setting declared seen es
 
--- and so does an environment, if there is one
+-- an environment, if there is one, goes by the names bound so far
 abbrev pub OutSettled : Setting → List Tree → NamesBound → Option Env → Type 0
 OutSettled setting declared seen None = Unit {0}
 OutSettled setting declared seen (Some env) = GoesByNames setting declared seen env
@@ -71,7 +71,7 @@ any_way [] = false
 any_way (e ∷ es) = true
 
 -- A statement is labelled, from a table, the names bound so far and an environment: there are a table that agrees on
--- those names, labels, and the environment behind it, that go by the names bound by then; it ends somewhere exactly
+-- those names, labels, and the environment after it, that go by the names bound by then; it ends somewhere exactly
 -- where it can complete; and the labels are lawful with every table that agrees on the names bound by then.
 pub record StmtLabelled (setting : Setting) (returned : Tree) (declared : List Tree) (seen : NamesBound) (env : Env)
     (s : Stmt) : Type 0 where
@@ -87,7 +87,7 @@ pub record StmtLabelled (setting : Setting) (returned : Tree) (declared : List T
       → Agree setting.context table others (texts (bound_by_stmt s) ++ seen)
       → LawfulStmt setting.whole setting.context others returned seen env s marks out
 
--- so is a suite
+-- a suite has lawful labels from here on, as a statement has
 pub record SuiteLabelled (setting : Setting) (returned : Tree) (declared : List Tree) (seen : NamesBound) (env : Env)
     (b : Stmts) : Type 0 where
   pub table : List Tree
@@ -102,7 +102,7 @@ pub record SuiteLabelled (setting : Setting) (returned : Tree) (declared : List 
       → Agree setting.context table others (texts (bound_by b) ++ seen)
       → LawfulSuite setting.whole setting.context others returned seen env b marks out
 
--- and so are the branches of an `if`: the environments at their ends, and the one where no condition was true
+-- the branches of an `if` have lawful labels: the environments at their ends, and the one where no condition was true
 pub record BranchesLabelled (setting : Setting) (returned : Tree) (declared : List Tree) (seen : NamesBound) (env : Env)
     (bs : Branches) : Type 0 where
   pub table : List Tree
@@ -126,7 +126,7 @@ StatementsAreLabelled =
     → (declared : List Tree) (seen : NamesBound) (env : Env) → IsDeclaredTable setting declared
     → GoesByNames setting declared seen env → (s : Stmt) → StmtLabelled setting returned declared seen env s
 
--- and each suite
+-- each suite is labelled, from such a table and environment, in a function that returns a well-formed type
 abbrev pub SuitesAreLabelled : Type 0
 SuitesAreLabelled =
     (setting : Setting) (returned : Tree) → IsWellFormed setting.context.bases returned
@@ -138,7 +138,7 @@ pub record FunctionLabelled (m : Module) (constants : List Tree) (owner : Owner)
   pub marks : FunctionMarks f
   pub lawful : LawfulFunction m constants owner f marks
 
--- so have members of a class with this base, behind members of these names and so many methods
+-- members of a class with this base have lawful labels, after members of these names and this number of methods
 pub record MembersLabelled (m : Module) (constants : List Tree) (base : ClassFacts) (c number : ℕ)
     (before : List (List ℕ)) (ms : List Member) : Type 0 where
   pub marks : MembersMarks ms
@@ -149,7 +149,7 @@ abbrev pub FunctionsAreLabelled : Type 0
 FunctionsAreLabelled = (m : Module) (constants : List Tree) → AreWellFormed (bases_of m) constants
     → (owner : Owner) (f : FuncDef) → FunctionLabelled m constants owner f
 
--- and so have the members of each class
+-- the members of each class have lawful labels, where the types of the constants are well-formed
 abbrev pub ClassesAreLabelled : Type 0
 ClassesAreLabelled = (m : Module) (constants : List Tree) → AreWellFormed (bases_of m) constants
     → (base : ClassFacts) (c number : ℕ) (before : List (List ℕ)) (ms : List Member)

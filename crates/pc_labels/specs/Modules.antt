@@ -53,7 +53,7 @@ abbrev pub DeclaredEntry : (declared : List Tree) → (first : Test) → Res →
 DeclaredEntry declared true (res.Local x) t = declared_type declared x ≡ t
 DeclaredEntry declared first r t = Unit {0}
 
--- each parameter that binds a local has its type as declared type, behind the names bound so far
+-- each parameter that binds a local has its type as declared type, after the names bound so far
 abbrev pub LawfulEntry : (List ℕ → Res) → (declared : List Tree) → NamesBound → List TypedParameter → Type 0
 LawfulEntry resolve declared seen [] = Unit {0}
 LawfulEntry resolve declared seen (p ∷ ps) =
@@ -65,7 +65,7 @@ abbrev pub assigned_at_entry : (first : Test) → Res → Tree → Env → Env
 assigned_at_entry true (res.Local x) t env = assign env x t
 assigned_at_entry first r t env = env
 
--- the environment after these parameters are assigned, behind the names bound so far
+-- the environment after these parameters are assigned, after the names bound so far
 abbrev pub entry_env : (List ℕ → Res) → NamesBound → List TypedParameter → Env → Env
 entry_env resolve seen [] env = env
 entry_env resolve seen (p ∷ ps) env =
@@ -117,7 +117,7 @@ MembersMarks [] = Unit {0}
 MembersMarks (field_member d ∷ rest) = record { default : FlowMarks; rest : MembersMarks rest }
 MembersMarks (method_member d ∷ rest) = record { method : FunctionMarks d; rest : MembersMarks rest }
 
--- behind members of these names and so many methods
+-- after members of these names and so many methods
 abbrev pub LawfulMembers : Module → (constants : List Tree) → ClassFacts → (c number : ℕ) → (before : List (List ℕ))
     → (ms : List Member) → MembersMarks ms → Type 0
 LawfulMembers m constants base c number before [] marks = Unit {0}
@@ -210,7 +210,7 @@ LawfulItem m constants b (class_item p c) marks =
     LawfulMembers m constants (base_class m b.classes c) b.classes 0 [] c.members marks
 LawfulItem m constants b (def_item p f) marks = LawfulFunction m constants (owners.Func b.functions) f marks
 
--- the labels of items are lawful, each behind what stands before it
+-- the labels of items are lawful, each after what stands before it
 abbrev pub LawfulModuleItems : Module → (constants : List Tree) → BeforeItem → (items : List Item) → ItemsMarks items
     → Type 0
 LawfulModuleItems m constants b [] marks = Unit {0}
@@ -224,7 +224,7 @@ ItemFinds m constants b (constant_item p c) marks f = OptionAnnFinds m (bases_of
 ItemFinds m constants b (class_item p c) marks f = MembersFind m constants b.classes 0 c.members marks f
 ItemFinds m constants b (def_item p d) marks f = FunctionFinds m constants (owners.Func b.functions) d marks f
 
--- what is found in items, each behind what stands before it
+-- what is found in items, each after what stands before it
 abbrev pub ItemsFind : Module → (constants : List Tree) → BeforeItem → (items : List Item) → ItemsMarks items → Finding
     → Type 0
 ItemsFind m constants b [] marks f = ⊥

@@ -21,12 +21,12 @@ TargetMarks (to_name n) = Unit {0}
 TargetMarks (to_attribute p e field) = record { codes : List Code; object : Marks e }
 TargetMarks (to_index p e i) = record { codes : List Code; object : Marks e; key : Marks i; key_flows : FlowMarks }
 
--- what stands behind a statement that can complete; behind another one there are no labels
+-- what stands after a statement that can complete; after another one there are no labels
 abbrev pub Behind : (completes : Test) → Type 0 → Type 0
 Behind true A = A
 Behind false A = Unit {0}
 
--- behind a statement that can complete: the environment there, and the labels of the other statements
+-- after a statement that can complete: the environment there, and the labels of the other statements
 abbrev pub Following : (others : Type 0) → Type 0
 Following Others = record { env : Env; rest : Others }
 
@@ -58,7 +58,7 @@ abbrev mutual
     out : Option Env;
   }
 
-  -- of a suite: the labels of its first statement, and what stands behind that
+  -- of a suite: the labels of its first statement, and what stands after that
   pub SuiteMarks : Stmts → Type 0
   SuiteMarks no_stmts = Unit {0}
   SuiteMarks (more_stmts s rest) = record {
@@ -76,12 +76,12 @@ abbrev mutual
     rest : BranchesMarks rest;
   }
 
--- of what stands behind a statement: a rule where it can complete, else another one
+-- of what stands after a statement: a rule where it can complete, else another one
 abbrev pub BehindRule : {A : Type 0} (completes : Test) → Behind completes A → (A → Type 0) → Type 0 → Type 0
 BehindRule true m P N = P m
 BehindRule false m P N = N
 
--- a list made of what stands behind a statement, empty where the statement cannot complete
+-- a list made of what stands after a statement, empty where the statement cannot complete
 abbrev pub behind_list : {A B : Type 0} (completes : Test) → Behind completes A → (A → List B) → List B
 behind_list true m f = f m
 behind_list false m f = []

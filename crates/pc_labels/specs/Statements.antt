@@ -230,7 +230,7 @@ module _ (m : Module) (ctx : Context) (declared : List Tree) where
 
     -- the labels of statements, suites and branches are lawful
     abbrev mutual
-      -- a statement, behind the names bound so far, from the environment before it to the one after it, if it can
+      -- a statement, after the names bound so far, from the environment before it to the one after it, if it can
       -- complete
       pub LawfulStmt : NamesBound → Env → (s : Stmt) → StmtMarks s → Option Env → Type 0
       LawfulStmt seen env (pass p) marks out = out ≡ Some env
@@ -324,7 +324,7 @@ module _ (m : Module) (ctx : Context) where
   AnnotationFinds (res.Local x) false n a f = f ≡ finding n.place E24
   AnnotationFinds r first n a f = AnnFinds m ctx.bases a f
 
-  -- what is found in statements, suites and branches, behind the names bound so far
+  -- what is found in statements, suites and branches, after the names bound so far
   abbrev mutual
     pub StmtFinds : NamesBound → (s : Stmt) → StmtMarks s → Finding → Type 0
     StmtFinds seen (pass p) marks f = ⊥

@@ -29,7 +29,7 @@ pub fn one_labelling()
 {}
 
 /// The law that each statement and each suite has lawful labels, from a table of declared types and an environment that
-/// go by the names bound so far, of types in normal form, without absorbed members and of at most 256 nodes; and behind
+/// go by the names bound so far, of types in normal form, without absorbed members and of at most 256 nodes; and after
 /// it the table and the environment are so again.
 pub fn suites_have_labels()
     ensures statement { StatementsAreLabelled }
@@ -64,7 +64,7 @@ pub fn labels_agree_with_scopes()
     ensures { (m : Module) (marks : Labelling m) → IsLawful m marks → AgreesWithScopes m marks }
 {}
 
-/// The law that a local that is not assigned before a `for` is not assigned behind it, its target among them: the loop
+/// The law that a local that is not assigned before a `for` is not assigned after it, its target among them: the loop
 /// may take no turn.
 pub fn loops_may_take_no_turn()
     ensures { (m : Module) (ctx : Context) (declared : List Tree) (returned : Tree) (seen : NamesBound)

@@ -147,7 +147,7 @@ Walks len x (l ∷ ls) = (p : Placement) × (step len x l ≡ Ok p) × Walks len
 abbrev pub came : List LogicalLine → List (Result LogicalLine Fault)
 came ls = map Ok ls
 
--- lines that go on behind open suites: a suite deeper than the innermost, and what is left of the open ones
+-- lines that go on after open suites: a suite deeper than the innermost, and what is left of the open ones
 pub record Grown (text : List ℕ) (x : LayoutContext) (ls : List LogicalLine) : Type 0 where
   pub inner : Suite
   pub spine : List Suite

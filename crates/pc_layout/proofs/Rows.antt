@@ -10,7 +10,7 @@ use Rattle.pc_layout.specs.Faults.{IsOpen, ReturnsNowhere}
 abbrev place : ℕ → ℕ → Place
 place start end = record { start = start; end = end }
 
--- a line feed, one behind a carriage return, and none
+-- a line feed, one after a carriage return, and none
 line_feed_row : line_end (120 ∷ 32 ∷ 10 ∷ 121 ∷ []) 1 ≡ place 2 3
 line_feed_row = refl
 

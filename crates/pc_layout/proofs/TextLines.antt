@@ -1,4 +1,4 @@
--- The logical lines of a text stand in order: each has a token, and the tokens stand one behind the other.
+-- The logical lines of a text stand in order: each has a token, and the tokens stand one after the other.
 use Rattle.std.proofs.Common.{◌≡◌, ℕ, ◌+◌, ◌-◌, ◌<◌, ◌≤◌, List, [], ◌∷◌, ◌++◌, length, map, refl, subst, arith}
 use Rattle.std.specs.Prelude.{Result, Ok, Err}
 use Rattle.pc_source.specs.declared.fault.Refusal.{Refusal}
@@ -10,7 +10,7 @@ use Rattle.pc_token.specs.Splitting.{Sort, Blanks, Comment, LineEnd, Lexical, Pi
 use Rattle.pc_token.proofs.Starts.{some_token}
 use Rattle.pc_layout.specs.Layouts.{StandInOrder, all_lexemes, HaveTokens, AreInOrder}
 
--- tokens stand one behind the other from a byte on, and end by another one
+-- tokens stand one after the other from a byte on, and end by another one
 abbrev StandBetween : ℕ → List Lexeme → ℕ → Type 0
 StandBetween from [] to = from ≤ to
 StandBetween from (x ∷ xs) to = (from ≤ x.place.start) × (x.place.start < x.place.end) × StandBetween x.place.end xs to
@@ -48,7 +48,7 @@ line_same l m xs ys e = cc
 others_same : (l m : LogicalLine) (xs ys : Items) → Ok l ∷ xs ≡ Ok m ∷ ys → xs ≡ ys
 others_same l m xs ys e = cc
 
--- the line that ends here, if it has a token, ahead of others that stand in order behind it
+-- the line that ends here, if it has a token, ahead of others that stand in order after it
 closed : (start from to : ℕ) (done : List Lexeme) (items : Items) → StandBetween from done to → ((ls : List LogicalLine) → items ≡ map Ok ls → Ordered to ls) →
     (ls : List LogicalLine) → close_line start done items ≡ map Ok ls → Ordered from ls
 closed start from to [] items h rest ls e = let r = rest ls e in record { tokens = r.tokens; order = lower from to (all_lexemes ls) h r.order }
@@ -58,7 +58,7 @@ closed start from to (x ∷ xs) items h rest (l ∷ ls) e =
     subst (λ (m : LogicalLine). Ordered from (m ∷ ls)) (line_same line l items (map Ok ls) e)
     (ahead from to line ls (omega arith) h (rest ls (others_same line l items (map Ok ls) e)))
 
--- what holds of the lines behind a piece
+-- what holds of the lines after a piece
 abbrev Behind : List Lexeme → ℕ → Items → Type 0
 Behind done at items = (from : ℕ) → StandBetween from done at → (ls : List LogicalLine) → items ≡ map Ok ls → Ordered from ls
 

@@ -91,7 +91,7 @@ contains_first x xs = (0, omega arith, refl)
 pub contains_later : {X : Type 0} (x : X) (xs : List X) (y : X) → Contains xs y → Contains (x ∷ xs) y
 contains_later x xs y (n, lt, e) = (suc n, omega arith, e)
 
--- tokens that stand in order stand behind where they begin
+-- tokens that stand in order stand after where they begin
 pub behind : (from : ℕ) (xs : List Lexeme) (x : Lexeme) → StandInOrder from xs → Contains xs x → from ≤ x.place.start
 behind from [] x o h = absurd (contains_none x h)
 behind from (y ∷ ys) x o h = elim (contains_cases y ys x h) [

@@ -18,7 +18,7 @@ pub record IsLayout (text : List ℕ) (ls : List LogicalLine) (tokens : List Lex
   pub faultless : AreFaultless (length text) ls
   pub written : tokens ≡ flat text forest
 
--- tokens stand one behind the other from a byte on
+-- tokens stand one after the other from a byte on
 abbrev pub StandInOrder : ℕ → List Lexeme → Type 0
 StandInOrder from [] = Unit {0}
 StandInOrder from (x ∷ xs) = (from ≤ x.place.start) × (x.place.start < x.place.end) × StandInOrder x.place.end xs
@@ -33,7 +33,7 @@ abbrev pub HaveTokens : List LogicalLine → Type 0
 HaveTokens [] = Unit {0}
 HaveTokens (l ∷ ls) = (0 < length l.lexemes) × HaveTokens ls
 
--- lines as the text has them: each with a token, their tokens one behind the other
+-- lines as the text has them: each with a token, their tokens one after the other
 pub record AreInOrder (ls : List LogicalLine) : Type 0 where
   pub tokens : HaveTokens ls
   pub order : StandInOrder 0 (all_lexemes ls)

@@ -41,7 +41,7 @@ give (x ∷ xs) others = Ok x ∷ give xs others
 abbrev pub indents : Bool → ℕ → List Lexeme
 indents b byte = if b then mark k.Indent byte ∷ [] else []
 
--- so many DEDENTs at a byte
+-- a number of DEDENTs at a byte
 abbrev pub dedents : ℕ → ℕ → List Lexeme
 dedents n byte = replicate n (mark k.Dedent byte)
 

@@ -28,7 +28,7 @@ pub fn faults_at_tokens()
 {}
 
 /// The logical lines of a text without a lexical fault stand in order: each has a token, and the tokens
-/// stand one behind the other. So a refusal of the layout is the first one.
+/// stand one after the other. So a refusal of the layout is the first one.
 pub fn lines_stand_in_order()
     ensures { LinesStandInOrder }
 {}

@@ -22,7 +22,7 @@ struct Listed<'t, 'a> {
     alloc: Global,
 }
 
-/// The same line.
+/// A copy of a line.
 fn copied<'a>(alloc: Global, line: &Line<'a>) -> Result<Line<'a>, Fault>
     ensures { MatchResult result (λ l. line_of l ≡ line_of line.now) (λ e. e ≡ fault.OutOfMemory) }
 {

@@ -31,6 +31,7 @@ impl<'a, I: Iterator<Item = Result<Line<'a>, Fault>> + Drop> Toks<'a, I> {
         requires ends { IsFinite (I.remaining self.old.lines) }
         ensures { SettlesTo I.next_gives refusal self.old.lines result }
     {
+        // A fault of tokens, wherever it stands, is named ahead of one of the layout.
         while let Some(next) = self.lines.next() {
             if let Err(fault) = next {
                 return fault;

@@ -26,7 +26,7 @@ past_drop [] (suc i) h = refl
 past_drop (x ∷ xs) zero h = absurd (omega arith)
 past_drop (x ∷ xs) (suc i) h = past_drop xs i (omega arith)
 
--- the next parameter, and those behind it
+-- the next parameter, and those after it
 pub next_filled : (ps : List RustParameter) (vs : List RustValue) (ns : List NamedValue) (i : ℕ) (p : RustParameter) → i < length ps → p ≡ get_or ps i p
     → filled_parameters (map parameter_of (drop i ps)) (map value_of (drop i vs)) ns ≡ and_others (parameter_of p) (value_taken (parameter_of p) (option_map value_of (slice_get vs i)) (value_named p.name.now ns)) (filled_parameters (map parameter_of (drop (i + 1) ps)) (map value_of (drop (i + 1) vs)) ns)
 next_filled ps vs ns i p lt is =

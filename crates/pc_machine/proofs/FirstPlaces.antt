@@ -35,7 +35,7 @@ found_at n (g ∷ gs) = go (same_text g.name.now n) (found_at n gs)
     go true rest = refl
     go false rest = later g gs (place_of n (map name_of_global gs)) ∙ rest
 
--- one more name stands behind the others
+-- one more name stands after the others
 place_more : (n x : List ℕ) (ns : List (List ℕ)) → place_of n (ns ++ x ∷ []) ≡ first_of (place_of n ns) (bound_as x (length ns) n)
 place_more n x [] = refl
 place_more n x (m ∷ ns) = go (same_text m n) (place_more n x ns)

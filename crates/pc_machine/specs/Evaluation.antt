@@ -105,7 +105,7 @@ abbrev pub all_have_defaults : List Parameter → Bool
 all_have_defaults [] = true
 all_have_defaults (p ∷ rest) = if is_some p.default then all_have_defaults rest else false
 
--- those with a default stand behind the others
+-- the parameters with a default stand after the others
 abbrev pub defaults_last : List Parameter → Bool
 defaults_last [] = true
 defaults_last (p ∷ rest) = if is_some p.default then all_have_defaults rest else defaults_last rest
@@ -119,7 +119,7 @@ pub record Members : Type 0 where
   pub fields : List Parameter
   pub methods : List Function
 
--- the class that a number will name, behind its base
+-- the class that a number will name, after its base
 abbrev pub class_behind : Option Class → Members → ℕ → Class
 class_behind base own n = record {
   ancestors = n ∷ ancestors_of base;

@@ -35,7 +35,7 @@ abbrev mutual
   names_bound_by (for_loop p n e body) = n.text ∷ names_bound body
   names_bound_by (conditional p branches otherwise) = names_bound_in branches ++ names_bound otherwise
 
-  -- the names that the suites behind `if` and `elif` bind
+  -- the names that the suites after `if` and `elif` bind
   pub names_bound_in : Branches → List (List ℕ)
   names_bound_in no_branches = []
   names_bound_in (more_branches e body rest) = names_bound body ++ names_bound_in rest

@@ -48,6 +48,7 @@ impl<'m> Globals<'m> {
         match bind_first(&mut self.places, name, place) {
             Ok(()) => Ok(()),
             Err(_) => {
+                // So that the list and the map by name go on saying the same.
                 let _ = self.bindings.pop();
                 Err(OutOfMemory)
             }

@@ -9,7 +9,7 @@ use pc_value::Exception;
 /// How a run ends before its time. Own rule of the profile.
 #[derive(Clone, Copy, Debug, PartialEq, Eq)]
 pub enum Stop {
-    /// It raised one of the exceptions that are told apart.
+    /// The run raised one of the exceptions that are told apart.
     Raised(Exception),
     /// Another exception.
     Other,

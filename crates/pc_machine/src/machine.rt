@@ -128,7 +128,7 @@ impl<'m> Machine<'m> {
         set_local(&mut self.frame, name, value);
     }
 
-    /// One of fuel is taken; the run is cut off where none is left. Own rule of the profile.
+    /// Takes one unit of fuel, or cuts the run off where none is left. Own rule of the profile.
     pub fn charge(&mut self) -> Result<(), Halt>
         ensures plain { TellsProgress unit result self.new (charge (progress_of self.old)) }
         ensures fuel { self.new.fuel ≤ self.old.fuel }

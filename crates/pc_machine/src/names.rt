@@ -47,7 +47,7 @@ pub fn set_local(frame: &mut [Local<'_>], name: &str, value: Value)
     }
 }
 
-/// One more local, not bound yet.
+/// Adds a local that is not bound yet.
 fn add_name<'m>(frame: &mut Vec<Local<'m>>, name: &'m str) -> Result<(), OutOfMemory>
     ensures { OnOk result (map local_seen frame.new.items
         ≡ map local_seen frame.old.items ++ map unbound (name.now ∷ [])) }

@@ -1,4 +1,5 @@
-//! What a machine does at a node: calls, actions, stores.
+//! What a machine does at a node: calls, actions, stores. Its functions are kept out of those that evaluate
+//! (`inline(never)`), whose frames the deepest runs pile up.
 
 ghost use Rattle.std.specs.Prelude.{◌≡◌, ◌≤◌, ◌<◌, ◌-◌, [], ℕ, map, OnOk, IfOk, chars, is_some};
 ghost use Rattle.pc_tree.specs.Tree.{expr_of, stmts_of_list, name_of};
@@ -314,6 +315,7 @@ impl<'m> Machine<'m> {
         ensures fuel { self.new.fuel ≤ self.old.fuel }
     {
         let arguments = suited_arguments(alloc, self.keys, def, values, named)?;
+        // After the arguments: where they do not fit, that is a TypeError at any depth.
         let Some(depth) = self.depth.deeper() else {
             return Err(Halt::Stopped(Stop::Cut));
         };

@@ -12,7 +12,7 @@ use pc_value::Value;
 pub struct Parameter<'m> {
     /// The name by which an argument may be given.
     pub name: &'m str,
-    /// Its default as it is written, where it has one.
+    /// The parameter's default as it is written, where it has one.
     pub default: Option<&'m Literal>,
 }
 
@@ -63,7 +63,7 @@ pub struct Globals<'m> {
 pub struct Local<'m> {
     /// The name.
     pub name: &'m str,
-    /// Its value, where it is bound.
+    /// The local's value, where it is bound.
     pub value: Option<Value>,
 }
 
@@ -72,7 +72,7 @@ pub struct Local<'m> {
 pub struct NamedValue<'m> {
     /// The name of the parameter that it is for.
     pub name: &'m str,
-    /// Its value.
+    /// The argument's value.
     pub value: Value,
 }
 

@@ -7,7 +7,7 @@ use Rattle.pc_names.specs.Names.{first_of, bound_as}
 use Rattle.pc_names.proofs.Texts.{turned}
 
 module _ {K V : Type 0} (f : K → List ℕ) where
-  -- a new key goes behind the others
+  -- a new key goes after the others
   pub put_new : (es : List (K × V)) (k : K) (v : V) (t : List ℕ) → lookup (λ x. bytes_eq (f k) (f x)) es ≡ None → lookup (λ x. bytes_eq t (f x)) (insert_entry (λ x y. bytes_eq (f x) (f y)) es k v) ≡ first_of (lookup (λ x. bytes_eq t (f x)) es) (bound_as (f k) v t)
   put_new [] k v t e = rw (turned t (f k)) refl
   put_new (x ∷ es) k v t e = go (bytes_eq (f k) (f x.0)) e (λ g. put_new es k v t g)

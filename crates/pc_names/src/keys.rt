@@ -5,11 +5,12 @@ use std::hash::RandomState;
 use std::io;
 use std::random::RandomSource;
 
-/// The same bytes at each call.
+/// A source that gives the same bytes at each call.
 struct FixedBytes;
 
 impl RandomSource for FixedBytes {
     fn fill_bytes(&self, buf: &mut [u8]) -> io::Result<()> {
+        // Any byte would do, since no answer depends on the keys.
         buf.fill(0x5A);
         Ok(())
     }

@@ -10,7 +10,7 @@ use std::hash::RandomState;
 /// Names, each once, in the order in which they were put in.
 pub type NameSet<'m> = IndexSet<&'m str, RandomState>;
 
-/// One more name, and whether it was there already.
+/// Adds a name, and says whether it was there already.
 ///
 /// # Errors
 ///

@@ -28,7 +28,7 @@ module _ {S : Type 0} (tree : S → Tree) where
 pub held_at : {S : Type 0} (has : S → Type 0) (items held : List S) (k : ℕ) (x : S) → items ≡ held → All has held → k < length items → x ≡ get_or items k x → has x
 held_at has items held k x e all l read = subst has (sym read) (All-get_or has items k x l (subst (All has) (sym e) all))
 
--- types that are kept, and one more behind them
+-- types that are kept, and one more after them
 pub one_more : {S : Type 0} (old new : S → Type 0) (taken : List S) (y : S) → ((z : S) → old z → new z) → All old taken → new y → All new (taken ++ y ∷ [])
 one_more old new taken y kept all h = All-append new taken (y ∷ []) (λ k d l. kept _ (all k d l)) (λ k d l. one k d l)
   where

@@ -38,7 +38,7 @@ abbrev pub or_else : {A : Type 0} → Option A → Option A → Option A
 or_else None rest = rest
 or_else (Some a) rest = Some a
 
--- a flow that a note tells of at this place, else what comes behind
+-- a flow that a note tells of at this place, else what comes after
 abbrev pub flow_or : Place → Note → (rest : Option (Tree × Tree)) → Option (Tree × Tree)
 flow_or p n rest = if is_same_place p n.finding.place then or_else n.flow rest else rest
 

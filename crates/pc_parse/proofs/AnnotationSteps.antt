@@ -55,7 +55,7 @@ module _ {X I : Type 0} {text : X → List ℕ} {steps : I → Option (Result (T
       (ap (turn (part_read x us no_anns [] (ann_inside head done ts parts before s)) (lexeme text t)) e)
 
 module _ {X I : Type 0} (text : X → List ℕ) (steps : I → Option (Result (Token X) Fault) → I → Type 0) (a : Reader X I) where
-  -- a name with no bracket behind it is a part
+  -- a name with no bracket after it is a part
   pub alone : (n : Name) (us : List Lexeme) (parts : Anns) (before : List Lexeme) (s : AnnStack) → IsAhead (kind.Operator sign.LeftBracket) a.ahead ≡ false
       → Onward text steps a a (at (part_named n us parts before s)) (at (part_read (named n) us parts before s))
   alone n us parts before s e = alike text steps a (part_named n us parts before s) (part_read (named n) us parts before s) refl refl
@@ -67,14 +67,14 @@ module _ {X I : Type 0} (text : X → List ℕ) (steps : I → Option (Result (T
   filled n us parts before s e = alike text steps a (argument_due n us parts before s) (part_due no_anns [] (ann_inside n no_anns us parts before s)) refl refl
       (λ t h. ap (λ z. on z (empty_opened n (us ++ (lexeme text t ∷ [])) parts before s) (part_turn no_anns [] (ann_inside n no_anns us parts before s) (lexeme text t) t.kind)) (not_seen (kind.Operator sign.LeftParenthesis) e h))
 
-  -- parts with no `|` behind the last are one annotation
+  -- parts with no `|` after the last are one annotation
   pub united : (x : Ann) (us : List Lexeme) (parts : Anns) (before : List Lexeme) (s : AnnStack) → IsAhead (kind.Operator sign.Bar) a.ahead ≡ false
       → Onward text steps a a (at (part_read x us parts before s)) (at (part_read (whole_ann parts x (before ++ us)) (before ++ us) no_anns [] s))
   united x us parts before s e = alike text steps a (part_read x us parts before s) (part_read (whole_ann parts x (before ++ us)) (before ++ us) no_anns [] s) refl refl
       (λ t h. ap (λ z. on z (part_due (add_ann parts x) (before ++ (us ++ (lexeme text t ∷ []))) s) (ann_end (whole_ann parts x (before ++ us)) (before ++ us) s (lexeme text t) t.kind)) (not_seen (kind.Operator sign.Bar) e h)
       ∙ ap (λ z. on z (part_due (add_ann no_anns (whole_ann parts x (before ++ us))) ([] ++ ((before ++ us) ++ (lexeme text t ∷ []))) s) (ann_end (whole_ann parts x (before ++ us)) (before ++ us) s (lexeme text t) t.kind)) (sym (not_seen (kind.Operator sign.Bar) e h)))
 
-  -- behind an argument with neither `|` nor a comma the bracket closes
+  -- after an argument with neither `|` nor a comma the bracket closes
   pub closes : (x : Ann) (us : List Lexeme) (head : Name) (done : Anns) (ts : List Lexeme) (parts : Anns) (before : List Lexeme) (s : AnnStack)
       → IsAhead (kind.Operator sign.Bar) a.ahead ≡ false → IsAhead (kind.Operator sign.Comma) a.ahead ≡ false
       → NeedsKind text (kind.Operator sign.RightBracket) (part_read x us no_anns [] (ann_inside head done ts parts before s)) a
@@ -93,6 +93,6 @@ module _ {X I : Type 0} (text : X → List ℕ) (steps : I → Option (Result (T
         ∙ ap (λ v. on v (part_read (none_type (span (lexeme text t ∷ []))) (lexeme text t ∷ []) parts before s) stuck) (not_seen (kind.Keyword word.None) e h);
   }
 
-  -- behind `N[(` only `)]` stands
+  -- after `N[(` only `)]` stands
   pub needs_parenthesis : (head : Name) (us : List Lexeme) (parts : Anns) (before : List Lexeme) (s : AnnStack) → NeedsKind text (kind.Operator sign.RightParenthesis) (empty_opened head us parts before s) a
   needs_parenthesis head us parts before s = needs (λ t. empty_closed head (us ++ (t ∷ [])) parts before s) refl (λ t k. refl)

@@ -38,7 +38,7 @@ use Rattle.pc_reader.proofs.Streams.{blame}
 use Rattle.pc_reader.proofs.Stands.{stands_at, awaits, takes, reached_so, reaches_to}
 use Rattle.pc_reader.proofs.Words.{form_read, kind_due, kind_read}
 
--- what comes before the first parameter, behind the opening parenthesis
+-- what comes before the first parameter, after the opening parenthesis
 abbrev begun : Bool → DefStart → State
 begun true d = fixed (a_form (codes "self")) [] (self_read d)
 begun false d = param_due d []
@@ -85,7 +85,7 @@ module _ {X I : Type 0} {text : X → List ℕ} {steps : I → Option (Result (T
 
   -- ---- methods
 
-  -- behind `self`
+  -- after `self`
   pub after_self : (a p b : Parser X I) {t : Token X} {u : Token X} {m : Reader X I} → TakesForm text steps can left (codes "self") a.reader m t → Takes text steps can left m p.reader u → u.kind ≡ kind.Operator sign.Comma → p.deep ≡ a.deep → (r : Result (Vec RustParam Global) Fault)
       → ReadsParamsFrom text steps can left (λ d. param_due d []) p b r → ReadsParamsFrom text steps can left (λ d. fixed (a_form (codes "self")) [] (self_read d)) a b r
   after_self a p b {u = u} f h k same (Ok v) x = record {

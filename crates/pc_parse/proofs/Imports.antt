@@ -56,7 +56,7 @@ module _ {X I : Type 0} (text : X → List ℕ) (steps : I → Option (Result (T
       (λ t h. ap (λ z. on (z && true) (fixed (a_kind (kind.Keyword word.Import)) (a_form (codes "dataclass") ∷ a_kind kind.Newline ∷ []) (items after_dataclasses (record top { imports_dataclass = true })))
       (on (same_kind t.kind kind.Name && bytes_eq (lexeme text t).form (codes "typing")) (fixed (a_kind (kind.Keyword word.Import)) (a_form (codes "Any") ∷ a_kind kind.Newline ∷ []) (items after_headers (record top { imports_any = true }))) stuck)) (not_form (codes "dataclasses") e h))
 
-  -- the third header behind the second
+  -- the third header after the second
   pub then_typing : (top : Top) → Onward text steps a a (at (importing after_dataclasses top)) (at (due (import_words (codes "typing") (codes "Any")) (items after_headers (record top { imports_any = true }))))
   then_typing top = alike text steps a (importing after_dataclasses top) (due (import_words (codes "typing") (codes "Any")) (items after_headers (record top { imports_any = true }))) refl refl
       (λ t h. ap (λ z. on z (fixed (a_kind (kind.Keyword word.Import)) (a_form (codes "dataclass") ∷ a_kind kind.Newline ∷ []) (items after_dataclasses (record top { imports_dataclass = true })))

@@ -67,7 +67,7 @@ keep_valued {before = before} {between = between} {o = o} {p = p} s first n a tr
   kept = λ e. i ∙ ap (λ z. annotated first n z (Some (expr_of o.expr))) (k.kept (none_then (whole_expr p.tree ∷ []) d e)) ∙ ap (λ z. annotated first n tree (Some z)) (kept_tree o p between ko (sym d ∙ e));
 }
 
--- a statement behind others
+-- a statement after others
 pub keep_more : {before between after : Option ℕ} {v w : List RustStmt} {s : RustStmt} {ss : Stmts} {t : Stmt} → w ≡ v ++ (s ∷ []) → KeepsTree stmts_of_list wholes_of_stmts before between v ss
     → KeepsTree stmt_of wholes_of_stmt between after s t → KeepsTree stmts_of_list wholes_of_stmts before after w (add_stmt ss t)
 keep_more {before = before} {v = v} {s = s} {ss = ss} {t = t} i k l = record {
@@ -75,7 +75,7 @@ keep_more {before = before} {v = v} {s = s} {ss = ss} {t = t} i k l = record {
   kept = λ e. ap stmts_of_list i ∙ push_stmts v s ∙ ap (λ z. add_stmt z (stmt_of s)) (k.kept (none_then (wholes_of_stmt t) l.deep e)) ∙ ap (add_stmt ss) (l.kept e);
 }
 
--- a branch behind others
+-- a branch after others
 pub keep_branch : {before between after : Option ℕ} {v w : List RustBranch} {bs : Branches} {c : Expr} {ss : Stmts} (b : RustBranch) (e : RustExpr) (body : Vec RustStmt Global) → w ≡ v ++ (b ∷ [])
     → branches_of_list (b ∷ []) ≡ more_branches (expr_of e) (stmts_of_list body.items) no_branches → KeepsTree branches_of_list wholes_of_branches before between v bs
     → after ≡ deep_after between (whole_expr c ∷ wholes_of_stmts ss) → (after ≡ None → expr_of e ≡ c) → (after ≡ None → stmts_of_list body.items ≡ ss)

@@ -121,7 +121,7 @@ first_is (Some t) first begins h f = f t refl ∙ some h
     some q = cc
 
 module _ {X I : Type 0} (text : X → List ℕ) (steps : I → Option (Result (Token X) Fault) → I → Type 0) (can : I → Type 0) (left : I → Count) where
-  -- the suite behind `else`
+  -- the suite after `else`
   pub else_read : (a b c : Parser X I) (r : Result (Vec RustStmt Global) Fault) → b.deep ≡ a.deep → left_in left b.reader ≤ left_in left a.reader
       → ((bs : Branches) (site : Site) → IsAhead (kind.Keyword word.Elif) a.reader.ahead ≡ false → Onward text steps a.reader b.reader (at (after_branch bs site)) (at (suite_of (nested_in site (else_body bs)))))
       → ReadsSuite text steps can left b c r → ReadsElse text steps can left a c r

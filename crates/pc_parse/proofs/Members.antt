@@ -47,7 +47,7 @@ members_split [] m = refl
 members_split (field_member f ∷ ms) m = ap (λ z. whole_ann f.annotation ∷ z) (members_split ms m)
 members_split (method_member f ∷ ms) m = ap (λ z. wholes_of_def f ++ z) (members_split ms m) ∙ sym (append_assoc (wholes_of_def f) (wholes_of_members ms) (wholes_of_members (m ∷ [])))
 
--- behind a member the end of the suite may come
+-- after a member the end of the suite may come
 ends_some : (c : ClassStart) (ms : List Member) (m : Member) (k : TokenKind) → members_end c (ms ++ (m ∷ [])) k ≡ on (same_kind k kind.Dedent) (after_class c (ms ++ (m ∷ []))) stuck
 ends_some c [] m k = refl
 ends_some c (x ∷ ms) m k = refl

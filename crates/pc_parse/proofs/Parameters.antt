@@ -56,7 +56,7 @@ pub params_split : (ps : List Param) (p : Param) → wholes_of_params (ps ++ (p 
 params_split [] p = append-nil (optional_anns p.annotation)
 params_split (q ∷ ps) p = ap (λ z. optional_anns q.annotation ++ z) (params_split ps p) ∙ sym (append_assoc (optional_anns q.annotation) (wholes_of_params ps) (optional_anns p.annotation))
 
--- ---- what stands behind a name
+-- ---- what stands after a name
 
 ann_more : (d : DefStart) (ps : List Param) (n : Name) (a : Option Ann) (k : TokenKind) → or_ann (of_param d ps n) (param_more d ps n None) a k ≡ param_more d ps n a k
 ann_more d ps n None k = refl
@@ -174,7 +174,7 @@ module _ {X I : Type 0} {text : X → List ℕ} {steps : I → Option (Result (T
     parameter_fails p w = blame (λ o u. λ d. s.leads d o (u d s.params p)) w
 
     module _ {q : Parser X I} {r : RustParam} (x : GivesParam text steps can left m q r) where
-      -- what stands behind a parameter
+      -- what stands after a parameter
       pub comma_fails : {e : Fault} → Blames e (λ o. (z : Reading) → (q.reader.ahead ≡ None → stop z ≡ short) → Came text steps q.reader z o) → Blames e (λ o. (d : DefStart) → Came text steps a.reader (at (param_due d [])) o)
       comma_fails w = blame (λ o u. λ d. let y = x.leads d s.params in s.leads d o (y.leads o (u (at y.behind) (λ e. y.stands.unfinished)))) w
 

@@ -73,7 +73,7 @@ both_right : (b c : Bool) → (b && c) ≡ true → c ≡ true
 both_right true c e = e
 both_right false c e = cc
 
--- whether the last line goes on behind this name
+-- whether the last line goes on after this name
 abbrev last_line_ahead : {X I : Type 0} → Reader X I → Name → Bool
 last_line_ahead a n = IsAhead (kind.Operator sign.LeftParenthesis) a.ahead && bytes_eq n.text (codes "main")
 
@@ -94,7 +94,7 @@ no_item text a top x y = record {
 }
 
 module _ {X I : Type 0} (text : X → List ℕ) (steps : I → Option (Result (Token X) Fault) → I → Type 0) (a : Reader X I) (n : Name) (e : (IsAhead (kind.Operator sign.LeftParenthesis) a.ahead && bytes_eq n.text (codes "main")) ≡ true) where
-  -- the last line, from behind its name
+  -- the last line, from after its name
   pub last_line : (top : Top) → Onward text steps a a (at (item_named n top))
       (at (fixed (a_kind (kind.Operator sign.LeftParenthesis)) (a_kind (kind.Operator sign.RightParenthesis) ∷ a_kind kind.Newline ∷ a_kind kind.End ∷ []) (ended (module_over top n.place))))
   last_line top = alike text steps a (item_named n top) (fixed (a_kind (kind.Operator sign.LeftParenthesis)) (a_kind (kind.Operator sign.RightParenthesis) ∷ a_kind kind.Newline ∷ a_kind kind.End ∷ []) (ended (module_over top n.place))) refl refl

@@ -15,7 +15,7 @@ use Rattle.pc_reader.specs.Internal.Expressions.{Over, Undotted}
 use Rattle.pc_parse.specs.Internal.WholeTrees.{ending_in, ending_of}
 use Rattle.pc_reader.proofs.Frames.{loose}
 
--- ---- behind a whole expression
+-- ---- after a whole expression
 
 finish_none : (c : ExpressionPosition) (p : Part) → finish c p no_ending ≡ stuck
 finish_none (in_line done block) p = refl
@@ -80,7 +80,7 @@ out_dedent (kind.Keyword word.For) h = cc
 out_dedent (kind.Keyword word.If) h = cc
 out_dedent _ h = cc
 
--- a suite ends behind a statement
+-- a suite ends after a statement
 pub suite_ends : (done : Stmts) (s : Stmt) (b : Block) → end_suite (add_stmt done s) b ≡ go (after_suite b (add_stmt done s))
 suite_ends no_stmts s b = refl
 suite_ends (more_stmts x xs) s b = refl

@@ -1,4 +1,4 @@
--- The end of a module, and tokens behind it.
+-- The end of a module, and tokens after it.
 use Rattle.std.specs.Option.{is_some}
 use Rattle.std.proofs.Common.{◌≡◌, ℕ, true, false, List, [], Option, Some, None, Result, Ok, refl, ap, sym, ◌∙◌, subst}
 use Rattle.std.specs.Prelude.{Vec}
@@ -46,7 +46,7 @@ same_token : {X : Type 0} {t u : Token X} → Some t ≡ Some u → t ≡ u
 same_token e = cc
 
 module _ {X I : Type 0} (text : X → List ℕ) (steps : I → Option (Result (Token X) Fault) → I → Type 0) (a : Reader X I) (tree : Module) where
-  -- no token goes on behind the end
+  -- no token goes on after the end
   pub surplus : (e : Fault) (k : TokenKind) → kind_ahead a.ahead ≡ Some k → Blames e (λ o. (st : State) → Rejects text st a → Came text steps a (at st) o) → Blames e (λ o. Came text steps a (at (ended tree)) o)
   surplus e k is w = by_ahead a.ahead refl
     where

@@ -201,7 +201,7 @@ mutual
 
 -- ---- functions, classes and the module
 
--- what stands behind a comma, or nothing
+-- what stands after a comma, or nothing
 after_comma : {len : ℕ} {last : Type 0} {A : Spelling} → (ws : List Whole) → (last → ws ≡ []) → Tells len A (BeginWithin len ws) → Tells len (AfterComma last A) (BeginWithin len ws)
 after_comma {len = len} ws none f = record { over = λ ts h s. elim s [ inl more ↦ (of_right f).over ts h more | inr end ↦ subst (λ us. BeginWithin len us) (sym (none end.0)) tt ] }
 

@@ -140,7 +140,7 @@ fn union<X: AsStr + Drop, I: Iterator<Item = Result<Token<X>, Fault>> + Drop>(
     }
 }
 
-/// A name, `None`, or a name with brackets behind it.
+/// A name, `None`, or a name with brackets after it.
 #[cycle(annotations)]
 fn part<X: AsStr + Drop, I: Iterator<Item = Result<Token<X>, Fault>> + Drop>(
     reader: &mut Reader<X, I>,
@@ -162,7 +162,7 @@ fn part<X: AsStr + Drop, I: Iterator<Item = Result<Token<X>, Fault>> + Drop>(
     arguments(reader, alloc, name)
 }
 
-/// What stands behind a name and `[`: arguments or `()`, and the closing bracket.
+/// What stands after a name and `[`: arguments or `()`, and the closing bracket.
 #[cycle(annotations)]
 fn arguments<X: AsStr + Drop, I: Iterator<Item = Result<Token<X>, Fault>> + Drop>(
     reader: &mut Reader<X, I>,
@@ -194,7 +194,7 @@ fn arguments<X: AsStr + Drop, I: Iterator<Item = Result<Token<X>, Fault>> + Drop
     }
 }
 
-/// `)]` behind a name and `[(`.
+/// `)]` after a name and `[(`.
 fn no_arguments<X: AsStr + Drop, I: Iterator<Item = Result<Token<X>, Fault>> + Drop>(
     reader: &mut Reader<X, I>,
     head: Name,

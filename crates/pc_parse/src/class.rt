@@ -94,7 +94,7 @@ impl<X: AsStr + Drop, I: Iterator<Item = Result<Token<X>, Fault>> + Drop> Parser
         }
     }
 
-    /// A class from behind its `@`.
+    /// A class from after its `@`.
     pub(crate) fn class(&mut self, alloc: Global) -> Result<ClassDef, Fault>
         requires { IsReady I.can_next I.remaining self.old.reader }
         ensures { ReadsClass X.text I.next_gives I.can_next I.remaining self.old self.new result }

@@ -22,7 +22,7 @@ struct Listed<'t, 'a> {
     at: usize,
 }
 
-/// The same token.
+/// A copy of a token.
 fn copied<'a>(token: &Tok<'a>) -> Result<Tok<'a>, Fault>
     ensures { MatchResult result (λ t. lexeme_of t ≡ lexeme_of token.now) (λ e. e ≡ fault.OutOfMemory) }
 {

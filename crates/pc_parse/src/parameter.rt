@@ -11,7 +11,7 @@ use std::alloc::Global;
 use std::convert::AsStr;
 
 impl<X: AsStr + Drop, I: Iterator<Item = Result<Token<X>, Fault>> + Drop> Parser<X, I> {
-    /// An annotation behind this sign, if the sign is ahead.
+    /// An annotation after this sign, if the sign is ahead.
     pub(crate) fn annotation_behind(
         &mut self,
         alloc: Global,

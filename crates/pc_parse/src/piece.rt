@@ -22,7 +22,7 @@ enum Piece {
     Last(Place),
 }
 
-/// Whether the last line of the module goes on behind this name.
+/// Whether the last line of the module goes on after this name.
 fn begins_last_line<X: AsStr + Drop, I: Iterator<Item = Result<Token<X>, Fault>> + Drop>(
     reader: &Reader<X, I>,
     name: &Name,
@@ -34,7 +34,7 @@ fn begins_last_line<X: AsStr + Drop, I: Iterator<Item = Result<Token<X>, Fault>>
 }
 
 impl<X: AsStr + Drop, I: Iterator<Item = Result<Token<X>, Fault>> + Drop> Parser<X, I> {
-    /// A constant from behind its name, and the end of its line.
+    /// A constant from after its name, and the end of its line.
     fn constant(&mut self, alloc: Global, name: Name) -> Result<Constant, Fault>
         requires { IsReady I.can_next I.remaining self.old.reader }
         ensures { ReadsConstant X.text I.next_gives I.can_next I.remaining self.old self.new (name_of name) result }

@@ -96,7 +96,7 @@ impl<X: AsStr + Drop, I: Iterator<Item = Result<Token<X>, Fault>> + Drop> Parser
         }
     }
 
-    /// The end of the line, behind what was read of it.
+    /// The end of the line, after what was read of it.
     fn line_end<T: Drop>(&mut self, read: T) -> Result<T, Fault>
         requires { IsReady I.can_next I.remaining self.old.reader }
         ensures { ReadsLineEnd X.text I.next_gives I.can_next I.remaining self.old self.new read result }
@@ -139,7 +139,7 @@ impl<X: AsStr + Drop, I: Iterator<Item = Result<Token<X>, Fault>> + Drop> Parser
         })
     }
 
-    /// `assert`, a condition, and a message behind a comma if there is one.
+    /// `assert`, a condition, and a message after a comma if there is one.
     pub(crate) fn asserted(&mut self, alloc: Global) -> Result<Stmt, Fault>
         requires { IsReady I.can_next I.remaining self.old.reader }
         ensures { ReadsStmt X.text I.next_gives I.can_next I.remaining
@@ -199,7 +199,7 @@ impl<X: AsStr + Drop, I: Iterator<Item = Result<Token<X>, Fault>> + Drop> Parser
         })
     }
 
-    /// The annotation of a local behind its `:`, and what is assigned to it if anything is.
+    /// The annotation of a local after its `:`, and what is assigned to it if anything is.
     fn annotated(&mut self, alloc: Global, first: Place, name: Name) -> Result<Stmt, Fault>
         requires { IsReady I.can_next I.remaining self.old.reader }
         ensures { ReadsLocal X.text I.next_gives I.can_next I.remaining first name self.old self.new result }

@@ -13,7 +13,7 @@ use std::alloc::Global;
 use std::convert::AsStr;
 
 impl<X: AsStr + Drop, I: Iterator<Item = Result<Token<X>, Fault>> + Drop> Parser<X, I> {
-    /// The statements of a suite, from behind its `:` up to and with its end.
+    /// The statements of a suite, from after its `:` up to and with its end.
     /// Language Reference 8 "Compound statements".
     #[cycle(statements)]
     pub(crate) fn suite(&mut self, alloc: Global) -> Result<Vec<Stmt>, Fault>
@@ -111,7 +111,7 @@ impl<X: AsStr + Drop, I: Iterator<Item = Result<Token<X>, Fault>> + Drop> Parser
         }
     }
 
-    /// An expression, and the suite behind it.
+    /// An expression, and the suite after it.
     #[cycle(statements)]
     fn headed(&mut self, alloc: Global) -> Result<(Expr, Vec<Stmt>), Fault>
         requires { IsReady I.can_next I.remaining self.old.reader }

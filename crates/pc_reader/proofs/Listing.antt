@@ -63,7 +63,7 @@ module _ {X I : Type 0} (text : X → List ℕ) (steps : I → Option (Result (T
       → (q : Gives text steps can left (λ s. rank s ≡ 0) 0 b c o) → Onward text steps a c (at (item_due h xs ts s)) (at (have o.level q.part (listing h v.items (ts ++ v.more) s)))
   item_read {b = b} {h = h} {ts = ts} v s n q r x = v.leads s r (item_begins text steps b h v.items (ts ++ v.more) s n r (q.leads (listing h v.items (ts ++ v.more) s) refl r x))
 
-  -- with a comma behind it
+  -- with a comma after it
   pub item_more : {K : Type 0} {a b c d : Reader X I} {now now' : Items} {h : Head} {xs : Exprs} {ts : List Lexeme} {o : Operand} {t : Token X} (v : ElementsSoFar text steps can left K a b now h xs ts) → IsAhead (closer h) b.ahead ≡ false
       → (q : Gives text steps can left (λ s. rank s ≡ 0) 0 b c o) → ((es : Exprs) (p : Part) → KeepsItems now es → KeepsPart o p → KeepsItems now' (add_expr es p.tree))
       → Takes text steps can left c d t → t.kind ≡ kind.Operator sign.Comma → ElementsSoFar text steps can left K a d now' h xs ts
@@ -76,7 +76,7 @@ module _ {X I : Type 0} (text : X → List ℕ) (steps : I → Option (Result (T
         (regroup text steps d (λ z. item_due h (add_expr v.items q.part.tree) z s) ts v.more (q.part.tokens ++ (lexeme text t ∷ [])) r x));
   }
 
-  -- with the closing bracket behind it
+  -- with the closing bracket after it
   pub item_last : {K : Type 0} {a b c d : Reader X I} {now now' : Items} {h : Head} {xs : Exprs} {ts : List Lexeme} {o : Operand} {t : Token X} (v : ElementsSoFar text steps can left K a b now h xs ts) → IsAhead (closer h) b.ahead ≡ false
       → (q : Gives text steps can left (λ s. rank s ≡ 0) 0 b c o) → ((es : Exprs) (p : Part) → KeepsItems now es → KeepsPart o p → KeepsItems now' (add_expr es p.tree))
       → Takes text steps can left c d t → t.kind ≡ closer h → K → ListsOn text steps can left a d (record { items = now'; end = t.place.end }) h xs ts
@@ -117,7 +117,7 @@ module _ {X I : Type 0} (text : X → List ℕ) (steps : I → Option (Result (T
     leads = λ s r o x. f s r o (n.leads s o (subst (λ z. Came text steps c (at (have z (part (λ p. head_tree h n.items p) (ts ++ n.more)) s)) o) lv x));
   }
 
-  -- what stands behind an operand in parentheses, as a call
+  -- what stands after an operand in parentheses, as a call
   pub called_with : {a b : Reader X I} {l : Listed} {callee made : Operand} (t : Lexeme) (p : Part) → KeepsPart callee p → (n : ListsOn text steps can left a b l (in_call p.tree) no_exprs (p.tokens ++ (t ∷ [])))
       → ((es : Exprs) → KeepsItems l.items es → Builds made (λ q. call q p.tree es no_keywords) callee.start l.end)
       → OperandGoesOn text steps can left (λ t p s. item_due (in_call p.tree) no_exprs (p.tokens ++ (t ∷ [])) s) 7 a b callee made t p

@@ -75,7 +75,7 @@ module _ {X I : Type 0} {text : X → List ℕ} {steps : I → Option (Result (T
         (ap (turn (minus_read c (u ∷ [])) (lexeme text t)) k ∙ ap (λ z. go (literal_read c (negative_literal (record { start = u.place.start; end = t.place.end }) z))) (sym e));
   }
 
-  -- behind a `-`
+  -- after a `-`
   pub after_minus : {a m : Reader X I} {t : Token X} (b : Reader X I) → Takes text steps can left a m t → t.kind ≡ kind.Operator sign.Minus → (r : Result RustLiteral Fault)
       → ReadsLiteralFrom text steps can left (λ c. minus_read c (lexeme text t ∷ [])) m b r → ReadsLiteral text steps can left a b r
   after_minus {t = t} b h k (Ok l) x = record {

@@ -27,7 +27,7 @@ use Rattle.pc_reader.proofs.Building.{ends_more, ends_one}
 use Rattle.pc_reader.proofs.Listing.{regroup}
 use Rattle.pc_reader.proofs.Steps.{step_to, not_seen}
 
--- behind a comma and without the closing parenthesis a name is due
+-- after a comma and without the closing parenthesis a name is due
 pub needs_name : {X I : Type 0} (text : X → List ℕ) (e : Expr) (xs : Exprs) (ks : KeywordTrees) (ts : List Lexeme) (s : Stack) (a : Reader X I) → IsAhead (kind.Operator sign.RightParenthesis) a.ahead ≡ false → NeedsKind text kind.Name (keyword_due e xs ks ts s) a
 needs_name text e xs ks ts s a n = record {
   unfinished = refl;
@@ -35,18 +35,18 @@ needs_name text e xs ks ts s a n = record {
       ∙ ap (λ z. on z (have 7 (call_part e xs ks (ts ++ (lexeme text t ∷ []))) s) stuck) (not_seen (kind.Operator sign.RightParenthesis) n h);
 }
 
--- an argument that is a name, and `=` behind it
+-- an argument that is a name, and `=` after it
 pub keyword_begins : (level : ℕ) (e : Expr) (xs : Exprs) (ts : List Lexeme) (s : Stack) (p : Part) (n : Name) (t : Lexeme) (k : TokenKind) → if_plain p.plain (name_of_tree p.tree) ≡ Some n → k ≡ kind.Operator sign.Equal
     → turn (have level p (listing (in_call e) xs ts s)) t k ≡ go (operand (naming e xs no_keywords n (ts ++ (p.tokens ++ (t ∷ []))) s))
 keyword_begins level e xs ts s p n t k f h = ap (turn (have level p (listing (in_call e) xs ts s)) t) h ∙ ap (λ z. begin_keyword z e xs (ts ++ (p.tokens ++ (t ∷ []))) s) f
 
--- an argument that is no name, and `=` behind it
+-- an argument that is no name, and `=` after it
 pub keyword_stuck : (level : ℕ) (e : Expr) (xs : Exprs) (ts : List Lexeme) (s : Stack) (p : Part) (t : Lexeme) (k : TokenKind) → if_plain p.plain (name_of_tree p.tree) ≡ None → k ≡ kind.Operator sign.Equal
     → turn (have level p (listing (in_call e) xs ts s)) t k ≡ stuck
 keyword_stuck level e xs ts s p t k f h = ap (turn (have level p (listing (in_call e) xs ts s)) t) h ∙ ap (λ z. begin_keyword z e xs (ts ++ (p.tokens ++ (t ∷ []))) s) f
 
 module _ {X I : Type 0} (text : X → List ℕ) (steps : I → Option (Result (Token X) Fault) → I → Type 0) (can : I → Type 0) (left : I → Count) where
-  -- behind the name of the first argument by name
+  -- after the name of the first argument by name
   pub names_none : (a : Reader X I) (now : Keywords) (first : Name) (e : Expr) (xs : Exprs) (ts : List Lexeme) → KeepsKeywords now no_keywords → NamesSoFar text steps can left a a first now first e xs ts
   names_none a now first e xs ts k = record {
     arguments = no_keywords;
@@ -60,7 +60,7 @@ module _ {X I : Type 0} (text : X → List ℕ) (steps : I → Option (Result (T
       → (q : Gives text steps can left (λ s. rank s ≡ 0) 0 b c o) → Onward text steps a c (at (operand (naming e xs no_keywords first ts s))) (at (have o.level q.part (naming e xs v.arguments name (ts ++ v.more) s)))
   argument_read {name = name} {e = e} {xs = xs} {ts = ts} v s q r x = v.leads s r (q.leads (naming e xs v.arguments name (ts ++ v.more) s) refl r x)
 
-  -- and a comma behind it
+  -- and a comma after it
   pub argument_more : {a b c d : Reader X I} {first name : Name} {now : Keywords} {e : Expr} {xs : Exprs} {ts : List Lexeme} {o : Operand} {t : Token X} (v : NamesSoFar text steps can left a b first now name e xs ts) (s : Stack)
       → (q : Gives text steps can left (λ s. rank s ≡ 0) 0 b c o) → Takes text steps can left c d t → t.kind ≡ kind.Operator sign.Comma
       → Onward text steps a d (at (operand (naming e xs no_keywords first ts s))) (at (keyword_due e xs (add_keyword v.arguments name q.part.tree) (ts ++ (v.more ++ (q.part.tokens ++ (lexeme text t ∷ [])))) s))
@@ -69,7 +69,7 @@ module _ {X I : Type 0} (text : X → List ℕ) (steps : I → Option (Result (T
       (ap (turn (have o.level q.part (naming e xs v.arguments name (ts ++ v.more) s)) (lexeme text t)) i) r
       (regroup text steps d (λ z. keyword_due e xs (add_keyword v.arguments name q.part.tree) z s) ts v.more (q.part.tokens ++ (lexeme text t ∷ [])) r x))
 
-  -- with the closing parenthesis behind the value
+  -- with the closing parenthesis after the value
   pub argument_last : {a b c d : Reader X I} {first name : Name} {now now' : Keywords} {e : Expr} {xs : Exprs} {ts : List Lexeme} {o : Operand} {t : Token X} (v : NamesSoFar text steps can left a b first now name e xs ts)
       → (q : Gives text steps can left (λ s. rank s ≡ 0) 0 b c o) → ((ks : KeywordTrees) (p : Part) → KeepsKeywords now ks → KeepsPart o p → KeepsKeywords now' (add_keyword ks name p.tree))
       → Takes text steps can left c d t → t.kind ≡ kind.Operator sign.RightParenthesis → NamesOn text steps can left a d (record { keywords = now'; end = t.place.end }) e xs no_keywords first ts
@@ -84,7 +84,7 @@ module _ {X I : Type 0} (text : X → List ℕ) (steps : I → Option (Result (T
         (regroup text steps d (λ z. have 7 (call_part e xs (add_keyword v.arguments name q.part.tree) z) s) ts v.more (q.part.tokens ++ (lexeme text t ∷ [])) r x));
   }
 
-  -- with the closing parenthesis behind a comma
+  -- with the closing parenthesis after a comma
   pub arguments_end : {a b c d f : Reader X I} {first name : Name} {now now' : Keywords} {e : Expr} {xs : Exprs} {ts : List Lexeme} {o : Operand} {t u : Token X} (v : NamesSoFar text steps can left a b first now name e xs ts)
       → (q : Gives text steps can left (λ s. rank s ≡ 0) 0 b c o) → ((ks : KeywordTrees) (p : Part) → KeepsKeywords now ks → KeepsPart o p → KeepsKeywords now' (add_keyword ks name p.tree))
       → Takes text steps can left c d t → t.kind ≡ kind.Operator sign.Comma → Takes text steps can left d f u → u.kind ≡ kind.Operator sign.RightParenthesis

@@ -40,7 +40,7 @@ module _ {X I : Type 0} (text : X → List ℕ) (steps : I → Option (Result (T
       → Onward text steps a f (at (operand s)) (at (have o'.level w.part (valuing v.entries q.part.tree (v.tokens ++ (q.part.tokens ++ (lexeme text t ∷ []))) s)))
   value_read {t = t} v s g n q k e w r x = value_due v s g n q k e r (w.leads (valuing v.entries q.part.tree (v.tokens ++ (q.part.tokens ++ (lexeme text t ∷ []))) s) refl r x)
 
-  -- an entry and a comma behind it
+  -- an entry and a comma after it
   pub entry_more : {a b c d f g : Reader X I} {start : ℕ} {now now' : Entries} {o o' : Operand} {t u : Token X} (v : EntriesSoFar text steps can left a b start now) → IsAhead (kind.Operator sign.RightBrace) b.ahead ≡ false
       → (q : Gives text steps can left (λ s. rank s ≡ 0) 0 b c o) → Takes text steps can left c d t → t.kind ≡ kind.Operator sign.Colon → (w : Gives text steps can left (λ s. rank s ≡ 0) 0 d f o')
       → ((es : EntryTrees) (x y : Part) → KeepsEntries now es → KeepsPart o x → KeepsPart o' y → KeepsEntries now' (add_entry es x.tree y.tree)) → Takes text steps can left f g u → u.kind ≡ kind.Operator sign.Comma

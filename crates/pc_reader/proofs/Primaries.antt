@@ -23,14 +23,14 @@ use Rattle.pc_reader.proofs.Joining.{low_undotted}
 use Rattle.pc_reader.proofs.Signs.{signs_rank_is}
 use Rattle.pc_reader.proofs.Steps.{step_to}
 
--- behind all minus signs no further one stands, and no `not` either
+-- after all minus signs no further one stands, and no `not` either
 pub behind_signs : {X I : Type 0} (a b : Reader X I) (starts : List ℕ) (ts : List Lexeme) (s : Stack) (level : ℕ) → starts_of ts ≡ starts → (starts ≡ [] → b.ahead ≡ a.ahead)
     → IsAhead (kind.Operator sign.Minus) b.ahead ≡ false → rank s ≡ level → (2 < level) ⊎ (IsAhead (kind.Keyword word.Not) a.ahead ≡ false) → IsPrimary b (signs_on minus ts s)
 behind_signs a b starts [] s level e h n r (inl d) = record { plain = n; undenied = inl (omega (arith, d, r)) }
 behind_signs a b starts [] s level e h n r (inr d) = record { plain = n; undenied = inr (ap (IsAhead (kind.Keyword word.Not)) (h (sym e)) ∙ d) }
 behind_signs a b starts (t ∷ ts) s level e h n r d = record { plain = n; undenied = inl (let q = signs_rank_is minus ts (applying minus (t ∷ []) s) refl in omega (arith, q)) }
 
--- what does not go on with an operand does not go on with it behind minus signs
+-- what does not go on with an operand does not go on with it after minus signs
 pub minus_undotted : {X : Type 0} (a : Option (Token X)) (ts : List Lexeme) (own : ℕ) → NextIs (Undotted own) a → NextIs (Undotted (wrapped_level minus ts own)) a
 minus_undotted a [] own u = u
 minus_undotted a (t ∷ ts) own u = low_undotted a 6 (omega arith)
@@ -47,7 +47,7 @@ pub index_turn : (level : ℕ) (p : Part) (s : Stack) (t : Lexeme) (k : TokenKin
 index_turn level p s t k h e = ap (turn (have level p s) t) e ∙ tight 7 level (go (operand (indexing p.tree (p.tokens ++ (t ∷ [])) s))) h
 
 module _ {X I : Type 0} (text : X → List ℕ) (steps : I → Option (Result (Token X) Fault) → I → Type 0) (can : I → Type 0) (left : I → Count) where
-  -- an operand, a token that goes on with it, and what stands behind that
+  -- an operand, a token that goes on with it, and what stands after that
   pub goes_on : {K : Type 0} (st : K → Part → Stack → State) (k : K) {fits : Stack → Type 0} {a b c d : Reader X I} {o o' : Operand} {t : Token X} (v : Gives text steps can left fits 7 a b o) → Takes text steps can left b c t
       → ((s : Stack) → turn (have o.level v.part s) (lexeme text t) t.kind ≡ go (st k v.part s)) → GivesOn text steps can left st 7 c d o o' → Gives text steps can left fits 7 a d o'
   goes_on st k {d = d} {o = o} {o' = o'} v h f n = let j = n.goes k v.part v.keeps in record {
@@ -60,7 +60,7 @@ module _ {X I : Type 0} (text : X → List ℕ) (steps : I → Option (Result (T
     leads = λ s r x y. v.leads s r x (step_to (have o.level v.part s) (st k v.part s) h (f s) x (j.leads s x (subst (λ z. Came text steps d (at (have z j.part s)) x) n.level_is y)));
   }
 
-  -- an operand, and what stands in brackets behind it
+  -- an operand, and what stands in brackets after it
   pub index_on : {fits : Stack → Type 0} {a b c d f : Reader X I} {o inner made : Operand} {t u : Token X} (v : Gives text steps can left fits 7 a b o) → Takes text steps can left b c t → t.kind ≡ kind.Operator sign.LeftBracket
       → (q : Gives text steps can left (λ s. rank s ≡ 0) 0 c d inner) → Takes text steps can left d f u → u.kind ≡ kind.Operator sign.RightBracket
       → made.level ≡ 7 → ((p k : Part) → KeepsPart o p → KeepsPart inner k → Builds made (λ z. index z p.tree k.tree) o.start u.place.end) → Gives text steps can left fits 7 a f made

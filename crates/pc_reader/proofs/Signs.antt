@@ -27,7 +27,7 @@ pub takes_signs : (x : Prefix) (ts : List Lexeme) (s : Stack) → TakesSign x s 
 takes_signs x [] s h = h
 takes_signs x (t ∷ ts) s h = takes_signs x ts (applying x (t ∷ []) s) (takes_more x t s)
 
--- how tightly the operand behind signs must bind
+-- how tightly the operand after signs must bind
 pub signs_rank : (x : Prefix) (ts : List Lexeme) (s : Stack) (n : ℕ) → rank s ≤ n → prefix_level x ≤ n → rank (signs_on x ts s) ≤ n
 signs_rank x [] s n h g = h
 signs_rank x (t ∷ ts) s n h g = signs_rank x ts (applying x (t ∷ []) s) n g g
@@ -83,7 +83,7 @@ pub applied_tokens : (x : Prefix) (ts : List Lexeme) (p : Part) → (applied_all
 applied_tokens x [] p = refl
 applied_tokens x (t ∷ ts) p = ap (λ z. t ∷ z) (applied_tokens x ts p)
 
--- minus signs bind less tightly than any operand behind them, and more than any operator
+-- minus signs bind less tightly than any operand after them, and more than any operator
 pub minus_high : (ts : List Lexeme) (level own : ℕ) → level ≤ 6 → 6 ≤ own → level ≤ wrapped_level minus ts own
 minus_high [] level own h g = omega (arith, h, g)
 minus_high (t ∷ ts) level own h g = h

@@ -62,13 +62,13 @@ module _ {X I : Type 0} (text : X → List ℕ) (steps : I → Option (Result (T
   ComesToAnswer it end r o = (xs : List (Result (Token X) Fault)) × stream.Yields steps it xs
       × (run_items text end r xs ≡ o)
 
-  -- so for this token ahead, if there is one, and the items behind it
+  -- this token ahead, if there is one, and the items after it lead from a reading to this answer
   abbrev pub came : Option (Token X) → I → ℕ → Reading → Result Module Fault → Type 0
   came None it end r o = run_items text end r [] ≡ o
   came (Some t) it end r o = (xs : List (Result (Token X) Fault)) × stream.Yields steps it xs
       × (run_items text end r (Ok t ∷ xs) ≡ o)
 
-  -- the same with the token ahead before them; with none ahead they have ended
+  -- the token ahead and the items of the iterator lead to this answer; with none ahead the items have ended
   abbrev pub Came : Reader X I → Reading → Result Module Fault → Type 0
   Came a r o = came a.ahead a.tokens a.end r o
 
@@ -77,7 +77,7 @@ module _ {X I : Type 0} (text : X → List ℕ) (steps : I → Option (Result (T
   Onward a b r r' = (o : Result Module Fault) → Came b r' o → Came a r o
 
 module _ {X I : Type 0} (can : I → Type 0) (left : I → Count) where
-  -- where there is this token ahead, the iterator behind it may be asked, and it ends
+  -- where there is this token ahead, the iterator after it may be asked, and it ends
   abbrev pub ready : Option (Token X) → I → Type 0
   ready None it = Unit {0}
   ready (Some t) it = can it × IsFinite (left it)
@@ -87,7 +87,7 @@ module _ {X I : Type 0} (can : I → Type 0) (left : I → Count) where
   IsReady a = ready a.ahead a.tokens
 
 module _ {X I : Type 0} (left : I → Count) where
-  -- at most how many tokens come: this one ahead and those behind it, none where none is ahead
+  -- at most how many tokens come: this one ahead and those after it, none where none is ahead
   abbrev pub left_behind : Option (Token X) → I → ℕ
   left_behind None it = 0
   left_behind (Some t) it = size (left it) + 1

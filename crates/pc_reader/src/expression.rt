@@ -130,7 +130,7 @@ impl<X: AsStr + Drop, I: Iterator<Item = Result<Token<X>, Fault>> + Drop> Reader
         wrap_all(alloc, Prefix::Minus, signs, operand)
     }
 
-    /// An operand, and the names behind dots, the indices and the calls that go on with it.
+    /// An operand, and the names after dots, the indices and the calls that go on with it.
     #[cycle(expressions)]
     fn postfix(&mut self, alloc: Global) -> Result<Operand, Fault>
         requires { IsReady I.can_next I.remaining self.old }
@@ -264,7 +264,7 @@ impl<X: AsStr + Drop, I: Iterator<Item = Result<Token<X>, Fault>> + Drop> Reader
         }
     }
 
-    /// The arguments of a call, from behind its opening parenthesis: those by position, then those by name.
+    /// The arguments of a call, from after its opening parenthesis: those by position, then those by name.
     #[cycle(expressions)]
     fn call(&mut self, alloc: Global, callee: Operand) -> Result<Operand, Fault>
         requires ready { IsReady I.can_next I.remaining self.old }
@@ -296,7 +296,7 @@ impl<X: AsStr + Drop, I: Iterator<Item = Result<Token<X>, Fault>> + Drop> Reader
         }
     }
 
-    /// Arguments by name, from behind the `=` of the first, and the closing parenthesis.
+    /// Arguments by name, from after the `=` of the first, and the closing parenthesis.
     #[cycle(expressions)]
     fn keywords(&mut self, alloc: Global, first: Name) -> Result<Arguments, Fault>
         requires { IsReady I.can_next I.remaining self.old }

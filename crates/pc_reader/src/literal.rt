@@ -88,7 +88,7 @@ impl<X: AsStr + Drop, I: Iterator<Item = Result<Token<X>, Fault>> + Drop> Reader
         plain(alloc, token)
     }
 
-    /// The whole number behind a `-` that begins at this byte.
+    /// The whole number after a `-` that begins at this byte.
     fn negative(&mut self, alloc: Global, start: usize) -> Result<Literal, Fault>
         requires { IsReady I.can_next I.remaining self.old }
         ensures { ReadsNegative X.text I.next_gives I.can_next I.remaining self.old self.new start result }
@@ -105,7 +105,7 @@ impl<X: AsStr + Drop, I: Iterator<Item = Result<Token<X>, Fault>> + Drop> Reader
         })
     }
 
-    /// A literal behind `=`, if that is ahead.
+    /// A literal after `=`, if that is ahead.
     pub fn default(&mut self, alloc: Global) -> Result<Option<Literal>, Fault>
         requires { IsReady I.can_next I.remaining self.old }
         ensures { ReadsDefault X.text I.next_gives I.can_next I.remaining self.old self.new result }

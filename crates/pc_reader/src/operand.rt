@@ -211,7 +211,7 @@ pub(crate) fn member(
     Ok(node(Expr::Attribute(place, inner, name), place, 7, depth))
 }
 
-/// An operand and what stands in the brackets behind it.
+/// An operand and what stands in the brackets after it.
 pub(crate) fn indexed(
     alloc: Global,
     operand: Operand,

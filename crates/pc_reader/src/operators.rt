@@ -1,4 +1,4 @@
-//! Operators between operands, signs before them, and what stands behind them, by single tokens.
+//! Operators between operands, signs before them, and what stands after them, by single tokens.
 ghost use Rattle.std.specs.Prelude.{◌≡◌, List, [], ◌∷◌, ◌≤◌, MatchResult, MatchOption, IfOk, false};
 ghost use Rattle.pc_source.specs.declared.fault.Fault.TheVariants as fault;
 ghost use Rattle.pc_token.specs.Lexeme.{Lexeme};
@@ -67,7 +67,7 @@ impl<X: AsStr + Drop, I: Iterator<Item = Result<Token<X>, Fault>> + Drop> Reader
         Some(link)
     }
 
-    /// The tokens of an operator between two operands; of `is`, which has no operand behind it, that alone.
+    /// The tokens of an operator between two operands; of `is`, which has no operand after it, that alone.
     pub(crate) fn infix(&mut self, link: Link) -> Result<Option<Infix>, Fault>
         requires { IsReady I.can_next I.remaining self.old }
         ensures { ReadsInfix X.text I.next_gives I.can_next I.remaining (link_view link) self.old self.new result }
@@ -83,7 +83,7 @@ impl<X: AsStr + Drop, I: Iterator<Item = Result<Token<X>, Fault>> + Drop> Reader
         }
     }
 
-    /// `None` or `not None`, behind an operand and `is`.
+    /// `None` or `not None`, after an operand and `is`.
     pub(crate) fn none_behind(&mut self, alloc: Global, operand: Operand) -> Result<Operand, Fault>
         requires ready { IsReady I.can_next I.remaining self.old }
         requires depth { operand.depth ≤ 65 }
@@ -117,7 +117,7 @@ impl<X: AsStr + Drop, I: Iterator<Item = Result<Token<X>, Fault>> + Drop> Reader
 }
 
 impl<X: AsStr + Drop, I: Iterator<Item = Result<Token<X>, Fault>> + Drop> Reader<X, I> {
-    /// The name behind an operand and a dot.
+    /// The name after an operand and a dot.
     pub(crate) fn member(&mut self, alloc: Global, operand: Operand) -> Result<Operand, Fault>
         requires ready { IsReady I.can_next I.remaining self.old }
         requires depth { operand.depth ≤ 65 }

@@ -41,7 +41,7 @@ fn is_same(kind: TokenKind, other: TokenKind) -> bool
 /// Tokens, the one that comes next, and the byte where the last one that came ends.
 #[derive(Drop)]
 pub struct Reader<X: Drop, I: Drop> {
-    /// The tokens behind the one ahead.
+    /// The tokens after the one ahead.
     pub tokens: I,
     /// The token that comes next, if one is left.
     pub ahead: Option<Token<X>>,

@@ -14,7 +14,7 @@ use thiserror::Error;
 /// Why bytes were not read. Own rule of the profile.
 #[derive(Clone, Copy, Debug, PartialEq, Eq, Error)]
 pub enum ReadFault {
-    /// A growth of memory was refused.
+    /// An allocation failed.
     #[error("out of memory")]
     OutOfMemory,
     /// The device failed.
@@ -33,7 +33,7 @@ impl From<AllocError> for ReadFault {
 /// How many bytes are asked of a device at once.
 const PIECE: usize = 8192;
 
-/// The bytes of a device, to its end or to so many, by as many calls as it asks for, and by none
+/// The bytes of a device, to its end or to a limit, by as many calls as it asks for, and by none
 /// after one that failed. Own rule of the profile.
 ///
 /// # Errors

@@ -59,6 +59,7 @@ fn sorted(alloc: Global, findings: &[Finding]) -> Result<Vec<Finding>, OutOfMemo
 {
     let mut sorted = findings.to_vec(alloc)?;
     sorted.sort_unstable();
+    // Sorting has put equal findings side by side.
     sorted.dedup();
     Ok(sorted)
 }

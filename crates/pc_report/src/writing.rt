@@ -16,7 +16,7 @@ use thiserror::Error;
 /// Why a report was not written whole. Own rule of the profile.
 #[derive(Clone, Copy, Debug, PartialEq, Eq, Error)]
 pub enum WriteFault {
-    /// A growth of memory was refused, and nothing was written.
+    /// An allocation failed, and nothing was written.
     #[error("out of memory")]
     OutOfMemory,
     /// The device failed, after a beginning of the report.

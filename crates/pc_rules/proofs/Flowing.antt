@@ -33,7 +33,7 @@ one_flow p s t None = refl
 one_flow p s t (Some c) = sym (append-nil (own_flow p s t c))
 
 module _ {Ty : Type 0} (tree : Ty → Tree) (bases : Bases) (p : Place) (m : Mark) (into : List Ty) (before : List Note) where
-  -- what is found of flows into the types from this number on, behind these codes
+  -- what is found of flows into the types from this number on, after these codes
   abbrev pub to_come : ℕ → List Code → List Note
   to_come i codes = flows_behind p codes (flows_of bases m (drop i (map tree into)))
 
@@ -59,6 +59,6 @@ module _ {Ty : Type 0} (tree : Ty → Tree) (bases : Bases) (p : Place) (m : Mar
   found_new i codes noted ty o c lt is e s h v =
       append_assoc noted (own_flow p m.type (tree ty) c) (to_come (i + 1) (codes ++ c ∷ [])) ∙ (rw (s, h) at (found_next i codes noted ty o lt is e v))
 
-  -- nothing is to come behind the last type
+  -- nothing is to come after the last type
   pub found_all : (i : ℕ) (codes : List Code) (noted : List Note) → length into ≤ i → IsFound i codes noted → noted ≡ before ++ flows_at p (flows_of bases m (map tree into))
   found_all i codes noted le v = sym (append-nil noted) ∙ (rw (mapped_end tree into i le) at v)

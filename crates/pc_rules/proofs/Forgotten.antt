@@ -41,7 +41,7 @@ flow_codes flows = flat_map (λ f. option_to_list f.code) flows
 abbrev pub flows_at : Place → FlowMarks → List Finding
 flows_at p flows = codes_at p (flow_codes flows)
 
--- the findings in the parts of an expression, with those of its own codes behind them
+-- the findings in the parts of an expression, with those of its own codes after them
 abbrev pub whole : (e : Expr) → Marks e → List Finding → List Finding
 whole e m parts = parts ++ codes_at (place_of e) (mark_of e m).codes
 
@@ -100,7 +100,7 @@ found_in e m = whole e m (found_in_parts e m)
 
 -- ---- what is forgotten of the list with types
 
--- of two lists, one behind the other
+-- of two lists, one after the other
 both : (xs ys : List Note) (a b : List Finding) → findings_of xs ≡ a → findings_of ys ≡ b → findings_of (xs ++ ys) ≡ a ++ b
 both xs ys a b e f = map-append (λ (n : Note). n.finding) xs ys ∙ (λ i. e i ++ f i)
 
@@ -129,11 +129,11 @@ noted_finding p s t _ = refl
 forget_flow : (p : Place) (s t : Tree) (c : Code) → findings_of (own_flow p s t c) ≡ own_at p c
 forget_flow p s t c = unless (is_of_scopes c) (flow_note p s t c) ∙ ap (λ f. if is_of_scopes c then [] else f ∷ []) (noted_finding p s t c)
 
--- the findings of codes, behind those of codes before them
+-- the findings of codes, after those of codes before them
 own_append : (p : Place) (cs ds : List Code) → flat_map (own_at p) (cs ++ ds) ≡ flat_map (own_at p) cs ++ flat_map (own_at p) ds
 own_append p cs ds = flat_map-append (own_at p) cs ds
 
--- one flow and those behind it, by its code and by whether that code was there before
+-- one flow and those after it, by its code and by whether that code was there before
 flow_step : (p : Place) (before : List Code) (s t : Tree) (o : Option Code) (rest : List Code → List Note) (cs : List Code)
     → ((codes : List Code) → flat_map (own_at p) (once_onto codes cs) ≡ flat_map (own_at p) codes ++ findings_of (rest codes))
     → flat_map (own_at p) (once_onto before (option_to_list o ++ cs)) ≡ flat_map (own_at p) before ++ findings_of (flow_then p before s t o rest)

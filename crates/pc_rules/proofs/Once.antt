@@ -54,7 +54,7 @@ has_by same one other cs c =
 pub has_decides : (cs : List Code) (c : Code) → Decides (has_code cs c) (Contains cs c)
 has_decides cs c = is_member-Decides (λ a b. (text_one a b, text_same a b)) cs c
 
--- ---- lists, one behind the other
+-- ---- lists, one after the other
 
 pub onto_append : (bs xs ys : List Code) → once_onto bs (xs ++ ys) ≡ once_onto (once_onto bs xs) ys
 onto_append bs [] ys = refl
@@ -122,7 +122,7 @@ once_early (c ∷ cs) = early_onto c [] cs ∙ by_first c [] cs
 
 -- ---- once is enough
 
--- those that are new behind others, once
+-- those that are new after others, once
 abbrev new_of : List Code → List Code → List Code
 new_of bs [] = []
 new_of bs (c ∷ cs) = if has_code bs c then new_of bs cs else c ∷ new_of (bs ++ c ∷ []) cs

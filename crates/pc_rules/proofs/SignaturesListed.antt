@@ -106,7 +106,7 @@ module _ (m : Module) (f : Finding) where
   option_well_formed None = (tt, tt, omega arith)
   option_well_formed (Some a) = read_ann_well_formed m bases (smaller m) a
 
-  -- what is found of parameters, behind names
+  -- what is found of parameters, after names
   pub params_listed : (before : List (List ℕ)) (ps : List Param) (marks : ParamsMarks ps) → LawfulParams m before ps marks → Noted f (params_findings m (λ t. is_one_of t before) ps) (ParamsFind m ps marks f)
   params_listed before [] marks h = nothing_noted f
   params_listed before (p ∷ ps) marks h =

@@ -29,11 +29,11 @@ own_at p c = if is_of_scopes c then [] else plain_note (finding p c) ∷ []
 abbrev pub has_code : List Code → Code → Test
 has_code cs c = list_any (λ d. bytes_eq (text_of c) (text_of d)) cs
 
--- codes with one more behind them, unless it is one of them
+-- codes with one more after them, unless it is one of them
 abbrev pub add_code : List Code → Code → List Code
 add_code cs c = if has_code cs c then cs else cs ++ c ∷ []
 
--- codes with others behind them, each of those that is new, once
+-- codes with others after them, each of those that is new, once
 abbrev pub once_onto : List Code → List Code → List Code
 once_onto before [] = before
 once_onto before (c ∷ cs) = once_onto (add_code before c) cs
@@ -64,7 +64,7 @@ abbrev pub flow_note : Place → (from into : Tree) → Code → Note
 flow_note p s t A1 = dynamic p s t
 flow_note p s t c = plain_note (finding p c)
 
--- the same, but nothing of a code that is found of scopes
+-- what is found of a flow, without the codes that are found of scopes
 abbrev pub own_flow : Place → (from into : Tree) → Code → List Note
 own_flow p s t c = if is_of_scopes c then [] else flow_note p s t c ∷ []
 
@@ -73,7 +73,7 @@ abbrev pub flow_at : Place → (from into : Tree) → Option Code → List Note
 flow_at p s t None = []
 flow_at p s t (Some c) = own_flow p s t c
 
--- what is found of one flow, unless its code is among these, and of others behind it
+-- what is found of one flow, unless its code is among these, and of others after it
 abbrev pub flow_then : Place → (before : List Code) → (from into : Tree) → Option Code → (rest : List Code → List Note)
     → List Note
 flow_then p before s t None rest = rest before
@@ -89,7 +89,7 @@ flows_behind p before (f ∷ fs) = flow_then p before f.from f.into f.code (λ c
 abbrev pub flows_at : Place → FlowMarks → List Note
 flows_at p flows = flows_behind p [] flows
 
--- the findings in the parts of an expression, with those of its own codes behind them
+-- the findings in the parts of an expression, with those of its own codes after them
 abbrev pub whole : (e : Expr) → Marks e → List Note → List Note
 whole e m parts = parts ++ codes_at (place_of e) (mark_of e m).codes
 

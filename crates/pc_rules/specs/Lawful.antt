@@ -101,7 +101,7 @@ value_seat (Some kv) = item_seat (Some kv.value)
 
 -- ---- an int literal as an index
 
--- the number that digits stand for, behind those that stand for n
+-- the number that digits stand for, after those that stand for n
 abbrev pub number_behind : ℕ → List ℕ → ℕ
 number_behind n [] = n
 number_behind n (d ∷ ds) = number_behind (10 * n + (d - 48)) ds
@@ -159,7 +159,7 @@ whole_second_code ctx test_rule arguments m =
     second_code (test_of_argument ctx.resolve (second_argument arguments)) (early_second arguments m)
 whole_second_code ctx _ arguments m = None
 
--- the seat of an argument by name, behind arguments of these names: nowhere where its own is among them
+-- the seat of an argument by name, after arguments of these names: nowhere where its own is among them
 abbrev pub keyword_seat : (List ℕ → Seat) → List (List ℕ) → Name → Seat
 keyword_seat seat before n = if is_one_of n.text before then nowhere else seat n.text
 

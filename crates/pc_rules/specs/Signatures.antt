@@ -88,7 +88,7 @@ abbrev pub ParamsMarks : List Param → Type 0
 ParamsMarks [] = Unit {0}
 ParamsMarks (p ∷ ps) = record { default : FlowMarks; rest : ParamsMarks ps }
 
--- the default of each parameter is lawful, behind parameters of these names
+-- the default of each parameter is lawful, after parameters of these names
 abbrev pub LawfulParams : Module → (before : List (List ℕ)) → (ps : List Param) → ParamsMarks ps → Type 0
 LawfulParams m before [] marks = Unit {0}
 LawfulParams m before (p ∷ ps) marks = record {

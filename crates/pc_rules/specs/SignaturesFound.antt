@@ -90,7 +90,7 @@ module _ (m : Module) where
       ++ default_findings (bases_of m) (binds_text bound p.name.text) p.default
       (read_option m (bases_of m) p.annotation)
 
-  -- what is found of parameters, behind names that are bound already
+  -- what is found of parameters, after names that are bound already
   abbrev pub params_findings : (bound : List ℕ → Test) → List Param → List Note
   params_findings bound [] = []
   params_findings bound (p ∷ ps) = param_findings bound p ++ params_findings (with_name bound p.name.text) ps
@@ -119,12 +119,12 @@ module _ (m : Module) where
       ++ default_findings (bases_of m) (binds_as_field base bound d.name.text) d.default
       (read_ann m (bases_of m) d.annotation)
 
-  -- what is found of a member: of a field, or of a method's signature, behind `self`
+  -- what is found of a member: of a field, or of a method's signature, after `self`
   abbrev pub member_findings : ClassFacts → (bound : List ℕ → Test) → Member → List Note
   member_findings base bound (field_member d) = field_findings base bound d
   member_findings base bound (method_member d) = def_findings (with_name no_name (codes "self")) d
 
-  -- what is found of members, behind names that are bound already
+  -- what is found of members, after names that are bound already
   abbrev pub members_findings : ClassFacts → (bound : List ℕ → Test) → List Member → List Note
   members_findings base bound [] = []
   members_findings base bound (x ∷ xs) = member_findings base bound x
@@ -148,7 +148,7 @@ module _ (m : Module) where
 
   -- ---- constants
 
-  -- what an initializer stands in, behind constants of these types and so many classes
+  -- what an initializer stands in, after constants of these types and so many classes
   abbrev pub initial : (constants : List Tree) → (classes : ℕ) → Standing
   initial constants classes = record { context = initializer_context m constants classes; declared = []; env = [] }
 
@@ -178,7 +178,7 @@ module _ (m : Module) where
 
   -- ---- items
 
-  -- what is reached behind one more item
+  -- what is reached after one more item
   abbrev pub behind : ItemsReached → Item → ItemsReached
   behind r (constant_item p c) = record {
     constants = r.constants ++ type_of_constant r c ∷ [];
@@ -196,7 +196,7 @@ module _ (m : Module) where
     bound = with_name r.bound f.name.text;
   }
 
-  -- what is reached behind items
+  -- what is reached after items
   abbrev pub behind_all : ItemsReached → List Item → ItemsReached
   behind_all r [] = r
   behind_all r (i ∷ is) = behind_all (behind r i) is

@@ -68,7 +68,7 @@ module _ (k : Standing) where
       entries_labels k.context k.declared (static_test k.context.bases)
       (assignable_test k.context.bases) k.env key value es
 
-  -- of arguments by name, behind arguments of these names
+  -- of arguments by name, after arguments of these names
   abbrev pub keywords_in : (seat : List ℕ → Seat) → (before : List (List ℕ)) → (es : Keywords) → KeywordsMarks es
   keywords_in seat before es =
       keywords_labels k.context k.declared (static_test k.context.bases)

@@ -23,7 +23,7 @@ pub record SignatureWellFormed (bases : Bases) (s : Signature) : Type 0 where
   pub parameters : ParametersWellFormed bases s.parameters
   pub returns : IsWellFormed bases s.returns
 
--- so of each signature
+-- the types of what each of these signatures takes and returns are well-formed
 abbrev pub SignaturesWellFormed : Bases → List Signature → Type 0
 SignaturesWellFormed bases [] = Unit {0}
 SignaturesWellFormed bases (s ∷ ss) = SignatureWellFormed bases s × SignaturesWellFormed bases ss
@@ -125,7 +125,7 @@ abbrev pub BodyContextsAreWellFormed : Type 0
 BodyContextsAreWellFormed = (m : Module) (constants : List Tree) (names : List (List ℕ))
     → AreWellFormed (bases_of m) constants → ContextWellFormed (body_context m constants names)
 
--- and so is the context of an initializer
+-- the context of an initializer is well-formed, if the types of the constants are
 abbrev pub InitializerContextsAreWellFormed : Type 0
 InitializerContextsAreWellFormed = (m : Module) (constants : List Tree) (classes : ℕ)
     → AreWellFormed (bases_of m) constants → ContextWellFormed (initializer_context m constants classes)

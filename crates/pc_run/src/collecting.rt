@@ -1,4 +1,5 @@
-//! Lists of values that grow, one value at a time.
+//! Lists of values that grow, one value at a time: kept out of the functions that evaluate (`inline(never)`), so that
+//! the room of a growing list does not stand in each of their frames.
 
 ghost use Rattle.std.specs.Prelude.{◌≡◌, ◌<◌, ◌+◌, ◌-◌, ◌++◌, ◌∷◌, [], map, OnOk};
 ghost use Rattle.pc_value.specs.Meaning.{value_of, entry_of};
@@ -8,7 +9,7 @@ use pc_machine::NamedValue;
 use pc_source::OutOfMemory;
 use pc_value::Value;
 
-/// One more value.
+/// Adds a value.
 #[inline(never)]
 pub fn keep(values: &mut Vec<Value>, value: Value) -> Result<(), OutOfMemory>
     ensures { OnOk result (values.new.items ≡ values.old.items ++ value ∷ []) }
@@ -19,7 +20,7 @@ pub fn keep(values: &mut Vec<Value>, value: Value) -> Result<(), OutOfMemory>
     }
 }
 
-/// One more entry.
+/// Adds an entry of a dict.
 #[inline(never)]
 pub fn keep_entry(
     entries: &mut Vec<pc_value::Entry>,
@@ -35,7 +36,7 @@ pub fn keep_entry(
     }
 }
 
-/// One more argument by name.
+/// Adds an argument by name.
 #[inline(never)]
 pub fn keep_named<'m>(
     named: &mut Vec<NamedValue<'m>>,

@@ -1,4 +1,5 @@
-//! The evaluation of expressions and statements.
+//! The evaluation of expressions and statements. Its functions are kept out of each other (`inline(never)`): one frame
+//! of all of them would be large, and the deepest runs would not fit the usual stack.
 
 ghost use Rattle.std.specs.Prelude.{◌≡◌, ◌≤◌, ◌<◌, ◌≢◌, ℕ, [], map, OnOk, if◌then◌else◌};
 ghost use Rattle.pc_tree.specs.Tree.{expr_of, stmts_of_list, stmt_of_kind, target_of};

@@ -83,7 +83,7 @@ pub fn range_call<'m>(e: &'m Expr) -> Option<(Place, &'m Name, &'m [Expr], &'m [
     }
 }
 
-/// On to the next turn of a `for`.
+/// Goes on to the next turn of a `for`.
 pub fn advance(turn: &mut Action)
     requires { (over : RustIteration) × ((i : ℕ) × ((turn.now ≡ rust_action.Turn over i) × (i < 2 ^ 64 - 1))) }
     ensures { (over : RustIteration) (i : ℕ) → turn.old ≡ rust_action.Turn over i

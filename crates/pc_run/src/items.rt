@@ -38,7 +38,7 @@ fn literal_has_value(literal: &Literal) -> bool
     }
 }
 
-/// So has a default, where there is one.
+/// A default has a value, or there is none.
 fn has_value(default: &Option<Literal>) -> bool
     ensures { result ≡ has_value (option_literal_of default.now) }
 {
@@ -213,7 +213,7 @@ fn find_base<'m>(machine: &Machine<'m>, base: &Option<Name>) -> Result<Option<us
     }
 }
 
-/// The class that comes next, behind its base. Language Reference 8.8 "Class definitions".
+/// The class that comes next, after its base. Language Reference 8.8 "Class definitions".
 fn class_behind<'m>(
     machine: &Machine<'m>,
     alloc: Allocator,

@@ -67,7 +67,7 @@ pub fn trace_text(alloc: Global, trace: &Trace) -> Result<String, OutOfMemory>
     Ok(text)
 }
 
-/// One more line of an event.
+/// Adds the line of an event.
 fn add_event(alloc: Global, text: &mut String, event: Place) -> Result<(), AllocError>
     ensures { OnOk result (string_bytes text.new ≡ string_bytes text.old ++ event_line event) }
 {

@@ -38,7 +38,7 @@ map_end : {A B : Type 0} (f : A → B) (xs : List A) (y : A) → map f (xs ++ (y
 map_end f [] y = refl
 map_end f (x ∷ xs) y = ap (λ l. f x ∷ l) (map_end f xs y)
 
--- a text that is put in stands behind the others, if it isn't among them
+-- a text that is put in stands after the others, if it isn't among them
 pub put : {A : Type 0} (f : A → List ℕ) (ks : List A) (s : A) (b : Bool) → list_any (λ k. bytes_eq (f s) (f k)) ks ≡ b → b ≡ false → map f (if b then ks else ks ++ (s ∷ [])) ≡ map f ks ++ (f s ∷ [])
 put f ks s true e e' = absurd (grind (arith, e'))
 put f ks s false e e' = map_end f ks s
@@ -64,7 +64,7 @@ same_behind t x (n ∷ names) = ap (λ b. bytes_eq t n || b) (same_behind t x na
     turned true false c = refl
     turned false b c = refl
 
--- names put in one after another: those that stand first, behind those that were there
+-- names put in one after another: those that stand first, after those that were there
 pub puts : (before names ts : List (List ℕ)) → ((t : List ℕ) → is_one_of t before ≡ is_one_of t names) → fold with_new_local names ts ≡ names ++ first_of_each before ts
 puts before names [] same = sym (append-nil names)
 puts before names (t ∷ ts) same = go (is_builtin_name t || is_one_of t names) refl (puts before names ts same) (puts (t ∷ before) (names ++ (t ∷ [])) ts (λ u. ap (λ c. bytes_eq u t || c) (same u) ∙ sym (same_behind u t names)))

@@ -63,7 +63,7 @@ locals_of_function owner (Some f) = locals owner f
 abbrev pub locals_of : Module → Owner → List (List ℕ)
 locals_of m owner = locals_of_function owner (function_of m owner)
 
--- what items bind first by a name, numbered behind so many constants, functions and classes
+-- what items bind first by a name, numbered after so many constants, functions and classes
 abbrev pub bound_first : (constants functions classes : ℕ) → List Item → List ℕ → Option Res
 bound_first k f c [] text = None
 bound_first k f c (constant_item p i ∷ rest) text = if bytes_eq i.name.text text then Some (res.Const k)

@@ -17,7 +17,7 @@ fn is_isinstance(e: &Expr) -> bool
     "isinstance" == name.text.as_str()
 }
 
-/// There are exactly two arguments by position, and none by name.
+/// Whether there are exactly two arguments by position, and none by name.
 fn are_two(arguments: &[Expr], by_name: &[KeywordArgument]) -> bool
     ensures { result ≡ are_two (exprs_of_list arguments.now) (keywords_of_list by_name.now) }
 {

@@ -17,7 +17,7 @@ use std::alloc::Global as Allocator;
 /// The locals of a function, numbered by their order.
 pub type Locals = IndexSet<String>;
 
-/// One more local, unless the name is reserved or a local already.
+/// Adds a local, unless the name is reserved or a local already.
 fn bind(locals: &mut Locals, alloc: Allocator, name: &str) -> Result<(), OutOfMemory>
     ensures { OnOk result (map string_bytes locals.new.keys
         ≡ with_new_local (map string_bytes locals.old.keys) name.now) }

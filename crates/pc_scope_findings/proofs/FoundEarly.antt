@@ -10,7 +10,7 @@ use Rattle.pc_scope.specs.Expressions.{parts_in}
 use Rattle.pc_scope_findings.specs.Internal.FindingLists.{early_among, early_in}
 use Rattle.pc_tree.proofs.Among.{none_among, either}
 
--- a constant behind so many constants and classes, with something too early in its initializer
+-- a constant after so many constants and classes, with something too early in its initializer
 pub record IsEarlyAt (resolve : List ℕ → Res) (k c : ℕ) (items : List Item) (p : Place) : Type 0 where
   pub at : ℕ
   pub first : Place

@@ -1,4 +1,4 @@
--- The statements of a suite behind one that can complete, or that cannot.
+-- The statements of a suite after one that can complete, or that cannot.
 use Rattle.std.proofs.Common.{◌≡◌, Bool, List, refl}
 use Rattle.std.specs.Prelude.{if◌then◌else◌}
 use Rattle.pc_source.specs.declared.place.Place.{Place}
@@ -7,7 +7,7 @@ use Rattle.pc_tree.specs.declared.tree.StmtKind.TheVariants as rust_stmt
 use Rattle.pc_tree.specs.Tree.{Stmts, stmt_of_kind}
 use Rattle.pc_scope_findings.specs.Unreached.{first_of, first_places, unreached_places}
 
--- what is unreached of the statements behind one, by whether it can complete
+-- what is unreached of the statements after one, by whether it can complete
 abbrev pub behind : Bool → Stmts → List Place
 behind reached rest = if reached then unreached_places rest else first_places rest
 

@@ -43,7 +43,7 @@ early_sought t k c (e ∷ es) =
     let here = early_at k c (meaning_by_tables t owners.Module) (name_of_tree e) ++ callee_at (other_callee e) in
     ap (λ (fs : List Finding). at_code E03 here ++ fs) (early_sought t k c es) ∙ sym (at_both E03 here (early_among k c (meaning_by_tables t owners.Module) es))
 
--- ---- one list of parts behind another
+-- ---- one list of parts after another
 
 module _ (t : Tables) (s : Sought) (old mid : List Finding) where
   pub then_parts : (a b : List Expr) → mid ≡ old ++ sought_among t s a → mid ++ sought_among t s b ≡ old ++ sought_among t s (a ++ b)

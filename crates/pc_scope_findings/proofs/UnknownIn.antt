@@ -1,4 +1,4 @@
--- The names that mean nothing in the expressions of statements, one list of expressions behind another.
+-- The names that mean nothing in the expressions of statements, one list of expressions after another.
 use Rattle.std.proofs.Common.{◌≡◌, ◌<◌, ℕ, ◌+◌, List, [], ◌∷◌, ◌++◌, length, get_or, drop, ap, ◌∙◌, sym, append_assoc, Bool, true}
 use Rattle.std.specs.Prelude.{if◌then◌else◌}
 use Rattle.pc_tree.specs.declared.code.Code.TheVariants.{E02}

@@ -34,7 +34,7 @@ pub record IsUnknownIn (m : Module) (owner : Owner) (e : Expr) (f : Finding) : T
   pub unknown : resolve m owner n.text ≡ res.None
   pub is : f ≡ finding n.place E02
 
--- E02: a name in an expression means nothing, or `dataclass` behind `@` has no header
+-- E02: a name in an expression means nothing, or `dataclass` after `@` has no header
 pub data IsUnknown (m : Module) (f : Finding) : Type 0 where
   in_constant : (c : Constant) → Contains (constants_in m.items) c → IsUnknownIn m owners.Module c.value f
       → IsUnknown m f
@@ -43,7 +43,7 @@ pub data IsUnknown (m : Module) (f : Finding) : Type 0 where
   decorator : (c : ClassDef) → m.imports_dataclass ≡ false → Contains (classes_in m.items) c
       → f ≡ finding c.decorator E02 → IsUnknown m f
 
--- what an initializer may not name behind so many constants and classes: a function, and a constant or class that is
+-- what an initializer may not name after so many constants and classes: a function, and a constant or class that is
 -- not one of them
 abbrev pub IsEarlyMeaning : (constants classes : ℕ) → Res → Type 0
 IsEarlyMeaning k c (res.Func i) = Unit {0}
@@ -51,7 +51,7 @@ IsEarlyMeaning k c (res.Const i) = k ≤ i
 IsEarlyMeaning k c (res.Class i) = c ≤ i
 IsEarlyMeaning k c _ = ⊥
 
--- a name in an initializer means what it may not name behind so many constants and classes
+-- a name in an initializer means what it may not name after so many constants and classes
 pub record IsEarlyName (m : Module) (constants classes : ℕ) (e : Expr) (f : Finding) : Type 0 where
   pub n : Name
   pub named : Contains (filter_map name_of_tree (parts_in false e)) n
@@ -73,7 +73,7 @@ pub record IsEarly (m : Module) (f : Finding) : Type 0 where
   pub found : IsEarlyName m (length (constants_in (take at m.items)))
       (length (classes_in (take at m.items))) constant.value f ⊎ IsEarlyCallee constant.value f
 
--- E30: the first statement of a suite behind one that cannot complete
+-- E30: the first statement of a suite after one that cannot complete
 pub record IsUnreachable (m : Module) (f : Finding) : Type 0 where
   pub body : Body
   pub of : Contains (bodies m) body

@@ -26,7 +26,7 @@ abbrev pub first_places : Stmts → List Place
 first_places no_stmts = []
 first_places (more_stmts s rest) = first_of s ∷ []
 
--- the first statements behind one that cannot complete, in the suites that are reached
+-- the first statements after one that cannot complete, in the suites that are reached
 abbrev mutual
   pub unreached_in : Stmt → List Place
   unreached_in (while_loop p condition body) = unreached_places body

@@ -15,7 +15,7 @@ use pc_scope::Scopes;
 use pc_source::OutOfMemory;
 use pc_tree::{Expr, Findings, Item, ItemKind};
 
-/// Adds the names in an initializer that stand too early behind so many constants and classes, and the callees that are
+/// Adds the names in an initializer that stand too early after so many constants and classes, and the callees that are
 /// no names. Own rule of the profile.
 fn find_early(
     found: &mut Findings,

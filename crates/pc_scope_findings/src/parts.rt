@@ -49,7 +49,7 @@ fn is_nothing(meaning: Res) -> bool
     matches!(meaning, Res::None)
 }
 
-/// A name means what an initializer behind so many constants and classes may not name.
+/// A name means what an initializer after so many constants and classes may not name.
 fn is_early(constants: usize, classes: usize, meaning: Res) -> bool
     ensures { result ≡ is_early_meaning constants classes meaning }
 {

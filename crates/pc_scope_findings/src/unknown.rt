@@ -250,7 +250,7 @@ fn find_decorators(found: &mut Findings, items: &[Item]) -> Result<(), OutOfMemo
     Ok(())
 }
 
-/// Finds them where no header imports what they name.
+/// Finds the decorators of classes, where no header imports what they name.
 pub fn find_unknown_decorators(
     found: &mut Findings,
     imported: bool,

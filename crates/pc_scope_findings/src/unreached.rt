@@ -16,7 +16,7 @@ use pc_source::OutOfMemory;
 use pc_stop::find;
 use pc_tree::{Branch, Code, Findings, Item, ItemKind, Member, Stmt, StmtKind};
 
-/// Finds the first statement behind one that cannot complete, in a suite and in the suites that are reached in it. Own
+/// Finds the first statement after one that cannot complete, in a suite and in the suites that are reached in it. Own
 /// rule of the profile.
 #[cycle(unreached)]
 fn find_unreached(found: &mut Findings, body: &[Stmt]) -> Result<(), OutOfMemory>

@@ -35,7 +35,7 @@ module _ {Store Ty : Type 0} (has : Store → Ty → Type 0) (a b : Store) (k : 
     methods = All-weaker (HasMethod (has a)) (HasMethod (has b)) (λ x y. record { params = params_kept x.params.items y.params; ret = k x.ret y.ret }) c.methods g.methods;
   }) cs h
 
--- one more, pushed behind those that are held
+-- one more, pushed after those that are held
 pub held_push : {X : Type 0} (P : X → Type 0) (old new : List X) (x : X) → All P old → P x → new ≡ old ++ x ∷ [] → All P new
 held_push P old new x h p e = subst (All P) (sym e) (All-push P old x h p)
 

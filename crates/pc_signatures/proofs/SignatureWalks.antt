@@ -80,7 +80,7 @@ module _ (m : Module) where
   classes_apart items i x less is =
       ap (λ (l : List RustItem). signatures_of_methods m (classes_in (map item_of l))) (cons_at items i x less is) ∙ mapped_apart (class_methods m) as_class (item_of x) (map item_of (drop (i + 1) items))
 
-  -- what is reached behind items from one on, and what is found of them
+  -- what is reached after items from one on, and what is found of them
   pub reached_next : (r next : ItemsReached) (items : List RustItem) (i : ℕ) (x : RustItem) → i < length items → x ≡ get_or items i x → next ≡ behind m r (item_of x)
       → behind_all m next (map item_of (drop (i + 1) items)) ≡ behind_all m r (map item_of (drop i items))
   reached_next r next items i x less is e =

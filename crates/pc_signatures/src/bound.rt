@@ -17,7 +17,7 @@ pub(crate) fn is_bound(bound: &Texts, name: &str) -> bool
     bound.contains(name)
 }
 
-/// One more name is bound.
+/// Adds a name to those that are bound.
 pub(crate) fn bind(bound: &mut Texts, alloc: Global, name: &str) -> Result<(), OutOfMemory>
     ensures { OnOk result (bound_in bound.new ≡ with_name (bound_in bound.old) name.now) }
 {

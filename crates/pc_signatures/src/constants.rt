@@ -187,7 +187,7 @@ fn read_members<S: TypeStore>(
     Ok(methods)
 }
 
-/// The label of an initializer behind so many classes, with what is found in it.
+/// The label of an initializer after this many classes, with what is found in it.
 fn type_initializer<S: TypeStore>(
     checker: &mut Checker<'_, S>,
     globals: &Globals<'_, S::Ty>,
@@ -286,7 +286,7 @@ fn read_constant<S: TypeStore>(
     }
 }
 
-/// One more constant is reached.
+/// Goes over a constant: types its initializer, and adds it to those that are reached.
 fn add_constant<S: TypeStore>(
     checker: &mut Checker<'_, S>,
     globals: &Globals<'_, S::Ty>,
@@ -311,7 +311,7 @@ fn add_constant<S: TypeStore>(
     bind(&mut walk.bound, checker.alloc, constant.name.text.as_str())
 }
 
-/// One more class is reached.
+/// Goes over a class: reads its members, and adds it to those that are reached.
 fn add_class<S: TypeStore>(
     checker: &mut Checker<'_, S>,
     globals: &Globals<'_, S::Ty>,
@@ -338,7 +338,7 @@ fn add_class<S: TypeStore>(
     bind(&mut walk.bound, checker.alloc, class.name.text.as_str())
 }
 
-/// One more item is reached.
+/// Goes over an item, and adds it to those that are reached.
 fn add_item<S: TypeStore>(
     checker: &mut Checker<'_, S>,
     globals: &Globals<'_, S::Ty>,

@@ -93,7 +93,7 @@ pub(crate) fn read_optional<S: TypeStore>(
     Ok(ty)
 }
 
-/// A parameter with its type, behind names that are bound already; what is found in its annotation and at its default.
+/// A parameter with its type, after names that are bound already; what is found in its annotation and at its default.
 fn read_param<S: TypeStore>(
     checker: &mut Checker<'_, S>,
     frame: &Frame,
@@ -118,7 +118,7 @@ fn read_param<S: TypeStore>(
     })
 }
 
-/// Parameters with their types, behind names that are bound already; what is found in their annotations and at their
+/// Parameters with their types, after names that are bound already; what is found in their annotations and at their
 /// defaults.
 fn read_params<S: TypeStore>(
     checker: &mut Checker<'_, S>,
@@ -143,7 +143,7 @@ fn read_params<S: TypeStore>(
     Ok(all)
 }
 
-/// What a function takes and returns, behind names that are bound already; what is found in its annotations and at its
+/// What a function takes and returns, after names that are bound already; what is found in its annotations and at its
 /// defaults. Language Reference 3.12, 8.7 "Function definitions".
 pub(crate) fn read_signature<S: TypeStore>(
     checker: &mut Checker<'_, S>,

@@ -80,7 +80,7 @@ impl<Ty: Drop> Sigs<Ty> {
 }
 
 /// The types of the constants of a module, and what its functions and methods take and return, with what is found in
-/// annotations, in initializers and of their flows, and at defaults, put behind `found`: first what is found of
+/// annotations, in initializers and of their flows, and at defaults, appended to `found`: first what is found of
 /// functions, then of classes and constants in text order.
 ///
 /// Language Reference 3.12, 7.2 "Assignment statements" and 8.7 "Function definitions"; library reference,

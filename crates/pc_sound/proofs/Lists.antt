@@ -32,13 +32,13 @@ one_longer (x ∷ xs) y = ap suc (one_longer xs y)
 pub within : {A : Type 0} (xs : List A) (i : ℕ) (x : A) → slice_get xs i ≡ Some x → nat_lt i (length xs) ≡ true
 within xs i x e = lt-ltb i (length xs) (slice_get_within xs i x e)
 
--- an element stays where it is when more come behind
+-- an element stays where it is when more come after
 pub get_left : {A : Type 0} (xs ys : List A) (i : ℕ) (x : A) → slice_get xs i ≡ Some x → slice_get (xs ++ ys) i ≡ Some x
 get_left [] ys i x e = grind arith
 get_left (y ∷ xs) ys zero x e = e
 get_left (y ∷ xs) ys (suc i) x e = get_left xs ys i x e
 
--- what was put behind a list stands at its length
+-- what was put after a list stands at its length
 pub get_at_end : {A : Type 0} (xs : List A) (y : A) (ys : List A) → slice_get (xs ++ y ∷ ys) (length xs) ≡ Some y
 get_at_end [] y ys = refl
 get_at_end (x ∷ xs) y ys = get_at_end xs y ys

@@ -14,7 +14,7 @@ use Rattle.pc_source.specs.declared.fault.RefusalCode.TheVariants.{I1, I2, I3, N
 abbrev pub source_limit : ℕ
 source_limit = 1048576
 
--- the bytes are the byte order mark, and anything behind it
+-- the bytes are the byte order mark, and anything after it
 abbrev pub IsMarked : List ℕ → Type 0
 IsMarked bytes = (rest : List ℕ) × (bytes ≡ 0xEF ∷ 0xBB ∷ 0xBF ∷ rest)
 

@@ -70,6 +70,7 @@ impl<W: Write + Drop> Write for Counted<W> {
     {
         let result = self.device.write(buf);
         let failed = match &result {
+            // A device that takes nothing would be asked for ever.
             Ok(count) => *count == 0 && !buf.is_empty(),
             Err(_) => true,
         };

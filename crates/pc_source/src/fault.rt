@@ -109,7 +109,7 @@ pub struct Refusal {
     pub byte: usize,
 }
 
-/// A growth of memory was refused.
+/// An allocation failed.
 #[derive(Clone, Copy, Debug, PartialEq, Eq, Error)]
 #[error("out of memory")]
 pub struct OutOfMemory;

@@ -54,6 +54,7 @@ pub fn read_source(alloc: Global, bytes: &[u8]) -> Result<Source, Fault>
     ensures refused { IfErr result (OnRefusal (IsSourceRefusal bytes.now)) }
     ensures within { IfErr result (IsWithin (length bytes.now)) }
 {
+    // The length comes first, so that nothing of a long file is looked at.
     if bytes.len() > LIMIT {
         return Err(Fault::refused_at(RefusalCode::S1, LIMIT));
     }

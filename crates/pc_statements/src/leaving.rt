@@ -70,7 +70,7 @@ fn find_option<S: TypeStore>(
     }
 }
 
-/// The environment behind an `assert`, with what is found in its condition and in its message, which is checked where
+/// The environment after an `assert`, with what is found in its condition and in its message, which is checked where
 /// the condition is false. Language Reference 7.3 "The assert statement".
 pub fn check_assert<S: TypeStore>(
     walk: &mut Walk<'_, S>,

@@ -62,7 +62,7 @@ own_one b hs m clash is = ap (λ (o : Bool). held_unless (is_reserved_member m |
 pub clash_one : (b : List (List ℕ)) (hs : List HeldMember) (m : Member) (clash : Bool) → clash ≡ is_clash b hs m → one_if clash (name_of_member m).place ≡ clashes_among b hs (m ∷ [])
 clash_one b hs m clash is = ap (λ (o : Bool). one_if o (name_of_member m).place) is ∙ sym (append-nil (one_if (is_clash b hs m) (name_of_member m).place))
 
--- ---- the members behind it
+-- ---- the members after it
 
 same_clash : (b c : List (List ℕ)) → ((t : List ℕ) → is_among b t ≡ is_among c t) → (hs : List HeldMember) (m : Member) → is_clash b hs m ≡ is_clash c hs m
 same_clash b c same hs m = ap (λ (o : Bool). o || clashes hs m) (same (name_of_member m).text)
@@ -94,7 +94,7 @@ module _ (b : List (List ℕ)) (hs : List HeldMember) (members : List RustMember
   own_next = ap (λ ms. own_members b hs (map member_of ms)) (cons_at members i m lt is)
       ∙ ap (λ (xs : List HeldMember). xs ++ own_members (text ∷ b) hs rest) (sym (append-nil (held_unless (is_reserved_member (member_of m) || is_clash b hs (member_of m)) (member_of m))))
 
--- a table has what the class inherits and its own members so far, before those behind them
+-- a table has what the class inherits and its own members so far, before those after them
 pub record Owns (h : Holdings) (table : ℕ) (b : List (List ℕ)) (hs : List HeldMember) (ms : List Member) (all : List HeldMember) : Type 0 where
   pub own : List HeldMember
   pub has : HasIn h table (hs ++ own)
@@ -118,7 +118,7 @@ owns_more old new table added b c hs all members i m lt is passed o has = record
       ∙ o.rest;
 }
 
--- behind the last element there is none
+-- after the last element there is none
 pub none_left : {A B : Type 0} (f : A → B) (xs : List A) (i : ℕ) → length xs ≤ i → map f (drop i xs) ≡ []
 none_left f [] zero h = refl
 none_left f [] (suc i) h = refl

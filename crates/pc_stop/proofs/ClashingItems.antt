@@ -35,7 +35,7 @@ module _ {S : Type 0} (h : Holdings) (bound : IndexMap (Bor (List ℕ)) ℕ S) (
   pub unbound : (n : List ℕ) → is_among (names_before before) n ≡ false → HasIn h 0 (members_of before (Some n))
   unbound n e = subst (λ (t : ℕ). HasIn h t (members_of before (Some n))) (zero_at (at_text bound n) (s.named n ∙ e)) (s.tables n)
 
--- ---- what a name has behind an item
+-- ---- what a name has after an item
 
 -- an item that binds another name changes nothing
 other_name : (i : Item) (before : List Item) (n : List ℕ) → bytes_eq (name_of_item i).text n ≡ false → members_of (i ∷ before) (Some n) ≡ members_of before (Some n)
@@ -115,7 +115,7 @@ module _ {S : Type 0} (old new : Holdings) (bound now : IndexMap (Bor (List ℕ)
     tables = λ n. subst (λ (o : Option ℕ). HasIn new (unwrap_or o 0) (members_of (i ∷ before) (Some n))) (sym (binds n)) (table_more n (at_text bound n) refl);
   }
 
--- what clashes in the next item, and in those behind it
+-- what clashes in the next item, and in those after it
 pub items_next : (before : List Item) (i : Item) (is : List Item) → clashing_in before (i ∷ is) ≡ clashing_in before (i ∷ []) ++ clashing_in (i ∷ before) is
 items_next before (constant_item p c) is = refl
 items_next before (def_item p f) is = refl

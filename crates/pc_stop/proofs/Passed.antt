@@ -1,4 +1,4 @@
--- Texts that were passed, as the test of those behind them asks for them.
+-- Texts that were passed, as the test of those after them asks for them.
 use Rattle.std.proofs.Common.{◌≡◌, ℕ, List, [], ◌∷◌, ◌++◌, refl, ap, ◌∙◌}
 use Rattle.std.specs.Prelude.{Bool, ◌&&◌, ◌||◌, not, bytes_eq}
 use Rattle.pc_source.specs.declared.place.Place.{Place}

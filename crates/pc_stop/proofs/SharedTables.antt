@@ -8,7 +8,7 @@ use Rattle.std.proofs.lemmas.List.{length-append}
 use Rattle.pc_stop.specs.declared.tables.Node.{Node}
 use Rattle.pc_stop.specs.Tables.{side_of, behind, value_at, AreBounded, IsWith}
 
--- a node that lies within stays behind what it was
+-- a node that lies within stays after what it was
 old_behind : (ns : List Node) (n : Node) (t : ℕ) (b : Bool) → t < length ns → behind (ns ++ n ∷ []) t b ≡ behind ns t b
 old_behind [] n t b lt = absurd (omega arith)
 old_behind (x ∷ ns) n zero b lt = refl

@@ -88,7 +88,7 @@ fn find_given(
     }
 }
 
-/// Finds them in these expressions.
+/// Finds the names given again in the calls of several expressions.
 #[cycle(given)]
 fn find_given_in_all(
     found: &mut Findings,
@@ -104,7 +104,7 @@ fn find_given_in_all(
     Ok(())
 }
 
-/// Finds them in these keys and values.
+/// Finds the names given again in the calls of the keys and values of a dict.
 #[cycle(given)]
 fn find_given_in_entries(
     found: &mut Findings,
@@ -122,7 +122,7 @@ fn find_given_in_entries(
     Ok(())
 }
 
-/// Finds them in the values of these arguments.
+/// Finds the names given again in the calls of the values of arguments by name.
 #[cycle(given)]
 fn find_given_in_values(
     found: &mut Findings,
@@ -139,7 +139,7 @@ fn find_given_in_values(
     Ok(())
 }
 
-/// Finds them in an expression, if there is one.
+/// Finds the names given again in the calls of an expression, if there is one.
 fn find_given_in_optional(
     found: &mut Findings,
     alloc: Allocator,
@@ -154,7 +154,7 @@ fn find_given_in_optional(
     }
 }
 
-/// Finds them in what is assigned to.
+/// Finds the names given again in the calls of what is assigned to.
 fn find_given_in_target(
     found: &mut Findings,
     alloc: Allocator,
@@ -173,7 +173,7 @@ fn find_given_in_target(
     }
 }
 
-/// Finds them in these statements.
+/// Finds the names given again in the calls of statements.
 #[cycle(given_in_body)]
 pub fn find_given_in_body(
     found: &mut Findings,
@@ -189,7 +189,7 @@ pub fn find_given_in_body(
     Ok(())
 }
 
-/// Finds them in a statement.
+/// Finds the names given again in the calls of one statement.
 #[cycle(given_in_body)]
 fn find_given_in_statement(
     found: &mut Findings,
@@ -228,7 +228,7 @@ fn find_given_in_statement(
     }
 }
 
-/// Finds them in these conditions and their suites.
+/// Finds the names given again in the calls of conditions and their suites.
 #[cycle(given_in_body)]
 fn find_given_in_branches(
     found: &mut Findings,
@@ -246,7 +246,7 @@ fn find_given_in_branches(
     Ok(())
 }
 
-/// Finds them in the initializers of constants.
+/// Finds the names given again in the calls of the initializers of constants.
 pub fn find_given_in_constants(
     found: &mut Findings,
     alloc: Allocator,

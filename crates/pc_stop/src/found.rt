@@ -6,7 +6,7 @@ ghost use Rattle.pc_tree.specs.Stopping.{one_if};
 use pc_source::{OutOfMemory, Place};
 use pc_tree::{Code, Finding, Findings};
 
-/// One more finding. Own rule of the profile.
+/// Adds a finding. Own rule of the profile.
 pub fn find(found: &mut Findings, code: Code, place: Place) -> Result<(), OutOfMemory>
     ensures { OnOk result (found.new.items ≡ found.old.items ++ at_code code (place ∷ [])) }
 {
@@ -14,7 +14,7 @@ pub fn find(found: &mut Findings, code: Code, place: Place) -> Result<(), OutOfM
     Ok(())
 }
 
-/// One more finding where a condition holds. Own rule of the profile.
+/// Adds a finding where a condition holds. Own rule of the profile.
 pub fn find_if(
     found: &mut Findings,
     condition: bool,

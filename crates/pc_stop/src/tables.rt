@@ -14,7 +14,7 @@ pub struct Node {
     pub odd: usize,
 }
 
-/// The node behind a node, at an even number or at an odd one; the first node, which is empty, where there is none.
+/// The node after a node, at an even number or at an odd one; the first node, which is empty, where there is none.
 fn node_behind(nodes: &[Node], table: usize, odd: bool) -> usize
     ensures { result ≡ behind nodes.now table odd }
 {
@@ -25,7 +25,7 @@ fn node_behind(nodes: &[Node], table: usize, odd: bool) -> usize
     }
 }
 
-/// What a table has at a number of so many binary digits.
+/// What a table has at a number with this many binary digits.
 pub fn value_in(nodes: &[Node], digits: usize, table: usize, number: usize) -> usize
     ensures { result ≡ value_at nodes.now digits table number }
 {
@@ -53,7 +53,7 @@ fn node_with(odd: bool, changed: usize, other: usize) -> Node
     }
 }
 
-/// One more node.
+/// Adds a node, and gives its number.
 fn add_node(nodes: &mut Vec<Node>, node: Node) -> Result<usize, OutOfMemory>
     ensures added { OnOk result (nodes.new.items ≡ nodes.old.items ++ node ∷ []) }
     ensures last { IfOk result (λ t. t ≡ length nodes.old.items) }

@@ -6,7 +6,7 @@ use thiserror::Error;
 /// Why a table has no answer.
 #[derive(Clone, Copy, Debug, PartialEq, Eq, Error)]
 pub enum TableFault {
-    /// A growth of memory was refused.
+    /// An allocation failed.
     #[error("out of memory")]
     OutOfMemory,
     /// The table's file could not be read.

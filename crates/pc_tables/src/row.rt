@@ -74,7 +74,7 @@ pub fn written_out(alloc: Global, row: &str) -> Result<String, TableFault> {
 ///
 /// # Errors
 ///
-/// `Form` where lines are left with no arrow behind them, or a part that is repeated has no number.
+/// `Form` where lines are left with no arrow after them, or a part that is repeated has no number.
 pub fn rows(alloc: Global, table: &str) -> Result<Vec<Row<'_>>, TableFault> {
     let mut rows = Vec::new(alloc);
     let mut part = "";

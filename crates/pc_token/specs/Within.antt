@@ -15,7 +15,7 @@ abbrev pub LinesWithin : ℕ → List LogicalLine → Type 0
 LinesWithin len [] = Unit {0}
 LinesWithin len (l ∷ ls) = AreWithin len l.lexemes × LinesWithin len ls
 
--- so do the tokens of lines that came, and a refusal that came after them
+-- the tokens of lines that came stand within a text, and so does a refusal that came after them
 abbrev pub ItemsWithin : ℕ → List (Result LogicalLine Refusal) → Type 0
 ItemsWithin len [] = Unit {0}
 ItemsWithin len (Ok l ∷ items) = AreWithin len l.lexemes × ItemsWithin len items

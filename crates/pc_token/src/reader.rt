@@ -17,7 +17,7 @@ use std::alloc::{AllocError, Global};
 /// a kilobyte: an allocator keeps pieces of that size at hand.
 const FIRST_ROOM: usize = 14;
 
-/// Puts an item behind others. The first one makes room for as many as most lines have.
+/// Puts an item after others. The first one makes room for as many as most lines have.
 fn put<T: Drop>(items: &mut Vec<T>, item: T) -> Result<(), AllocError>
     ensures { OnOk result (items.new.items ≡ items.old.items ++ item ∷ []) }
 {

@@ -28,7 +28,7 @@ plain_findings : (fs : List Finding) → findings_of (map plain_note fs) ≡ fs
 plain_findings [] = refl
 plain_findings (f ∷ fs) = ap (λ (l : List Finding). f ∷ l) (plain_findings fs)
 
--- the findings of notes with others behind them that tell of no flow
+-- the findings of notes with others after them that tell of no flow
 with_plain : (notes : List Note) (fs : List Finding) → findings_of (notes ++ map plain_note fs) ≡ findings_of notes ++ fs
 with_plain notes fs = map-append (λ (n : Note). n.finding) notes (map plain_note fs) ∙ ap (λ (l : List Finding). findings_of notes ++ l) (plain_findings fs)
 
@@ -64,7 +64,7 @@ module _ (m : Module) (of_scopes : List Finding) (scopes_found : (f : Finding) �
         ]),
       )
 
-  -- what the walk over a module finds, with what is found of scopes and of classes behind it, are just its findings
+  -- what the walk over a module finds, with what is found of scopes and of classes after it, are just its findings
   pub exactly : (notes : List Note) → notes ≡ (module_finds m [] ++ map plain_note of_scopes) ++ map plain_note (class_findings m ++ override_findings m) → (f : Finding) → Contains (findings_of notes) f ↔ IsFinding m f
   unfolding of_classes
   exactly notes is f =

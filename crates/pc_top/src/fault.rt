@@ -15,7 +15,7 @@ pub enum CheckFault {
     /// The bytes spell no module.
     #[error("{0}")]
     Refused(Refusal),
-    /// A growth of memory was refused.
+    /// An allocation failed.
     #[error("out of memory")]
     OutOfMemory,
     /// The reader failed.

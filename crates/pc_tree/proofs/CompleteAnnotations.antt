@@ -44,7 +44,7 @@ add_more : (xs : Anns) (y : Ann) → IsMore (add_ann xs y)
 add_more no_anns y = tt
 add_more (more_anns x xs) y = tt
 
--- ---- what comes behind
+-- ---- what comes after
 
 -- no bracket and no bar comes next
 abbrev pub IsClear : TokenKind → Type 0

@@ -74,7 +74,7 @@ closer_loose in_tuple c h rest = stops_just (kind.Operator sign.RightParenthesis
 closer_loose in_list c h rest = stops_just (kind.Operator sign.RightBracket) 1 (omega arith) c h rest
 closer_loose (in_call e) c h rest = stops_just (kind.Operator sign.RightParenthesis) 1 (omega arith) c h rest
 
--- Items in brackets of which the part is `final`, once `others` stand behind them.
+-- Items in brackets of which the part is `final`, once `others` stand after them.
 abbrev pub ReadsItems : Exprs → Type 0
 ReadsItems xs = (ks : Keywords) (ts : List Lexeme) → Items xs (λ u. SpellsKeywords ks u) (ks ≡ no_keywords) ts
     → (h : Head) (s : Stack) (final : Exprs → List Lexeme → Part) (c : List Lexeme) → Just (closer h) c → (rest : List Lexeme)
@@ -133,7 +133,7 @@ more_items x xs plain items ks ts a b is hx (inr ((none, alone), e)) h s final c
 reads_more_items : (x : Expr) (xs : Exprs) → ReadsPlain x → ReadsItems xs → ReadsItems (more_exprs x xs)
 reads_more_items x xs plain items ks ts w = more_items x xs plain items ks ts w.front w.back w.all w.left w.right
 
--- a list with nothing else behind it
+-- a list with nothing else after it
 alone_rest : (xs : Exprs) → ((us : List Lexeme) → Items xs Nothing ⊤ us → Items xs (λ u. SpellsKeywords no_keywords u) (no_keywords ≡ no_keywords) us)
     → (ts : List Lexeme) → AfterComma ((xs ≡ no_exprs) × ⊤) (λ u. Items xs Nothing ⊤ u) ts
     → AfterComma ((xs ≡ no_exprs) × (no_keywords ≡ no_keywords)) (λ u. Items xs (λ v. SpellsKeywords no_keywords v) (no_keywords ≡ no_keywords) u) ts

@@ -181,7 +181,7 @@ reads_returns_of d ps (Some a) body = reads_map shift_right (reads_and (reads_ju
     (annotation_then a (of_return d ps) (kind.Operator sign.Colon) (refl, refl) (λ ts t. refl)
     (reads_suite body (reads_stmts body) (def_body (record { start = d; params = ps; returns = Some a })))))
 
--- behind `def`
+-- after `def`
 abbrev DefRest : Bool → FuncDef → Spelling
 DefRest method f = IsName f.name ⟫ Sign sign.LeftParenthesis ⟫ Parameters method f.params ⟫ Sign sign.RightParenthesis
     ⟫ Maybe (λ a. Sign sign.Arrow ⟫ Annotation a) f.returns ⟫ Suite (SpellsStmts f.body)

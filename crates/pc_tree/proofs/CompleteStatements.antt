@@ -72,7 +72,7 @@ reads_name_as n {s} next e = record {
       ∙ run_go s (next (name_at h.0)) h.0 rest (ap (turn s h.0) h.1 ∙ e h.0) ∙ ap (λ m. run (at (next m)) rest) (sym h.2);
 }
 
--- a whole expression, the token behind it, and what follows
+-- a whole expression, the token after it, and what follows
 pub expression_then : (e : Expr) (c : ExpressionPosition) (k : TokenKind) → tightness k ≤ 1 → {H X : Spelling} {next final : State}
     → ((n : ℕ) (ts : List Lexeme) (t : Lexeme) → turn (have 0 (part_at n e ts) (whole c)) t k ≡ go next)
     → Reads H X next final → Reads H (Expression e ⟫ Just k ⟫ X) (operand (whole c)) final
@@ -101,7 +101,7 @@ expression_last e c k loose {next = next} to = record {
       ∙ token_run k (have 0 (part_at w.left.0 e a) (whole c)) (λ x. next) (to w.left.0 a) b w.right rest;
 }
 
--- a whole annotation, the token behind it, and what follows
+-- a whole annotation, the token after it, and what follows
 pub annotation_then : (a : Ann) (c : AnnotationPosition) (k : TokenKind) → IsClear k → {H X : Spelling} {next final : State}
     → ((ts : List Lexeme) (t : Lexeme) → turn (part_read a ts no_anns [] (ann_whole c)) t k ≡ go next)
     → Reads H X next final → Reads H (Annotation a ⟫ Just k ⟫ X) (part_due no_anns [] (ann_whole c)) final
@@ -144,7 +144,7 @@ begins_token p k {s = s} next to r = record {
       ∙ r.over w.back w.right rest g;
 }
 
--- ---- what comes behind a statement
+-- ---- what comes after a statement
 
 -- neither `elif` nor `else`
 abbrev pub IsClosed : TokenKind → Type 0
@@ -336,7 +336,7 @@ reads_annotated p n a (Some e) done b = line_plain p (name n) done b (kind.Opera
 abbrev pub ReadsStmts : Stmts → Type 0
 ReadsStmts ss = (done : Stmts) (b : Block) → Reads Closed (SpellsStmts ss) (stmts done b) (stmts (append_stmts done ss) b)
 
--- behind the colon
+-- after the colon
 abbrev pub SuiteRest : Spelling → Spelling
 SuiteRest A = Just kind.Newline ⟫ Just kind.Indent ⟫ A ⟫ Just kind.Dedent
 

@@ -15,7 +15,7 @@ use Rattle.pc_tree.proofs.Stood.{Stood}
 use Rattle.pc_tree.proofs.Sound.{stood, run_spells, start_stands, reads_spells}
 use Rattle.pc_tree.proofs.Ending.{can_end}
 
--- where a run refuses: it could have gone on before that token, and with no continuation behind it
+-- where a run refuses: it could have gone on before that token, and with no continuation after it
 pub record Refusal (s : State) (ts : List Lexeme) (byte : ℕ) : Type 0 where
   pub before : List Lexeme
   pub token : Lexeme

@@ -1,4 +1,4 @@
--- Findings that come behind others, one after another.
+-- Findings that come after others, one after another.
 use Rattle.std.proofs.Common.{◌≡◌, List, ◌++◌, append_assoc, ap, sym, ◌∙◌}
 use Rattle.pc_source.specs.declared.place.Place.{Place}
 use Rattle.pc_tree.specs.declared.code.Code.{Code}

@@ -22,7 +22,7 @@ use Rattle.pc_tree.proofs.Stood.{Stood, grow, just, is_name, on_kind, on_tight, 
 use Rattle.pc_tree.proofs.SoundExpressions.{start_means, EndMeans, FollowMeans, holds_lower, holds_kept, node_holds, stands_have, operand_stood, reduce_holds}
 use Rattle.pc_tree.proofs.CompleteStatements.{no_front}
 
--- ---- items with a comma behind each
+-- ---- items with a comma after each
 
 each_others : (O : Spelling) (alone : Type 0) (xs : Exprs) (us : List Lexeme) → Sequence (EachItem xs) O us → Items xs O alone us
 each_others O alone no_exprs us w = no_front us w
@@ -70,7 +70,7 @@ entries_add (more_entries a b es) x y us w =
 
 -- ---- what was kept, the operand, and one more token
 
--- behind a stack
+-- after a stack
 behind_as : {S A : Spelling} (C : Spelling) (o : List Lexeme) (p : Part) (t : Lexeme) (k : TokenKind) (ts : List Lexeme) → t.kind ≡ k → ((us : List Lexeme) → Holds 0 p us → C us)
     → Sequence (S ⟫ Kept o A) (Holds 0 p) ts → Sequence S (Kept (o ++ (p.tokens ++ (t ∷ []))) (A ⟫ C ⟫ Just k)) (ts ++ (t ∷ []))
 behind_as C o p t k ts e f w = map_right (λ us v. kept_join o (p.tokens ++ (t ∷ [])) us (map_right (λ vs z. kept_join p.tokens (t ∷ []) vs (map_left (λ ws h. (h.tokens, f ws h)) z)) v))
@@ -315,7 +315,7 @@ key_stood es us s t ts h = on_kind t (kind.Operator sign.RightBrace) _ _ (ts ++ 
     (λ e. kept_node (λ q. dict q es) (EntriesBefore es ⟫ Sign sign.RightBrace) (us ++ (t ∷ [])) s (ts ++ (t ∷ [])) (dict_spells es) (omega arith) (behind_kept us t (kind.Operator sign.RightBrace) ts e h))
     (operand_stood (keying es us s) t (start_of t.kind) ts (start_means t.kind) h)
 
--- an operand, the kept tokens behind it, and one more token
+-- an operand, the kept tokens after it, and one more token
 behind_operand : {S A : Spelling} (level : ℕ) (C : Spelling) (p : Part) (o : List Lexeme) (t : Lexeme) (ts : List Lexeme) → C (t ∷ []) → Sequence (S ⟫ Holds level p) (Kept o A) ts
     → Sequence S (Kept (p.tokens ++ (o ++ (t ∷ []))) (Operand level (own_level p.tree) (λ x. Spells p.tree x) ⟫ A ⟫ C)) (ts ++ (t ∷ []))
 behind_operand level C p o t ts e w = map_right (λ us v. kept_join p.tokens (o ++ (t ∷ [])) us (map_left (holds_kept level p) (map_right (λ vs z. kept_join o (t ∷ []) vs z) v)))

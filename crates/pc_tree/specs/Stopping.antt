@@ -60,7 +60,7 @@ of_members method [] = []
 of_members method (field_member f ∷ ms) = of_members method ms
 of_members method (method_member f ∷ ms) = method f ++ of_members method ms
 
--- so for each function and method of these items, by one rule for functions and one for methods
+-- what one rule gives for each function and another for each method of these items, one after another
 abbrev pub of_defs : (function method : FuncDef → List Place) → List Item → List Place
 of_defs function method [] = []
 of_defs function method (constant_item first c ∷ is) = of_defs function method is

@@ -7,7 +7,7 @@ use crate::tree::{Ann, Expr};
 use pc_source::Place;
 
 impl Expr {
-    /// Its place, from its first to its last token, without parentheses around it. Own rule of the profile.
+    /// The expression's place: first to last token, without parentheses around it. Own rule of the profile.
     pub fn place(&self) -> Place
         ensures { result ≡ place_of (expr_of self.now) }
     {
@@ -30,7 +30,7 @@ impl Expr {
 }
 
 impl Ann {
-    /// Its place, from its first to its last token. Own rule of the profile.
+    /// The annotation's place: first to last token. Own rule of the profile.
     pub fn place(&self) -> Place
         ensures { result ≡ place_of_ann (ann_of self.now) }
     {

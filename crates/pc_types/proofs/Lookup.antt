@@ -52,7 +52,7 @@ there t false e = cc
 before_place : (p q r : ℕ × ℕ) → same_place p q ≡ true → IsRankBefore r q → IsRankBefore r p
 before_place p q r e h = grind (arith, nat_tests)
 
--- what is found in a type that stands behind a member has its place behind that member's
+-- what is found in a type that stands after a member has its place after that member's
 pub found_behind : {m : Tree} (p : ℕ × ℕ) (a t : Tree) → IsAfter a t → find p t ≡ Some m → IsRankBefore (member_rank a) p
 found_behind p a (Union c d) h e = ⊎_elim (found_behind p a c h.0) (found_behind p a d h.1) (first_of (find p c) (find p d) e)
 found_behind p a Any h e = absurd h.0

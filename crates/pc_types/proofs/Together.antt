@@ -9,7 +9,7 @@ use Rattle.pc_types.specs.Shape.{count, members, ahead, union}
 use Rattle.pc_types.specs.Normal.{member_rank, IsRankBefore, IsMember, IsAfter, IsNormal, IsOfMembers}
 use Rattle.pc_types.specs.Join.{same_tree, is_absorbed, unabsorbed_members, is_before, put_among, parts_of, equal_one, both_parts, put_all, join_each, one_of, IsSplit, kept_with, ahead_of, one_with}
 
--- each member of the second stands behind the first
+-- each member of the second stands after the first
 abbrev pub Behind : Tree → Tree → Type 0
 Behind b Never = Unit {0}
 Behind b (Union c d) = Behind b c × Behind b d
@@ -80,7 +80,7 @@ put_past bases other (TupleOf ss) b ms h =
     tested_behind (is_absorbed bases (TupleOf ss) other) b ms _ _ (put_behind b (TupleOf ss) (one_of bases (TupleOf ss)) ms h.1)
 put_past bases other m b ms h = tested_behind (is_absorbed bases m other) b ms _ _ (put_behind b m (one_of bases m) ms h.1)
 
--- a member put among others that all stand behind it comes first
+-- a member put among others that all stand after it comes first
 put_first : (a : Tree) (one : Tree → Option Tree) (ms : List Tree) → AllBehind a ms → put_among a one ms ≡ Some (a ∷ ms)
 put_first a one [] h = refl
 put_first a one (n ∷ ns) h = rw (before_true a n h.0) refl
@@ -114,7 +114,7 @@ one_rank bases (TupleOf ss) n f e =
     ap member_rank r.2 ∙ ap (λ k. (7, k)) (join_count bases ss (parts_of n) r.0 r.1)
 one_rank bases m n f e = ap member_rank (equal_is m n f e)
 
--- what is put behind a member stands behind it
+-- what is put after a member stands after it
 module _ (a m n : Tree) (one : Tree → Option Tree) (ns l : List Tree) where
   abbrev Keeps : Option (List Tree) → Type 0
   Keeps o = (k : List Tree) → o ≡ Some k → AllBehind a k
@@ -276,7 +276,7 @@ module _ (bases : Bases) (left right : Tree) where
   either_way o true = refl
   either_way o false = refl
 
-  -- a member put among others that all stand behind it
+  -- a member put among others that all stand after it
   bind_first : (a : Tree) (o : Option (List Tree)) → IsMember a → ((l : List Tree) → o ≡ Some l → AllBehind a l) → option_map union (option_and_then (λ l. put_all bases right a l) o) ≡ kept_with bases a right (option_map union o)
   bind_first a None m h = either_way None (is_absorbed bases a right)
   bind_first a (Some l) m h =

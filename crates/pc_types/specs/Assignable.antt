@@ -37,7 +37,7 @@ mutual
     tuple : {ts us : Trees} → FillsEach ts us → Fills (TupleOf ts) (TupleOf us)
     union : {a b c d : Tree} → Fills a c → Fills b d → Fills (Union a b) (Union c d)
 
-  -- so for the parts of two tuples of one length, one by one
+  -- each part of the second tuple is that of the first with each Any replaced; both have one length
   pub data FillsEach : Trees → Trees → Type 0 where
     none : FillsEach end end
     one : {t u : Tree} {ts us : Trees} → Fills t u → FillsEach ts us → FillsEach (more t ts) (more u us)

@@ -70,7 +70,7 @@ abbrev mutual
   flows bases (TupleOf ss) both t = fits_some (tuple_fits (each_flows bases ss both)) t
   flows bases s both t = fits_some (heads_fit bases s) t
 
-  -- so for the parts of two tuples of one length
+  -- whether each part of the first tuple flows into that of the second; both have one length
   pub each_flows : Bases → Trees → (both : Test) → Trees → Test
   each_flows bases end both end = true
   each_flows bases (more s ss) both (more t ts) = (flows bases s both t && is_covered_back bases both s t)
@@ -90,7 +90,7 @@ abbrev pub StaticIsDecided : Type 0
 StaticIsDecided = (bases : Bases) (s t : Tree) → AreSmaller bases → IsNormal s → IsNormal t
     → IsTrue (static_test bases s t) ↔ Static bases s t
 
--- and the test of consistent subtyping exactly where that holds
+-- of types in normal form the test of consistent subtyping is true exactly where it holds
 abbrev pub AssignableIsDecided : Type 0
 AssignableIsDecided = (bases : Bases) (s t : Tree) → AreSmaller bases → IsNormal s → IsNormal t
     → IsTrue (assignable_test bases s t) ↔ Assignable bases s t

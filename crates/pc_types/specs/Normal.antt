@@ -30,7 +30,7 @@ IsMember Never = ⊥
 IsMember (Union a b) = ⊥
 IsMember _ = Unit {0}
 
--- each member of the second stands behind the first
+-- each member of the second stands after the first
 abbrev pub IsAfter : Tree → Tree → Type 0
 IsAfter a (Union c d) = IsAfter a c × IsAfter a d
 IsAfter a b = IsMember b × IsRankBefore (member_rank a) (member_rank b)
@@ -41,7 +41,7 @@ IsKey Int = Unit {0}
 IsKey Str = Unit {0}
 IsKey _ = ⊥
 
--- each union, anywhere, is a first member and the others behind it; each dict has int or str as key
+-- each union, anywhere, is a first member and the others after it; each dict has int or str as key
 abbrev mutual
   pub IsNormal : Tree → Type 0
   IsNormal (ListOf t) = IsNormal t

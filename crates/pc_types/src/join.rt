@@ -150,7 +150,7 @@ fn copy_ahead(
     }
 }
 
-/// The same, but for a member that the other type absorbs.
+/// A copy of a member ahead of those of a type, unless the other type absorbs it.
 fn kept_ahead(
     alloc: Global,
     parents: &Parents,

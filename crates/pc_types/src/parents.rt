@@ -65,7 +65,7 @@ impl Parents {
         true
     }
 
-    /// For how many classes a base or none is told.
+    /// How many classes there are.
     pub fn count(&self) -> usize
         ensures { result ≡ length self.now }
     {

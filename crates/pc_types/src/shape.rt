@@ -45,7 +45,7 @@ pub(crate) fn count_each(ts: &[BoxType]) -> usize
     sum
 }
 
-/// The same type anew.
+/// A copy of a type.
 #[cycle(copy)]
 pub(crate) fn copy(alloc: Global, t: &BoxType) -> Result<BoxType, OutOfMemory>
     ensures { IfOk result (λ c. tree_of c ≡ tree_of t.now) }
@@ -77,7 +77,7 @@ pub(crate) fn copy(alloc: Global, t: &BoxType) -> Result<BoxType, OutOfMemory>
     }
 }
 
-/// The same types anew.
+/// Copies of several types.
 #[cycle(copy)]
 pub(crate) fn copies(alloc: Global, ts: &[BoxType]) -> Result<Vec<BoxType>, OutOfMemory>
     ensures { IfOk result (λ v. map tree_of v.items ≡ map tree_of ts.now) }
@@ -152,7 +152,7 @@ pub(crate) fn part(t: &BoxType, number: usize) -> &BoxType
     }
 }
 
-/// Each member of a type behind other types.
+/// Each member of a type after other types.
 fn push_members(alloc: Global, t: &BoxType, out: &mut Vec<BoxType>) -> Result<(), OutOfMemory>
     ensures { OnOk result (map tree_of out.new.items ≡ map tree_of out.old.items ++ members (tree_of t.now)) }
 {

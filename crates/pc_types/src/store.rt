@@ -94,7 +94,7 @@ pub trait TypeStore {
         ensures value { IfOk result (λ t. MeansWithin has tree self.new t (TupleOf (trees (map tree parts.now)))) }
         ensures kept { KeepsTypes has self.old self.new };
 
-    /// The same type again.
+    /// A copy of a type: another handle with the same meaning.
     fn copy(&self, alloc: Global, ty: &Self::Ty) -> Result<Self::Ty, OutOfMemory>
         requires { has self.now ty.now }
         ensures { IfOk result (λ t. Means has tree self.now t (tree ty.now)) };

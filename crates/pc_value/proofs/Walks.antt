@@ -14,7 +14,7 @@ occurs_in_rest part whole i lt h =
     let whole_rest : take (length whole - i) (drop i whole) ≡ drop i whole = grind (arith, common_steps) in
     occurs_later part whole i lt (rw whole_rest at h)
 
--- digits behind a number make no smaller one
+-- digits after a number make no smaller one
 pub no_smaller : (n : ℕ) (ds : List ℕ) → n ≤ number_behind n ds
 no_smaller n [] = omega arith
 no_smaller n (d ∷ ds) = let h = no_smaller (10 * n + (d - 48)) ds in omega arith

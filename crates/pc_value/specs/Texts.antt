@@ -7,7 +7,7 @@ use Rattle.std.specs.Ordering.{nat_cmp}
 use Rattle.std.specs.declared.cmp.Ordering.{Ordering}
 use Rattle.std.specs.declared.cmp.Ordering.TheVariants.{Less, Equal, Greater}
 
--- the same characters
+-- two texts have the same characters
 abbrev pub same_text : List ℕ → List ℕ → Bool
 same_text = bytes_eq
 

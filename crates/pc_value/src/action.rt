@@ -17,7 +17,7 @@ pub enum Exception {
 pub enum Iteration {
     /// The present items of the list at a location.
     List(usize),
-    /// The keys of the dict at a location, which had so many entries at the start.
+    /// The keys of the dict at a location, with the number of its entries at the start.
     Dict(usize, usize),
     /// The characters of a text.
     Text(Vec<char>),

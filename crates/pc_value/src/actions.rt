@@ -322,7 +322,7 @@ fn perform(
 ///
 /// # Errors
 ///
-/// Where a growth of memory was refused; the heap then means what it meant.
+/// Where an allocation failed; the heap then means what it meant.
 pub fn act(
     alloc: Global,
     heap: &mut Heap,

@@ -121,7 +121,7 @@ pub fn get(alloc: Global, object: Seen<'_>, key: Seen<'_>) -> Result<Outcome, Ou
     }
 }
 
-/// The index that a whole number names among so many items; negative ones count from the end.
+/// The index that a whole number names in a list of this length; negative ones count from the end.
 /// Language Reference 6.3.2 "Subscriptions".
 pub fn index_among(count: usize, index: i128) -> Option<usize>
     ensures { result ≡ index_among count index }

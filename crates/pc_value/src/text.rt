@@ -40,7 +40,7 @@ pub fn occurs_in(part: &[char], whole: &[char]) -> bool
     part.is_empty()
 }
 
-/// One text behind another.
+/// A text and another one after it.
 pub fn joined(alloc: Global, left: &[char], right: &[char]) -> Result<Vec<char>, OutOfMemory>
     ensures { IfOk result (λ cs. cs.items ≡ left.now ++ right.now) }
 {

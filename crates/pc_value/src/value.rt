@@ -51,7 +51,7 @@ pub struct Heap {
 }
 
 impl Value {
-    /// The same value again.
+    /// A copy of the value.
     #[cycle(copy)]
     pub fn copy(&self, alloc: Global) -> Result<Value, OutOfMemory>
         ensures { IfOk result (λ v. value_of v ≡ value_of self.now) }
@@ -67,7 +67,7 @@ impl Value {
     }
 }
 
-/// The same values again.
+/// Copies of values.
 #[cycle(copy)]
 pub fn copy_values(alloc: Global, values: &[Value]) -> Result<Vec<Value>, OutOfMemory>
     ensures { IfOk result (λ vs. map value_of vs.items ≡ map value_of values.now) }
@@ -83,7 +83,7 @@ pub fn copy_values(alloc: Global, values: &[Value]) -> Result<Vec<Value>, OutOfM
     Ok(copied)
 }
 
-/// The same text again.
+/// A copy of a text.
 pub fn copy_text(alloc: Global, characters: &[char]) -> Result<Vec<char>, OutOfMemory>
     ensures { IfOk result (λ cs. cs.items ≡ characters.now) }
 {
@@ -93,7 +93,7 @@ pub fn copy_text(alloc: Global, characters: &[char]) -> Result<Vec<char>, OutOfM
     }
 }
 
-/// The same fields again.
+/// Copies of fields.
 pub fn copy_slots(alloc: Global, slots: &[Slot]) -> Result<Vec<Slot>, OutOfMemory>
     ensures { IfOk result (λ ss. map slot_of ss.items ≡ map slot_of slots.now) }
 {

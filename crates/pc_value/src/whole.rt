@@ -46,6 +46,7 @@ impl Whole {
 fn read_digits(digits: &[u8]) -> Option<u128>
     ensures { MatchOption result (2 ^ 128 ≤ number_behind 0 digits.now) (λ n. n ≡ number_behind 0 digits.now) }
 {
+    // Without a sign, since the digits of the least signed number are one more than the greatest signed number.
     let mut number: u128 = 0;
     for digit in digits {
         let Some(shifted) = number.checked_mul(10) else {
@@ -65,6 +66,7 @@ pub fn read_number(below_zero: bool, digits: &[u8]) -> Option<i128>
 {
     let number = read_digits(digits)?;
     if below_zero && number > 0 {
+        // Kept as one less than its distance from zero, so that the least number has a form too.
         Whole::BelowZero(number - 1).fit()
     } else {
         Whole::AtLeastZero(number).fit()
@@ -142,19 +144,21 @@ pub fn negated(number: i128) -> Option<i128>
     opposite(number).fit()
 }
 
-/// Sums, differences and products, if they fit 128 signed bits.
+/// The sum, if it fits 128 signed bits.
 pub fn sum(left: i128, right: i128) -> Option<i128>
     ensures { result ≡ if_it_fits (left +ℤ right) }
 {
     left.checked_add(right)
 }
 
+/// The difference, if it fits 128 signed bits.
 pub fn difference(left: i128, right: i128) -> Option<i128>
     ensures { result ≡ if_it_fits (left -ℤ right) }
 {
     left.checked_sub(right)
 }
 
+/// The product, if it fits 128 signed bits.
 pub fn product(left: i128, right: i128) -> Option<i128>
     ensures { result ≡ if_it_fits (left *ℤ right) }
 {

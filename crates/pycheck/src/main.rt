@@ -47,6 +47,7 @@ fn explain<R: Eprint + AllocGlobal>(
         let _ = eprintln!(rt; "pycheck: {device}: {reason}");
         return;
     }
+    // Where standard error fails too there is nobody left to tell.
     let _ = eprintln!(rt; "{fault}");
 }
 
@@ -65,6 +66,7 @@ fn checked<R: Print + Eprint + Files + AllocGlobal>(
         options.json,
         options.format,
     );
+    // A report that was not flushed may be lost, and then the status must not say that it is there.
     if outcome.is_ok() && output.flush().is_err() {
         outcome = Err(CheckFault::Write);
     }

@@ -30,6 +30,7 @@ fn print_trace<R: Print + AllocGlobal>(rt: &R, trace: &Trace) -> io::Result<()> 
 fn explain<R: Eprint + AllocGlobal>(rt: &R, device: &str, error: &io::Error) -> u8 {
     let reason = reason_of(rt.alloc(), error);
     let _ = match reason {
+        // Printing asks for memory too; a failed allocation is no fault of the device.
         Ok(reason) if error.kind() != ErrorKind::OutOfMemory => {
             eprintln!(rt; "pyrun: {device}: {reason}")
         }

@@ -37,7 +37,7 @@ fn class_names(alloc: Global, tree: &Module) -> Result<Vec<&str>, AllocError> {
     Ok(names)
 }
 
-/// Puts each name of a method behind others that do not have it.
+/// Puts each name of a method after others that do not have it.
 fn add_methods<'m>(names: &mut Vec<&'m str>, members: &'m [Member]) -> Result<(), AllocError> {
     for member in members {
         if let Member::Method(method) = member {
@@ -61,7 +61,7 @@ fn method_names(alloc: Global, tree: &Module) -> Result<Vec<&str>, AllocError> {
     Ok(names)
 }
 
-/// A parameter or a field, as `x: int`, with ` =` behind one that has a default.
+/// A parameter or a field, as `x: int`, with ` =` after one that has a default.
 fn parameter_text(
     alloc: Global,
     tree: &Module,
@@ -261,7 +261,7 @@ fn described(
     Ok(out)
 }
 
-/// The same of the text of a module.
+/// What the class table says of the module that a text spells, and what is found of its classes.
 fn reading(alloc: Global, text: &str) -> Result<String, Fault> {
     let source = read_source(alloc, text.as_bytes())?;
     let tree = module_in(alloc, &source)?;

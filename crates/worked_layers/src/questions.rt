@@ -116,7 +116,7 @@ fn join<S: TypeStore>(
     }
 }
 
-/// Adds the text of a type behind those of others.
+/// Adds the text of a type after those of others.
 fn add<S: TypeStore>(
     store: &S,
     alloc: Global,
@@ -133,7 +133,7 @@ fn add<S: TypeStore>(
     Ok(())
 }
 
-/// The texts of types behind one another.
+/// The texts of types one after another.
 fn listed<S: TypeStore>(
     store: &S,
     alloc: Global,

@@ -9,7 +9,7 @@ use pc_tables::{BETWEEN, TableFault, Tally};
 use pc_types::{BoxStore, TypeStore};
 use std::alloc::{AllocError, Global};
 
-/// What stands behind the types of a row in its module.
+/// What stands after the types of a row in its module.
 const TAIL: &str = "def main():\n    pass\nmain()\n";
 
 /// What stands between the head of the modules and the rows.

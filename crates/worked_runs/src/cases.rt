@@ -15,7 +15,7 @@ pub struct Case {
     pub want: String,
 }
 
-/// The choices that a table writes behind one another.
+/// The choices that a table writes one after another.
 fn choices_of(alloc: Global, written: &str) -> Result<Vec<u8>, TableFault> {
     let mut choices = Vec::new(alloc);
     for choice in written.split(' ') {
@@ -45,7 +45,7 @@ fn case_of(alloc: Global, text: String, comment: &str) -> Result<Case, TableFaul
     Ok(case)
 }
 
-/// Of a line of a table: its text, and what the comment behind it says, which ends a case.
+/// Of a line of a table: its text, and what the comment after it says, which ends a case.
 fn case_end(line: &str) -> (&str, Option<&str>) {
     match line.rsplit_once("  # ") {
         Some((text, comment)) => (text, Some(comment)),
@@ -58,7 +58,7 @@ fn case_end(line: &str) -> (&str, Option<&str>) {
 ///
 /// # Errors
 ///
-/// `Form` where lines are left with no comment behind them, or a number in a comment is none.
+/// `Form` where lines are left with no comment after them, or a number in a comment is none.
 pub fn cases(alloc: Global, table: &str) -> Result<Vec<Case>, TableFault> {
     let mut cases = Vec::new(alloc);
     let mut text = String::new(alloc);

@@ -10,7 +10,7 @@ use std::alloc::{AllocError, Global};
 /// The first line of each module.
 const HEADER: &str = "from __future__ import annotations\n";
 
-/// A module whose `main` has these statements, behind what stands before it.
+/// A module whose `main` has these statements, after what stands before it.
 pub fn module_of_statements(
     alloc: Global,
     before: &str,

@@ -40,7 +40,7 @@ fn told(
 }
 
 /// What the checker answers to bytes, by types that are numbers: their report in a format, or their refusal. Where
-/// types in boxes give another answer, that one stands behind it, so that no table agrees.
+/// types in boxes give another answer, that one stands after it, so that no table agrees.
 pub fn answer_to_bytes(alloc: Global, bytes: &[u8], format: Format) -> Result<String, AllocError> {
     let mut answer = told(alloc, check(alloc, bytes), format)?;
     let other = told(alloc, report_by_boxes(alloc, bytes), format)?;

@@ -13,7 +13,7 @@ const TEXT: &str = "====\n";
 /// What stands for the report of a text that is only read.
 const READS: &str = "reads";
 
-/// What stands behind a text, and behind its report.
+/// What stands after a text, and after its report.
 const NEXT: &str = "\n----\n";
 
 /// A reader of bytes that gives so many a call; after so many calls each one fails.

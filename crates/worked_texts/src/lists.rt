@@ -11,7 +11,7 @@ use std::alloc::{AllocError, Global};
 /// What stands before a suite of `main`.
 const BEFORE: &str = "from __future__ import annotations NL def main ( ) : ";
 
-/// The same token, or the mark of the layout that it stands for.
+/// The mark of the layout that a token stands for, or else the token itself.
 fn marked<'a>(token: &Tok<'a>) -> Tok<'a> {
     let kind = match token.text {
         "NL" => TokenKind::Newline,
@@ -41,7 +41,7 @@ fn parsed(alloc: Global, text: &str) -> Result<Module, Fault> {
     parse(alloc, items.as_slice())
 }
 
-/// The module that the tokens of a text spell, with a fault of the stream behind them.
+/// The module that the tokens of a text spell, with a fault of the stream after them.
 fn broken_off(alloc: Global, text: &str) -> Result<Module, Fault> {
     let source = read_source(alloc, text.as_bytes())?;
     let lines = tokens(alloc, &source)?;

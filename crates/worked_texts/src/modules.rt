@@ -3,10 +3,10 @@ use crate::tables::fault_text;
 use pc_front::read_module;
 use std::alloc::{AllocError, Global};
 
-/// What stands before and behind the rows of a part of a table, so that a row is one part of a module.
+/// What stands before and after the rows of a part of a table, so that a row is one part of a module.
 type Frame = (&'static str, &'static str);
 
-/// Nothing stands before or behind a whole module.
+/// Nothing stands before or after a whole module.
 const WHOLE: Frame = ("", "");
 
 /// Lines before the last one.
@@ -15,7 +15,7 @@ const TEXT: Frame = ("", "\nmain()\n");
 /// Items of a module.
 const ITEM: Frame = ("from __future__ import annotations\n", "\nmain()\n");
 
-/// What stands behind the items.
+/// What stands after the items.
 const LAST_LINE: Frame = (
     "from __future__ import annotations\ndef main():\n    pass\n",
     "",
@@ -39,7 +39,7 @@ const DECORATED: Frame = (
     "\nmain()\n",
 );
 
-/// A class behind its decorator.
+/// A class after its decorator.
 const CLASS: Frame = (
     "from __future__ import annotations\nfrom dataclasses import dataclass\n@dataclass\n",
     "\nmain()\n",

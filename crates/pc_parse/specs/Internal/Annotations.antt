@@ -40,7 +40,7 @@ pub record KeepsAnns (o : Annotations) (anns : Anns) : Type 0 where
 abbrev pub MakesAnn : Annotation → (Place → Ann) → ℕ → ℕ → Type 0
 MakesAnn o make start end = (ts : List Lexeme) → Starts ts start → Ends ts end → KeepsAnn o (make (span ts)) ts
 
--- a state behind a name and its bracket, with the tokens of the part so far, the parts before and their tokens
+-- a state after a name and its bracket, with the tokens of the part so far, the parts before and their tokens
 abbrev pub Opened : Type 0
 Opened = (head : Name) (tokens : List Lexeme) (parts : Anns) (before : List Lexeme) (s : AnnStack) → State
 
@@ -61,7 +61,7 @@ module _ {X I : Type 0} (text : X → List ℕ) (steps : I → Option (Result (T
   ReadsUnion a b r = MatchResult r (λ o. GivesUnion a b o)
       (λ e. Blames e (λ x. (s : AnnStack) → Came text steps a (at (part_due no_anns [] s)) x))
 
-  -- a part was read, behind any other parts of its union
+  -- a part was read, after any other parts of its union
   pub record GivesPart (a b : Reader X I) (o : Annotation) : Type 0 where
     pub tree : Ann
     pub tokens : List Lexeme
@@ -77,7 +77,7 @@ module _ {X I : Type 0} (text : X → List ℕ) (steps : I → Option (Result (T
       (λ e. Blames e (λ x. (parts : Anns) (before : List Lexeme) (s : AnnStack)
       → Came text steps a (at (part_due parts before s)) x))
 
-  -- what stands behind a name and its bracket was read, after these tokens of the part
+  -- what stands after a name and its bracket was read, after these tokens of the part
   pub record AppliesOn (from : Opened) (a b : Reader X I) (o : Annotation) (head : Name)
       (ts : List Lexeme) : Type 0 where
     pub tree : Ann
@@ -86,20 +86,20 @@ module _ {X I : Type 0} (text : X → List ℕ) (steps : I → Option (Result (T
     pub leads : (parts : Anns) (before : List Lexeme) (s : AnnStack)
         → Onward text steps a b (at (from head ts parts before s)) (at (part_read tree tokens parts before s))
 
-  -- what stands behind a name and its bracket was read, whatever tokens of the part begin with the name
+  -- what stands after a name and its bracket was read, whatever tokens of the part begin with the name
   pub record GivesApplied (from : Opened) (a b : Reader X I) (head : RustName) (o : Annotation) : Type 0 where
     pub ready : IsReady can left b
     pub later : left_in left b < left_in left a
     pub applies : (ts : List Lexeme) → Starts ts head.place.start → AppliesOn from a b o (name_of head) ts
 
-  -- what stands behind a name and its bracket was read, or the refusal is that to which the tokens lead
+  -- what stands after a name and its bracket was read, or the refusal is that to which the tokens lead
   abbrev pub ReadsApplied : Opened → Reader X I → Reader X I → RustName → Result Annotation Fault → Type 0
   ReadsApplied from a b head r = MatchResult r (λ o. GivesApplied from a b head o)
       (λ e. Blames e (λ x. (ts : List Lexeme) → Starts ts head.place.start
       → (parts : Anns) (before : List Lexeme) (s : AnnStack)
       → Came text steps a (at (from (name_of head) ts parts before s)) x))
 
-  -- parts with `|` behind each were read
+  -- parts with `|` after each were read
   pub record PartsSoFar (a b : Reader X I) (now : Annotations) (start : ℕ) : Type 0 where
     pub first : Ann
     pub rest : Anns
@@ -109,7 +109,7 @@ module _ {X I : Type 0} (text : X → List ℕ) (steps : I → Option (Result (T
     pub leads : (s : AnnStack)
         → Onward text steps a b (at (part_due no_anns [] s)) (at (part_due (more_anns first rest) tokens s))
 
-  -- arguments with a comma behind each were read
+  -- arguments with a comma after each were read
   pub record ArgumentsSoFar (a b : Reader X I) (now : Annotations) (head : RustName) (ts : List Lexeme) : Type 0 where
     pub arguments : Anns
     pub tokens : List Lexeme

@@ -63,7 +63,7 @@ module _ {X I : Type 0} (text : X → List ℕ) (steps : I → Option (Result (T
       (λ e. Blames e (λ o. (c : ClassStart) (ms : List Member) → IsAhead (kind.Keyword word.Def) a.reader.ahead ≡ false
       → GoOn a.reader c ms → Came text steps a.reader (at (members c ms)) o))
 
-  -- a member was read, behind others
+  -- a member was read, after others
   pub record GivesMember (a b : Parser X I) (m : RustMember) : Type 0 where
     pub member : Member
     pub keeps : KeepsTree member_of (λ x. wholes_of_members (x ∷ [])) a.deep b.deep m member
@@ -98,7 +98,7 @@ module _ {X I : Type 0} (text : X → List ℕ) (steps : I → Option (Result (T
     pub goes_on : (c : ClassStart) → GoOn b.reader c all
     pub leads : (c : ClassStart) → Onward text steps a.reader b.reader (at (members c [])) (at (members c all))
 
-  -- a class was read from behind its `@`
+  -- a class was read from after its `@`
   pub record GivesClass (a b : Parser X I) (c : RustClassDef) : Type 0 where
     pub class : ClassDef
     pub keeps : KeepsTree class_of (λ x. wholes_of_members x.members) a.deep b.deep c class
@@ -108,7 +108,7 @@ module _ {X I : Type 0} (text : X → List ℕ) (steps : I → Option (Result (T
         → Onward text steps a.reader b.reader (at (decorator_due first top))
         (at (items after_headers (add_item top (class_item first class))))
 
-  -- a class was read from behind its `@`, or the refusal is that to which the tokens lead
+  -- a class was read from after its `@`, or the refusal is that to which the tokens lead
   abbrev pub ReadsClass : Parser X I → Parser X I → Result RustClassDef Fault → Type 0
   ReadsClass a b r = MatchResult r (λ c. GivesClass a b c)
       (λ e. Blames e (λ o. (first : Place) (top : Top) → Came text steps a.reader (at (decorator_due first top)) o))

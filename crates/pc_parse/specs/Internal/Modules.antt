@@ -36,7 +36,7 @@ import_words source imported =
 abbrev pub top_of : Headers → List Item → Top
 top_of h is = record { imports_dataclass = h.dataclass; imports_any = h.any; items = is }
 
--- behind this name no last line goes on
+-- after this name no last line goes on
 abbrev pub IsNoLastLine : {X I : Type 0} → Reader X I → Name → Type 0
 IsNoLastLine {X} a n = (t : Token X) → a.ahead ≡ Some t
     → (same_kind t.kind (kind.Operator sign.LeftParenthesis) && bytes_eq n.text (codes "main")) ≡ false
@@ -53,7 +53,7 @@ module _ {X I : Type 0} (text : X → List ℕ) (steps : I → Option (Result (T
   abbrev pub ReadsHeaders : Reader X I → Reader X I → Result Headers Fault → Type 0
   ReadsHeaders a b r = MatchResult r (λ h. GivesHeaders a b h) (λ e. Blames e (λ o. Came text steps a (at start) o))
 
-  -- a constant was read from behind its name
+  -- a constant was read from after its name
   pub record GivesConstant (a b : Parser X I) (n : Name) (v : RustConstant) : Type 0 where
     pub constant : Constant
     pub keeps : KeepsTree constant_of
@@ -63,7 +63,7 @@ module _ {X I : Type 0} (text : X → List ℕ) (steps : I → Option (Result (T
     pub leads : (top : Top) → Onward text steps a.reader b.reader (at (item_named n top))
         (at (items after_headers (add_item top (constant_item n.place constant))))
 
-  -- where no last line goes on, a constant was read from behind its name, or the refusal is that to which the tokens
+  -- where no last line goes on, a constant was read from after its name, or the refusal is that to which the tokens
   -- lead
   abbrev pub ReadsConstant : Parser X I → Parser X I → Name → Result RustConstant Fault → Type 0
   ReadsConstant a b n r = IsNoLastLine a.reader n

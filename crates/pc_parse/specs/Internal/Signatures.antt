@@ -31,7 +31,7 @@ use Rattle.pc_parse.specs.Internal.WholeTrees.{KeepsTree}
 abbrev pub opens_ann : Opener → AnnotationPosition → (TokenKind → Turn) → TokenKind → Turn
 opens_ann opener c other k = on (same_kind k (kind.Operator opener)) (part_due no_anns [] (ann_whole c)) (other k)
 
--- what comes behind an annotation, or in its place
+-- what comes after an annotation, or in its place
 abbrev pub or_ann : AnnotationPosition → (TokenKind → Turn) → Option Ann → TokenKind → Turn
 or_ann c other None k = other k
 or_ann c other (Some a) k = finish_ann c a k
@@ -54,7 +54,7 @@ module _ {X I : Type 0} (text : X → List ℕ) (steps : I → Option (Result (T
       (λ e. Blames e (λ o. (st : State) (c : AnnotationPosition) (other : TokenKind → Turn)
       → StandsBefore text a.reader st (opens_ann opener c other) → Came text steps a.reader (at st) o))
 
-  -- a parameter was read, behind others
+  -- a parameter was read, after others
   pub record GivesParam (a b : Parser X I) (p : RustParam) : Type 0 where
     pub parameter : Param
     pub keeps : KeepsTree param_of (λ q. optional_anns q.annotation) a.deep b.deep p parameter
@@ -85,15 +85,15 @@ module _ {X I : Type 0} (text : X → List ℕ) (steps : I → Option (Result (T
       MatchResult r (λ v. GivesParams from a b v)
       (λ e. Blames e (λ o. (d : DefStart) → Came text steps a.reader (at (from d)) o))
 
-  -- so behind the opening parenthesis of a function
+  -- parameters and `)` were read after the opening parenthesis of a function, or the refusal is that of the tokens
   abbrev pub ReadsParams : Parser X I → Parser X I → Result (Vec RustParam Global) Fault → Type 0
   ReadsParams a b r = ReadsParamsFrom (λ d. param_due d []) a b r
 
-  -- behind the opening parenthesis of a method
+  -- after the opening parenthesis of a method
   abbrev pub ReadsMethodParams : Parser X I → Parser X I → Result (Vec RustParam Global) Fault → Type 0
   ReadsMethodParams a b r = ReadsParamsFrom (λ d. fixed (a_form (codes "self")) [] (self_read d)) a b r
 
-  -- parameters were read so far, each with a comma behind it
+  -- parameters were read so far, each with a comma after it
   pub record ParamsSoFar (a b : Parser X I) (v : Vec RustParam Global) : Type 0 where
     pub params : List Param
     pub keeps : KeepsTree (λ w. map param_of w.items) wholes_of_params a.deep b.deep v params
@@ -115,7 +115,7 @@ module _ {X I : Type 0} (text : X → List ℕ) (steps : I → Option (Result (T
       (λ e. Blames e (λ o. (owner : Owner) (d : DefStart) → is_method owner ≡ method
       → Came text steps a.reader (at (params_of owner d)) o))
 
-  -- a function, or a method, was read from behind its `def`
+  -- a function, or a method, was read from after its `def`
   pub record GivesFunction (method : Bool) (a b : Parser X I) (f : RustFuncDef) : Type 0 where
     pub function : FuncDef
     pub keeps : KeepsTree func_of wholes_of_def a.deep b.deep f function
@@ -124,7 +124,7 @@ module _ {X I : Type 0} (text : X → List ℕ) (steps : I → Option (Result (T
     pub leads : (owner : Owner) (first : Place) → is_method owner ≡ method
         → Onward text steps a.reader b.reader (at (def_due owner first)) (at (after_def owner first function))
 
-  -- a function or a method was read from behind its `def`, or the refusal is that to which the tokens lead
+  -- a function or a method was read from after its `def`, or the refusal is that to which the tokens lead
   abbrev pub ReadsFunction : Bool → Parser X I → Parser X I → Result RustFuncDef Fault → Type 0
   ReadsFunction method a b r = MatchResult r (λ f. GivesFunction method a b f)
       (λ e. Blames e (λ o. (owner : Owner) (first : Place) → is_method owner ≡ method

@@ -51,7 +51,7 @@ lead_view rust.Other = leads_other
 abbrev pub site_at : Place → Stmts → Block → Site
 site_at first done block = record { first = first; done = done; block = block }
 
--- these words begin the suite of this, behind an expression
+-- these words begin the suite of this, after an expression
 abbrev pub Heads : Begun → (Expr → Nest) → Type 0
 Heads begun nest = (p : Part) (site : Site) (e : Ending)
     → finish_stmt begun p site e ≡ at_colon (suite_of (nested_in site (nest p.tree))) e
@@ -92,12 +92,12 @@ module _ {X I : Type 0} (text : X → List ℕ) (steps : I → Option (Result (T
     pub later : left_in left b.reader < left_in left a.reader
     pub leads : (st next : State) → LineEnds text a st next → Onward text steps a.reader b.reader (at st) (at next)
 
-  -- a line end was read behind what was read of the line, or the refusal is that to which the tokens lead
+  -- a line end was read after what was read of the line, or the refusal is that to which the tokens lead
   abbrev pub ReadsLineEnd : {T : Type 0} → Parser X I → Parser X I → T → Result T Fault → Type 0
   ReadsLineEnd a b s r = MatchResult r (λ s'. (s' ≡ s) × EndsLine a b)
       (λ e. Blames e (λ o. (st next : State) → LineEnds text a st next → Came text steps a.reader (at st) o))
 
-  -- a statement was read, from a state behind other statements of which this holds
+  -- a statement was read, from a state after other statements of which this holds
   pub record GivesStmt (start : Stmts → Block → State) (fits : Stmts → Type 0) (a b : Parser X I)
       (s : RustStmt) : Type 0 where
     pub statement : Stmt
@@ -119,13 +119,13 @@ module _ {X I : Type 0} (text : X → List ℕ) (steps : I → Option (Result (T
   abbrev pub ReadsStmt : (Stmts → Type 0) → Parser X I → Parser X I → Result RustStmt Fault → Type 0
   ReadsStmt fits a b r = ReadsFrom (λ done block. stmts done block) fits a b r
 
-  -- what stands behind the `:` of an annotated local, in a statement that begins at this place
+  -- what stands after the `:` of an annotated local, in a statement that begins at this place
   abbrev pub ReadsLocal : Place → RustName → Parser X I → Parser X I → Result RustStmt Fault → Type 0
   ReadsLocal first n a b r =
       ReadsFrom (λ done block. part_due no_anns [] (ann_whole (of_local (name_of n) (site_at first done block))))
       (λ _. Unit {0}) a b r
 
-  -- the statements of a suite were read, from behind its `:` up to and with its end
+  -- the statements of a suite were read, from after its `:` up to and with its end
   pub record GivesSuite (a b : Parser X I) (v : Vec RustStmt Global) : Type 0 where
     pub statements : Stmts
     pub keeps : KeepsTree (λ (w : Vec RustStmt Global). stmts_of_list w.items)
@@ -140,7 +140,7 @@ module _ {X I : Type 0} (text : X → List ℕ) (steps : I → Option (Result (T
   ReadsSuite a b r = MatchResult r (λ v. GivesSuite a b v)
       (λ e. Blames e (λ o. (block : Block) → Came text steps a.reader (at (suite_of block)) o))
 
-  -- an expression and a suite behind it were read
+  -- an expression and a suite after it were read
   pub record GivesHeaded (a b : Parser X I) (value : RustExpr) (v : List RustStmt) : Type 0 where
     pub head : Expr
     pub body : Stmts
@@ -153,7 +153,7 @@ module _ {X I : Type 0} (text : X → List ℕ) (steps : I → Option (Result (T
         → Onward text steps a.reader b.reader (at (operand (whole (in_statement begun site))))
         (at (after_suite (nested_in site (nest head)) body))
 
-  -- an expression and a suite behind it were read, or the refusal is that to which the tokens lead
+  -- an expression and a suite after it were read, or the refusal is that to which the tokens lead
   abbrev pub ReadsHeaded : Parser X I → Parser X I → Result ((e : RustExpr) × Vec RustStmt Global) Fault → Type 0
   ReadsHeaded a b r = MatchResult r (λ h. GivesHeaded a b h.0 h.1.items)
       (λ e. Blames e (λ o. (begun : Begun) (nest : Expr → Nest) (site : Site) → Heads begun nest

@@ -59,7 +59,7 @@ module _ {X I : Type 0} (text : X → List ℕ) (steps : I → Option (Result (T
     pub later : left_in left b.reader < left_in left a.reader
     pub leads : (c : ExpressionPosition)
         → Onward text steps a.reader b.reader (at (operand (whole c))) (at (have o.level part (whole c)))
-    -- what comes behind it
+    -- what comes after it
     pub goes : (c : ExpressionPosition) (t : Token X) → b.reader.ahead ≡ Some t
         → turn (have o.level part (whole c)) (lexeme text t) t.kind ≡ finish c part (ending_of t.kind)
 
@@ -74,7 +74,7 @@ module _ {X I : Type 0} (text : X → List ℕ) (steps : I → Option (Result (T
     pub keeps : KeepsTree ann_of (λ x. whole_ann x ∷ []) a.deep b.deep n annotation
     pub ready : IsReady can left b.reader
     pub later : left_in left b.reader < left_in left a.reader
-    -- the state behind its last token
+    -- the state after its last token
     pub behind : AnnotationPosition → State
     pub unfinished : (c : AnnotationPosition) → stop_at (behind c) ≡ short
     pub leads : (c : AnnotationPosition)

@@ -47,7 +47,7 @@ abbrev pub NextIs : {X : Type 0} → (Follow → Type 0) → Option (Token X) �
 NextIs P None = Unit {0}
 NextIs P (Some t) = P (follow_of t.kind)
 
--- the level behind signs
+-- the level after signs
 abbrev pub wrapped_level : Sign → List Lexeme → ℕ → ℕ
 wrapped_level x [] level = level
 wrapped_level x (t ∷ ts) level = prefix_level x
@@ -243,7 +243,7 @@ module _ {X I : Type 0} (text : X → List ℕ) (steps : I → Option (Result (T
     pub leads : (s : Stack) → Onward text steps a b (at (operand (naming e xs ks n ts s)))
         (at (have 7 (call_part e xs arguments (ts ++ more)) s))
 
-  -- arguments by name were read from behind the `=` of the first
+  -- arguments by name were read from after the `=` of the first
   pub record GivesKeywords (a b : Reader X I) (first : RustName) (l : Arguments) : Type 0 where
     pub ready : IsReady can left b
     pub later : left_in left b < left_in left a

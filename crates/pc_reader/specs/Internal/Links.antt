@@ -11,7 +11,7 @@ link_view (rust.Infix operator) = linking (infix_of operator)
 link_view rust.Not = denying
 link_view rust.Is = identifying
 
--- the token behind an operand begins no operator
+-- the token after an operand begins no operator
 abbrev pub IsNoLink : Follow → Type 0
 IsNoLink (link l) = ⊥
 IsNoLink _ = Unit {0}

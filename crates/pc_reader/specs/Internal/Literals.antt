@@ -42,7 +42,7 @@ IsLiteral t l = (c : LiteralContext) → literal_turn c t t.kind ≡ go (literal
 abbrev pub opens_literal : LiteralContext → (TokenKind → Turn) → TokenKind → Turn
 opens_literal c other k = on (same_kind k (kind.Operator sign.Equal)) (literal_due c) (other k)
 
--- what comes behind a literal, or in its place
+-- what comes after a literal, or in its place
 abbrev pub or_literal : LiteralContext → (TokenKind → Turn) → Option Literal → TokenKind → Turn
 or_literal c other None k = other k
 or_literal c other (Some l) k = finish_literal c l k
@@ -61,11 +61,11 @@ module _ {X I : Type 0} (text : X → List ℕ) (steps : I → Option (Result (T
       MatchResult r (λ l. GivesLiteral from a b l)
       (λ e. Blames e (λ o. (c : LiteralContext) → Came text steps a (at (from c)) o))
 
-  -- so where a literal is due
+  -- a literal was read where one is due, or the refusal is that to which the tokens lead
   abbrev pub ReadsLiteral : Reader X I → Reader X I → Result RustLiteral Fault → Type 0
   ReadsLiteral a b r = ReadsLiteralFrom (λ c. literal_due c) a b r
 
-  -- behind a `-` that begins at this byte
+  -- after a `-` that begins at this byte
   abbrev pub ReadsNegative : Reader X I → Reader X I → ℕ → Result RustLiteral Fault → Type 0
   ReadsNegative a b start r = (t : Lexeme) → t.place.start ≡ start → ReadsLiteralFrom (λ c. minus_read c (t ∷ [])) a b r
 

@@ -41,7 +41,7 @@ unknown_in resolve (e ∷ es) = unknown_among resolve (parts_in true e) ++ unkno
 
 -- ---- names that stand too early
 
--- an initializer behind so many constants and classes may not name what means this
+-- an initializer after so many constants and classes may not name what means this
 abbrev pub is_early_meaning : (constants classes : ℕ) → Res → Bool
 is_early_meaning k c (res.Func i) = true
 is_early_meaning k c (res.Const i) = nat_le k i
@@ -84,7 +84,7 @@ unknown_in_constants resolve (constant_item p c ∷ is) = unknown_among resolve 
 unknown_in_constants resolve (class_item p c ∷ is) = unknown_in_constants resolve is
 unknown_in_constants resolve (def_item p f ∷ is) = unknown_in_constants resolve is
 
--- what stands too early in initializers behind so many constants and classes
+-- what stands too early in initializers after so many constants and classes
 abbrev pub early_in : (constants classes : ℕ) → (List ℕ → Res) → List Item → List Place
 early_in k c resolve [] = []
 early_in k c resolve (constant_item p x ∷ is) = early_among k c resolve (parts_in false x.value)

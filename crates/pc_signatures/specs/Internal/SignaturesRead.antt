@@ -49,7 +49,7 @@ module _ {Ty : Type 0} (has : Ty → Type 0) where
   abbrev pub HasSignatures : List (RustSignature Ty) → Type 0
   HasSignatures ss = All (HasSignature has) ss
 
-  -- so of the methods of a class
+  -- the store gave what the methods of a class take and return
   abbrev pub HasMethods : Vec (RustSignature Ty) Global → Type 0
   HasMethods v = HasSignatures v.items
 
@@ -64,7 +64,7 @@ module _ {Store Ty : Type 0} (has : Store → Ty → Type 0) (tree : Ty → Tree
     pub given : HasParameter (has store) p
     pub is : parameter_with tree p ≡ is_of
 
-  -- so of several parameters
+  -- parameters with types of the store, which mean these ones
   pub record AreParameters (store : Store) (ps : List (RustParameter Ty)) (are_of : List TypedParameter) : Type 0 where
     pub given : All (HasParameter (has store)) ps
     pub are : parameters_with tree ps ≡ are_of
@@ -74,7 +74,7 @@ module _ {Store Ty : Type 0} (has : Store → Ty → Type 0) (tree : Ty → Tree
     pub given : HasSignature (has store) s
     pub is : signature_with tree s ≡ is_of
 
-  -- so of several signatures
+  -- signatures with types of the store, which mean these ones
   pub record AreSignatures (store : Store) (ss : List (RustSignature Ty)) (are_of : List Signature) : Type 0 where
     pub given : HasSignatures (has store) ss
     pub are : signatures_with tree ss ≡ are_of

@@ -58,7 +58,7 @@ pub names_of_unbound : (ns : List (List ℕ)) → frame_names (map unbound ns) �
 names_of_unbound [] = refl
 names_of_unbound (n ∷ ns) = ap (λ l. n ∷ l) (names_of_unbound ns)
 
--- the texts of names one list behind the other
+-- the texts of names one list after the other
 pub texts_append : (xs ys : List Name) → texts (xs ++ ys) ≡ texts xs ++ texts ys
 texts_append [] ys = refl
 texts_append (x ∷ xs) ys = ap (λ l. x.text ∷ l) (texts_append xs ys)
@@ -183,7 +183,7 @@ parameters_named bases k (p ∷ ps) [] h = absurd h
 parameters_named bases k (p ∷ ps) (l ∷ ls) h = λ i. h.0.same i ∷ parameters_named bases k ps ls h.1 i
 
 module _ (bases : Bases) (k : HeapTyping) (names : List (List ℕ)) (declared : List Tree) (resolve : List ℕ → Res) (local : (word : List ℕ) (x : ℕ) → resolve word ≡ res.Local x → index_of word names ≡ Some x) (frame : Frame) where
-  -- behind some of the parameters: what was assigned so far holds, and the others' values are those of the locals left
+  -- after some of the parameters: what was assigned so far holds, and the others' values are those of the locals left
   entered_holds : (seen : NamesBound) (ps : List TypedParameter) (ls : List Local) (tail : Frame) (env : Env) → ParametersHave bases k ps ls → LawfulEntry resolve declared seen ps → HasLocals bases k names declared env frame → ((word : List ℕ) → is_one_of word seen ≡ false → local_by_name word frame ≡ local_by_name word (ls ++ tail)) → HasLocals bases k names declared (entry_env resolve seen ps env) frame
   entered_holds seen [] ls tail env args law locals left = locals
   entered_holds seen (p ∷ ps) [] tail env args law locals left = absurd args

@@ -157,7 +157,7 @@ all_at p (x ∷ xs) word all e =
 
 -- ---- one parameter after another
 
--- of parameters behind these names
+-- of parameters after these names
 abbrev pub NamedBehind : Bases → HeapTyping → (before : List (List ℕ)) → List TypedParameter → List NamedValue → Type 0
 NamedBehind bases k before params named = (word : List ℕ) (w : Value) (q : TypedParameter) → is_one_of word before ≡ false → value_named word named ≡ Some w → field_by_name params word ≡ Some q → HasType bases k q.type w
 
@@ -197,7 +197,7 @@ fewer_before words before x ps e = less (x ∷ before) before (λ word n. (or_pa
         (λ i. one p.has_default (is_one_of p.name words) (is_one_of p.name xs) (is_one_of p.name ys) (h p.name) b.0 i && less (p.name ∷ xs) (p.name ∷ ys) (wider xs ys p.name h) ps b.1 i)
 
 module _ (bases : Bases) (k : HeapTyping) (named : List NamedValue) (words : List (List ℕ)) (given_are : (word : List ℕ) → is_one_of word (names_of named) ≡ true → is_one_of word words ≡ true) (are_given : (word : List ℕ) → is_one_of word words ≡ true → is_one_of word (names_of named) ≡ true) where
-  -- the parameters behind those that take a value by position
+  -- the parameters after those that take a value by position
   rest_fills : (before : List (List ℕ)) (ps : List TypedParameter) → Distinct before ps → NamedBehind bases k before ps named → are_filled words [] ps ≡ true → Fills bases k ps [] named
   rest_fills before [] distinct have filled_parameters = tt
   rest_fills before (p ∷ ps) distinct have all_filled =

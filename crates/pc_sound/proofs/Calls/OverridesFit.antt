@@ -36,7 +36,7 @@ abbrev pub IsIn : List Method → Method → Type 0
 IsIn [] q = ⊥
 IsIn (p ∷ ps) q = (p ≡ q) ⊎ IsIn ps q
 
--- a method of two lists one behind the other is in one of them
+-- a method of two lists one after the other is in one of them
 pub in_either : (ps qs : List Method) (q : Method) → IsIn (ps ++ qs) q → IsIn ps q ⊎ IsIn qs q
 in_either [] qs q h = inr h
 in_either (p ∷ ps) qs q h = elim h [ inl a ↦ inl (inl a) | inr b ↦ elim (in_either ps qs q b) [ inl c ↦ inl (inr c) | inr d ↦ inr d ] ]

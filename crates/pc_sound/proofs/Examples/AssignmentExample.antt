@@ -1,4 +1,4 @@
--- The lawful labelling of the module that names the target of a `for` behind it, its finding, and its run.
+-- The lawful labelling of the module that names the target of a `for` after it, its finding, and its run.
 use Rattle.std.proofs.Common.{[], ◌∷◌, refl}
 use Rattle.std.specs.Prelude.{Some, None}
 use Rattle.pc_tree.specs.declared.code.Code.TheVariants.{E04, E20}
@@ -18,7 +18,7 @@ use Rattle.pc_sound.specs.AssignmentExample.{program, findings, events, end}
 use Rattle.pc_sound.proofs.Examples.ExampleFindings.{quiet_flow, with_types, no_classes_listed, finds_just}
 use Rattle.pc_sound.proofs.Examples.ExampleRuns.{runs_plainly}
 
--- `xs` is assigned, `x` is not: at the head of the loop, and behind it
+-- `xs` is assigned, `x` is not: at the head of the loop, and after it
 abbrev outside : Env
 outside = Some (ListOf Int) ∷ None ∷ []
 

@@ -64,7 +64,7 @@ module _ (m : Module) where
   abbrev pub base_of : ℕ → ClassDef → List Finding
   base_of c d = without_base c d.base
 
-  -- a field without default behind one with default
+  -- a field without default after one with default
   abbrev pub behind_default : (c : ℕ) → ClassDef → ℕ → Member → List Finding
   behind_default c d at (field_member f) =
       if_true (binds_field (base_class m c d) (member_texts (take at d.members)) f.name.text && (not (is_some f.default) && has_default_before m (base_class m c d) (take at d.members)))

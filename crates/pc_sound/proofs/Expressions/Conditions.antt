@@ -230,7 +230,7 @@ module _ (around : Around) (ctx : Context) (fits : IsContextOf around ctx) (part
   abbrev Side : Expr → Tree → Value → Truth → Known
   Side e t v b k s = (IsWellTyped around env k s × (HasType around.bases k t v × TellsLocals around ctx env e k v s)) × (is_true s.heap v ≡ b)
 
-  -- a value of the joined type that tells of the whole condition, behind its place
+  -- a value of the joined type that tells of the whole condition, after its place
   ends_so : (p : Place) (e : Expr) (t : Tree) (codes : List Code) → Covered around (IsFoundAt p codes) → (w : Value) → Shows around (λ k s. IsWellTyped around env k s × (HasType around.bases k t w × TellsLocals around ctx env e k w s)) (Emits p >>= λ u. comes (Gives w)) (λ k v s. IsWellTyped around env k s × (HasType around.bases k t v × TellsLocals around ctx env e k v s))
   ends_so p e t codes covered w = shows_bind around _ _ _ _ _ (shows_emits around _ p codes (allowed around p codes covered)) λ u. shows_comes around _ (Gives w) _ λ k s b. b.0
 

@@ -57,7 +57,7 @@ module _ (bases : Bases) (classes : List ClassFacts) where
             | inr kept ↦ record { cell = old.cell; is = kept; has = old.has }
           ]
 
-  -- a new cell is recorded behind all others
+  -- a new cell is recorded after all others
   pub grown : (k : HeapTyping) (r : Recorded) → Extends k (k ++ r ∷ [])
   grown k r = record { by = λ l q e. get_left k (r ∷ []) l q e }
 

@@ -1,5 +1,5 @@
 -- The labels of lawful statements have types whose dicts have int or str as key: in text order each local's declared type is
--- one of an annotation, of a label behind which it stands, or Any.
+-- one of an annotation, of a label after which it stands, or Any.
 use Rattle.std.proofs.Common.{◌≡◌, ℕ, zero, suc, List, [], ◌∷◌, ◌++◌, map, refl, sym, ◌∙◌, subst, inl, inr, arith}
 use Rattle.std.specs.Prelude.{◌⊎◌, Bool as Test, true, false, not, ◌||◌, if◌then◌else◌, Option, Some, None, bytes_eq, option_to_list, flat_map}
 use Rattle.std.specs.List.{list_any}
@@ -395,7 +395,7 @@ module _ (m : Module) (ctx : Context) (declared : List Tree) (keyed : ContextKey
       record { labels = (s.labels, s.target_keyed); names = tt; after = out_is out after is (subst (EnvKeyed declared) (sym law.1) ek); breaks = tt }
 
   module _ (returned : Tree) (rk : IsKeyed returned) where
-    -- what stands behind a statement
+    -- what stands after a statement
     record BehindResult (s : Stmt) (rest : Stmts) (first : StmtMarks s) (b : Test) (behind : Behind b (Following (SuiteMarks rest))) (out : Option Env) : Type 0 where
       labels : StmtKeyed s first × BehindRule b behind (λ r. SuiteKeyed rest r.rest) (Unit {0})
       names : NamesKeyed (bound_by_stmt s ++ bound_by rest)

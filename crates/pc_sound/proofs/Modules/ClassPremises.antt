@@ -1,5 +1,5 @@
 -- In a module without errors `@dataclass` is known where a class stands, each base is an earlier class, and no field without default
--- stands behind one with default.
+-- stands after one with default.
 use Rattle.std.proofs.Common.{◌≡◌, ℕ, zero, suc, ◌<◌, List, [], ◌∷◌, ◌++◌, length, take, append_assoc, refl, sym, ap, ◌∙◌, subst, inl, inr, arith, Contains, append-nil}
 use Rattle.std.specs.Prelude.{Bool as Test, true, false, ◌||◌, ◌&&◌, not, codes, if◌then◌else◌, is_some, Option, Some, None, slice_get, bytes_eq}
 use Rattle.std.specs.List.{list_any}
@@ -41,7 +41,7 @@ contains_at (y ∷ ys) (suc i) x e = Contains-append_right (y ∷ []) ys x (cont
 abbrev has_defaults : List TypedParameter → Test
 has_defaults ps = list_any (λ p. p.has_default) ps
 
--- the rest of some fields, behind others of which some has a default or none
+-- the rest of some fields, after others of which some has a default or none
 abbrev last_from : Test → List TypedParameter → Test
 last_from true ps = all_default ps
 last_from false ps = fields_last ps
@@ -76,7 +76,7 @@ one_more x p ps h never = go x p.has_default refl refl h
     go false true ex ez h = ap (λ a. last_from a (p ∷ ps)) ex ∙ ap (λ b. if b then all_default ps else fields_last ps) ez ∙ (sym (ap (λ a. last_from a ps) (ap (λ a. a || p.has_default) ex ∙ ez)) ∙ h)
     go false false ex ez h = ap (λ a. last_from a (p ∷ ps)) ex ∙ ap (λ b. if b then all_default ps else fields_last ps) ez ∙ (sym (ap (λ a. last_from a ps) (ap (λ a. a || p.has_default) ex ∙ ez)) ∙ h)
 
--- ---- members behind others
+-- ---- members after others
 
 -- the names of members, the nearest first
 abbrev pub names_behind : List (List ℕ) → List Member → List (List ℕ)
@@ -126,7 +126,7 @@ defaults_field m base done f binds =
     group false false d = or-false d
 
 module _ (m : Module) (marks : Labelling m) (lawful : IsLawful m marks) (clean : HasNoError m) (constants : List Tree) (listed : Place → Type 0) where
-  -- `@dataclass` stands behind its header
+  -- `@dataclass` stands after its header
   pub imported : (c : ℕ) (class : ClassDef) → slice_get (classes_in m.items) c ≡ Some class → m.imports_dataclass ≡ true
   imported c class is = go m.imports_dataclass refl
     where
@@ -142,7 +142,7 @@ module _ (m : Module) (marks : Labelling m) (lawful : IsLawful m marks) (clean :
       go (Some b) e = record { number = b; is = e }
       go None e = absurd (clean (finding n.place E07) (record { marks = marks; lawful = lawful; found = inr (inl (findings.base c class (record { is = is }) (record { named = n; base = named; none = e; is = refl }))) }) refl)
 
-  -- ---- no field without default behind one with default
+  -- ---- no field without default after one with default
 
   module _ (c : ℕ) (class : ClassDef) (is : slice_get (classes_in m.items) c ≡ Some class) where
     behind_error : (done rest : List Member) (f : Field) → class.members ≡ done ++ field_member f ∷ rest → binds_field (base_class m c class) (names_behind [] done) f.name.text ≡ true → is_some f.default ≡ false → has_default_before m (base_class m c class) done ≡ true → ⊥
@@ -163,7 +163,7 @@ module _ (m : Module) (marks : Labelling m) (lawful : IsLawful m marks) (clean :
         taken : take (length done) class.members ≡ done
         taken = ap (take (length done)) all ∙ take-append_seam done (field_member f ∷ rest)
 
-    -- the fields of a class's own, behind its base's and behind others of its own
+    -- the fields of a class's own, after its base's and after others of its own
     order_from : (done rest : List Member) → class.members ≡ done ++ rest → BindAll m (base_class m c class) (names_behind [] done) rest → last_from (has_default_before m (base_class m c class) done) (own_fields m (base_class m c class) (names_behind [] done) rest) ≡ true
     order_from done [] all binds = nothing_last (has_default_before m (base_class m c class) done)
     order_from done (method_member f ∷ rest) all binds =

@@ -51,7 +51,7 @@ field_new base before name e =
     (not-true (is_one_of name before) b.0, no_some (field_by_name base.fields name) (or_parts (is_some (field_by_name base.fields name)) (is_some (method_by_name base.methods name)) (not-true (is_some (field_by_name base.fields name) || is_some (method_by_name base.methods name)) b.1)).0)
 
 module _ (m : Module) where
-  -- own fields behind those of the base
+  -- own fields after those of the base
   own_distinct : (base : facts.ClassFacts) (before acc : List (List ℕ)) (ms : List Member) → BindAll m base before ms → ((word : List ℕ) → is_one_of word before ≡ false → field_by_name base.fields word ≡ None → is_one_of word acc ≡ false) → Distinct acc (own_fields m base before ms)
   own_distinct base before acc [] binds new = tt
   own_distinct base before acc (method_member f ∷ ms) binds new = own_distinct base (f.name.text ∷ before) acc ms binds.1 (λ word e n. new word (or_parts (bytes_eq word f.name.text) (is_one_of word before) e).1 n)

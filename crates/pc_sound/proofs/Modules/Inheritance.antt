@@ -1,4 +1,4 @@
--- Each class of a module has the fields and the methods of its base behind or before its own.
+-- Each class of a module has the fields and the methods of its base after or before its own.
 use Rattle.std.proofs.Common.{◌≡◌, ℕ, zero, suc, ◌+◌, ◌<◌, List, [], ◌∷◌, ◌++◌, length, refl, sym, ap, ◌∙◌, subst, arith, length-append}
 use Rattle.std.specs.Prelude.{Option, Some, None, slice_get, slice_index_or, bytes_eq}
 use Rattle.std.specs.Option.{option_or}

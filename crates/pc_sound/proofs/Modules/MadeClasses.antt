@@ -54,7 +54,7 @@ abbrev pub all_default : List TypedParameter → Test
 all_default [] = true
 all_default (p ∷ rest) = if p.has_default then all_default rest else false
 
--- no field without default stands behind one with default
+-- no field without default stands after one with default
 abbrev pub fields_last : List TypedParameter → Test
 fields_last [] = true
 fields_last (p ∷ rest) = if p.has_default then all_default rest else fields_last rest
@@ -83,7 +83,7 @@ module _ (bases : Bases) (k : HeapTyping) where
       go true rest = all_same ps qs h.1.1
       go false rest = rest
 
-  -- fields and methods behind those of a base
+  -- fields and methods after those of a base
   fields_append : (ps ps' : List state.Parameter) (qs qs' : List TypedParameter) → DefaultsHave bases k ps qs → DefaultsHave bases k ps' qs' → DefaultsHave bases k (ps ++ ps') (qs ++ qs')
   fields_append [] ps' [] qs' h g = g
   fields_append [] ps' (q ∷ qs) qs' h g = absurd h

@@ -72,7 +72,7 @@ module _ (m : Module) (constants : List Tree) (listed : Place → Type 0) where
         → Proceeds listed (λ k s. Between m listed b.constants defs b.classes b.names k s) (exec_item Step free parts m.imports_dataclass (class_item p c)) (λ k u s. Between m listed b.constants defs (suc b.classes) (c.name.text ∷ b.names) k s)
 
   module _ (parts : Parts Step) (inits : (types : List Tree) (defs : List FuncDef) (n : ℕ) (names : List (List ℕ)) → GoodEval (around_items m listed types defs n names) (initializer_context m types n) parts.eval) (evaluates : (e : Expr) → Evaluates (place_of e) (parts.eval e)) (classes : GoodClasses parts) where
-    -- items behind others
+    -- items after others
     pub items_proceed : (done rest : List Item) (b : BeforeItem) (defs : List FuncDef) (marks : ItemsMarks rest) → m.items ≡ done ++ rest → length b.constants ≡ length (constants_in done) → b.classes ≡ length (classes_in done) → defs ≡ functions_in done
         → LawfulModuleItems m constants b rest marks → Listed m listed (ItemsFind m constants b rest marks) → ItemsReady b rest marks
         → Proceeds listed (λ k s. Between m listed b.constants defs b.classes b.names k s) (exec_items Step free parts m.imports_dataclass rest) (λ k u s. Between m listed (last_of b rest marks).constants (functions_in m.items) (last_of b rest marks).classes (last_of b rest marks).names k s)

@@ -92,7 +92,7 @@ module _ (m : Module) (marks : Labelling m) (lawful : IsLawful m marks) (clean :
       go None is e = absurd (none-some _ e)
       go (Some class) is e = of_method_at (params_again []) (params_again (codes "self" ∷ [])) m.items c class i d p is e h
 
-  -- each parameter of a function binds its name, behind `self` in a method
+  -- each parameter of a function binds its name, after `self` in a method
   pub function_binds : (owner : Owner) (d : FuncDef) → function_of m owner ≡ Some d → AllBind (receiver owner) (map name_of_param d.params)
   function_binds owner d e = all_bind (receiver owner) (map name_of_param d.params)
       (λ p c. never_stops m marks lawful clean E01 tt refl p (Contains-append_right (bound_again [] (map name_of_item m.items)) _ p

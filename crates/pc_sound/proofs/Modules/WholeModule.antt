@@ -48,7 +48,7 @@ module _ (m : Module) (marks : Labelling m) where
   abbrev pub Constants : List Tree
   Constants = constant_types m m.items marks
 
-  -- a body of the module: of a function or method, or an initializer behind some items
+  -- a body of the module: of a function or method, or an initializer after some items
   pub data BodyOf : Type 0 where
     of_function : (owner : Owner) (d : FuncDef) (lab : Labelled m (constant_types m m.items marks) (IsListedPlace m) owner d) → BodyOf
     of_items : (types : List Tree) (defs : List FuncDef) (n : ℕ) (names : List (List ℕ)) → BodyOf

@@ -137,7 +137,7 @@ module _ (around : Around) (ctx : Context) (fits : IsContextOf around ctx) where
         λ u. leads_comes around _ (Gives next) _ λ k s at. (record { env = env; is = law; stands = at.stands }, at.known)
     body_runs exec good seen env (more_stmts s rest) marks out law covered keyed more lasts = good.runs seen env (more_stmts s rest) marks out law covered keyed more lasts
 
-    -- behind the suite: the next turn from the head, or the way out
+    -- after the suite: the next turn from the head, or the way out
     pub turn_ends : (bound : ℕ → Test) (env head after : Env) (brs : List Env) (loose : List Place) (out : Option Env) (k : HeapTyping) (s : State) (more : HeapTyping → Frame → Type 0) (again : Step StatementEnd)
         → head ≡ loop_head bound around.declared env → HasLocals around.bases k around.names around.declared head s.frame
         → Leads around (λ j t. IsWellTypedAnd around head more j t) again (λ j flow t. FlowEnds around (loop_ways after brs) j flow t × more j t.frame)

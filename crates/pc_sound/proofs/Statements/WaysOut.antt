@@ -70,14 +70,14 @@ module _ (around : Around) (ctx : Context) where
     -- ---- suites
 
     module _ (parts : Parts Step) (node : (s : Stmt) → GoodStmt s (exec_node Step free parts s)) where
-      -- behind a statement that leaves the suite nothing runs
+      -- after a statement that leaves the suite nothing runs
       behind_left : (brs more_breaks : List Env) (loose more_loose : List Place) (out : Option Env) (rest : Step StatementEnd) (more : HeapTyping → Frame → Type 0) (flow : StatementEnd) → Leads around (λ k s. FlowEnds around (ways_out None brs loose) k flow s × more k s.frame) (then_follows Step free flow rest) (λ k f s. FlowEnds around (ways_out out (brs ++ more_breaks) (loose ++ more_loose)) k f s × more k s.frame)
       behind_left brs more_breaks loose more_loose out rest more next = record { run = λ k s s' events o well b r. absurd (none-some _ b.0.is) }
       behind_left brs more_breaks loose more_loose out rest more breaking = leads_comes around _ (Gives breaking) _ λ k s b. ((record { env = b.0.0.env; is = Contains-append_left brs more_breaks b.0.0.env b.0.0.is; stands = b.0.0.stands }, record { place = b.0.1.place; is = Contains-append_left loose more_loose b.0.1.place b.0.1.is }), b.1)
       behind_left brs more_breaks loose more_loose out rest more continuing = leads_comes around _ (Gives continuing) _ λ k s b. ((b.0.0, record { place = b.0.1.place; is = Contains-append_left loose more_loose b.0.1.place b.0.1.is }), b.1)
       behind_left brs more_breaks loose more_loose out rest more (leaves v) = leads_comes around _ (Gives (leaves v)) _ λ k s b. b
 
-      -- behind one that can complete the rest does
+      -- after one that can complete the rest does
       behind_next : (env : Env) (brs more_breaks : List Env) (loose more_loose : List Place) (out : Option Env) (names : List Name) (rest : Step StatementEnd) → Runs env (ways_out out more_breaks more_loose) names rest → (more : HeapTyping → Frame → Type 0) → Lasts around ctx names more → (flow : StatementEnd) → Leads around (λ k s. FlowEnds around (ways_out (Some env) brs loose) k flow s × more k s.frame) (then_follows Step free flow rest) (λ k f s. FlowEnds around (ways_out out (brs ++ more_breaks) (loose ++ more_loose)) k f s × more k s.frame)
       behind_next env brs more_breaks loose more_loose out names rest runs more lasts next =
           leads_from around _ (λ k s. IsWellTypedAnd around env more k s) rest _ (λ k s b. record { stands = subst (λ e. IsWellTyped around e k s) (sym (same_Some _ _ b.0.is)) b.0.stands; known = b.1 })
@@ -87,7 +87,7 @@ module _ (around : Around) (ctx : Context) where
       behind_next env brs more_breaks loose more_loose out names rest runs more lasts continuing = leads_comes around _ (Gives continuing) _ λ k s b. ((b.0.0, record { place = b.0.1.place; is = Contains-append_left loose more_loose b.0.1.place b.0.1.is }), b.1)
       behind_next env brs more_breaks loose more_loose out names rest runs more lasts (leaves v) = leads_comes around _ (Gives (leaves v)) _ λ k s b. b
 
-      -- a statement and those behind it
+      -- a statement and those after it
       one_more : (seen : NamesBound) (env : Env) (s : Stmt) (rest : Stmts) (marks : StmtMarks s) (out : Option Env) (can : Test) (behind : Behind can (Following (SuiteMarks rest)))
           → BehindRule can behind (λ r. LawfulStmt m ctx around.declared returned seen env s marks (Some r.env) × LawfulSuite m ctx around.declared returned (texts (bound_by_stmt s) ++ seen) r.env rest r.rest out) (LawfulStmt m ctx around.declared returned seen env s marks None × (out ≡ None))
           → Covered around (λ f. StmtFinds m ctx seen s marks f ⊎ BehindRule can behind (λ r. SuiteFinds m ctx (texts (bound_by_stmt s) ++ seen) rest r.rest f) ⊥)

@@ -1,4 +1,4 @@
--- Steps of expressions, one after another, where what a step tells of the state is used by the steps behind it.
+-- Steps of expressions, one after another, where what a step tells of the state is used by the steps after it.
 use Rattle.std.proofs.Common.{◌≡◌, List, [], ◌∷◌, refl, sym, ap, ◌∙◌, subst, inl, inr, arith, Contains}
 use Rattle.std.specs.Prelude.{◌⊎◌}
 use Rattle.pc_source.specs.declared.place.Place.{Place}

@@ -58,7 +58,7 @@ module _ (bases : Bases) (k : HeapTyping) where
   abbrev pub TuplesOf : ℕ → Tree → Type 0
   TuplesOf n t = IsTop t ⊎ (HasNoTuple n t ⊎ TupleMember n t)
 
-  -- the members behind a tuple are longer
+  -- the members after a tuple are longer
   behind_longer :
       (ts : Trees) (t : Tree) → IsAfter (TupleOf ts) t → (vs : Values) → HasType bases k t (tuple_of vs)
       → count ts < size vs

@@ -33,17 +33,17 @@ pub record Holds (level : ℕ) (p : Part) (ts : List Lexeme) : Type 0 where
   pub spelled : Operand level (own_level p.tree) (λ x. Spells p.tree x) ts
   pub plain : p.plain ≡ true → Spells p.tree ts
 
--- items with a comma behind each
+-- items with a comma after each
 abbrev pub EachItem : Exprs → Spelling
 EachItem no_exprs = Nothing
 EachItem (more_exprs x xs) = Expression x ⟫ Sign sign.Comma ⟫ EachItem xs
 
--- arguments by name with a comma behind each
+-- arguments by name with a comma after each
 abbrev pub EachKeyword : Keywords → Spelling
 EachKeyword no_keywords = Nothing
 EachKeyword (more_keywords n e ks) = IsName n ⟫ Sign sign.Equal ⟫ Expression e ⟫ Sign sign.Comma ⟫ EachKeyword ks
 
--- entries of a dict with a comma behind each
+-- entries of a dict with a comma after each
 abbrev pub EachEntry : Entries → Spelling
 EachEntry no_entries = Nothing
 EachEntry (more_entries x y es) = Expression x ⟫ Sign sign.Colon ⟫ Expression y ⟫ Sign sign.Comma ⟫ EachEntry es
@@ -63,11 +63,11 @@ ItemsBefore in_list xs = Sign sign.LeftBracket ⟫ EachItem xs
 ItemsBefore in_tuple xs = λ ts. IsMoreExprs xs × (Sign sign.LeftParenthesis ⟫ EachItem xs) ts
 ItemsBefore (in_call e) xs = Callee e ⟫ EachItem xs
 
--- a callee and its bracket, and its arguments so far by position and by name, with a comma behind each
+-- a callee and its bracket, and its arguments so far by position and by name, with a comma after each
 abbrev pub KeywordsBefore : Expr → Exprs → Keywords → Spelling
 KeywordsBefore e xs ks = (Callee e ⟫ EachItem xs) ⟫ EachKeyword ks
 
--- the open brace of a dict, and its entries so far, with a comma behind each
+-- the open brace of a dict, and its entries so far, with a comma after each
 abbrev pub EntriesBefore : Entries → Spelling
 EntriesBefore es = Sign sign.LeftBrace ⟫ EachEntry es
 

@@ -100,12 +100,12 @@ DefWord (of_class c ms) first = Word word.Def
 abbrev pub DefName : DefStart → Spelling
 DefName d = (DefWord d.owner d.first ⟫ IsName d.name) ⟫ Sign sign.LeftParenthesis
 
--- parameters with a comma behind each
+-- parameters with a comma after each
 abbrev pub EachParam : List Param → Spelling
 EachParam [] = Nothing
 EachParam (p ∷ ps) = SpellsParam p ⟫ Sign sign.Comma ⟫ EachParam ps
 
--- those of a method come after `self`
+-- the parameters of a function or a method; those of a method come after `self`
 abbrev pub ParamsOf : Owner → List Param → Spelling
 ParamsOf (of_module top) ps = EachParam ps
 ParamsOf (of_class c ms) ps = Named (codes "self") ⟫ Sign sign.Comma ⟫ EachParam ps
@@ -115,7 +115,7 @@ abbrev pub is_method : Owner → Bool
 is_method (of_module top) = false
 is_method (of_class c ms) = true
 
--- what comes before a parameter: all up to the `(`, and the parameters so far, `self` too, with a comma behind each
+-- what comes before a parameter: all up to the `(`, and the parameters so far, `self` too, with a comma after each
 abbrev pub BeforeParams : DefStart → List Param → Spelling
 BeforeParams d ps = BeforeOwner d.owner ⟫ (DefName d ⟫ ParamsOf d.owner ps)
 
@@ -124,7 +124,7 @@ abbrev pub SelfRead : DefStart → Owner → Spelling
 SelfRead d (of_module top) = λ ts. ⊥
 SelfRead d (of_class c ms) = BeforeOwner d.owner ⟫ (DefName d ⟫ Named (codes "self"))
 
--- what comes up to the `)` behind the parameters of a function
+-- what comes up to the `)` after the parameters of a function
 abbrev pub ParamsRead : DefStart → List Param → Spelling
 ParamsRead d ps = BeforeOwner d.owner ⟫ (DefName d ⟫ (Parameters (is_method d.owner) ps ⟫ Sign sign.RightParenthesis))
 
@@ -204,7 +204,7 @@ BeforeAnnContext (of_param d ps n) = BeforeParams d ps ⟫ (IsName n ⟫ Sign si
 BeforeAnnContext (of_return d ps) = ParamsRead d ps ⟫ Sign sign.Arrow
 BeforeAnnContext (of_local n site) = BeforeStmts site.done site.block ⟫ (Begins site.first (IsName n) ⟫ Sign sign.Colon)
 
--- annotations with this sign behind each
+-- annotations with this sign after each
 abbrev pub EachAnn : Anns → Operator → Bool → Spelling
 EachAnn no_anns o whole = Nothing
 EachAnn (more_anns a rest) o whole = SpellsAnn a whole ⟫ Sign o ⟫ EachAnn rest o whole

@@ -26,7 +26,7 @@ abbrev mutual
   SpellsAnn (union p parts) whole = λ ts. IsTrue whole × AreSeveral parts
       × At p (λ us. Separated parts sign.Bar false us) ts
 
-  -- one or more with this sign between them, and none behind the last
+  -- one or more with this sign between them, and none after the last
   pub Separated : Anns → Operator → Bool → Spelling
   Separated no_anns o whole = λ ts. ⊥
   Separated (more_anns a rest) o whole = (λ ts. SpellsAnn a whole ts)

@@ -104,20 +104,20 @@ abbrev mutual
   Spells (call p e xs ks) = At p (Operand 7 (own_level e) (λ ts. Spells e ts) ⟫ Sign sign.LeftParenthesis
       ⟫ (λ ts. Items xs (λ us. SpellsKeywords ks us) (ks ≡ no_keywords) ts) ⟫ Sign sign.RightParenthesis)
 
-  -- expressions, each with a comma behind it, and then others; where nothing else comes, the last one needs no comma
+  -- expressions, each with a comma after it, and then others; where nothing else comes, the last one needs no comma
   pub Items : Exprs → Spelling → Type 0 → Spelling
   Items no_exprs Others alone = Others
   Items (more_exprs x xs) Others alone = Operand 0 (own_level x) (λ ts. Spells x ts)
       ⟫ AfterComma ((xs ≡ no_exprs) × alone) (λ ts. Items xs Others alone ts)
 
-  -- the entries of a dict display, with perhaps a comma behind the last
+  -- the entries of a dict display, with perhaps a comma after the last
   pub SpellsEntries : Entries → Spelling
   SpellsEntries no_entries = Nothing
   SpellsEntries (more_entries x y es) = Operand 0 (own_level x) (λ ts. Spells x ts) ⟫ Sign sign.Colon
       ⟫ Operand 0 (own_level y) (λ ts. Spells y ts)
       ⟫ AfterComma (es ≡ no_entries) (λ ts. SpellsEntries es ts)
 
-  -- arguments by name, with perhaps a comma behind the last
+  -- arguments by name, with perhaps a comma after the last
   pub SpellsKeywords : Keywords → Spelling
   SpellsKeywords no_keywords = Nothing
   SpellsKeywords (more_keywords n e ks) = IsName n ⟫ Sign sign.Equal ⟫ Operand 0 (own_level e) (λ ts. Spells e ts)

@@ -30,12 +30,12 @@ abbrev pub SpellsParam : Param → Spelling
 SpellsParam p = IsName p.name ⟫ Maybe (λ a. Sign sign.Colon ⟫ Annotation a) p.annotation
     ⟫ Maybe (λ l. Sign sign.Equal ⟫ SpellsLiteral l) p.default
 
--- parameters, with perhaps a comma behind the last
+-- parameters, with perhaps a comma after the last
 abbrev pub SpellsParams : List Param → Spelling
 SpellsParams [] = Nothing
 SpellsParams (p ∷ ps) = SpellsParam p ⟫ AfterComma (ps ≡ []) (λ ts. SpellsParams ps ts)
 
--- those of a method come after `self`
+-- the parameters of a function or a method; those of a method come after `self`
 abbrev pub Parameters : (method : Bool) → List Param → Spelling
 Parameters true ps = Named (codes "self") ⟫ AfterComma (ps ≡ []) (SpellsParams ps)
 Parameters false ps = SpellsParams ps

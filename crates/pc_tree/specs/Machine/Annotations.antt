@@ -22,7 +22,7 @@ abbrev pub whole_ann : Anns → Ann → List Lexeme → Ann
 whole_ann no_anns a ts = a
 whole_ann (more_anns b rest) a ts = union (span ts) (add_ann (more_anns b rest) a)
 
--- behind an annotation and its tokens
+-- after an annotation and its tokens
 abbrev pub ann_end : Ann → List Lexeme → AnnStack → Lexeme → TokenKind → Turn
 ann_end a tokens (ann_whole c) t k = finish_ann c a k
 ann_end a tokens (ann_inside head done ts parts before s) t k =
@@ -32,30 +32,30 @@ ann_end a tokens (ann_inside head done ts parts before s) t k =
     (part_read (applied (span (ts ++ (tokens ++ (t ∷ [])))) head (add_ann done a))
     (ts ++ (tokens ++ (t ∷ []))) parts before s) stuck)
 
--- the turn behind a part of an annotation: the `|` before the next part, or what may come behind the annotation
+-- the turn after a part of an annotation: the `|` before the next part, or what may come after the annotation
 abbrev pub part_read_turn : Ann → List Lexeme → Anns → List Lexeme → AnnStack → Lexeme → TokenKind → Turn
 part_read_turn a tokens parts before s t k =
     on (same_kind k (kind.Operator sign.Bar)) (part_due (add_ann parts a) (before ++ (tokens ++ (t ∷ []))) s)
     (ann_end (whole_ann parts a (before ++ tokens)) (before ++ tokens) s t k)
 
--- the turn behind a name as a part: the `[` before its arguments, or what may come behind any part
+-- the turn after a name as a part: the `[` before its arguments, or what may come after any part
 abbrev pub part_named_turn : Name → List Lexeme → Anns → List Lexeme → AnnStack → Lexeme → TokenKind → Turn
 part_named_turn n u parts before s t k =
     on (same_kind k (kind.Operator sign.LeftBracket)) (argument_due n (u ++ (t ∷ [])) parts before s)
     (part_read_turn (named n) u parts before s t k)
 
--- the turn behind `N[`: the `(` of `N[()]`, or the first token of the first argument
+-- the turn after `N[`: the `(` of `N[()]`, or the first token of the first argument
 abbrev pub argument_turn : Name → List Lexeme → Anns → List Lexeme → AnnStack → Lexeme → TokenKind → Turn
 argument_turn head ts parts before s t k =
     on (same_kind k (kind.Operator sign.LeftParenthesis)) (empty_opened head (ts ++ (t ∷ [])) parts before s)
     (part_turn no_anns [] (ann_inside head no_anns ts parts before s) t k)
 
--- the turn behind `N[(`, where only `)` can stand
+-- the turn after `N[(`, where only `)` can stand
 abbrev pub empty_opened_turn : Name → List Lexeme → Anns → List Lexeme → AnnStack → Lexeme → TokenKind → Turn
 empty_opened_turn head ts parts before s t k =
     on (same_kind k (kind.Operator sign.RightParenthesis)) (empty_closed head (ts ++ (t ∷ [])) parts before s) stuck
 
--- the turn behind `N[()`, where only `]` can stand
+-- the turn after `N[()`, where only `]` can stand
 abbrev pub empty_closed_turn : Name → List Lexeme → Anns → List Lexeme → AnnStack → Lexeme → TokenKind → Turn
 empty_closed_turn head ts parts before s t k =
     on (same_kind k (kind.Operator sign.RightBracket))

@@ -168,7 +168,7 @@ closer in_list = kind.Operator sign.RightBracket
 closer in_tuple = kind.Operator sign.RightParenthesis
 closer (in_call e) = kind.Operator sign.RightParenthesis
 
--- the turn behind `(` at the start of an operand: the `)` of the empty tuple, or the first token of an expression
+-- the turn after `(` at the start of an operand: the `)` of the empty tuple, or the first token of an expression
 abbrev pub group_turn : List Lexeme → Stack → Lexeme → TokenKind → Turn
 group_turn o s t k = on (same_kind k (kind.Operator sign.RightParenthesis))
     (have 7 (part (λ p. tuple p no_exprs) (o ++ (t ∷ []))) s)
@@ -184,7 +184,7 @@ abbrev pub keyword_turn : Expr → Exprs → Keywords → List Lexeme → Stack 
 keyword_turn e xs ks ts s t k = on (same_kind k kind.Name) (keyword_named e xs ks (name_at t) (ts ++ (t ∷ [])) s)
     (on (same_kind k (kind.Operator sign.RightParenthesis)) (have 7 (call_part e xs ks (ts ++ (t ∷ []))) s) stuck)
 
--- the turn behind the name of an argument, where only `=` can stand
+-- the turn after the name of an argument, where only `=` can stand
 abbrev pub named_turn : Expr → Exprs → Keywords → Name → List Lexeme → Stack → Lexeme → TokenKind → Turn
 named_turn e xs ks n ts s t k =
     on (same_kind k (kind.Operator sign.Equal)) (operand (naming e xs ks n (ts ++ (t ∷ [])) s)) stuck
@@ -195,23 +195,23 @@ key_turn es ts s t k = on (same_kind k (kind.Operator sign.RightBrace))
     (have 7 (part (λ p. dict p es) (ts ++ (t ∷ []))) s)
     (operand_turn (keying es ts s) t (start_of k))
 
--- the turn behind a dot, where only the name of an attribute can stand
+-- the turn after a dot, where only the name of an attribute can stand
 abbrev pub dotted_turn : Part → List Lexeme → Stack → Lexeme → TokenKind → Turn
 dotted_turn p d s t k = on (same_kind k kind.Name)
     (have 7 (part (λ q. attribute q p.tree (name_at t)) (p.tokens ++ (d ++ (t ∷ [])))) s) stuck
 
--- the turn behind `e not`, where only `in` can stand
+-- the turn after `e not`, where only `in` can stand
 abbrev pub denied_turn : Part → List Lexeme → Stack → Lexeme → TokenKind → Turn
 denied_turn p d s t k = on (same_kind k (kind.Keyword word.In))
     (operand (joining (comparison cmp.NotIn) p (d ++ (t ∷ [])) s)) stuck
 
--- the turn behind `e is`: the `None` of `is None`, or the `not` of `is not None`
+-- the turn after `e is`: the `None` of `is None`, or the `not` of `is not None`
 abbrev pub identified_turn : Part → List Lexeme → Stack → Lexeme → TokenKind → Turn
 identified_turn p d s t k =
     on (same_kind k (kind.Keyword word.None)) (have 3 (part (λ q. is_none q p.tree) (p.tokens ++ (d ++ (t ∷ [])))) s)
     (on (same_kind k (kind.Keyword word.Not)) (unidentified p (d ++ (t ∷ [])) s) stuck)
 
--- the turn behind `e is not`, where only `None` can stand
+-- the turn after `e is not`, where only `None` can stand
 abbrev pub unidentified_turn : Part → List Lexeme → Stack → Lexeme → TokenKind → Turn
 unidentified_turn p d s t k =
     on (same_kind k (kind.Keyword word.None))
@@ -219,7 +219,7 @@ unidentified_turn p d s t k =
 
 -- ---- what ends an expression in brackets
 
--- the turn behind the first expression in parentheses: the `)`, or the comma that makes them a tuple
+-- the turn after the first expression in parentheses: the `)`, or the comma that makes them a tuple
 abbrev pub close_group : List Lexeme → Stack → Part → Lexeme → Ending → Turn
 close_group o s p t closes_parenthesis = go (have 7 (grouped o p t) s)
 close_group o s p t a_comma = go (item_due in_tuple (more_exprs p.tree no_exprs) (o ++ (p.tokens ++ (t ∷ []))) s)
@@ -230,7 +230,7 @@ abbrev pub begin_keyword : Option Name → Expr → Exprs → List Lexeme → St
 begin_keyword (Some n) e xs ts s = go (operand (naming e xs no_keywords n ts s))
 begin_keyword None e xs ts s = stuck
 
--- the turn behind an item: a comma, the bracket that closes the items, or in a call the `=` of the first argument by
+-- the turn after an item: a comma, the bracket that closes the items, or in a call the `=` of the first argument by
 -- name
 abbrev pub close_item : Head → Exprs → List Lexeme → Stack → Part → Lexeme → Ending → Turn
 close_item h xs ts s p t a_comma = go (item_due h (add_expr xs p.tree) (ts ++ (p.tokens ++ (t ∷ []))) s)
@@ -244,12 +244,12 @@ close_item (in_call e) xs ts s p t an_equal =
     begin_keyword (if_plain p.plain (name_of_tree p.tree)) e xs (ts ++ (p.tokens ++ (t ∷ []))) s
 close_item h xs ts s p t _ = stuck
 
--- the turn behind the key of `e[i]`, where only `]` can stand
+-- the turn after the key of `e[i]`, where only `]` can stand
 abbrev pub close_index : Expr → List Lexeme → Stack → Part → Lexeme → Ending → Turn
 close_index e ts s p t closes_bracket = go (have 7 (part (λ q. index q e p.tree) (ts ++ (p.tokens ++ (t ∷ [])))) s)
 close_index e ts s p t _ = stuck
 
--- the turn behind the value of an argument by name: a comma, or the `)` of the call
+-- the turn after the value of an argument by name: a comma, or the `)` of the call
 abbrev pub close_keyword : Expr → Exprs → Keywords → Name → List Lexeme → Stack → Part → Lexeme → Ending → Turn
 close_keyword e xs ks n ts s p t a_comma =
     go (keyword_due e xs (add_keyword ks n p.tree) (ts ++ (p.tokens ++ (t ∷ []))) s)
@@ -257,12 +257,12 @@ close_keyword e xs ks n ts s p t closes_parenthesis =
     go (have 7 (call_part e xs (add_keyword ks n p.tree) (ts ++ (p.tokens ++ (t ∷ [])))) s)
 close_keyword e xs ks n ts s p t _ = stuck
 
--- the turn behind the key of an entry, where only `:` can stand
+-- the turn after the key of an entry, where only `:` can stand
 abbrev pub close_key : Entries → List Lexeme → Stack → Part → Lexeme → Ending → Turn
 close_key es ts s p t a_colon = go (operand (valuing es p.tree (ts ++ (p.tokens ++ (t ∷ []))) s))
 close_key es ts s p t _ = stuck
 
--- the turn behind the value of an entry: a comma, or the `}` of the dict
+-- the turn after the value of an entry: a comma, or the `}` of the dict
 abbrev pub close_value : Entries → Expr → List Lexeme → Stack → Part → Lexeme → Ending → Turn
 close_value es key ts s p t a_comma = go (key_due (add_entry es key p.tree) (ts ++ (p.tokens ++ (t ∷ []))) s)
 close_value es key ts s p t closes_brace =
@@ -283,7 +283,7 @@ close p (applying x u s) t e = stuck
 
 -- ---- after an operand
 
--- the state behind a token that begins an operator: its right operand is due, or the rest of `not in` or `is None`
+-- the state after a token that begins an operator: its right operand is due, or the rest of `not in` or `is None`
 abbrev pub linked : Link → Lexeme → Part → Stack → State
 linked (linking op) t p s = operand (joining op p (t ∷ []) s)
 linked denying t p s = denied p (t ∷ []) s
@@ -297,7 +297,7 @@ after_link l t r = on (nat_le (rank r.1) (own_of_link l)) (linked l t r.0 r.1) s
 abbrev pub if_tight : ℕ → ℕ → Turn → Turn
 if_tight low level turn = if nat_le low level then turn else stuck
 
--- the turn behind an operand of this level: an operator, a dot, an opening bracket, or what ends the expression
+-- the turn after an operand of this level: an operator, a dot, an opening bracket, or what ends the expression
 abbrev pub have_turn : ℕ → Part → Stack → Lexeme → Follow → Turn
 have_turn level p s t (link l) = if_tight (left_of_link l) level (after_link l t (reduce (left_of_link l) p s))
 have_turn level p s t a_dot = if_tight 7 level (go (dotted p (t ∷ []) s))

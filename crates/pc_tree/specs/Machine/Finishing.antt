@@ -75,7 +75,7 @@ nested_in site n = nested site.first n site.done site.block
 abbrev pub function_of : DefHead → Stmts → FuncDef
 function_of h body = record { name = h.start.name; params = h.params; returns = h.returns; body = body }
 
--- the state behind a function, which is one more item of the module or one more member of its class
+-- the state after a function, which is one more item of the module or one more member of its class
 abbrev pub after_def : Owner → Place → FuncDef → State
 after_def (of_module top) first f = items after_headers (add_item top (def_item first f))
 after_def (of_class c ms) first f = members c (ms ++ (method_member f ∷ []))
@@ -84,11 +84,11 @@ after_def (of_class c ms) first f = members c (ms ++ (method_member f ∷ []))
 abbrev pub class_def_of : ClassStart → List Member → ClassDef
 class_def_of c ms = record { decorator = c.decorator; name = c.name; base = c.base; members = ms }
 
--- the state behind a class, which is one more item of the module
+-- the state after a class, which is one more item of the module
 abbrev pub after_class : ClassStart → List Member → State
 after_class c ms = items after_headers (add_item c.top (class_item c.first (class_def_of c ms)))
 
--- the state behind a suite inside a suite: a whole statement was read, or a branch that others may follow
+-- the state after a suite inside a suite: a whole statement was read, or a branch that others may follow
 abbrev pub after_nested : Nest → Stmts → Site → State
 after_nested (while_body condition) body site = after_stmt site (while_loop site.first condition body)
 after_nested (for_body target iterable) body site = after_stmt site (for_loop site.first target iterable body)
@@ -125,7 +125,7 @@ abbrev pub begin_value : Option Target → Site → Turn
 begin_value (Some target) site = go (operand (whole (in_statement (assigned target) site)))
 begin_value None site = stuck
 
--- the turn at the `:` behind a local name: its annotation is due, unless no name stands before the `:`
+-- the turn at the `:` after a local name: its annotation is due, unless no name stands before the `:`
 abbrev pub begin_annotation : Option Name → Site → Turn
 begin_annotation (Some n) site = go (part_due no_anns [] (ann_whole (of_local n site)))
 begin_annotation None site = stuck
@@ -134,7 +134,7 @@ begin_annotation None site = stuck
 abbrev pub line_site : Stmts → Block → Part → Site
 line_site done block p = record { first = first_place p.tokens; done = done; block = block }
 
--- the turn behind the expression that begins a line: the line's end, the `=` of an assignment, or the `:` of an
+-- the turn after the expression that begins a line: the line's end, the `=` of an assignment, or the `:` of an
 -- annotation
 abbrev pub finish_line : Part → Site → Ending → Turn
 finish_line p site a_line_end = go (after_stmt site (evaluates site.first p.tree))
@@ -152,13 +152,13 @@ abbrev pub at_colon : State → Ending → Turn
 at_colon s a_colon = go s
 at_colon s _ = stuck
 
--- the turn behind the condition of an `assert`: the end of the line, or the comma before its message
+-- the turn after the condition of an `assert`: the end of the line, or the comma before its message
 abbrev pub finish_condition : Expr → Site → Ending → Turn
 finish_condition e site a_line_end = go (after_stmt site (asserts site.first e None))
 finish_condition e site a_comma = go (operand (whole (in_statement (asserted_with e) site)))
 finish_condition e site _ = stuck
 
--- the turn behind an expression of a begun statement: the end of the line, the `:` of a suite, or the comma of an
+-- the turn after an expression of a begun statement: the end of the line, the `:` of a suite, or the comma of an
 -- `assert`
 abbrev pub finish_stmt : Begun → Part → Site → Ending → Turn
 finish_stmt (assigned target) p site e = at_line_end (after_stmt site (assigns site.first target p.tree)) e
@@ -171,7 +171,7 @@ finish_stmt looping p site e = at_colon (suite_of (nested_in site (while_body p.
 finish_stmt (iterating target) p site e = at_colon (suite_of (nested_in site (for_body target p.tree))) e
 finish_stmt (branching branches) p site e = at_colon (suite_of (nested_in site (branch_body branches p.tree))) e
 
--- what comes behind a whole expression
+-- what comes after a whole expression
 abbrev pub finish : ExpressionPosition → Part → Ending → Turn
 finish (in_line done block) p e = finish_line p (line_site done block p) e
 finish (in_statement begun site) p e = finish_stmt begun p site e
@@ -185,12 +185,12 @@ finish (in_constant n annotation top) p e =
 abbrev pub param : Name → Option Ann → Option Literal → Param
 param n annotation default = record { name = n; annotation = annotation; default = default }
 
--- behind a parameter
+-- after a parameter
 abbrev pub param_end : DefStart → List Param → Param → TokenKind → Turn
 param_end d ps p k = on (same_kind k (kind.Operator sign.Comma)) (param_due d (ps ++ (p ∷ [])))
     (on (same_kind k (kind.Operator sign.RightParenthesis)) (params_read d (ps ++ (p ∷ []))) stuck)
 
--- behind the name of a parameter and its annotation
+-- after the name of a parameter and its annotation
 abbrev pub param_more : DefStart → List Param → Name → Option Ann → TokenKind → Turn
 param_more d ps n annotation k =
     on (same_kind k (kind.Operator sign.Equal)) (literal_due (default_of_param d ps n annotation))
@@ -200,7 +200,7 @@ param_more d ps n annotation k =
 abbrev pub field : Name → Ann → Option Literal → Member
 field n annotation default = field_member (record { name = n; annotation = annotation; default = default })
 
--- what comes behind a whole annotation
+-- what comes after a whole annotation
 abbrev pub finish_ann : AnnotationPosition → Ann → TokenKind → Turn
 finish_ann (of_constant n top) a k =
     on (same_kind k (kind.Operator sign.Equal)) (operand (whole (in_constant n (Some a) top))) stuck
@@ -214,7 +214,7 @@ finish_ann (of_local n site) a k =
     on (same_kind k (kind.Operator sign.Equal)) (operand (whole (in_statement (annotated_value n a) site)))
     (on (same_kind k kind.Newline) (after_stmt site (annotated site.first n a None)) stuck)
 
--- what comes behind a literal
+-- what comes after a literal
 abbrev pub finish_literal : LiteralContext → Literal → TokenKind → Turn
 finish_literal (default_of_param d ps n annotation) l k = param_end d ps (param n annotation (Some l)) k
 finish_literal (default_of_field c ms n a) l k =

@@ -198,7 +198,7 @@ pub data Ending : Type 0 where
   a_line_end : Ending
   no_ending : Ending
 
--- what a token does behind an operand: it begins an operator, an attribute, a call or an index, or can only end the
+-- what a token does after an operand: it begins an operator, an attribute, a call or an index, or can only end the
 -- expression
 pub data Follow : Type 0 where
   link : (l : Link) → Follow
@@ -207,7 +207,7 @@ pub data Follow : Type 0 where
   indexes : Follow
   ends : (e : Ending) → Follow
 
--- what a token of this kind does behind an operand
+-- what a token of this kind does after an operand
 abbrev pub follow_of : TokenKind → Follow
 follow_of (kind.Operator sign.Plus) = link (linking (arithmetic Add))
 follow_of (kind.Operator sign.Minus) = link (linking (arithmetic Sub))

@@ -73,7 +73,7 @@ items_turn stage top t k = on (same_kind k kind.Name) (item_named (name_at t) to
     (on (same_kind k (kind.Keyword word.Def)) (def_due (of_module top) t.place)
     (on (same_kind k (kind.Keyword word.From) && takes_header stage) (importing stage top) stuck)))
 
--- the turn behind the `from` of a header: `dataclasses` where its header may come, or `typing`
+-- the turn after the `from` of a header: `dataclasses` where its header may come, or `typing`
 abbrev pub importing_turn : Stage → Top → Lexeme → TokenKind → Turn
 importing_turn stage top t k =
     on ((same_kind k kind.Name && bytes_eq t.form (codes "dataclasses")) && takes_dataclasses stage)
@@ -83,7 +83,7 @@ importing_turn stage top t k =
     (fixed (a_kind (kind.Keyword word.Import)) (a_form (codes "Any") ∷ a_kind kind.Newline ∷ [])
     (items after_headers (record top { imports_any = true }))) stuck)
 
--- the turn behind a name that begins a line of the module: the `:` or `=` of a constant, or the `(` of the line
+-- the turn after a name that begins a line of the module: the `:` or `=` of a constant, or the `(` of the line
 -- `main()`
 abbrev pub item_named_turn : Name → Top → Lexeme → TokenKind → Turn
 item_named_turn n top t k =
@@ -95,24 +95,24 @@ item_named_turn n top t k =
 
 -- ---- classes
 
--- the turn behind `@`, where only `dataclass` can stand
+-- the turn after `@`, where only `dataclass` can stand
 abbrev pub decorator_turn : Place → Top → Lexeme → TokenKind → Turn
 decorator_turn first top t k = on (same_kind k kind.Name && bytes_eq t.form (codes "dataclass"))
     (fixed (a_kind kind.Newline) (a_kind (kind.Keyword word.Class) ∷ []) (class_due first t.place top)) stuck
 
--- the turn behind `class`, where only the name of the class can stand
+-- the turn after `class`, where only the name of the class can stand
 abbrev pub class_turn : Place → Place → Top → Lexeme → TokenKind → Turn
 class_turn first decorator top t k =
     on (same_kind k kind.Name)
     (class_named (record { top = top; first = first; decorator = decorator; name = name_at t; base = None })) stuck
 
--- the turn behind the name of a class: the `(` before its base, or the `:` of its suite
+-- the turn after the name of a class: the `(` before its base, or the `:` of its suite
 abbrev pub class_named_turn : ClassStart → Lexeme → TokenKind → Turn
 class_named_turn c t k = on (same_kind k (kind.Operator sign.LeftParenthesis)) (base_due c)
     (on (same_kind k (kind.Operator sign.Colon))
     (fixed (a_kind kind.Newline) (a_kind kind.Indent ∷ []) (members c [])) stuck)
 
--- the turn behind the `(` of a class, where only the name of its base can stand
+-- the turn after the `(` of a class, where only the name of its base can stand
 abbrev pub base_turn : ClassStart → Lexeme → TokenKind → Turn
 base_turn c t k = on (same_kind k kind.Name)
     (fixed (a_kind (kind.Operator sign.RightParenthesis))
@@ -139,12 +139,12 @@ params_of (of_module top) d = fixed (a_kind (kind.Operator sign.LeftParenthesis)
 params_of (of_class c ms) d =
     fixed (a_kind (kind.Operator sign.LeftParenthesis)) (a_form (codes "self") ∷ []) (self_read d)
 
--- the turn behind `def`, where only the name of the function can stand
+-- the turn after `def`, where only the name of the function can stand
 abbrev pub def_turn : Owner → Place → Lexeme → TokenKind → Turn
 def_turn owner first t k =
     on (same_kind k kind.Name) (params_of owner (record { owner = owner; first = first; name = name_at t })) stuck
 
--- the turn behind `self`: a comma, or the `)` of the parameters
+-- the turn after `self`: a comma, or the `)` of the parameters
 abbrev pub self_turn : DefStart → Lexeme → TokenKind → Turn
 self_turn d t k = on (same_kind k (kind.Operator sign.Comma)) (param_due d [])
     (on (same_kind k (kind.Operator sign.RightParenthesis)) (params_read d []) stuck)
@@ -154,13 +154,13 @@ abbrev pub param_turn : DefStart → List Param → Lexeme → TokenKind → Tur
 param_turn d ps t k = on (same_kind k kind.Name) (param_named d ps (name_at t))
     (on (same_kind k (kind.Operator sign.RightParenthesis)) (params_read d ps) stuck)
 
--- the turn behind the name of a parameter: the `:` of its annotation, or what may come without one
+-- the turn after the name of a parameter: the `:` of its annotation, or what may come without one
 abbrev pub param_named_turn : DefStart → List Param → Name → Lexeme → TokenKind → Turn
 param_named_turn d ps n t k =
     on (same_kind k (kind.Operator sign.Colon)) (part_due no_anns [] (ann_whole (of_param d ps n)))
     (param_more d ps n None k)
 
--- the turn behind the `)` of the parameters: the `->` of the return annotation, or the `:` of the suite
+-- the turn after the `)` of the parameters: the `->` of the return annotation, or the `:` of the suite
 abbrev pub params_read_turn : DefStart → List Param → Lexeme → TokenKind → Turn
 params_read_turn d ps t k =
     on (same_kind k (kind.Operator sign.Arrow)) (part_due no_anns [] (ann_whole (of_return d ps)))
@@ -176,12 +176,12 @@ literal_turn c t k = on (same_kind k kind.Int) (literal_read c (number_literal (
     (on (same_kind k (kind.Keyword word.None)) (literal_read c (none_literal (span (t ∷ []))))
     (on (same_kind k (kind.Operator sign.Minus)) (minus_read c (t ∷ [])) stuck)))))
 
--- the turn behind the `-` of a literal, where only a number can stand
+-- the turn after the `-` of a literal, where only a number can stand
 abbrev pub minus_turn : LiteralContext → List Lexeme → Lexeme → TokenKind → Turn
 minus_turn c m t k = on (same_kind k kind.Int)
     (literal_read c (negative_literal (span (m ++ (t ∷ []))) (digits_of t.text))) stuck
 
--- the turn behind a literal that is a default
+-- the turn after a literal that is a default
 abbrev pub literal_read_turn : LiteralContext → Literal → Lexeme → TokenKind → Turn
 literal_read_turn c l t k = finish_literal c l k
 
@@ -213,12 +213,12 @@ lead_turn site t k leads_other = operand_turn (whole (in_line site.done site.blo
 abbrev pub stmts_turn : Stmts → Block → Lexeme → TokenKind → Turn
 stmts_turn done b t k = lead_turn (record { first = t.place; done = done; block = b }) t k (lead_of k)
 
--- the turn behind `return`: the end of the line, or the first token of the value
+-- the turn after `return`: the end of the line, or the first token of the value
 abbrev pub return_turn : Site → Lexeme → TokenKind → Turn
 return_turn site t k = on (same_kind k kind.Newline) (after_stmt site (returns site.first None))
     (operand_turn (whole (in_statement returned site)) t (start_of k))
 
--- the turn behind `for`, where only a name as the target can stand
+-- the turn after `for`, where only a name as the target can stand
 abbrev pub target_turn : Site → Lexeme → TokenKind → Turn
 target_turn site t k = on (same_kind k kind.Name)
     (fixed (a_kind (kind.Keyword word.In)) [] (operand (whole (in_statement (iterating (name_at t)) site)))) stuck
@@ -227,7 +227,7 @@ target_turn site t k = on (same_kind k kind.Name)
 abbrev pub closed_branches : Branches → Site → Stmts
 closed_branches bs site = add_stmt site.done (conditional site.first bs no_stmts)
 
--- the turn behind a suite of `if` or `elif`: `elif`, `else`, or what may come behind the whole statement
+-- the turn after a suite of `if` or `elif`: `elif`, `else`, or what may come after the whole statement
 abbrev pub branch_turn : Branches → Site → Lexeme → TokenKind → Turn
 branch_turn bs site t k = on (same_kind k (kind.Keyword word.Elif)) (operand (whole (in_statement (branching bs) site)))
     (on (same_kind k (kind.Keyword word.Else))

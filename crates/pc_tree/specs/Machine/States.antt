@@ -78,7 +78,7 @@ pub data Begun : Type 0 where
   iterating : (target : Name) → Begun
   branching : (branches : Branches) → Begun
 
--- where a whole expression stands: first in a line, behind what begins a statement, or as the value of a constant
+-- where a whole expression stands: first in a line, after what begins a statement, or as the value of a constant
 pub data ExpressionPosition : Type 0 where
   -- the first of a line, of which it is not known yet what it is
   in_line : (done : Stmts) (block : Block) → ExpressionPosition

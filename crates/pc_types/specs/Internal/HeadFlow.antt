@@ -54,7 +54,7 @@ mutual
     w_left : {both : Test} {s a b : Tree} → HeadFlow bases both s a → HeadFlow bases both s (Union a b)
     w_right : {both : Test} {s a b : Tree} → HeadFlow bases both s b → HeadFlow bases both s (Union a b)
 
-  -- so do the parts of two tuples of one length
+  -- each part of the first tuple flows into that of the second; both have one length
   pub data EachFlow (bases : Bases) : Test → Trees → Trees → Type 0 where
     w_end : {both : Test} → EachFlow bases both end end
     w_more : {both : Test} {s t : Tree} {ss ts : Trees} → HeadFlow bases both s t → CoversBack bases both s t

@@ -8,7 +8,7 @@ use Rattle.pc_names.proofs.InSets.{has}
 use Rattle.pc_machine.specs.declared.state.NamedValue.{NamedValue}
 use Rattle.pc_machine.proofs.calls.are_among.Goals as goal
 
--- the next argument decides, or those behind it
+-- the next argument decides, or those after it
 next : (p : NamedValue → Bool) (xs : List NamedValue) (x : NamedValue) (rest : List NamedValue) (b : Bool) → xs ≡ x ∷ rest → p x ≡ b → list_all p xs ≡ (b && list_all p rest)
 next p xs x rest b e q = ap (list_all p) e ∙ ap (λ (c : Bool). c && list_all p rest) q
 
